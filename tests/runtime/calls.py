@@ -1,8 +1,8 @@
 # Runtimes: the calls that are made of them in one thread, what is printed for each, and what is
 # handed back at the end.
 #
-# The rules are those of "Histories" and of "The test program `test_runtime`" in docs/FORMAT.md, from
-# which each answer was worked out by hand.
+# The rules are those of docs/RUNTIME.md, from "Books" on, and of "The test program `test_runtime`" in
+# tests/FORMATS.md, from which each answer was worked out by hand.
 
 ONE = ("item a", "wq 0 a")
 TWO = ("item a / item b / flush a b", "wq 0 b / wq 1 a")

@@ -1,5 +1,5 @@
 # Rows for `test_runtime crew`, `report` and `script`: a declaration, an assignment, how many rows there are, what the bodies and
-# callers do, the answer, and the status. All were worked out by hand from docs/FORMAT.md.
+# callers do, the answer, and the status. All were worked out by hand from docs/RUNTIME.md and tests/FORMATS.md.
 #
 # Where the schedule of the threads decides in which order rows stand, only what is printed before
 # them is given: such rows are in MEETINGS.
@@ -149,6 +149,7 @@ CREWS = [
     ("item a / flush a a", "wq 0 a", 10, "body", "refused 67", 2),
     # Mistakes of the input.
     (*ONE, 10, "flush a", "mistake line 1", 2),
+    (*TWO, 5, "caller / queue a / boddy", "mistake line 3", 2),
     (*ONE, 10, "body / nothing", "mistake line 2", 2),
     (*ONE, 10, "body / # and / flush a a", "mistake line 3", 2),
     (*ONE, 10, "body a", "mistake line 1", 2),

@@ -1,5 +1,5 @@
 # Rows for `test_runtime helpers N`: how many helpers there are, and then what the rows of calls.py and crews.py have. All were worked
-# out by hand from docs/FORMAT.md.
+# out by hand from docs/RUNTIME.md and tests/FORMATS.md.
 
 from crews import APART, ONE, TWO, WHOLE, served  # beside this file
 
@@ -175,9 +175,21 @@ def seen(bodies, callers):
     return " / ".join(["body code 0 seen true"] * bodies + ["caller ok"] * callers + ["caller seen true"] * callers)
 
 
-# How often it is tried that bodies meet, that an item runs alone, and that it is queued again while it lingers.
+def contexts(q, finished):
+    """How many each context of workqueue Q, which has two helpers, has finished."""
+    return [(f"lane {q}{helper}", finished) for helper in ("", " helper 1", " helper 2")]
+
+
+def dawdles(times):
+    """So many deeds of a body or a caller, after the line that begins it."""
+    return " / dawdle" * times
+
+
+# How often it is tried that bodies meet, that an item runs alone, and that it is queued again while it lingers; and that contexts end
+# with the last entry of a closed runtime.
 MEETS = 100
 TIMES = 25
+ENDS = 5
 
 # Crews of which what is printed begins as this regular expression says.
 MEETINGS = [
@@ -204,10 +216,23 @@ MEETINGS = [
     *[(1, *ONE, 100, " / ".join(["body / linger", "body / linger", "caller / queue a", *["dawdle"] * 20, "queue a / destroy"]),
        rf"finished (\d) faults 0 / {lanes(('lane 0', '[012]'), ('lane 0 helper 1', '[012]'))} / {seen(2, 1)} / agree true"
        r" / made a queue yes \1 / (?:made a queue no 1 / )?made a finish yes \1 / ")] * TIMES,
+    # The same with two helpers: after `destroy` two contexts sleep, since the item of what is pending runs in the third. One of them
+    # starts it once the item has finished. Then nothing is pending, so that the other ends.
+    *[(2, *ONE, 100, " / ".join([*["body / linger"] * 3, "caller / queue a", *["dawdle"] * 20, "queue a / destroy"]),
+       rf"finished (\d) faults 0 / {lanes(('lane 0', '[012]'), ('lane 0 helper 1', '[012]'), ('lane 0 helper 2', '[012]'))} / {seen(3, 1)} / agree true"
+       r" / made a queue yes \1 / (?:made a queue no 1 / )?made a finish yes \1 / ")] * TIMES,
     # And surely so where both contexts linger, once each has met the other, and one of their items is queued again.
     *[(1, *TOGETHER, 100, "body / meet / linger / body / meet / linger / caller / queue a / queue b / meet / queue a / destroy",
        rf"finished 3 faults 0 / {lanes(('lane 0', '[12]'), ('lane 0 helper 1', '[12]'))} / {seen(2, 1)} / agree true"
        " / made a queue yes 2 / made a finish yes 2 / made b queue yes 1 / made b finish yes 1 / ")] * TIMES,
+    # Here the runtime is closed by `run_all` itself, once the caller has ended, and never again: `a` runs in one context of its workqueue,
+    # and is pending behind that. The others sleep until it has finished; one of them starts it, and then the third one ends.
+    *[(2, *APART, 100, " / ".join([*["body" + dawdles(300)] * 3, *["body"] * 3, f"caller / queue a{dawdles(20)} / queue a"]),
+       rf"finished [12] faults 0 / {lanes(*contexts(0, '[012]'), *contexts(1, 0))} / {seen(6, 1)} / agree true / ")] * ENDS,
+    # The same, where a body of another workqueue cancels what is pending: then all ends that sleeps.
+    *[(2, *APART, 100, " / ".join([*["body" + dawdles(600)] * 3, *["body" + dawdles(200) + " / cancel a"] * 3,
+                                   f"caller / queue a{dawdles(20)} / queue a / queue b"]),
+       rf"finished [123] faults 0 / {lanes(*contexts(0, '[012]'), *contexts(1, '[01]'))} / {seen(6, 1)} / agree true / ")] * ENDS,
     # A body waits for an item that a helper of another workqueue runs, or its rescuer.
     (2, *TWO, 100, " / ".join(["body / dawdle"] * 3 + ["body / queue b / flush b / seen 1"] * 3 + ["caller / queue a / flush a"]),
      "finished 2 faults 0 / " + lanes(*((f"lane {q}{helper}", "[01]") for q in (0, 1) for helper in ("", " helper 1", " helper 2")))

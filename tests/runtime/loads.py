@@ -6,7 +6,7 @@
 # PROGRAM is `test_runtime`. What its threads meet depends on their schedule, so no text is compared.
 # `test_runtime stress` prints what each thread was answered, what each seat counted, what the closed
 # runtime hands back, and each row of its history. These must fit together, and the rows must be a
-# legal history by the model of tests/model, which was written from docs/FORMAT.md. A program that
+# legal history by the model of tests/model, which was written from docs/RUNTIME.md. A program that
 # takes too long is ended, and has failed: a wake-up may be lost.
 
 import collections
@@ -96,7 +96,7 @@ SHORT = [
 # The loads that are measured, as bench/runtime.py runs them, but short.
 MEASURED = [
     ("rounds", 4, 4, 200), ("rounds", 1, 3, 50), ("storm", 8, 16, 50), ("storm", 256, 2, 20),
-    ("fill", 3, 2, 4000), ("fill", 1, 1, 1),
+    ("fill", 3, 2, 4000), ("fill", 1, 1, 1), ("sleep", 2, 1, 5), ("sleep", 2, 1, 5, 8), ("sleep", 3, 4, 2, 2),
 ]
 
 # What is answered before any thread starts: a runtime that isn't made.

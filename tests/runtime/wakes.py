@@ -6,7 +6,7 @@
 # else happens. Where it doesn't, nobody ever does: the program is ended after ten seconds, and the call is named. No answer
 # depends on time: a call that comes too late to fall asleep is answered all the same, and its round shows nothing. A call of which no
 # round shows anything has failed.
-# All was worked out by hand from docs/FORMAT.md. It takes some seconds.
+# All was worked out by hand from docs/RUNTIME.md. It takes some seconds.
 
 import collections
 import concurrent.futures
@@ -108,6 +108,7 @@ WAKES = [
     Wake("finish_work", "a body that waits for the item", f"{A_RUNS} / {C_RUNS}",
          "wait 1 a: true|false", "finish 0 a: ok", "finish 1 c: ok / destroy: ok"),
     Wake("finish_work", "two callers that destroy", A_RUNS, "destroy: ok / destroy: ok", "finish 0 a: ok", ""),
+    Wake("finish_work", "two callers that destroy, on another workqueue", C_RUNS, "destroy: ok / destroy: ok", "finish 1 c: ok", ""),
     Wake("destroy", "the rescuers of two workqueues", "", "next 0: none / next 1: none", "destroy: ok", ""),
     Wake("finish_work", "two callers that flush the workqueue", A_RUNS,
          "flushwq 0: ok / flushwq 0: ok", "finish 0 a: ok", "destroy: ok", "made lane 0 toldlane yes 2"),

@@ -1,4 +1,4 @@
-//! Rows whose bytes were worked out by hand from "Packed rows" in docs/FORMAT.md.
+//! Rows whose bytes were worked out by hand from "Histories" in docs/FORMAT.md.
 //!
 //! More rows, and bytes that hold none, are in tests/book. The test takes time in the number of rows.
 

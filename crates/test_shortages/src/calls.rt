@@ -1,6 +1,6 @@
 //! The calls of a caller in one thread: a seat, and the calls that are made with it.
 //!
-//! What each call answers was worked out by hand from "Runtimes" in docs/FORMAT.md. They take time in the rows of the history.
+//! What each call answers was worked out by hand from "Runtimes" in docs/RUNTIME.md. They take time in the rows of the history.
 
 use crate::closing::closes;
 use crate::trial::Outcome;

@@ -1,14 +1,14 @@
--- What a context runs that begins to wait: an item of the lane, which declares the wait or doesn't. And a context that has
--- nothing more to do.
+-- What a context runs that begins to wait: an item of the lane, which declares the wait or doesn't. Which row says that it began.
+-- And what a context starts, or that it has nothing more to do.
 use Rattle.std.proofs.Common.{◌≡◌, ℕ, zero, suc, inr, Bool, true, false, List, refl, subst}
-use Rattle.std.specs.Prelude.{Option, Some, None, Result, Ok, Err, IfOk, IfErr, IfNone}
+use Rattle.std.specs.Prelude.{Option, Some, None, Result, Ok, Err, IfOk, IfErr, OnOk, IfNone}
 use Rattle.wq_core.specs.declared.entry.Running.{Running}
 use Rattle.wq_core.specs.Wiring.{Wiring, HasContext}
 use Rattle.wq_core.specs.State.{lane_at, RunsIn}
 use Rattle.wq_core.specs.Held.{IsSoundState}
 use Rattle.wq_history.specs.declared.fault.BookError.{BookError}
 use Rattle.wq_history.specs.declared.fault.BookError.TheVariants.{HistoryFull as BookFull, Closed as BookClosed, Undeclared as BookUndeclared, TooManyWaits as BookTooManyWaits, WrongLane as BookWrongLane, NoItem as BookNoItem, TooManyRows as BookTooManyRows, OutOfMemory as BookOutOfMemory}
-use Rattle.wq_history.specs.Events.{wait_event}
+use Rattle.wq_history.specs.Events.{wait_event, over_event, finish_event}
 use Rattle.wq_history.specs.History.{MayCome}
 use Rattle.wq_history.specs.Book.{BookView, state, IsBook, AppendsOne, RefusesWait}
 use Rattle.wq_history.specs.Answers.{AnswersStart}
@@ -21,7 +21,7 @@ use Rattle.wq_under_lock.specs.declared.turn.Turn.{Turn}
 use Rattle.wq_under_lock.specs.declared.turn.Turn.TheVariants.{Answers, Sleeps}
 use Rattle.wq_under_lock.specs.Turns.{AnswersWith, IfAnswers, HasEnded}
 use Rattle.wq_api.specs.WaitingCalls.{IsDeclaredOn, HasWaiter}
-use Rattle.wq_api.specs.Locking.{WasDoneIn}
+use Rattle.wq_api.specs.Locking.{WasStartedIn, WasBegunIn, WasOverIn, WasFinishedIn, WasDoneIn}
 
 -- what a context of a book runs is on its lane
 runs-on_lane : (b : BookView) (q c : ℕ) (r : Running) → IsBook b → RunsIn (lane_at (state b) q) c r → IsOnLane b.wiring q r.entry.item
@@ -74,9 +74,42 @@ pub begun_waiter : (w : Wiring) (rows : ℕ) (old new : BookView) (seat : List �
     → AnswersWith turn (λ r wake. IfErr r (λ e. HasContext w q c → HasRoom seat → RefusedAs (RefusesWait old q c whole target) e))
     → AnswersWith turn (λ r wake. HasContext w q c → HasRoom seat → HasWaiter w q whole target r)
 begun_waiter w rows old new seat q c whole target (Answers r wake) holds row cause = answered_waiter w rows old new seat q c whole target r holds row cause
-begun_waiter w rows old new seat q c whole target (Sleeps none) holds row cause = absurd row
+begun_waiter w rows old new seat q c whole target (Sleeps none among) holds row cause = absurd row
 
--- ---- a context that has nothing more to do
+-- ---- rows that a call of a context appends
+
+pub wait_over : (w : Wiring) (rows : ℕ) (h new : HeldView) (q c : ℕ) (whole : Bool) (target : ℕ) (r : Result (Unit {0}) CallError) → Holds w rows h.book
+    → OnOk r (AppendsOne h.book new.book (over_event whole q c target) true) → OnOk r (WasOverIn w rows q c whole target)
+wait_over w rows h new q c whole target (Ok done) holds row = (h, holds, (new.book, row))
+wait_over w rows h new q c whole target (Err e) holds row = tt
+
+pub entry_finished : (w : Wiring) (rows : ℕ) (h new : HeldView) (q c item : ℕ) (r : Result (Unit {0}) CallError) → Holds w rows h.book
+    → OnOk r (AppendsOne h.book new.book (finish_event q c item) true) → OnOk r (WasFinishedIn w rows q c item)
+entry_finished w rows h new q c item (Ok done) holds row = (h, holds, (new.book, row))
+entry_finished w rows h new q c item (Err e) holds row = tt
+
+wait_begun : (w : Wiring) (rows : ℕ) (h new : HeldView) (q c : ℕ) (whole : Bool) (target : ℕ) (r : Result Bool CallError) → Holds w rows h.book
+    → IfOk r (λ said. AppendsOne h.book new.book (wait_event whole q c target) said) → IfOk r (λ said. WasBegunIn w rows q c whole target said)
+wait_begun w rows h new q c whole target (Ok said) holds row = (h, holds, (new.book, row))
+wait_begun w rows h new q c whole target (Err e) holds row = tt
+
+pub turn_begun : (w : Wiring) (rows : ℕ) (h new : HeldView) (q c : ℕ) (whole : Bool) (target : ℕ) (turn : Turn (Result Bool CallError) (Unit {0})) → Holds w rows h.book
+    → AnswersWith turn (λ r wake. IfOk r (λ said. AppendsOne h.book new.book (wait_event whole q c target) said))
+    → AnswersWith turn (λ r wake. IfOk r (λ said. WasBegunIn w rows q c whole target said))
+turn_begun w rows h new q c whole target (Answers r wake) holds row = wait_begun w rows h new q c whole target r holds row
+turn_begun w rows h new q c whole target (Sleeps none among) holds row = absurd row
+
+-- ---- what a context starts, or that it has nothing more to do
+
+context_started : (w : Wiring) (rows : ℕ) (h new : HeldView) (q c : ℕ) (r : Result (Option ℕ) CallError) → Holds w rows h.book
+    → IfOk r (λ next. AnswersStart h.book new.book q c next) → IfOk r (λ next. WasStartedIn w rows q c next)
+context_started w rows h new q c (Ok next) holds row = (h, holds, (new.book, row))
+context_started w rows h new q c (Err e) holds row = tt
+
+pub next_started : (w : Wiring) (rows : ℕ) (h new : HeldView) (q c : ℕ) (turn : Turn (Result (Option ℕ) CallError) (Unit {0})) → Holds w rows h.book
+    → IfAnswers turn (λ r wake. IfOk r (λ next. AnswersStart h.book new.book q c next)) → IfAnswers turn (λ r wake. IfOk r (λ next. WasStartedIn w rows q c next))
+next_started w rows h new q c (Answers r wake) holds row = context_started w rows h new q c r holds row
+next_started w rows h new q c (Sleeps none among) holds row = tt
 
 context_done : (w : Wiring) (rows : ℕ) (h new : HeldView) (q c : ℕ) (r : Result (Option ℕ) CallError) → Holds w rows h.book
     → IfOk r (λ next. AnswersStart h.book new.book q c next) → IfOk r (λ next. IfNone next (HasEnded h q)) → IfOk r (λ next. IfNone next (WasDoneIn w rows q c))
@@ -88,4 +121,4 @@ pub next_done : (w : Wiring) (rows : ℕ) (h new : HeldView) (q c : ℕ) (turn :
     → IfAnswers turn (λ r wake. IfOk r (λ next. AnswersStart h.book new.book q c next)) → IfAnswers turn (λ r wake. IfOk r (λ next. IfNone next (HasEnded h q)))
     → IfAnswers turn (λ r wake. IfOk r (λ next. IfNone next (WasDoneIn w rows q c)))
 next_done w rows h new q c (Answers r wake) holds row ended = context_done w rows h new q c r holds row ended
-next_done w rows h new q c (Sleeps none) holds row ended = tt
+next_done w rows h new q c (Sleeps none among) holds row ended = tt

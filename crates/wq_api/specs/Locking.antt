@@ -1,24 +1,27 @@
 -- Locking: what a lock asks of the calls that it hands what it protects, and what is known of them afterwards.
-use Rattle.std.specs.Prelude.{◌≡◌, ℕ, Result, Err}
+use Rattle.std.specs.Prelude.{◌≡◌, ℕ, Option, Bool, true, Result, Err}
 use denote.Ref.{MutBor}
 use Rattle.wq_core.specs.Wiring.{Wiring}
-use Rattle.wq_history.specs.Book.{HasNothingToStart}
+use Rattle.wq_history.specs.declared.sleepers.Sleepers.{Sleepers}
+use Rattle.wq_history.specs.declared.sleepers.Wake.{Wake}
+use Rattle.wq_history.specs.Events.{wait_event, over_event, finish_event}
+use Rattle.wq_history.specs.Book.{BookView, AppendsOne, HasNothingToStart}
+use Rattle.wq_history.specs.Answers.{AnswersStart}
 use Rattle.wq_held.specs.Locked.{HeldView, Holds}
 use Rattle.wq_under_lock.specs.declared.turn.Turn.{Turn}
 use Rattle.wq_under_lock.specs.declared.turn.Turn.TheVariants.{Answers, Sleeps}
-use Rattle.wq_under_lock.specs.declared.turn.Wake.{Wake}
 use Rattle.wq_under_lock.specs.Turns.{Wakes, HasEnded}
 
--- whatever the call finds: nobody is woken only if nothing has changed that a caller may wait for, which `same` says; and if its
--- caller is to sleep, nothing has changed
-abbrev pub AlwaysWakes : {H S W T : Type 0} → (H → H → Type 0) → (MutBor H → MutBor S → W → Turn T W → MutBor H → MutBor S → Type 0) → Type 0
-AlwaysWakes {H} {S} {W} {T} same call = (held held' : MutBor H) (own own' : MutBor S) (waits : W) (turn : Turn T W)
-    → call held own waits turn held' own' → Wakes same held.now held'.now turn
+-- whatever the call finds: enough are woken by what it does, which `enough` says; and if its caller is to sleep, nothing has
+-- changed, and there is such a group of sleepers, if there are so many lanes
+abbrev pub AlwaysWakes : {H S W T : Type 0} → ℕ → (H → H → Wake → Type 0) → (MutBor H → MutBor S → W → Turn T W → MutBor H → MutBor S → Type 0) → Type 0
+AlwaysWakes {H} {S} {W} {T} lanes enough call = (held held' : MutBor H) (own own' : MutBor S) (waits : W) (turn : Turn T W)
+    → call held own waits turn held' own' → Wakes lanes enough held.now held'.now turn
 
 -- if the caller of such a call is to sleep, what is the caller's own is as it was, and so is what it keeps
 abbrev pub SleepsUnchanged : {H S W T : Type 0} → (MutBor H → MutBor S → W → Turn T W → MutBor H → MutBor S → Type 0) → Type 0
-SleepsUnchanged {H} {S} {W} {T} call = (held held' : MutBor H) (own own' : MutBor S) (waits again : W)
-    → call held own waits (Sleeps again) held' own' → (own'.now ≡ own.now) × (again ≡ waits)
+SleepsUnchanged {H} {S} {W} {T} call = (held held' : MutBor H) (own own' : MutBor S) (waits again : W) (among : Sleepers)
+    → call held own waits (Sleeps again among) held' own' → (own'.now ≡ own.now) × (again ≡ waits)
 
 -- the call was made, and answered this: of the caller's own it found `old` and left `new`
 pub record HasAnswered {H S W T : Type 0} (call : MutBor H → MutBor S → W → Turn T W → MutBor H → MutBor S → Type 0) (old : S) (waits : W) (answer : T) (new : S) : Type 0 where
@@ -38,6 +41,23 @@ GivesBack {H} {S} {T} {E} call = (held held' : H) (own own' : S) (why : E) → c
 -- this holds of something that the lock of such a runtime may protect (which of it the lock did protect can't be said)
 abbrev pub UnderLock : Wiring → ℕ → (HeldView → Type 0) → Type 0
 UnderLock w rows P = (h : HeldView) × Holds w rows h.book × P h
+
+-- of something that the lock may protect: context c of lane q was to start the next entry, and this is what the book answered
+abbrev pub WasStartedIn : Wiring → ℕ → ℕ → ℕ → Option ℕ → Type 0
+WasStartedIn w rows q c next = UnderLock w rows (λ h. (new : BookView) × AnswersStart h.book new q c next)
+
+-- of something that the lock may protect: what context c of lane q runs began to wait for item b, or for the whole lane of b, and
+-- a row says so, with this answer
+abbrev pub WasBegunIn : Wiring → ℕ → ℕ → ℕ → Bool → ℕ → Bool → Type 0
+WasBegunIn w rows q c whole b unfinished = UnderLock w rows (λ h. (new : BookView) × AppendsOne h.book new (wait_event whole q c b) unfinished)
+
+-- of something that the lock may protect: such a wait was over, and a row says so
+abbrev pub WasOverIn : Wiring → ℕ → ℕ → ℕ → Bool → ℕ → Type 0
+WasOverIn w rows q c whole b = UnderLock w rows (λ h. (new : BookView) × AppendsOne h.book new (over_event whole q c b) true)
+
+-- of something that the lock may protect: context c of lane q finished an entry of item i, and a row says so
+abbrev pub WasFinishedIn : Wiring → ℕ → ℕ → ℕ → ℕ → Type 0
+WasFinishedIn w rows q c i = UnderLock w rows (λ h. (new : BookView) × AppendsOne h.book new (finish_event q c i) true)
 
 -- of something that the lock may protect: the book is closed, nothing is pending on lane q, and context c of the lane, which
 -- exists, runs nothing and has nothing to start. So whoever serves this context is done

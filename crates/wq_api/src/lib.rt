@@ -7,6 +7,7 @@
 #![tactic(auto)]
 
 mod closing;
+mod condvars;
 mod lock;
 mod runtime;
 mod serving;

@@ -1,34 +1,39 @@
 //! The lock of a runtime, and those who sleep until what it protects has changed.
 //!
-//! Nothing else in this crate takes the lock. `call` takes it, hands what it protects to a call of `wq_under_lock`, and wakes if
-//! that says so; it knows nothing of what it protects, and does nothing else to it. No caller sleeps with the lock held.
+//! Nothing else in this crate takes the lock. `call` takes it, hands what it protects to a call of `wq_under_lock`, and wakes whom that
+//! names; where the call has no answer yet, its caller sleeps among those whom it names. `Lock` knows nothing else of what it protects,
+//! and does nothing else to it. No caller sleeps with the lock held.
 
-ghost use Rattle.std.specs.Prelude.{◌≡◌, IfOk, IfErr};
+ghost use Rattle.std.specs.Prelude.{◌≡◌, vec_len, IfOk, IfErr};
 ghost use Rattle.wq_api.specs.Locking.{AlwaysWakes, SleepsUnchanged, HasAnswered, GivesBack};
 
-use std::sync::{Condvar, Mutex, Wait};
-use wq_under_lock::{Turn, Wake, Watched};
+use crate::condvars::Condvars;
+use std::alloc::Allocator;
+use std::sync::{Mutex, Wait};
+use wq_under_lock::{Turn, Watched};
 
-/// Something under a lock, and a condition variable for those who sleep until it has changed.
+/// Something under a lock, and the condition variables of those who sleep until it has changed.
 #[derive(Drop)]
-pub(crate) struct Lock<H> {
+pub(crate) struct Lock<H: Watched, A: Allocator> {
     held: Mutex<H>,
-    changed: Condvar,
+    condvars: Condvars<A>,
 }
 
-impl<H: Watched> Lock<H> {
-    /// Puts something under a lock to which nothing has happened yet.
-    pub(crate) fn new(held: H) -> Self
+impl<H: Watched, A: Allocator> Lock<H, A> {
+    /// Puts something under a lock to which nothing has happened yet, with these condition variables.
+    pub(crate) fn new(held: H, condvars: Condvars<A>) -> Self
         requires { H.is_fresh held }
+        ensures { result.condvars ≡ condvars }
     {
         Lock {
             held: Mutex::new(held),
-            changed: Condvar::new(),
+            condvars,
         }
     }
 
-    /// Takes the lock, makes the call, releases the lock, and wakes all who sleep if the call says so. Where the call has no answer
-    /// yet, its caller sleeps, and the call is made again when something may have changed.
+    /// Takes the lock, makes the call, releases the lock, and wakes whom the call names. Where the call has no answer yet, its caller
+    /// sleeps among those whom the call names, and the call is made again when one of them is woken. There is a condition variable for
+    /// each group of sleepers.
     ///
     /// The call is lent what the lock protects, and what is its caller's own; it is given what its caller keeps while it sleeps.
     pub(crate) fn call<R: Wait, S, W, T, F: for<'a> Fn(&'a mut H, &'a mut S, W) -> Turn<T, W>>(
@@ -38,8 +43,9 @@ impl<H: Watched> Lock<H> {
         waits: W,
         call: F,
     ) -> T
+        requires lanes { vec_len self.now.condvars.lanes ≡ H.lanes }
         requires callable { F.IsAlwaysCallable call }
-        requires wakes { AlwaysWakes H.is_same (F.post call) }
+        requires wakes { AlwaysWakes H.lanes H.wakes_enough (F.post call) }
         requires sleeps { SleepsUnchanged (F.post call) }
         ensures { HasAnswered (F.post call) own.old waits result own.new }
     {
@@ -49,14 +55,14 @@ impl<H: Watched> Lock<H> {
             match call(&mut *held, own, waits) {
                 Turn::Answers(answer, wake) => {
                     drop(held);
-                    if wake == Wake::Everybody {
-                        self.changed.notify_all();
-                    }
+                    self.condvars.wake(&wake);
                     return answer;
                 }
-                Turn::Sleeps(again) => waits = again,
+                Turn::Sleeps(again, among) => {
+                    waits = again;
+                    held = self.condvars.of(among).wait(rt, held);
+                }
             }
-            held = self.changed.wait(rt, held);
         }
         unreachable!()
     }
@@ -71,15 +77,15 @@ impl<H: Watched> Lock<H> {
         requires callable { F.IsAlwaysCallable call }
         requires gives_back { GivesBack (F.post call) }
         ensures ended { IfOk result (λ t. (held : _) × F.post call held own (Ok t)) }
-        ensures kept { IfErr result (λ e. e.1 ≡ own) }
+        ensures kept { IfErr result (λ e. (e.0.condvars ≡ self.condvars) × (e.1 ≡ own)) }
     {
-        let Lock { held, changed } = self;
+        let Lock { held, condvars } = self;
         match call(held.into_inner(), own) {
             Ok(ended) => Ok(ended),
             Err((held, own, why)) => Err((
                 Lock {
                     held: Mutex::new(held),
-                    changed,
+                    condvars,
                 },
                 own,
                 why,

@@ -8,7 +8,7 @@
 //! of workqueues, whichever is larger, and `new` also the time of the wait graph of the workqueues and of its ranks, and room for the
 //! rows, 12 bytes for each.
 
-ghost use Rattle.std.specs.Prelude.{◌≡◌, ◌<◌, ◌≤◌, ◌↔◌, ◌*◌, length, replicate, Bool, true, IsTrue, IfOk, IfErr, OnOk, IfSome, IfNone};
+ghost use Rattle.std.specs.Prelude.{◌≡◌, ◌<◌, ◌≤◌, ◌↔◌, ◌*◌, length, vec_len, replicate, Bool, true, IsTrue, IfOk, IfErr, OnOk, IfSome, IfNone};
 ghost use Rattle.wq_groups.specs.Declaration.{declaration_of};
 ghost use Rattle.wq_core.specs.Wiring.{wiring, with_helpers, helpers_of, HasContext, items};
 ghost use Rattle.wq_counts.specs.declared.kind.Kind.TheVariants.{Queue, Cancel, Told as ToldKind};
@@ -22,6 +22,7 @@ ghost use Rattle.wq_under_lock.specs.Refusals.{RefusesRuntime, MakesRuntime, Ref
 ghost use Rattle.wq_api.specs.WaitingCalls.{RefusesFlushWork, flushed, flush_refused, CountsCancelSync, RefusedCancelSync, RefusesFlushWorkqueue, lane_flushed, lane_flush_refused};
 ghost use Rattle.wq_api.specs.Locking.{UnderLock};
 
+use crate::condvars::Condvars;
 use crate::lock::Lock;
 use std::alloc::Allocator;
 use std::sync::Wait;
@@ -35,7 +36,8 @@ use wq_under_lock::{NewError, new_held};
 /// A runtime: the workqueues of one assignment, which any number of threads share by reference.
 #[derive(Drop)]
 pub struct WqRuntime<N: Naming, A: Allocator> {
-    pub(crate) lock: Lock<Held<N, A>>,
+    pub(crate) lock: Lock<Held<N, A>, A>,
+    ghost one_each: { vec_len lock.condvars.lanes ≡ N.wiring.lanes },
 }
 
 impl<N: Naming, A: Allocator + Copy> WqRuntime<N, A> {
@@ -93,8 +95,9 @@ impl<N: Naming, A: Allocator + Copy> WqRuntime<N, A> {
         ensures refused { IfErr result (RefusesRuntime N.wiring rows) }
     {
         let held = new_held(alloc, blank, table, groups, assignment, rows, helpers)?;
+        let condvars = Condvars::new(alloc, assignment.lanes())?;
         Ok(WqRuntime {
-            lock: Lock::new(held),
+            lock: Lock::new(held, condvars),
         })
     }
 

@@ -13,9 +13,9 @@ ghost use Rattle.wq_counts.specs.Counting.{raised, wait_kind, over_kind};
 ghost use Rattle.wq_held.specs.declared.fault.CallError.TheVariants.{WrongLane};
 ghost use Rattle.wq_held.specs.Locked.{IsOnLane, HasRoom};
 ghost use Rattle.wq_under_lock.specs.Refusals.{RefusesWaitFor, RefusesWaitIn};
-ghost use Rattle.wq_under_lock.specs.Turns.{AnswersWith, IfAnswers, Wakes, IsSameToSleepers};
+ghost use Rattle.wq_under_lock.specs.Turns.{AnswersWith, IfAnswers, Wakes, WakesEnoughOf};
 ghost use Rattle.wq_api.specs.WaitingCalls.{IsHelper, waited_for, RefusedWaitFor, RefusedWaitIn, RefusesHelpWaitFor, RefusedHelpWaitFor, HasWaiter};
-ghost use Rattle.wq_api.specs.Locking.{WasDone, WasDoneIn};
+ghost use Rattle.wq_api.specs.Locking.{WasStartedIn, WasBegunIn, WasOverIn, WasFinishedIn, WasDone, WasDoneIn};
 
 use crate::runtime::WqRuntime;
 use std::alloc::Allocator;
@@ -36,7 +36,8 @@ fn next_turn<N: Naming, A: Allocator>(
     ensures started { IfAnswers result (λ r wake. IfOk r (λ next. HasContext N.wiring q helper × IfSome next (λ item. IsOnLane N.wiring q item))) }
     ensures refused { IfAnswers result (λ r wake. IfErr r (λ e. e ≡ WrongLane)) }
     ensures ended { IfAnswers result (λ r wake. IfOk r (λ next. IfNone next (WasDoneIn N.wiring N.rows q helper))) }
-    ensures wakes { Wakes IsSameToSleepers held.old held.new result }
+    ensures made { IfAnswers result (λ r wake. IfOk r (λ next. WasStartedIn N.wiring N.rows q helper next)) }
+    ensures wakes { Wakes N.wiring.lanes WakesEnoughOf held.old held.new result }
 {
     wq_under_lock::next(held, q, helper)
 }
@@ -53,9 +54,9 @@ fn wait_turn<N: Naming, A: Allocator>(
     ensures counted { AnswersWith result (λ r wake. IfOk r (λ unfinished. HasContext N.wiring q helper × (target < items N.wiring) × HasRoom seat.old × (seat.new ≡ raised seat.old target (wait_kind whole) unfinished))) }
     ensures refused { AnswersWith result (λ r wake. IfErr r (λ e. RefusesWaitIn N.wiring seat.old q helper e × (seat.new ≡ seat.old))) }
     ensures waiter { AnswersWith result (λ r wake. HasContext N.wiring q helper → HasRoom seat.old → HasWaiter N.wiring q whole target r) }
-    ensures wakes { Wakes IsSameToSleepers held.old held.new result }
+    ensures began { AnswersWith result (λ r wake. IfOk r (λ unfinished. WasBegunIn N.wiring N.rows q helper whole target unfinished)) }
+    ensures wakes { Wakes N.wiring.lanes WakesEnoughOf held.old held.new result }
 {
-    held.holds();
     wq_under_lock::begin_wait(held, seat, q, helper, whole, target)
 }
 
@@ -76,6 +77,7 @@ impl<N: Naming, A: Allocator> WqRuntime<N, A> {
         ensures started { IfOk result (λ next. HasContext N.wiring q helper × IfSome next (λ item. IsOnLane N.wiring q item)) }
         ensures refused { IfErr result (λ e. e ≡ WrongLane) }
         ensures ended { IfOk result (λ next. IfNone next (WasDoneIn N.wiring N.rows q helper)) }
+        ensures made { IfOk result (λ next. WasStartedIn N.wiring N.rows q helper next) }
     {
         self.lock.call(rt, &mut (), (), |held, _, _| { next_turn(held, q, helper) })
     }
@@ -93,6 +95,7 @@ impl<N: Naming, A: Allocator> WqRuntime<N, A> {
         ensures counted { IfOk result (λ unfinished. HasContext N.wiring q helper × (target < items N.wiring) × HasRoom seat.old × (seat.new ≡ raised seat.old target (wait_kind whole) unfinished)) }
         ensures refused { IfErr result (λ e. RefusesWaitIn N.wiring seat.old q helper e × (seat.new ≡ seat.old)) }
         ensures waiter { HasContext N.wiring q helper → HasRoom seat.old → HasWaiter N.wiring q whole target result }
+        ensures began { IfOk result (λ unfinished. WasBegunIn N.wiring N.rows q helper whole target unfinished) }
     {
         self.lock.call(rt, seat, (), |held, seat, _| {
             wait_turn(held, seat, q, helper, whole, target)
@@ -100,6 +103,7 @@ impl<N: Naming, A: Allocator> WqRuntime<N, A> {
     }
 
     /// Waits until the wait of a context for an item, or for its whole workqueue, is over.
+    #[tactic(auto, using(crate::proofs::Waiters::wait_over))]
     fn go_on<R: Wait>(
         &self,
         rt: &R,
@@ -111,6 +115,7 @@ impl<N: Naming, A: Allocator> WqRuntime<N, A> {
     ) -> Result<(), CallError>
         ensures counted { OnOk result (seat.new ≡ raised seat.old target (over_kind whole) true) }
         ensures refused { IfErr result (λ e. (e ≡ WrongLane) × (seat.new ≡ seat.old)) }
+        ensures over { OnOk result (WasOverIn N.wiring N.rows q helper whole target) }
     {
         self.lock.call(rt, seat, (), |held, seat, _| {
             wq_under_lock::go_on(held, seat, q, helper, whole, target)
@@ -131,6 +136,8 @@ impl<N: Naming, A: Allocator> WqRuntime<N, A> {
         ensures counted { IfOk result (λ unfinished. HasContext N.wiring q helper × (target < items N.wiring) × HasRoom seat.old × (seat.new ≡ waited_for seat.old whole target unfinished)) }
         ensures refused { IfErr result (λ e. RefusesWaitIn N.wiring seat.old q helper e × RefusedWaitIn N.wiring seat.old seat.new q helper whole target e) }
         ensures waiter { HasContext N.wiring q helper → HasRoom seat.old → HasWaiter N.wiring q whole target result }
+        ensures began { IfOk result (λ unfinished. WasBegunIn N.wiring N.rows q helper whole target unfinished) }
+        ensures over { OnOk result (WasOverIn N.wiring N.rows q helper whole target) }
     {
         let unfinished = self.begin_wait(rt, seat, q, helper, whole, target)?;
         self.go_on(rt, seat, q, helper, whole, target)?;
@@ -155,6 +162,8 @@ impl<N: Naming, A: Allocator> WqRuntime<N, A> {
         ensures counted { IfOk result (λ unfinished. HasContext N.wiring q helper × (target < items N.wiring) × HasRoom seat.old × (seat.new ≡ waited_for seat.old false target unfinished)) }
         ensures refused { IfErr result (λ e. RefusesWaitIn N.wiring seat.old q helper e × RefusedWaitIn N.wiring seat.old seat.new q helper false target e) }
         ensures waiter { HasContext N.wiring q helper → HasRoom seat.old → HasWaiter N.wiring q false target result }
+        ensures began { IfOk result (λ unfinished. WasBegunIn N.wiring N.rows q helper false target unfinished) }
+        ensures over { OnOk result (WasOverIn N.wiring N.rows q helper false target) }
     {
         self.wait_by(rt, seat, q, helper, false, target)
     }
@@ -177,6 +186,8 @@ impl<N: Naming, A: Allocator> WqRuntime<N, A> {
         ensures counted { IfOk result (λ unfinished. HasContext N.wiring q helper × (target < items N.wiring) × HasRoom seat.old × (seat.new ≡ waited_for seat.old true target unfinished)) }
         ensures refused { IfErr result (λ e. RefusesWaitIn N.wiring seat.old q helper e × RefusedWaitIn N.wiring seat.old seat.new q helper true target e) }
         ensures waiter { HasContext N.wiring q helper → HasRoom seat.old → HasWaiter N.wiring q true target result }
+        ensures began { IfOk result (λ unfinished. WasBegunIn N.wiring N.rows q helper true target unfinished) }
+        ensures over { OnOk result (WasOverIn N.wiring N.rows q helper true target) }
     {
         self.wait_by(rt, seat, q, helper, true, target)
     }
@@ -185,6 +196,7 @@ impl<N: Naming, A: Allocator> WqRuntime<N, A> {
     ///
     /// The only error is `WrongLane` (64): there is no such context, it runs nothing or an entry of another item, or it waits.
     /// After an error nothing is changed or counted.
+    #[tactic(auto, using(crate::proofs::Waiters::entry_finished))]
     pub fn finish_in<R: Wait>(
         &self,
         rt: &R,
@@ -195,6 +207,7 @@ impl<N: Naming, A: Allocator> WqRuntime<N, A> {
     ) -> Result<(), CallError>
         ensures counted { OnOk result (HasContext N.wiring q helper × IsOnLane N.wiring q item × (seat.new ≡ raised seat.old item FinishKind true)) }
         ensures refused { IfErr result (λ e. (e ≡ WrongLane) × (seat.new ≡ seat.old)) }
+        ensures made { OnOk result (WasFinishedIn N.wiring N.rows q helper item) }
     {
         self.lock.call(rt, seat, (), |held, seat, _| {
             wq_under_lock::finish_work(held, seat, q, helper, item)
@@ -212,6 +225,7 @@ impl<N: Naming, A: Allocator> WqRuntime<N, A> {
         ensures started { IfOk result (λ next. (q < N.wiring.lanes) × IfSome next (λ item. IsOnLane N.wiring q item)) }
         ensures refused { IfErr result (λ e. e ≡ WrongLane) }
         ensures ended { IfOk result (λ next. IfNone next (WasDone N.wiring N.rows q)) }
+        ensures made { IfOk result (λ next. WasStartedIn N.wiring N.rows q 0 next) }
     {
         self.next_in(rt, q, 0)
     }
@@ -233,6 +247,8 @@ impl<N: Naming, A: Allocator> WqRuntime<N, A> {
         ensures counted { IfOk result (λ unfinished. (q < N.wiring.lanes) × (target < items N.wiring) × HasRoom seat.old × (seat.new ≡ waited_for seat.old false target unfinished)) }
         ensures refused { IfErr result (λ e. RefusesWaitFor N.wiring seat.old q e × RefusedWaitFor N.wiring seat.old seat.new q false target e) }
         ensures waiter { q < N.wiring.lanes → HasRoom seat.old → HasWaiter N.wiring q false target result }
+        ensures began { IfOk result (λ unfinished. WasBegunIn N.wiring N.rows q 0 false target unfinished) }
+        ensures over { OnOk result (WasOverIn N.wiring N.rows q 0 false target) }
     {
         self.wait_for_in(rt, seat, q, 0, target)
     }
@@ -254,6 +270,8 @@ impl<N: Naming, A: Allocator> WqRuntime<N, A> {
         ensures counted { IfOk result (λ unfinished. (q < N.wiring.lanes) × (target < items N.wiring) × HasRoom seat.old × (seat.new ≡ waited_for seat.old true target unfinished)) }
         ensures refused { IfErr result (λ e. RefusesWaitFor N.wiring seat.old q e × RefusedWaitFor N.wiring seat.old seat.new q true target e) }
         ensures waiter { q < N.wiring.lanes → HasRoom seat.old → HasWaiter N.wiring q true target result }
+        ensures began { IfOk result (λ unfinished. WasBegunIn N.wiring N.rows q 0 true target unfinished) }
+        ensures over { OnOk result (WasOverIn N.wiring N.rows q 0 true target) }
     {
         self.wait_all_for_in(rt, seat, q, 0, target)
     }
@@ -271,6 +289,7 @@ impl<N: Naming, A: Allocator> WqRuntime<N, A> {
     ) -> Result<(), CallError>
         ensures counted { OnOk result (IsOnLane N.wiring q item × (seat.new ≡ raised seat.old item FinishKind true)) }
         ensures refused { IfErr result (λ e. (e ≡ WrongLane) × (seat.new ≡ seat.old)) }
+        ensures made { OnOk result (WasFinishedIn N.wiring N.rows q 0 item) }
     {
         self.finish_in(rt, seat, q, 0, item)
     }
@@ -286,6 +305,7 @@ impl<N: Naming, A: Allocator> WqRuntime<N, A> {
         ensures started { IfOk result (λ next. IsHelper N.wiring q h × IfSome next (λ item. IsOnLane N.wiring q item)) }
         ensures refused { IfErr result (λ e. e ≡ WrongLane) }
         ensures ended { IfOk result (λ next. IfNone next (WasDoneIn N.wiring N.rows q h)) }
+        ensures made { IfOk result (λ next. WasStartedIn N.wiring N.rows q h next) }
     {
         if h == 0 {
             return Err(CallError::WrongLane);
@@ -310,6 +330,8 @@ impl<N: Naming, A: Allocator> WqRuntime<N, A> {
         ensures counted { IfOk result (λ unfinished. IsHelper N.wiring q h × (target < items N.wiring) × HasRoom seat.old × (seat.new ≡ waited_for seat.old false target unfinished)) }
         ensures refused { IfErr result (λ e. RefusesHelpWaitFor N.wiring seat.old q h e × RefusedHelpWaitFor N.wiring seat.old seat.new q h false target e) }
         ensures waiter { IsHelper N.wiring q h → HasRoom seat.old → HasWaiter N.wiring q false target result }
+        ensures began { IfOk result (λ unfinished. WasBegunIn N.wiring N.rows q h false target unfinished) }
+        ensures over { OnOk result (WasOverIn N.wiring N.rows q h false target) }
     {
         if h == 0 {
             return Err(CallError::WrongLane);
@@ -334,6 +356,8 @@ impl<N: Naming, A: Allocator> WqRuntime<N, A> {
         ensures counted { IfOk result (λ unfinished. IsHelper N.wiring q h × (target < items N.wiring) × HasRoom seat.old × (seat.new ≡ waited_for seat.old true target unfinished)) }
         ensures refused { IfErr result (λ e. RefusesHelpWaitFor N.wiring seat.old q h e × RefusedHelpWaitFor N.wiring seat.old seat.new q h true target e) }
         ensures waiter { IsHelper N.wiring q h → HasRoom seat.old → HasWaiter N.wiring q true target result }
+        ensures began { IfOk result (λ unfinished. WasBegunIn N.wiring N.rows q h true target unfinished) }
+        ensures over { OnOk result (WasOverIn N.wiring N.rows q h true target) }
     {
         if h == 0 {
             return Err(CallError::WrongLane);
@@ -355,6 +379,7 @@ impl<N: Naming, A: Allocator> WqRuntime<N, A> {
     ) -> Result<(), CallError>
         ensures counted { OnOk result (IsHelper N.wiring q h × IsOnLane N.wiring q item × (seat.new ≡ raised seat.old item FinishKind true)) }
         ensures refused { IfErr result (λ e. (e ≡ WrongLane) × (seat.new ≡ seat.old)) }
+        ensures made { OnOk result (WasFinishedIn N.wiring N.rows q h item) }
     {
         if h == 0 {
             return Err(CallError::WrongLane);

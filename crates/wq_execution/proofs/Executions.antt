@@ -137,6 +137,12 @@ few_finished items slots before counts width runs finished faults serving has wi
     let few : finished < 4294967295 = omega (arith, serving.in_all, finished_in_all-le items slots counts has within) in
     (few, omega (arith, serving.faults_within, few))
 
+-- and so has its body run any item fewer times
+pub few_runs : (items slots : ℕ) (before counts : List ℕ) (width : ℕ) (runs : ℕ → ℕ) (finished faults i : ℕ)
+    → IsServing items before counts width runs finished faults → HasCountsOf slots counts → items ≤ slots → i < items → sum counts < seat_rows → runs i < 4294967295
+few_runs items slots before counts width runs finished faults i serving has within there room =
+    omega (arith, serving.ran i, finished_of-le slots counts i has (omega arith), room)
+
 -- a number that isn't at its limit is below it
 pub below_limit : (b : Bool) (limit n : ℕ) → (IsTrue b ↔ (limit ≤ n)) → b ≡ false → n < limit
 below_limit b limit n says is = elim (cases_lt n limit) [

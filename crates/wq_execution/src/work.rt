@@ -5,13 +5,14 @@
 //! `flush_workqueue` in a work function, Documentation/core-api/workqueue.rst, "Guidelines"). Apart from what it waits for, a call
 //! takes the time of the runtime's own call.
 
-ghost use Rattle.std.specs.Prelude.{◌≡◌, ◌<◌, true, false, IfOk, IfErr};
+ghost use Rattle.std.specs.Prelude.{◌≡◌, ◌<◌, true, false, IfOk, IfErr, OnOk};
 ghost use Rattle.wq_core.specs.Wiring.{items, HasContext};
 ghost use Rattle.wq_counts.specs.declared.kind.Kind.TheVariants.{Queue, Cancel};
 ghost use Rattle.wq_counts.specs.Counting.{HasCountsOf, raised};
 ghost use Rattle.wq_held.specs.Locked.{slots, HasRoom};
 ghost use Rattle.wq_under_lock.specs.Refusals.{RefusesCancelWork, RefusesWaitIn};
 ghost use Rattle.wq_api.specs.WaitingCalls.{waited_for, RefusedWaitIn, HasWaiter};
+ghost use Rattle.wq_api.specs.Locking.{WasBegunIn, WasOverIn};
 ghost use Rattle.wq_execution.specs.Executing.{SameFinished, RefusesQueueByBody};
 
 use std::alloc::Allocator;
@@ -113,6 +114,8 @@ impl<'a, N: Naming, A: Allocator> Work<'a, N, A> {
         ensures counted { IfOk result (λ unfinished. HasContext N.wiring self.old.context.lane self.old.context.helper × (target < items N.wiring) × HasRoom self.old.seat.now × (self.new.seat.now ≡ waited_for self.old.seat.now false target unfinished)) }
         ensures refused { IfErr result (λ e. RefusesWaitIn N.wiring self.old.seat.now self.old.context.lane self.old.context.helper e × RefusedWaitIn N.wiring self.old.seat.now self.new.seat.now self.old.context.lane self.old.context.helper false target e) }
         ensures waiter { HasContext N.wiring self.old.context.lane self.old.context.helper → HasRoom self.old.seat.now → HasWaiter N.wiring self.old.context.lane false target result }
+        ensures began { IfOk result (λ unfinished. WasBegunIn N.wiring N.rows self.old.context.lane self.old.context.helper false target unfinished) }
+        ensures over { OnOk result (WasOverIn N.wiring N.rows self.old.context.lane self.old.context.helper false target) }
         ensures finished { SameFinished self.old.seat.now self.new.seat.now }
         ensures same_seat { self.new.seat.ghost_name ≡ self.old.seat.ghost_name }
         ensures context { self.new.context ≡ self.old.context }
@@ -136,6 +139,8 @@ impl<'a, N: Naming, A: Allocator> Work<'a, N, A> {
         ensures counted { IfOk result (λ unfinished. HasContext N.wiring self.old.context.lane self.old.context.helper × (target < items N.wiring) × HasRoom self.old.seat.now × (self.new.seat.now ≡ waited_for self.old.seat.now true target unfinished)) }
         ensures refused { IfErr result (λ e. RefusesWaitIn N.wiring self.old.seat.now self.old.context.lane self.old.context.helper e × RefusedWaitIn N.wiring self.old.seat.now self.new.seat.now self.old.context.lane self.old.context.helper true target e) }
         ensures waiter { HasContext N.wiring self.old.context.lane self.old.context.helper → HasRoom self.old.seat.now → HasWaiter N.wiring self.old.context.lane true target result }
+        ensures began { IfOk result (λ unfinished. WasBegunIn N.wiring N.rows self.old.context.lane self.old.context.helper true target unfinished) }
+        ensures over { OnOk result (WasOverIn N.wiring N.rows self.old.context.lane self.old.context.helper true target) }
         ensures finished { SameFinished self.old.seat.now self.new.seat.now }
         ensures same_seat { self.new.seat.ghost_name ≡ self.old.seat.ghost_name }
         ensures context { self.new.context ≡ self.old.context }

@@ -13,11 +13,12 @@ use Rattle.wq_held.specs.declared.fault.CallError.{CallError}
 use Rattle.wq_execution.specs.declared.rescuing.Rescued.{Rescued}
 use Rattle.wq_core.specs.declared.step.Context.{Context}
 use Rattle.wq_core.specs.Wiring.{Wiring, items}
+use Rattle.wq_api.specs.Locking.{WasDone, WasDoneIn}
 use Rattle.wq_execution.specs.Executing.{RanOnly, RefusesHelp, RefusesRescue, RefusesServe, finished_of, finished_in_all, CountsRuns, CountsAtMost}
 use Rattle.wq_rescuer.specs.declared.running.RunWhy.{RunWhy}
 use Rattle.wq_rescuer.specs.declared.running.RunWhy.TheVariants.{BodiesDiffer, TooManySeats, OutOfMemory, NoThread}
 use Rattle.wq_rescuer.specs.Contexts.{contexts_of}
-use Rattle.wq_rescuer.specs.Serving.{IsServed, AreServed, AreLastFirst, IsNoSeat, RefusesRun}
+use Rattle.wq_rescuer.specs.Serving.{IsServed, AreServed, CameBackDone, AreDone, AreLastFirst, IsNoSeat, RefusesRun}
 
 -- ---- a seat without counts
 
@@ -67,6 +68,16 @@ rescue_refused w q c seat r is = IfErr-weaker r _ _ (λ e why other. let h = why
 -- and where it serves as a helper
 pub help_refused : (w : Wiring) (q c : ℕ) (seat : List ℕ) (r : Result Rescued CallError) → IfErr r (λ e. RefusesHelp w q c seat e) → IfErr r (λ e. RefusesServe w q c seat e)
 help_refused w q c seat r = IfErr-weaker r _ _ (λ e why other. let h = why other in (h.0, h.1.1, h.2))
+
+-- a context that serves as the rescuer is done when the rescuer is
+pub rescue_done : (w : Wiring) (rows q c : ℕ) (r : Result Rescued CallError) → c ≡ 0 → OnOk r (WasDone w rows q) → OnOk r (WasDoneIn w rows q c)
+rescue_done w rows q c r is done = subst (λ (n : ℕ). OnOk r (WasDoneIn w rows q n)) (sym is) done
+
+-- and it comes back so
+pub came_back_done : (w : Wiring) (rows : ℕ) (context : Context) (answer : Result Rescued CallError) → OnOk answer (WasDoneIn w rows context.lane context.helper)
+    → CameBackDone w rows context answer
+came_back_done w rows context (Ok r) done = λ x is. ∣ done ∣₁
+came_back_done w rows context (Err e) done = λ x is. (let wrong : true ≡ false = ap is_err is in cc)
 
 -- ---- all contexts
 
@@ -238,6 +249,22 @@ all_served w all n seats runs rescued are ended = record {
   an_answer_each = are.an_answer_each ∙ ended;
   served = are.served;
 }
+
+-- no context has answered
+pub none_done : (w : Wiring) (rows : ℕ) (all : List Context) (rescued : List (Result Rescued CallError)) → rescued ≡ [] → AreDone w rows all rescued
+none_done w rows all rescued none = λ n c a c_at a_at. absurd (past rescued n a a_at (omega (arith, ap length none)))
+
+-- one more context has answered
+pub done_more : (w : Wiring) (rows : ℕ) (all : List Context) (n : ℕ) (rescued more : List (Result Rescued CallError)) (context : Context) (answer : Result Rescued CallError)
+    → AreDone w rows all rescued → length rescued ≡ n → slice_get all n ≡ Some context → CameBackDone w rows context answer
+    → more ≡ rescued ++ (answer ∷ []) → AreDone w rows all more
+done_more w rows all n rescued more context answer are long here is added =
+    subst (AreDone w rows all) (sym added) (λ k c a c_at a_at. elim (at_place rescued answer k a a_at) [
+      | inl among ↦ are k c a c_at among
+      | inr last ↦ (let place : n ≡ k = omega (arith, last.0, long) in
+          let same : context ≡ c = some_same context c (sym here ∙ ap (slice_get all) place ∙ c_at) in
+          subst (λ (x : Context). CameBackDone w rows x a) same (subst (λ (x : Result Rescued CallError). CameBackDone w rows context x) last.1 is))
+    ])
 
 -- a sum over a list that is known to have one more
 pub sum_by-added : {X : Type 0} (f : X → ℕ) (xs ys : List X) (x : X) → ys ≡ xs ++ (x ∷ []) → sum_by f ys ≡ sum_by f xs + f x

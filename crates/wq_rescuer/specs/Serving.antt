@@ -6,6 +6,7 @@ use Rattle.wq_core.specs.declared.step.Context.{Context}
 use Rattle.wq_core.specs.Wiring.{Wiring, items}
 use Rattle.wq_counts.specs.Counting.{counts_each}
 use Rattle.wq_held.specs.declared.fault.CallError.{CallError}
+use Rattle.wq_api.specs.Locking.{WasDoneIn}
 use Rattle.wq_execution.specs.declared.rescuing.Rescued.{Rescued}
 use Rattle.wq_rescuer.specs.declared.running.RunWhy.{RunWhy}
 use Rattle.wq_rescuer.specs.declared.running.RunWhy.TheVariants.{BodiesDiffer, TooManySeats, OutOfMemory, NoThread}
@@ -36,6 +37,16 @@ pub record AreServed (w : Wiring) (served_by : List Context) (seats : List (List
   pub an_answer_each : length rescued ≡ length served_by
   pub served : (n : ℕ) (context : Context) (seat : List ℕ) (ran : ℕ → ℕ) (answer : Result Rescued CallError) → slice_get served_by n ≡ Some context → slice_get seats n ≡ Some seat
       → slice_get runs n ≡ Some ran → slice_get rescued n ≡ Some answer → IsServed w context seat ran answer
+
+-- a context of a runtime with this wiring and this many rows came back with this answer: if it wasn't refused, it was done. (What its
+-- lock may protect, so that it was, isn't handed back.)
+abbrev pub CameBackDone : Wiring → ℕ → Context → Result Rescued CallError → Type 0
+CameBackDone w rows context answer = ForOk answer (λ (rescued : Rescued). ∥ WasDoneIn w rows context.lane context.helper ∥₁)
+
+-- so did each of these contexts, one after the other
+abbrev pub AreDone : Wiring → ℕ → List Context → List (Result Rescued CallError) → Type 0
+AreDone w rows served_by rescued = (n : ℕ) (context : Context) (answer : Result Rescued CallError) → slice_get served_by n ≡ Some context → slice_get rescued n ≡ Some answer
+    → CameBackDone w rows context answer
 
 -- everything was run, with this wiring, and this many callers: there is a seat for each context and then for each caller; what the
 -- contexts hand back is true; each caller answered; and the numbers of executions and faults are the sums over the contexts that

@@ -7,8 +7,9 @@ ghost use Rattle.std.specs.Prelude.{◌≡◌, ℕ, ◌+◌, ◌≤◌, ◌*◌,
 ghost use Rattle.wq_core.specs.Wiring.{items};
 ghost use Rattle.wq_counts.specs.Counting.{counts_each};
 ghost use Rattle.wq_held.specs.Locked.{slots};
+ghost use Rattle.wq_api.specs.Locking.{WasDoneIn};
 ghost use Rattle.wq_execution.specs.Executing.{NeverRan, RanOnly, CountsRuns, CountsAtMost, RefusesServe, finished_in_all};
-ghost use Rattle.wq_rescuer.specs.Serving.{IsServed};
+ghost use Rattle.wq_rescuer.specs.Serving.{IsServed, CameBackDone};
 
 use std::alloc::Allocator;
 use std::sync::Wait;
@@ -35,10 +36,11 @@ pub(crate) struct ContextEnd<N: Naming, A: Allocator, B: Body + Drop> {
     pub(crate) body: B,
     pub(crate) rescued: Result<Rescued, CallError>,
     ghost served: { IsServed N.wiring context seat (B.runs body) rescued },
+    ghost ended: { CameBackDone N.wiring N.rows context rescued },
 }
 
 /// Serves the workqueue of a context, as its rescuer or as this helper of it.
-#[tactic(auto, using(crate::proofs::Handovers::rescue_refused, crate::proofs::Handovers::help_refused))]
+#[tactic(auto, using(crate::proofs::Handovers::rescue_refused, crate::proofs::Handovers::help_refused, crate::proofs::Handovers::rescue_done))]
 fn serve_as<N: Naming, A: Allocator, R: Wait, B: Body>(
     rt: &R,
     runtime: &WqRuntime<N, A>,
@@ -54,6 +56,7 @@ fn serve_as<N: Naming, A: Allocator, R: Wait, B: Body>(
     ensures own { RanOnly N.wiring context.now.lane (B.runs body.new) }
     ensures why { IfErr result (λ e. RefusesServe N.wiring context.now.lane context.now.helper seat.new e) }
     ensures refused { OnErr result (CountsAtMost seat.old seat.new (B.runs body.new)) }
+    ensures ended { OnOk result (WasDoneIn N.wiring N.rows context.now.lane context.now.helper) }
 {
     if context.helper == 0 {
         return rescue(rt, runtime, context.lane, seat, body);

@@ -9,7 +9,7 @@ ghost use Rattle.wq_core.specs.Wiring.{items};
 ghost use Rattle.wq_held.specs.Locked.{slots};
 ghost use Rattle.wq_execution.specs.Executing.{NeverRan};
 ghost use Rattle.wq_rescuer.specs.Contexts.{contexts_of};
-ghost use Rattle.wq_rescuer.specs.Serving.{AreFirstSeats, IsNoSeat, IsRan, RefusesRun, run_code};
+ghost use Rattle.wq_rescuer.specs.Serving.{AreDone, AreFirstSeats, IsNoSeat, IsRan, RefusesRun, run_code};
 ghost use Rattle.wq_rescuer.specs.declared.running.RunWhy.TheVariants.{BodiesDiffer, OutOfMemory, NoThread};
 
 use crate::board::{add_callers, add_contexts};
@@ -116,6 +116,7 @@ pub fn run_all<
     requires width { All (λ body. items N.wiring ≤ B.width body) bodies.items }
     requires never_ran { All (λ body. NeverRan (B.runs body)) bodies.items }
     ensures ran { IfOk result (λ r. (vec_len bodies ≡ length (contexts_of N.wiring)) × IsRan N.wiring (vec_len callers) r.seats.items (map B.runs r.bodies.items) (vec_len r.callers) (vec_len r.results) r.rescued.items r.finished r.faults) }
+    ensures ended { IfOk result (λ r. AreDone N.wiring N.rows (contexts_of N.wiring) r.rescued.items) }
     ensures refused { IfErr result (λ f. RefusesRun (length (contexts_of N.wiring)) (vec_len bodies) f.why) }
     ensures no_seats { IfErr result (λ f. f.why ≡ BodiesDiffer → f.seats.items ≡ []) }
     ensures made { IfErr result (λ f. IsNoSeat f.why → AreFirstSeats (slots N.wiring) (vec_len bodies + vec_len callers) f.seats.items) }

@@ -1,2 +1,3 @@
 pub mod CallsRefused
-pub mod Sleepers
+pub mod IdleLanes
+pub mod Woken

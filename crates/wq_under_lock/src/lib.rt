@@ -9,16 +9,19 @@
 
 mod calls;
 mod fault;
+pub mod laws;
 mod making;
 mod turn;
 mod turns;
+mod waking;
 
 pub use calls::{ask, ask_and_cancel, ask_lane, cancel, queue, start, wait};
 pub use fault::NewError;
 pub use making::{MAX_LANES, new_held};
-pub use turn::{Turn, Wake, Watched};
+pub use turn::{Turn, Watched};
 pub use turns::{
     be_idle, be_told, be_told_lane, begin_cancel_sync, begin_flush, begin_flush_lane, begin_wait,
     cancel_work, close, finish_work, go_on, has_context, helpers_of, lane_of, lanes, next,
     queue_work, refuse_queueings, seat,
 };
+pub use wq_history::{Sleepers, Wake, WokenContexts};

@@ -1,70 +1,42 @@
-//! What a call under the lock comes to: an answer, and who is woken; or nothing yet, and then its caller sleeps.
+//! What a call under the lock comes to: an answer, and who is woken; or nothing yet, and then its caller sleeps among these.
 //!
-//! A caller sleeps until a context has something to start, until none of the entries of an item or a workqueue below some number
-//! is unfinished, or until no entry is; and whoever serves a context is woken where the book is closed. All this is told by the
-//! state of the machine and by whether the book is closed. So a call that changes neither wakes nobody. An entry that is finished
-//! wakes all: another entry of its item may be pending, which the other contexts of the workqueue couldn't start. Every call here
-//! takes constant time.
-
-ghost use Rattle.std.specs.Prelude.{◌≡◌};
-ghost use Rattle.wq_under_lock.specs.Turns.{woken, woken_by};
+//! For which conditions a caller sleeps, and which of these an event can make true, is said by "Waits" in the specs of `wq_history`.
+//! A call that makes none of them true wakes nobody. Nothing is computed here.
 
 use std::alloc::Allocator;
-use wq_held::{CallError, Held, Naming};
-
-/// Who is woken when the lock is released.
-#[derive(Clone, Copy, Debug, PartialEq, Eq)]
-pub enum Wake {
-    /// Nobody: nothing that a caller may wait for has changed.
-    Nobody,
-    /// All who sleep.
-    Everybody,
-}
-
-impl Wake {
-    /// Everybody where something has changed.
-    pub(crate) fn on_change(changed: bool) -> Wake
-        ensures { result ≡ woken changed }
-    {
-        if changed {
-            Wake::Everybody
-        } else {
-            Wake::Nobody
-        }
-    }
-
-    /// Everybody where the answer is true.
-    pub(crate) fn on_yes(answer: &Result<bool, CallError>) -> Wake
-        ensures { result ≡ woken_by answer.now }
-    {
-        match answer {
-            Ok(yes) => Wake::on_change(*yes),
-            Err(_) => Wake::Nobody,
-        }
-    }
-}
+use wq_held::{Held, Naming};
+use wq_history::{Sleepers, Wake};
 
 /// What a call under the lock comes to.
 pub enum Turn<T, W> {
     /// Its answer, and who is woken.
     Answers(T, Wake),
-    /// Nothing yet, and nothing is changed. Its caller sleeps until something is, and calls again with what it keeps meanwhile.
-    Sleeps(W),
+    /// Nothing yet, and nothing is changed. Its caller sleeps among these until one of them is woken, and calls again with what it
+    /// keeps meanwhile.
+    Sleeps(W, Sleepers),
 }
 
 /// What a lock protects, as its callers see it who sleep.
 pub trait Watched {
+    ghost use Rattle.std.specs.Prelude.{ℕ};
+    ghost use Rattle.wq_history.specs.declared.sleepers.Wake.{Wake};
+
+    // how many lanes there are, on which somebody may sleep
+    ghost lanes: { ℕ };
+
     // nothing has happened yet
     ghost is_fresh: { Self → Type 0 };
 
-    // nothing that a caller may wait for has changed
-    ghost is_same: { Self → Self → Type 0 };
+    // by what has happened, enough are woken
+    ghost wakes_enough: { Self → Self → Wake → Type 0 };
 }
 
 impl<N: Naming, A: Allocator> Watched for Held<N, A> {
-    ghost use Rattle.wq_under_lock.specs.Turns.{IsFresh, IsSameToSleepers};
+    ghost use Rattle.wq_under_lock.specs.Turns.{IsFresh, WakesEnoughOf};
+
+    ghost lanes = { N.wiring.lanes };
 
     ghost is_fresh = { IsFresh };
 
-    ghost is_same = { IsSameToSleepers };
+    ghost wakes_enough = { WakesEnoughOf };
 }

@@ -21,15 +21,15 @@ ghost use Rattle.wq_held.specs.Locked.{max_runtime_lanes, slots, IsOnLane, HasRo
 ghost use Rattle.wq_held.specs.Errors.{RefusedAs};
 ghost use Rattle.wq_held.specs.Closing.{IsClosed};
 ghost use Rattle.wq_under_lock.specs.Refusals.{RefusesQueueWork, RefusesCancelWork, RefusesFlushLane, RefusesWaitIn};
-ghost use Rattle.wq_under_lock.specs.Turns.{AnswersWith, IfAnswers, IfSleeps, Wakes, IsSameToSleepers, HasEnded, woken, woken_by, woken_unless_refused};
-ghost use Rattle.wq_under_lock.specs.declared.turn.Wake.TheVariants.{Nobody, Everybody};
+ghost use Rattle.wq_history.specs.Waits.{nobody, one_context, every_context, WakesBy, WorkOn, EndOf, ItemDone, LaneDone, AllDone};
+ghost use Rattle.wq_under_lock.specs.Turns.{AnswersWith, IfAnswers, IfSleeps, SleepsFor, SleepsForWaitOf, Wakes, WakesEnoughOf, woken_by_queueing, WakesBySaid, WakesByDone, WakesByNext, HasEnded};
 
-use crate::calls;
-use crate::turn::{Turn, Wake};
+use crate::turn::Turn;
+use crate::{calls, waking};
 use std::alloc::Allocator;
 use wq_groups::LaneId;
 use wq_held::{CallError, CloseWhy, Closed, Held, Naming, Seat, SeatError};
-use wq_history::{Ask, Asked, LaneAsk, LaneAsked, LaneTold, Told};
+use wq_history::{Ask, Asked, LaneAsk, LaneAsked, LaneTold, Sleepers, Told, Wake};
 use wq_items::ItemId;
 
 // ---- calls that only look
@@ -37,26 +37,29 @@ use wq_items::ItemId;
 /// The number of workqueues, at most 256.
 pub fn lanes<N: Naming, A: Allocator>(held: &Held<N, A>) -> Turn<u16, ()>
     ensures lanes { AnswersWith result (λ lanes wake. (lanes ≡ N.wiring.lanes) × (lanes ≤ max_runtime_lanes)) }
-    ensures wakes { AnswersWith result (λ lanes wake. wake ≡ Nobody) }
+    ensures wakes { AnswersWith result (λ lanes wake. wake ≡ nobody) }
+    ensures enough { Wakes N.wiring.lanes WakesEnoughOf held.now held.now result }
 {
-    Turn::Answers(held.lanes() as u16, Wake::Nobody)
+    Turn::Answers(held.lanes() as u16, Wake::nobody())
 }
 
 /// The workqueue of an item, where there is such an item.
 pub fn lane_of<N: Naming, A: Allocator>(held: &Held<N, A>, item: ItemId) -> Turn<Option<LaneId>, ()>
     ensures some { AnswersWith result (λ lane wake. IfSome lane (λ q. IsOnLane N.wiring q item)) }
     ensures none { AnswersWith result (λ lane wake. IfNone lane (items N.wiring ≤ item)) }
-    ensures wakes { AnswersWith result (λ lane wake. wake ≡ Nobody) }
+    ensures wakes { AnswersWith result (λ lane wake. wake ≡ nobody) }
+    ensures enough { Wakes N.wiring.lanes WakesEnoughOf held.now held.now result }
 {
-    Turn::Answers(held.lane_of(item), Wake::Nobody)
+    Turn::Answers(held.lane_of(item), Wake::nobody())
 }
 
 /// How many helpers a workqueue has; 0 for one that is ordered or doesn't exist.
 pub fn helpers_of<N: Naming, A: Allocator>(held: &Held<N, A>, q: LaneId) -> Turn<u8, ()>
     ensures helpers { AnswersWith result (λ helpers wake. helpers ≡ helpers_of N.wiring q) }
-    ensures wakes { AnswersWith result (λ helpers wake. wake ≡ Nobody) }
+    ensures wakes { AnswersWith result (λ helpers wake. wake ≡ nobody) }
+    ensures enough { Wakes N.wiring.lanes WakesEnoughOf held.now held.now result }
 {
-    Turn::Answers(held.helpers_of(q), Wake::Nobody)
+    Turn::Answers(held.helpers_of(q), Wake::nobody())
 }
 
 /// Whether there is such a context: the rescuer of a workqueue that exists, or one of the helpers that it has.
@@ -66,9 +69,10 @@ pub fn has_context<N: Naming, A: Allocator>(
     helper: u8,
 ) -> Turn<bool, ()>
     ensures has { AnswersWith result (λ has wake. IsTrue has ↔ HasContext N.wiring q helper) }
-    ensures wakes { AnswersWith result (λ has wake. wake ≡ Nobody) }
+    ensures wakes { AnswersWith result (λ has wake. wake ≡ nobody) }
+    ensures enough { Wakes N.wiring.lanes WakesEnoughOf held.now held.now result }
 {
-    Turn::Answers(held.has_context(q, helper), Wake::Nobody)
+    Turn::Answers(held.has_context(q, helper), Wake::nobody())
 }
 
 // ---- seats
@@ -86,16 +90,16 @@ pub fn seat<N: Naming, A: Allocator + Copy>(
     ensures refused { AnswersWith result (λ r wake. IfErr r (λ e. held.new ≡ held.old)) }
     ensures limit { AnswersWith result (λ r wake. r ≡ Err TooManySeats → held.old.seats ≡ 65535) }
     ensures memory { AnswersWith result (λ r wake. r ≡ Err SeatOutOfMemory → (held.old.seats < 65535) × (0 < slots N.wiring)) }
-    ensures wakes { AnswersWith result (λ r wake. (wake ≡ Nobody) × IsSameToSleepers held.old held.new) }
+    ensures wakes { AnswersWith result (λ r wake. (wake ≡ nobody) × WakesEnoughOf held.old held.new wake) }
     ensures holds { Holds N.wiring N.rows held.old.book }
 {
     held.holds();
-    Turn::Answers(held.seat(alloc), Wake::Nobody)
+    Turn::Answers(held.seat(alloc), Wake::nobody())
 }
 
 // ---- calls that answer at once
 
-/// `queue_work`, as `queue`. All who sleep are woken where the item wasn't pending.
+/// `queue_work`, as `queue`. One context of the workqueue is woken where the item wasn't pending.
 pub fn queue_work<N: Naming, A: Allocator>(
     held: &mut Held<N, A>,
     seat: &mut Seat<N, A>,
@@ -106,15 +110,16 @@ pub fn queue_work<N: Naming, A: Allocator>(
     ensures counted { AnswersWith result (λ r wake. IfOk r (λ accepted. IsOnLane N.wiring q item × HasRoom seat.old × (seat.new ≡ raised seat.old item QueueKind accepted))) }
     ensures refused { AnswersWith result (λ r wake. IfErr r (λ e. RefusesQueueWork N.wiring seat.old q item e × (held.new ≡ held.old) × (seat.new ≡ seat.old))) }
     ensures cause { AnswersWith result (λ r wake. IfErr r (λ e. IsOnLane N.wiring q item → HasRoom seat.old → RefusedAs (RefusesQueue held.old.book item) e)) }
-    ensures woken { AnswersWith result (λ r wake. wake ≡ woken_by r) }
-    ensures wakes { Wakes IsSameToSleepers held.old held.new result }
+    ensures woken { AnswersWith result (λ r wake. wake ≡ woken_by_queueing q r) }
+    ensures wakes { Wakes N.wiring.lanes WakesEnoughOf held.old held.new result }
 {
+    held.holds();
     let answer = calls::queue(held, seat, q, item);
-    let wake = Wake::on_yes(&answer);
+    let wake = waking::by_queueing(q, &answer);
     Turn::Answers(answer, wake)
 }
 
-/// `cancel_work`, as `cancel`. All who sleep are woken where the item was pending.
+/// `cancel_work`, as `cancel`. Where the item was pending, all who wait for its workqueue are woken.
 pub fn cancel_work<N: Naming, A: Allocator>(
     held: &mut Held<N, A>,
     seat: &mut Seat<N, A>,
@@ -124,15 +129,19 @@ pub fn cancel_work<N: Naming, A: Allocator>(
     ensures counted { AnswersWith result (λ r wake. IfOk r (λ taken. (item < items N.wiring) × HasRoom seat.old × (seat.new ≡ raised seat.old item CancelKind taken))) }
     ensures refused { AnswersWith result (λ r wake. IfErr r (λ e. RefusesCancelWork N.wiring item e × (held.new ≡ held.old) × (seat.new ≡ seat.old))) }
     ensures cause { AnswersWith result (λ r wake. IfErr r (λ e. item < items N.wiring → HasRoom seat.old → RefusedAs (RefusesItem held.old.book item Cancel) e)) }
-    ensures woken { AnswersWith result (λ r wake. wake ≡ woken_by r) }
-    ensures wakes { Wakes IsSameToSleepers held.old held.new result }
+    ensures woken { AnswersWith result (λ r wake. WakesBySaid held.new (Cancel item) r wake) }
+    ensures wakes { Wakes N.wiring.lanes WakesEnoughOf held.old held.new result }
 {
-    let answer = calls::cancel(held, seat, item);
-    let wake = Wake::on_yes(&answer);
-    Turn::Answers(answer, wake)
+    held.holds();
+    match calls::cancel(held, seat, item) {
+        Ok(true) => Turn::Answers(Ok(true), waking::by_cancel(held, item)),
+        Ok(false) => Turn::Answers(Ok(false), Wake::nobody()),
+        Err(e) => Turn::Answers(Err(e), Wake::nobody()),
+    }
 }
 
-/// Finishes what a context runs, an entry of this item. All who sleep are woken.
+/// Finishes what a context runs, an entry of this item. All who wait for its workqueue are woken, and one context of it, where the
+/// item's next entry is pending.
 ///
 /// The only error is `WrongLane` (64): there is no such context, it runs nothing or an entry of another item, or it waits. After an
 /// error nothing is changed or counted.
@@ -147,12 +156,14 @@ pub fn finish_work<N: Naming, A: Allocator>(
     ensures counted { AnswersWith result (λ r wake. OnOk r (HasContext N.wiring q helper × IsOnLane N.wiring q item × (seat.new ≡ raised seat.old item FinishKind true))) }
     ensures refused { AnswersWith result (λ r wake. IfErr r (λ e. (e ≡ WrongLane) × (held.new ≡ held.old) × (seat.new ≡ seat.old))) }
     ensures cause { AnswersWith result (λ r wake. OnErr r (IsWrongToFinish held.old.book q helper item)) }
-    ensures woken { AnswersWith result (λ r wake. wake ≡ woken_unless_refused r) }
-    ensures wakes { Wakes IsSameToSleepers held.old held.new result }
+    ensures woken { AnswersWith result (λ r wake. WakesByDone held.new (finish_event q helper item) r wake) }
+    ensures wakes { Wakes N.wiring.lanes WakesEnoughOf held.old held.new result }
+    ensures holds { Holds N.wiring N.rows held.old.book }
 {
+    held.holds();
     match held.finish(seat, q, helper, item) {
-        Ok(()) => Turn::Answers(Ok(()), Wake::Everybody),
-        Err(e) => Turn::Answers(Err(e), Wake::Nobody),
+        Ok(()) => Turn::Answers(Ok(()), waking::by_finish(held, q, item)),
+        Err(e) => Turn::Answers(Err(e), Wake::nobody()),
     }
 }
 
@@ -168,13 +179,14 @@ pub fn begin_flush<N: Naming, A: Allocator>(
     ensures counted { AnswersWith result (λ r wake. IfOk r (λ answer. (item < items N.wiring) × HasRoom seat.old × CountsAsk seat.old seat.new item answer)) }
     ensures refused { AnswersWith result (λ r wake. IfErr r (λ e. RefusesCancelWork N.wiring item e × (held.new ≡ held.old) × (seat.new ≡ seat.old))) }
     ensures cause { AnswersWith result (λ r wake. IfErr r (λ e. item < items N.wiring → HasRoom seat.old → RefusedAs (RefusesItem held.old.book item AskEvent) e)) }
-    ensures woken { AnswersWith result (λ r wake. wake ≡ Nobody) }
-    ensures wakes { Wakes IsSameToSleepers held.old held.new result }
+    ensures woken { AnswersWith result (λ r wake. wake ≡ nobody) }
+    ensures wakes { Wakes N.wiring.lanes WakesEnoughOf held.old held.new result }
 {
-    Turn::Answers(calls::ask(held, seat, item), Wake::Nobody)
+    held.holds();
+    Turn::Answers(calls::ask(held, seat, item), Wake::nobody())
 }
 
-/// Begins a cancellation that waits, as `ask_and_cancel`. All who sleep are woken where the item was pending.
+/// Begins a cancellation that waits, as `ask_and_cancel`. Where the item was pending, all who wait for its workqueue are woken.
 pub fn begin_cancel_sync<N: Naming, A: Allocator>(
     held: &mut Held<N, A>,
     seat: &mut Seat<N, A>,
@@ -184,12 +196,14 @@ pub fn begin_cancel_sync<N: Naming, A: Allocator>(
     ensures counted { AnswersWith result (λ r wake. IfOk r (λ both. (item < items N.wiring) × HasRoom seat.old × CountsAskAndCancel seat.old seat.new item both.0 both.1)) }
     ensures refused { AnswersWith result (λ r wake. IfErr r (λ e. RefusesCancelWork N.wiring item e × (held.new ≡ held.old) × (seat.new ≡ seat.old))) }
     ensures cause { AnswersWith result (λ r wake. IfErr r (λ e. item < items N.wiring → HasRoom seat.old → RefusesAskAndCancel held.old.book item e)) }
-    ensures woken { AnswersWith result (λ r wake. IfOk r (λ both. wake ≡ woken both.1) × OnErr r (wake ≡ Nobody)) }
-    ensures wakes { Wakes IsSameToSleepers held.old held.new result }
+    ensures woken { AnswersWith result (λ r wake. IfOk r (λ both. WakesBy held.new.book (Cancel item) both.1 wake) × OnErr r (wake ≡ nobody)) }
+    ensures wakes { Wakes N.wiring.lanes WakesEnoughOf held.old held.new result }
 {
+    held.holds();
     match calls::ask_and_cancel(held, seat, item) {
-        Ok((answer, taken)) => Turn::Answers(Ok((answer, taken)), Wake::on_change(taken)),
-        Err(e) => Turn::Answers(Err(e), Wake::Nobody),
+        Ok((answer, true)) => Turn::Answers(Ok((answer, true)), waking::by_cancel(held, item)),
+        Ok((answer, false)) => Turn::Answers(Ok((answer, false)), Wake::nobody()),
+        Err(e) => Turn::Answers(Err(e), Wake::nobody()),
     }
 }
 
@@ -205,16 +219,21 @@ pub fn be_told<N: Naming, A: Allocator>(
     ensures counted { IfAnswers result (λ r wake. OnOk r (seat.new ≡ raised seat.old asked.item ToldKind true)) }
     ensures refused { IfAnswers result (λ r wake. IfErr r (λ e. (e ≡ NotAsked) × (held.new ≡ held.old) × (seat.new ≡ seat.old))) }
     ensures cause { IfAnswers result (λ r wake. OnErr r (asks_waiting (OfItem asked.item) held.old.book.rows ≡ 0)) }
-    ensures woken { IfAnswers result (λ r wake. wake ≡ Nobody) }
+    ensures woken { IfAnswers result (λ r wake. wake ≡ nobody) }
     ensures sleeps { IfSleeps result (λ again. (again ≡ asked) × (seat.new ≡ seat.old) × HasUnfinishedBelow (state held.old.book) asked.item asked.mark) }
-    ensures wakes { Wakes IsSameToSleepers held.old held.new result }
+    ensures among { SleepsFor held.old (ItemDone asked.item asked.mark) result }
+    ensures wakes { Wakes N.wiring.lanes WakesEnoughOf held.old held.new result }
 {
+    held.holds();
     match held.told(seat, asked) {
-        Told::Done => Turn::Answers(Ok(()), Wake::Nobody),
-        Told::NotYet(again) => Turn::Sleeps(again),
+        Told::Done => Turn::Answers(Ok(()), Wake::nobody()),
+        Told::NotYet(again) => {
+            let among = waking::waiters_for(held, again.item());
+            Turn::Sleeps(again, among)
+        }
         Told::NotAsked(again) => {
             again.give_up();
-            Turn::Answers(Err(CallError::NotAsked), Wake::Nobody)
+            Turn::Answers(Err(CallError::NotAsked), Wake::nobody())
         }
     }
 }
@@ -231,10 +250,11 @@ pub fn begin_flush_lane<N: Naming, A: Allocator>(
     ensures counted { AnswersWith result (λ r wake. IfOk r (λ answer. (q < N.wiring.lanes) × HasRoom seat.old × CountsAskLane seat.old seat.new q answer)) }
     ensures refused { AnswersWith result (λ r wake. IfErr r (λ e. RefusesFlushLane N.wiring q e × (held.new ≡ held.old) × (seat.new ≡ seat.old))) }
     ensures cause { AnswersWith result (λ r wake. IfErr r (λ e. q < N.wiring.lanes → HasRoom seat.old → RefusedAs (RefusesAskLane held.old.book q) e)) }
-    ensures woken { AnswersWith result (λ r wake. wake ≡ Nobody) }
-    ensures wakes { Wakes IsSameToSleepers held.old held.new result }
+    ensures woken { AnswersWith result (λ r wake. wake ≡ nobody) }
+    ensures wakes { Wakes N.wiring.lanes WakesEnoughOf held.old held.new result }
 {
-    Turn::Answers(calls::ask_lane(held, seat, q), Wake::Nobody)
+    held.holds();
+    Turn::Answers(calls::ask_lane(held, seat, q), Wake::nobody())
 }
 
 /// Tells a caller that its wait for a whole workqueue is over, once none of the entries that it waits for is unfinished.
@@ -249,25 +269,31 @@ pub fn be_told_lane<N: Naming, A: Allocator>(
     ensures counted { IfAnswers result (λ r wake. OnOk r (seat.new ≡ raised_told seat.old asked.lane)) }
     ensures refused { IfAnswers result (λ r wake. IfErr r (λ e. (e ≡ NotAsked) × (held.new ≡ held.old) × (seat.new ≡ seat.old))) }
     ensures cause { IfAnswers result (λ r wake. OnErr r (asks_waiting (OfLane asked.lane) held.old.book.rows ≡ 0)) }
-    ensures woken { IfAnswers result (λ r wake. wake ≡ Nobody) }
+    ensures woken { IfAnswers result (λ r wake. wake ≡ nobody) }
     ensures sleeps { IfSleeps result (λ again. (again ≡ asked) × (seat.new ≡ seat.old) × IsBusyBelow (lane_at (state held.old.book) asked.lane) asked.mark) }
-    ensures wakes { Wakes IsSameToSleepers held.old held.new result }
+    ensures among { SleepsFor held.old (LaneDone asked.lane asked.mark) result }
+    ensures wakes { Wakes N.wiring.lanes WakesEnoughOf held.old held.new result }
 {
+    held.holds();
     match held.told_lane(seat, asked) {
-        LaneTold::Done => Turn::Answers(Ok(()), Wake::Nobody),
-        LaneTold::NotYet(again) => Turn::Sleeps(again),
+        LaneTold::Done => Turn::Answers(Ok(()), Wake::nobody()),
+        LaneTold::NotYet(again) => {
+            let q = again.lane();
+            Turn::Sleeps(again, Sleepers::Waiters(q))
+        }
         LaneTold::NotAsked(again) => {
             again.give_up();
-            Turn::Answers(Err(CallError::NotAsked), Wake::Nobody)
+            Turn::Answers(Err(CallError::NotAsked), Wake::nobody())
         }
     }
 }
 
 // ---- serving a workqueue, as its rescuer or one of its helpers
 
-/// Starts the next entry that a context can start, once there is one, and gives its item; all who sleep are woken. It gives nothing
-/// where nothing is pending on its workqueue and the book is closed. Where an entry is pending whose item runs, its caller sleeps,
-/// even if the book is closed: that entry can be started once its item is finished.
+/// Starts the next entry that a context can start, once there is one, and gives its item. It gives nothing where nothing is pending
+/// on its workqueue and the book is closed. Where an entry is pending whose item runs, its caller sleeps, even if the book is closed:
+/// that entry can be started once its item is finished. In a closed book, whoever starts the last pending entry wakes all contexts of
+/// the workqueue, which have ended then. Whoever is refused wakes one, since it may have been woken in place of another.
 ///
 /// The only error is `WrongLane` (64), where there is no such context or it runs an entry. After an error nothing is changed.
 pub fn next<N: Naming, A: Allocator>(
@@ -281,24 +307,27 @@ pub fn next<N: Naming, A: Allocator>(
     ensures refused { IfAnswers result (λ r wake. IfErr r (λ e. (e ≡ WrongLane) × (held.new ≡ held.old))) }
     ensures cause { IfAnswers result (λ r wake. OnErr r (IsWrongToStart held.old.book q helper)) }
     ensures sleeps { IfSleeps result (λ none. HasNothingToStart held.old.book q helper × (¬ HasEnded held.old q)) }
-    ensures wakes { Wakes IsSameToSleepers held.old held.new result }
+    ensures for_work { SleepsFor held.old (WorkOn q) result }
+    ensures for_end { SleepsFor held.old (EndOf q) result }
+    ensures woken { IfAnswers result (λ r wake. IfOk r (λ next. WakesByNext held.new q helper next wake) × OnErr r (wake ≡ one_context q)) }
+    ensures wakes { Wakes N.wiring.lanes WakesEnoughOf held.old held.new result }
     ensures holds { Holds N.wiring N.rows held.old.book }
 {
     held.holds();
     match calls::start(held, q, helper) {
-        Ok(Some(item)) => Turn::Answers(Ok(Some(item)), Wake::Everybody),
+        Ok(Some(item)) => Turn::Answers(Ok(Some(item)), waking::by_start(held, q)),
         Ok(None) => {
-            if held.is_closed() && held.nothing_pending_on(q) {
-                Turn::Answers(Ok(None), Wake::Nobody)
+            if held.has_ended(q) {
+                Turn::Answers(Ok(None), Wake::nobody())
             } else {
-                Turn::Sleeps(())
+                Turn::Sleeps((), Sleepers::Contexts(q))
             }
         }
-        Err(e) => Turn::Answers(Err(e), Wake::Nobody),
+        Err(e) => Turn::Answers(Err(e), Wake::one_context(q)),
     }
 }
 
-/// Begins a wait of what a context runs, as `wait`. All who sleep are woken.
+/// Begins a wait of what a context runs, as `wait`. It lets nobody go on.
 pub fn begin_wait<N: Naming, A: Allocator>(
     held: &mut Held<N, A>,
     seat: &mut Seat<N, A>,
@@ -311,17 +340,19 @@ pub fn begin_wait<N: Naming, A: Allocator>(
     ensures counted { AnswersWith result (λ r wake. IfOk r (λ unfinished. HasContext N.wiring q helper × (target < items N.wiring) × HasRoom seat.old × (seat.new ≡ raised seat.old target (wait_kind whole) unfinished))) }
     ensures refused { AnswersWith result (λ r wake. IfErr r (λ e. RefusesWaitIn N.wiring seat.old q helper e × (held.new ≡ held.old) × (seat.new ≡ seat.old))) }
     ensures cause { AnswersWith result (λ r wake. IfErr r (λ e. HasContext N.wiring q helper → HasRoom seat.old → RefusedAs (RefusesWait held.old.book q helper whole target) e)) }
-    ensures woken { AnswersWith result (λ r wake. wake ≡ woken_unless_refused r) }
-    ensures wakes { Wakes IsSameToSleepers held.old held.new result }
+    ensures woken { AnswersWith result (λ r wake. wake ≡ nobody) }
+    ensures wakes { Wakes N.wiring.lanes WakesEnoughOf held.old held.new result }
+    ensures holds { Holds N.wiring N.rows held.old.book }
 {
+    held.holds();
     match calls::wait(held, seat, q, helper, whole, target) {
-        Ok(unfinished) => Turn::Answers(Ok(unfinished), Wake::Everybody),
-        Err(e) => Turn::Answers(Err(e), Wake::Nobody),
+        Ok(unfinished) => Turn::Answers(Ok(unfinished), Wake::nobody()),
+        Err(e) => Turn::Answers(Err(e), Wake::nobody()),
     }
 }
 
-/// Lets what a context runs go on, once its wait for this item, or for the whole workqueue of this item, is over. All who sleep are
-/// woken.
+/// Lets what a context runs go on, once its wait for this item, or for the whole workqueue of this item, is over. It lets nobody
+/// else go on.
 ///
 /// The only error is `WrongLane` (64), where the context doesn't wait for this item by this kind of wait. After an error nothing is
 /// changed or counted.
@@ -337,43 +368,49 @@ pub fn go_on<N: Naming, A: Allocator>(
     ensures counted { IfAnswers result (λ r wake. OnOk r (seat.new ≡ raised seat.old target (over_kind whole) true)) }
     ensures refused { IfAnswers result (λ r wake. IfErr r (λ e. (e ≡ WrongLane) × (held.new ≡ held.old) × (seat.new ≡ seat.old))) }
     ensures cause { IfAnswers result (λ r wake. OnErr r (IsWrongToGoOn held.old.book q helper whole target)) }
-    ensures woken { IfAnswers result (λ r wake. wake ≡ woken_unless_refused r) }
+    ensures woken { IfAnswers result (λ r wake. wake ≡ nobody) }
     ensures sleeps { IfSleeps result (λ none. seat.new ≡ seat.old) }
     ensures waits { IfSleeps result (λ none. AnswersOverOf held.old.book held.new.book q helper whole target false) }
-    ensures wakes { Wakes IsSameToSleepers held.old held.new result }
+    ensures among { SleepsForWaitOf held.old q helper whole target result }
+    ensures wakes { Wakes N.wiring.lanes WakesEnoughOf held.old held.new result }
+    ensures holds { Holds N.wiring N.rows held.old.book }
 {
+    held.holds();
     match held.over(seat, q, helper, whole, target) {
-        Ok(true) => Turn::Answers(Ok(()), Wake::Everybody),
-        Ok(false) => Turn::Sleeps(()),
-        Err(e) => Turn::Answers(Err(e), Wake::Nobody),
+        Ok(true) => Turn::Answers(Ok(()), Wake::nobody()),
+        Ok(false) => Turn::Sleeps((), waking::waiters_for(held, target)),
+        Err(e) => Turn::Answers(Err(e), Wake::nobody()),
     }
 }
 
 // ---- `destroy_workqueue`
 
-/// Refuses queueings from now on. All who sleep are woken.
+/// Refuses queueings from now on. All contexts are woken.
 pub fn refuse_queueings<N: Naming, A: Allocator>(held: &mut Held<N, A>) -> Turn<(), ()>
     ensures closed { held.new ≡ record { book = record held.old.book { closed = true }; seats = held.old.seats } }
-    ensures woken { AnswersWith result (λ done wake. wake ≡ Everybody) }
+    ensures woken { AnswersWith result (λ done wake. wake ≡ every_context) }
+    ensures wakes { Wakes N.wiring.lanes WakesEnoughOf held.old held.new result }
     ensures holds { Holds N.wiring N.rows held.new.book }
 {
     held.close();
     held.holds();
-    Turn::Answers((), Wake::Everybody)
+    Turn::Answers((), Wake::every_context())
 }
 
 /// Answers once no entry is unfinished.
 pub fn be_idle<N: Naming, A: Allocator>(held: &Held<N, A>) -> Turn<(), ()>
     ensures idle { IfAnswers result (λ done wake. ¬ HasUnfinished (state held.now.book)) }
-    ensures woken { IfAnswers result (λ done wake. wake ≡ Nobody) }
+    ensures woken { IfAnswers result (λ done wake. wake ≡ nobody) }
     ensures sleeps { IfSleeps result (λ none. HasUnfinished (state held.now.book)) }
+    ensures among { SleepsFor held.now AllDone result }
+    ensures enough { Wakes N.wiring.lanes WakesEnoughOf held.now held.now result }
     ensures holds { Holds N.wiring N.rows held.now.book }
 {
     held.holds();
     if held.is_idle() {
-        Turn::Answers((), Wake::Nobody)
+        Turn::Answers((), Wake::nobody())
     } else {
-        Turn::Sleeps(())
+        Turn::Sleeps((), Sleepers::Destroyers)
     }
 }
 

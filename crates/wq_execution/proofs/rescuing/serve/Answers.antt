@@ -3,8 +3,14 @@ use Rattle.wq_core.specs.Wiring.{items}
 use Rattle.wq_held.specs.Locked.{seat_rows, slots}
 use Rattle.std.proofs.Math.Nat.{le-max_left}
 use Rattle.std.specs.Prelude.{sum}
-use Rattle.wq_execution.proofs.Executions.{serving_more, one_fault_at_most, ran_only_more, on_lane_of_next, nothing_else, few_finished, below_limit}
+use Rattle.wq_execution.proofs.Executions.{serving_more, one_fault_at_most, ran_only_more, on_lane_of_next, nothing_else, few_finished, few_runs, below_limit}
 use Rattle.wq_execution.proofs.rescuing.serve.Goals as goal
+
+pub execute-answer-requires-clause-few : goal.execute-answer-requires-clause-few
+execute-answer-requires-clause-few g c =
+    let room = below_limit c.is_full.result seat_rows (sum c.loop.seat) c.is_full.ensures c.if-is_full.false in
+    let on = on_lane_of_next g.N.Naming.wiring c.args.q c.in-Some-2.item c.in_ok-item.field-0 c.in_ok-item.ensures.started.1 c.in-Some-2.is in
+    few_runs (items g.N.Naming.wiring) (slots g.N.Naming.wiring) c.args.seat.now c.loop.seat (g.B.Body.width c.loop.body) (g.B.Body.runs c.loop.body) c.loop.rescued.finished c.loop.rescued.faults c.in-Some-2.item c.loop.invariant.2 c.holds.ensures (le-max_left (items g.N.Naming.wiring) g.N.Naming.wiring.lanes) on.0 room
 
 pub and-rescued-requires-clause-few : goal.and-rescued-requires-clause-few
 and-rescued-requires-clause-few g c =

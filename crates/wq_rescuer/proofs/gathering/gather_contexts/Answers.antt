@@ -1,7 +1,7 @@
 use Rattle.std.proofs.Common.{rules, ◌≡◌, [], ◌∷◌, length, map, vec_len, ap, sym, subst, ◌∙◌, arith}
 use Rattle.std.proofs.lemmas.List.{map-append}
 use Rattle.wq_rescuer.specs.Serving.{finished_by, faults_by}
-use Rattle.wq_rescuer.proofs.Handovers.{added, all_served, left_popped, AreLeft, none_left, none_served, sum_by-added}
+use Rattle.wq_rescuer.proofs.Handovers.{added, all_served, done_more, left_popped, AreLeft, none_done, none_left, none_served, sum_by-added}
 use Rattle.wq_rescuer.proofs.gathering.gather_contexts.Goals as goal
 
 pub loop-end-init : goal.loop-end-init
@@ -20,6 +20,7 @@ loop-end-init g c =
       search rules,
       search rules,
       none_left c.args.contexts.now (vec_len c.args.seats) (map (λ end. end.context) c.args.ends.items) none c.requires.in_order,
+      none_done g.N.Naming.wiring g.N.Naming.rows c.args.contexts.now c.args.rescued.items c.requires.none_rescued,
     )
 
 pub loop-end-preserved : goal.loop-end-preserved
@@ -47,6 +48,8 @@ loop-end-preserved g c =
       omega (arith, old.9, c.count_finished-finished.ensures.few, seat.len),
       omega (arith, old.10, c.count_faults-faults.ensures.few, seat.len),
       subst (λ k. AreLeft all k left) (sym seat.len) order.0,
+      done_more g.N.Naming.wiring g.N.Naming.rows all n c.loop-end.rescued.items c.push_reserved-in-Some-2.new.self.items c.in-Some.end.context c.in-Some.end.rescued
+          old.12 old.6.an_answer_each order.1 c.in-Some.end.ended answer.items,
     )
 
 pub returns-clause-served : goal.returns-clause-served

@@ -1,0 +1,98 @@
+//! Whom an event wakes, once it has happened: those for whom it can have made a condition true.
+//!
+//! A queueing lets one context of its workqueue go on. So does a finish, where the next entry of the item is pending: no other
+//! context could start that while the item ran. An entry that ends, by a finish or a cancellation, can end each wait for an item of its
+//! workqueue, or for the workqueue; and the last one that is unfinished, all waits in `destroy`. Where the book is closed, the contexts
+//! of a workqueue end with its last pending entry, by a start or a cancellation. Every call takes constant time.
+
+ghost use Rattle.std.specs.Prelude.{◌≡◌, ◌<◌};
+ghost use Rattle.wq_core.specs.Wiring.{items, lane_of};
+ghost use Rattle.wq_under_lock.specs.Turns.{woken_by_queueing};
+ghost use Rattle.wq_history.specs.declared.sleepers.Sleepers.TheVariants.{Waiters};
+ghost use Rattle.wq_history.specs.Waits.{WakesIfEnded, WakesIfPending, WakesByStart, WakesByFinish, WakesByCancel};
+
+use std::alloc::Allocator;
+use wq_groups::LaneId;
+use wq_held::{CallError, Held, Naming};
+use wq_history::{Sleepers, Wake, WokenContexts};
+use wq_items::ItemId;
+
+/// All contexts of a workqueue, where it has ended.
+fn if_ended<N: Naming, A: Allocator>(held: &Held<N, A>, q: LaneId) -> WokenContexts
+    ensures { WakesIfEnded held.now.book q result }
+{
+    if held.has_ended(q) {
+        WokenContexts::All(q)
+    } else {
+        WokenContexts::Nobody
+    }
+}
+
+/// One context of a workqueue, where an entry of the item is pending.
+fn if_pending<N: Naming, A: Allocator>(held: &Held<N, A>, q: LaneId, item: ItemId) -> WokenContexts
+    ensures { WakesIfPending held.now.book q item result }
+{
+    if held.is_pending(item) {
+        WokenContexts::One(q)
+    } else {
+        WokenContexts::Nobody
+    }
+}
+
+/// Whom a queueing on a workqueue wakes that was answered so: one context, where the item wasn't pending.
+pub(crate) fn by_queueing(q: LaneId, answer: &Result<bool, CallError>) -> Wake
+    ensures { result ≡ woken_by_queueing q answer.now }
+{
+    match answer {
+        Ok(true) => Wake::one_context(q),
+        Ok(false) | Err(_) => Wake::nobody(),
+    }
+}
+
+/// Whom a start on a workqueue wakes.
+pub(crate) fn by_start<N: Naming, A: Allocator>(held: &Held<N, A>, q: LaneId) -> Wake
+    ensures { WakesByStart held.now.book q result }
+{
+    Wake {
+        contexts: if_ended(held, q),
+        waiters: None,
+        destroyers: false,
+    }
+}
+
+/// Whom a finish of an item on a workqueue wakes.
+pub(crate) fn by_finish<N: Naming, A: Allocator>(held: &Held<N, A>, q: LaneId, item: ItemId) -> Wake
+    ensures { WakesByFinish held.now.book q item result }
+{
+    Wake {
+        contexts: if_pending(held, q, item),
+        waiters: Some(q),
+        destroyers: held.is_idle(),
+    }
+}
+
+/// Whom a cancellation of an item, which exists, wakes.
+pub(crate) fn by_cancel<N: Naming, A: Allocator>(held: &Held<N, A>, item: ItemId) -> Wake
+    requires { item < items N.wiring }
+    ensures { WakesByCancel held.now.book (lane_of N.wiring item) result }
+{
+    let Some(q) = held.lane_of(item) else {
+        unreachable!()
+    };
+    Wake {
+        contexts: if_ended(held, q),
+        waiters: Some(q),
+        destroyers: held.is_idle(),
+    }
+}
+
+/// Those who wait until entries of an item, which exists, have ended.
+pub(crate) fn waiters_for<N: Naming, A: Allocator>(held: &Held<N, A>, item: ItemId) -> Sleepers
+    requires { item < items N.wiring }
+    ensures { result ≡ Waiters (lane_of N.wiring item) }
+{
+    let Some(q) = held.lane_of(item) else {
+        unreachable!()
+    };
+    Sleepers::Waiters(q)
+}
