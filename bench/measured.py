@@ -14,6 +14,8 @@ import tempfile
 
 # Rows of a round at most: a queueing, a start, a finish, and two of a flush that has to wait.
 ROWS_OF_A_ROUND = 5
+# Items of each workqueue whose bodies sleep: one for its rescuer, and one for each of eight helpers.
+SLEEPERS = 9
 
 
 class Failed(Exception):
@@ -22,22 +24,30 @@ class Failed(Exception):
 
 @dataclasses.dataclass(frozen=True)
 class Load:
-    """So many workqueues and callers, and what each caller does how often; of `fill`, how many rows there are."""
+    """So many workqueues and callers, what each caller does how often, and how many helpers each workqueue has.
+
+    Of `fill` it is how many rows there are in place of how often. The peers have no helpers.
+    """
 
     kind: str
     lanes: int
     callers: int
     count: int
+    helpers: int = 0
 
     def __str__(self):
         return f"{self.kind} {self.lanes} {self.callers} {self.count}"
 
     def items(self):
         """At least one for each workqueue and one for each caller."""
-        return max(self.lanes, self.callers)
+        return SLEEPERS * self.lanes if self.kind == "sleep" else max(self.lanes, self.callers)
+
+    def rounds(self):
+        """How many queueings there are, and flushes; of `fill` at most."""
+        return self.callers * self.count * (self.items() if self.kind == "sleep" else 1)
 
     def rows(self):
-        return self.count if self.kind == "fill" else ROWS_OF_A_ROUND * self.callers * self.count
+        return self.count if self.kind == "fill" else ROWS_OF_A_ROUND * self.rounds()
 
 
 class Texts:
@@ -64,7 +74,8 @@ class Texts:
         declaration = self.path(f"items_{len(items)}", (f"item i{i}" for i in items))
         lanes = (" ".join(["wq", str(q), *(f"i{i}" for i in items[q::load.lanes])]) for q in range(load.lanes))
         assignment = self.path(f"lanes_{len(items)}_{load.lanes}", lanes)
-        return ["bench", declaration, assignment, str(load.rows()), load.kind, str(load.callers), str(load.count)]
+        front = ["helpers", str(load.helpers)] if load.helpers else []
+        return [*front, "bench", declaration, assignment, str(load.rows()), load.kind, str(load.callers), str(load.count)]
 
 
 class Figures:
@@ -103,7 +114,7 @@ class Figures:
 
     def is_as_asked(self, load):
         """Whether everything was done, nothing was refused, and the counts fit together."""
-        done = load.callers * load.count
+        done = load.rounds()
         wanted = {"rows": load.count, "free": 0} if load.kind == "fill" else {"queueings": done, "flushes": done}
         return not self.has_refused and self.fixed == wanted | {"matched": "true", "agree": "true", "idle": "true"}
 

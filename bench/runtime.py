@@ -11,9 +11,9 @@ import measured  # beside this file
 from measured import Load
 
 OURS = "test_runtime"
-# The peers with one condition variable. The first two wake as `wq_api` does, and the first sleeps as Rattle's std does; the
-# third wakes only where somebody may go on.
-PLAIN = ["timed", "every", "one"]
+# The peers that this repository's program is compared with. The first has a condition variable for each workqueue and each item, and
+# wakes only where somebody may go on, as `wq_api` does; the second has one for all, and each event wakes all.
+COMPARED = ["each", "every", "crossbeam"]
 RUNS = 12
 # Below this many seconds the start of the threads would weigh too much.
 LEAST = 0.25
@@ -24,12 +24,18 @@ MILLION = 1_000_000
 FILLS = [MILLION, 2 * MILLION, 4 * MILLION, 8 * MILLION, 16_777_216]
 FILL_RUNS = 2
 FILLED = [OURS, "every"]
+# Workqueues whose bodies sleep for a millisecond, how many helpers each has, and how often all items are queued and flushed.
+SLEEPS = [4, 64]
+HELPERS = [0, 8]
+WAVES = 20
+SLEEP_RUNS = 3
 MOST_ROWS = 16_777_216
 SAMPLES = [
     Load("rounds", 1, 1, 500), Load("rounds", 4, 4, 200), Load("rounds", 64, 3, 50), Load("rounds", 256, 2, 20),
     Load("storm", 8, 16, 50), Load("storm", 3, 2, 400), Load("fill", 1, 1, 5000), Load("fill", 3, 2, 4000),
 ]
-MOST_RATIO = 1.2
+# How many times as long as the first of these a round may take.
+MOST_RATIO = 1.3
 # A run that takes longer is ended: a wake-up may be lost.
 SECONDS = 600
 
@@ -168,7 +174,7 @@ def ratio(least, peer, field):
 def tables(programs, found, titles):
     for field, title in titles.items():
         print(f"\n{title} (the least of {RUNS} runs, the programs in turn)")
-        peers = [peer for peer in PLAIN if peer in programs]
+        peers = [peer for peer in COMPARED if peer in programs]
         row("load", [*programs, *(f"/ {peer}" for peer in peers)])
         for name, least in found.items():
             row(name, [*(number(getattr(least[program], field)) for program in programs), *(f"{ratio(least, peer, field):.2f}" for peer in peers)])
@@ -197,8 +203,23 @@ def fills(place, programs):
     row("last / first", [f"{found[FILLS[-1]][name].processor / found[FILLS[0]][name].processor:.2f}" for name in names])
 
 
+def sleeps(place, program):
+    """What helpers bring where bodies sleep."""
+    print(f"\nBodies that sleep for a millisecond, {measured.SLEEPERS} items for each workqueue, {place.name}: microseconds and"
+          f" context switches of an execution, and how many end in a second (the least of {SLEEP_RUNS} runs)")
+    row("load", ["wall", "processor", "switches", "a second", "/ no helpers"])
+    for lanes in SLEEPS:
+        alone = None
+        for helpers in HELPERS:
+            load = Load("sleep", lanes, 1, WAVES, helpers)
+            least = Least([Run(place, program, load) for _ in range(SLEEP_RUNS)], load.rounds())
+            alone = alone or least.wall
+            figures = [least.wall / 1e3, least.processor / 1e3, least.switches, 1e9 / least.wall]
+            row(f"{lanes} lanes, {helpers} helpers", [*map(number, figures), f"{alone / least.wall:.2f}"])
+
+
 def goals(found, field):
-    for peer in PLAIN:
+    for peer in COMPARED[:1]:
         for name, least in found.items():
             if peer in least:
                 quotient = ratio(least, peer, field)
@@ -214,7 +235,7 @@ def measure_all(programs):
         "switches": f"Context switches of a round, {one.name}",
     })
     fills(one, programs)
-    print(f"\nGoals, {one.name}")
+    print(f"\nGoals, processor time, {one.name}")
     goals(alone, "processor")
     busy = rounds(everywhere, programs)
     tables(programs, busy, {
@@ -222,6 +243,9 @@ def measure_all(programs):
         "processor": f"Processor time of a round in nanoseconds, all threads together, {everywhere.name}",
         "switches": f"Context switches of a round, {everywhere.name}",
     })
+    print(f"\nGoals, wall time, {everywhere.name}")
+    goals(busy, "wall")
+    sleeps(everywhere, programs[OURS])
 
 
 def main():

@@ -1,4 +1,4 @@
-//! Pseudo-random numbers: splitmix64, by Sebastiano Vigna (public domain), with the seeds of `crates/test_loads`.
+//! Pseudo-random numbers: splitmix64, by Sebastiano Vigna (public domain), with the seeds of `crates/test_runtime/src/loads`.
 
 pub struct Random {
     state: u64,
