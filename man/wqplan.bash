@@ -76,11 +76,11 @@ _wqplan() {
         explain)
             [ "$words" -gt 0 ] && return
             local codes='1 2 3 4 5 6 7 8 9 10 11 12 40 41 42 43 50 51 52 53 54 69'
-            codes+=' TextTooLong LineTooLong BadByte UnknownWord MissingName BadName ItemTwice UnknownItem TooManyItems'
-            codes+=' TooManyFlushes GroupedTwice ExtraWord BadCertLine NotAllItems GroupSplit NumberOutOfRange NotFalling'
-            codes+=' ChainBroken LengthDiffers CircleBroken RunBroken TooManyLanes read memory thread tally write'
-            codes+=" plan wq chain arc circle run yes no 'not lawful' deadlock stuck open safe components workqueues"
-            codes+=' refused fault'
+            codes+=' TextTooLong LineTooLong BadByte UnknownWord MissingName BadName ItemTwice UnknownItem'
+            codes+=' TooManyItems TooManyFlushes GroupedTwice ExtraWord BadCertLine NotAllItems GroupSplit'
+            codes+=' NumberOutOfRange NotFalling ChainBroken LengthDiffers CircleBroken RunBroken TooManyLanes read'
+            codes+=" memory thread tally write plan wq chain arc circle run yes no 'not lawful' deadlock stuck open"
+            codes+=' safe components workqueues refused fault'
             mapfile -t COMPREPLY < <(compgen -W "$codes" -- "$word")
             # The blank of `not lawful` belongs to the word.
             COMPREPLY=("${COMPREPLY[@]// /\\ }")

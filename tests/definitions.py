@@ -1,30 +1,31 @@
 #!/usr/bin/env python3
-"""Writes the lists of definitions and laws in docs/DEFINITIONS.md, crate by crate from the lowest up.
+"""Checks docs/DEFINITIONS.md and the words of the specs, or prints the page with its lists of definitions and laws.
 
-Usage: tests/definitions.py [--check]
+Usage: tests/definitions.py [--print [CRATE ..]]
 
-Without an argument the lists are made again, from the `--` lines above the definitions in crates/*/specs and the `///`
-lines above the laws in crates/*/src. What is around a list is written by hand, and stays. With `--check` nothing is
-written: each entry that differs is named. The status is 1 where one differs, or where a spec or a law has no words.
+The lists are made, crate by crate, from the `--` lines above the definitions in crates/*/specs and the `///` lines above the
+laws in crates/*/src. On the page a line says where a list belongs:
 
-A list is between two lines:
+    <!-- definitions CRATE -->
 
-    <!-- definitions CRATE: made by tests/definitions.py -->
-    <!-- end -->
+Without an argument the page and the specs are checked: each definition, each law and each file of specs has its words; each
+file of specs is named in its Lib.antt, and each name there is a file; each crate with specs has one place on the page, in the
+order of crates.txt from the lowest up; and each name of the code that the page quotes is a definition, a law, or declared in
+the code. What isn't so is named, and the status is 1. With --print the page is printed with each list in its place, or of it
+the sections of these crates.
 """
 
-import difflib
 import pathlib
 import re
+import signal
 import sys
 import textwrap
 
 ROOT = pathlib.Path(__file__).resolve().parent.parent
 PAGE = ROOT / "docs" / "DEFINITIONS.md"
-WIDTH = 120
+WIDTH = 100
 
-BEGIN = re.compile(r"<!-- definitions (\w+): made by tests/definitions\.py -->")
-END = "<!-- end -->"
+PLACE = re.compile(r"<!-- definitions (\w+) -->")
 MOD = re.compile(r"pub mod (\w+)$")
 DEFINITION = re.compile(r"(?:[a-z]+ )*pub (?!mod |use )(?:(?:record|data) )?([^\s:({]+)")
 LAW = re.compile(r"pub fn (\w+)")
@@ -32,12 +33,35 @@ QUOTED = re.compile(r"`[^`]*`")
 # What would begin a list or a heading where a line is broken before it.
 MARK = re.compile(r" (?=(?:[-+*#>]|\d+[.)])(?: |$))")
 
+# What a file of specs declares: a definition, private ones too, its arguments, a case of a `data`, a field of a record.
+DECLARED = re.compile(r"(?:(?:abbrev|unfoldable|pub|record|data|ghost) )*([A-Za-z_][^\s:({.]*)(?:\.(\w+))?")
+ARGUMENTS = re.compile(r"\b[a-z]\w*")
+INSIDE = re.compile(r"  (?:pub )?([A-Za-z_]\w*)\b")
+# What a file of the code declares: functions, types, traits, constants, clauses, and in a type its variants and fields.
+IN_CODE = re.compile(r"\b(?:fn|struct|enum|trait|const|type|mod|ghost|union) (\w+)")
+TYPE = re.compile(r"(?:pub(?:\(crate\))? )?(?:enum|struct)\b.*\{$")
+VARIANT = re.compile(r"^\s+(?:pub(?:\(crate\))? )?([A-Za-z_]\w*)\s*(?:[,({:]|$)")
+CLAUSE = re.compile(r"\b(?:ensures|requires) (?:ghost )?(\w+)")
+# What the page quotes as a name of the code: `snake_case`, `CamelCase`, `path::to`, `Record.field`, and one lower-case word.
+NAME = re.compile(r"(?:[A-Za-z]\w*)(?:(?:::|\.)[A-Za-z_]\w*)*")
+# Names of Linux and of the toolchain's library, and the words of texts that examples on the page have.
+OF_LINUX = """
+    alloc_ordered_workqueue alloc_workqueue cancel_work cancel_work_sync check_flush_dependency destroy_workqueue disable_work
+    drain_workqueue enable_work find_worker_executing_work flush_work flush_workqueue max_active process_one_work queue_work
+    rescuer_thread start_flush_work work_busy work_func_t worker_thread
+""".split()
+OF_LIBRARY = """
+    All Any Appends Consumes Model Option ReadConsumes Result WriteAppends clap decimal slice_index strip_carriage_return true
+""".split()
+OF_TEXTS = "R a arc b c d deadlock dot false flush flushwq item n ordered plan replay run x yes".split()
+
 
 class Words:
-    """What is found in the crates: the blocks of each list, and the faults."""
+    """What is found in the crates: the blocks of each list, all names that are declared, and the faults."""
 
     def __init__(self):
         self.blocks = {}
+        self.names = set(OF_LINUX + OF_LIBRARY + OF_TEXTS)
         self.faults = []
         self.count = 0
 
@@ -130,10 +154,35 @@ def law_blocks(path, crate, words):
         words.blocks[crate] += [f"**Laws**, in `src/{path.name}`:", *laws]
 
 
+def names_of_specs(path, names):
+    names.add(path.stem)
+    for line in path.read_text().splitlines():
+        found = INSIDE.match(line) if line.startswith("  ") else DECLARED.match(line)
+        if found and not line.startswith("use "):
+            names.update(word for word in found.groups() if word)
+            names.update(ARGUMENTS.findall(line.partition(" = ")[0] if " = " in line else ""))
+
+
+def names_of_code(path, names):
+    names.add(path.stem)
+    in_type = False
+    for line in path.read_text().splitlines():
+        if line.lstrip().startswith("//"):
+            continue
+        names.update(IN_CODE.findall(line) + CLAUSE.findall(line))
+        if in_type:
+            names.update(VARIANT.findall(line))
+        in_type = not line.startswith("}") and (in_type or bool(TYPE.match(line)))
+
+
 def gathered():
     words = Words()
     for crate in crates_upwards():
-        specs = ROOT / "crates" / crate / "specs"
+        folder = ROOT / "crates" / crate
+        specs = folder / "specs"
+        words.names.add(crate)
+        for path in sorted((folder / "src").glob("**/*.rt")):
+            names_of_code(path, words.names)
         lib = specs / "Lib.antt"
         if not lib.is_file():
             continue
@@ -145,9 +194,10 @@ def gathered():
             else:
                 words.fault(lib, 0, f"there is no {name}.antt")
         for path in sorted(specs.rglob("*.antt")):
+            names_of_specs(path, words.names)
             if path != lib and (path.parent != specs or path.stem not in named):
                 words.fault(path, 0, "a file that Lib.antt doesn't name")
-        for path in sorted((ROOT / "crates" / crate / "src").glob("*laws.rt")):
+        for path in sorted((folder / "src").glob("*laws.rt")):
             law_blocks(path, crate, words)
     return words
 
@@ -166,88 +216,65 @@ def joined(blocks):
     return text
 
 
-def parted(lines):
-    """The blocks of a list as they are on the page."""
-    blocks = []
-    fresh = True
-    for line in lines:
-        if not line.strip():
-            fresh = True
-        elif fresh or line.startswith("- "):
-            blocks.append(line)
-            fresh = False
-        else:
-            blocks[-1] += "\n" + line
-    return blocks
-
-
-def listed(text, words):
-    """Where the lists are on the page: of each the crate and the numbers of its two lines, counted from 0."""
-    lists = []
-    open_list = None
-    for number, line in enumerate(text.splitlines()):
-        begins = BEGIN.fullmatch(line)
-        if begins and open_list:
-            words.fault(PAGE, number + 1, f"the list of {open_list[0]} has no end")
-        if begins:
-            open_list = (begins[1], number)
-        elif line == END and open_list:
-            lists.append((*open_list, number))
-            open_list = None
-    if open_list:
-        words.fault(PAGE, open_list[1] + 1, f"the list of {open_list[0]} has no end")
-    found = [crate for crate, _, _ in lists]
+def check_places(text, words):
+    """Each crate with specs has one place for its list, and the places are in order."""
+    found = [place[1] for place in map(PLACE.fullmatch, text.splitlines()) if place]
     for crate in words.blocks:
         if found.count(crate) != 1:
-            words.fault(PAGE, 0, f"there is {'more than one' if crate in found else 'no'} list of {crate}")
+            words.fault(PAGE, 0, f"there is {'more than one' if crate in found else 'no'} place for the list of {crate}")
     for crate in found:
         if crate not in words.blocks:
-            words.fault(PAGE, 0, f"there is a list of {crate}, which has no specs")
+            words.fault(PAGE, 0, f"there is a place for the list of {crate}, which has no specs")
     wanted = [crate for crate in words.blocks if crate in found]
     if [crate for crate in found if crate in words.blocks] != wanted:
-        words.fault(PAGE, 0, f"the lists don't stand in the order {' '.join(wanted)}")
-    return lists
+        words.fault(PAGE, 0, f"the places of the lists aren't in the order {' '.join(wanted)}")
 
 
-def rewritten(text, lists, words):
-    lines = text.splitlines()
-    for crate, begin, end in reversed(lists):
-        if crate in words.blocks:
-            lines[begin + 1 : end] = ["", *joined(words.blocks[crate]).splitlines(), ""]
-    return "\n".join(lines) + "\n"
-
-
-def compared(text, lists, words):
-    """How many entries are those of the crates; the others are faults."""
-    same = 0
-    lines = text.splitlines()
-    for crate, begin, end in lists:
-        wanted, found = words.blocks.get(crate, []), parted(lines[begin + 1 : end])
-        for kind, a, b, c, d in difflib.SequenceMatcher(None, wanted, found, autojunk=False).get_opcodes():
-            if kind == "equal":
-                same += sum(map(is_entry, wanted[a:b]))
+def check_names(text, words):
+    """Each name that the page quotes is declared somewhere; how many are."""
+    known = 0
+    code = False
+    for number, line in enumerate(text.splitlines(), 1):
+        code ^= line.startswith("```")
+        if code or line.startswith("    "):
+            continue
+        for quoted in QUOTED.findall(line):
+            name = quoted.strip("`").removesuffix("-").removesuffix(".antt")
+            if not NAME.fullmatch(name) or "/" in name:
                 continue
-            for block in wanted[a:b]:
-                words.fault(PAGE, 0, f"{crate}: missing '{' '.join(block.split())}'")
-            for block in found[c:d]:
-                words.fault(PAGE, 0, f"{crate}: too much '{' '.join(block.split())}'")
-    return same
+            known += 1
+            if not all(word in words.names for word in re.split(r"::|\.", name)):
+                words.fault(PAGE, number, f"there is no {name}")
+    return known
+
+
+def printed(text, crates, words):
+    """The page with its lists, or the sections that have the lists of these crates."""
+    sections = re.split(r"(?m)^(?=## )", text)
+    if crates:
+        sections = [part for part in sections if any(crate in PLACE.findall(part) for crate in crates)]
+    filled = PLACE.sub(lambda place: joined(words.blocks.get(place[1], [])).rstrip("\n"), "".join(sections))
+    return filled.rstrip("\n") + "\n"
 
 
 def main():
-    if sys.argv[1:] not in ([], ["--check"]):
+    arguments = sys.argv[1:]
+    if arguments[:1] not in ([], ["--print"]):
         sys.exit(__doc__)
     words = gathered()
     text = PAGE.read_text()
-    lists = listed(text, words)
-    if sys.argv[1:]:
-        passed = compared(text, lists, words)
-    else:
-        passed = words.count
-        PAGE.write_text(rewritten(text, lists, words))
+    if arguments:
+        unknown = [crate for crate in arguments[1:] if crate not in words.blocks]
+        if unknown:
+            sys.exit(f"definitions: there are no specs of {', '.join(unknown)}; there are those of {' '.join(words.blocks)}")
+        signal.signal(signal.SIGPIPE, signal.SIG_DFL)  # (what reads it may have read enough)
+        sys.stdout.write(printed(text, arguments[1:], words))
+        return
+    check_places(text, words)
+    passed = words.count + check_names(text, words)
     for fault in words.faults:
         print(f"FAILED  {fault}")
-    print(f"definitions: {passed} passed, {len(words.faults)} failed")
+    print(f"definitions: {passed - len(words.faults)} passed, {len(words.faults)} failed")
     sys.exit(1 if words.faults else 0)
 
 

@@ -1,4 +1,5 @@
 #!/usr/bin/env bash
-# Compares the lists of docs/DEFINITIONS.md with the definitions and laws of the crates. tests/definitions.py makes them.
-# It needs no program. What differs is named, and so is a definition or a law without words above it.
-exec python3 -B "$(dirname "$0")/definitions.py" --check
+# Checks that each definition and each law of the crates has its words, and that docs/DEFINITIONS.md names only what is declared and
+# has a place for the list of each crate. With --print it prints that page with all lists, and with --print CRATE .. the sections of
+# these crates. It needs no program.
+exec python3 -B "$(dirname "$0")/definitions.py" "$@"

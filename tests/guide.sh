@@ -1,13 +1,14 @@
 #!/usr/bin/env bash
-# Runs every command in the fenced blocks of README.md, of docs/GUIDE.md, of docs/RUNTIME.md and of the pages in examples/, and
-# compares what it shows with what stands below it on the page; looks for each excerpt of code on a page in crates/example_rdisk;
-# compares the files that docs/GUIDE.md shows with those in examples/rdisk; and gives the `grep` lines of docs/GUIDE.md each name
-# that the page says they find. Run it once the gate or `rt run` has built the program and the example's program,
-# crates/example_rdisk. The arguments, if there are any, name others in their place.
+# Runs every command in the fenced blocks of README.md, of docs/GUIDE.md, docs/WAITS.md and docs/RUNTIME.md, and of
+# the pages in examples/, and compares what it shows with what stands below it on the page; looks for each excerpt of
+# code on a page in crates/example_rdisk; compares the files that docs/GUIDE.md and docs/WAITS.md show with those in
+# examples/rdisk; and gives the `grep` lines of docs/GUIDE.md each name that the page says they find. Run it once the
+# gate or `rt run` has built the program and the example's program, crates/example_rdisk. The arguments, if there are
+# any, name others in their place.
 #
 # A fenced block of a page is one of these:
 # - a file: its first line is a comment that holds its name alone, as `# NAME` or `/* NAME */`. It is written as it stands.
-#   One of docs/GUIDE.md stands in examples/rdisk as well, just so;
+#   One of docs/GUIDE.md or docs/WAITS.md stands in examples/rdisk as well, just so;
 # - commands: its first line begins with `$ `. Each line that does is a command for bash, with `wqplan` and `example_rdisk` on its
 #   path and nothing to read, and the lines below it are what it writes to both streams. `$?` is the status of the command
 #   before it;
@@ -113,7 +114,7 @@ block() {
         commands "$@"
     elif [[ $first =~ ^(#|/\*)\ ([A-Za-z0-9._-]+)(\ \*/)?$ ]]; then
         printf '%s\n' "$@" >"${BASH_REMATCH[2]}"
-        [ "$page" != docs/GUIDE.md ] || kept "${BASH_REMATCH[2]}"
+        case $page in docs/GUIDE.md | docs/WAITS.md) kept "${BASH_REMATCH[2]}" ;; esac
     elif [ "$word" != c ] && [ "$word" != text ]; then
         fail "$page: the block at line $at is no file, no command and nothing to read"
     fi
@@ -163,7 +164,7 @@ others() {
             plan=$(<"$file")
             play "wqplan plan $name.wq" "$plan"$'\n'
         else
-            fail "$page/$file: docs/GUIDE.md doesn't show it"
+            fail "$page/$file: neither docs/GUIDE.md nor docs/WAITS.md shows it"
         fi
     done
 }
@@ -194,7 +195,7 @@ names() {
         grep -oE '`[A-Za-z]+_[A-Za-z_]*' | tr -d '`'
 }
 
-pages README.md docs/GUIDE.md docs/RUNTIME.md examples/*.md
+pages README.md docs/GUIDE.md docs/WAITS.md docs/RUNTIME.md examples/*.md
 others
 page=docs/GUIDE.md
 finds 1 $(names 'The line also finds' 1) $(names '| File | Lines' 4)

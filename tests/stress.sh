@@ -5,7 +5,7 @@
 #     tests/stress.sh [SEEDS] [CALLS] [PROGRAM]
 #
 # 20 seeds and 100,000 calls where nothing is said. It is no part of the gate, and takes some minutes. It fails where a run
-# doesn't print what docs/FORMAT.md says, or doesn't end in time.
+# doesn't print what tests/FORMATS.md says, or doesn't end in time.
 set -eu
 seeds=${1:-20}
 calls=${2:-100000}

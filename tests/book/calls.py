@@ -1,7 +1,7 @@
 # Books: the calls that are made of them, what is printed for each, and the rows at the end.
 #
-# The rules are those of "Histories" in docs/FORMAT.md, from which each answer was worked out by
-# hand: many of the answers and the rows stand in "Worked histories" there.
+# The rules are those of "Books" in docs/RUNTIME.md, from which each answer was worked out by hand. The
+# model must give the worked histories of tests/model/book_examples.py, many of which stand here, too.
 
 ONE = ("item a", "wq 0 a")
 TWO = ("item a / item b / flush a b", "wq 0 b / wq 1 a")

@@ -1,7 +1,7 @@
 # Books and histories with helpers: the calls that are made, what is printed for each, the rows, and how histories are judged.
 #
-# The rules are those of "Steps" and "Histories" in docs/FORMAT.md, from which each answer was worked out by hand. Each row of a
-# table begins with the number of helpers.
+# The rules are those of "Steps" in docs/FORMAT.md and of "Books" in docs/RUNTIME.md, from which each answer was
+# worked out by hand. Each row of a table begins with the number of helpers.
 
 ONE = ("item a", "wq 0 a")
 TWO = ("item a / item b / flush a b", "wq 0 b / wq 1 a")

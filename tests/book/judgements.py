@@ -1,6 +1,6 @@
 # Histories that are judged: rows in hexadecimal digits, and what is printed.
 #
-# The rules are those of "Packed rows" and "Judging a history" in docs/FORMAT.md, from which each
+# The rules are those of "Histories" in docs/FORMAT.md and "Judging a history" in docs/RUNTIME.md, from which each
 # answer was worked out by hand.
 
 QUEUE = "010100000000000000000000"

@@ -1,8 +1,9 @@
 # Runs on the machine: the steps that a book makes, what is printed for each, the rows, and the state that these leave.
 #
-# The rules are those of "Steps" and "Histories" in docs/FORMAT.md, from which each number of an entry, each mark and the work that
-# is left was worked out by hand. Each book has 100 rows. The work left is 100, less the rows that are written, less the free ones.
-# Which other steps may not be made on the way is in STEPS of tests/rows/replays.py.
+# The rules are those of "Steps" in docs/FORMAT.md and of "Books" in docs/RUNTIME.md, from which each number of an
+# entry, each mark and the work that is left was worked out by hand. Each book has 100 rows. The work left is 100,
+# less the rows that are written, less the free ones. Which other steps may not be made on the way is in STEPS of
+# tests/rows/replays.py.
 
 ROWS = 100
 

@@ -1,8 +1,8 @@
 # Declarations that are refused, and what is said of them on standard error.
 #
-# The rules are those of "Diagnoses" in docs/FORMAT.md, from which each line was written by hand. A row is
-# the files by their names, the command line, the answer, the status, and the lines on standard error. In a
-# file a `str` is lines that ` / ` parts, and `bytes` are bytes. The file `<stdin>` is standard input.
+# The rules are those of tests/DIAGNOSES.md and of "Diagnoses" in docs/FORMAT.md, from which each line was written by
+# hand. A row is the files by their names, the command line, the answer, the status, and the lines on standard error.
+# In a file a `str` is lines that ` / ` parts, and `bytes` are bytes. The file `<stdin>` is standard input.
 
 # 3: a byte that no line may hold.
 BYTES = [

@@ -3,10 +3,10 @@
 #
 #     main.py PROGRAM [SEED] [CASES]
 #
-# Each row is files, a command line, the answer, the exit status, and what is on standard error, each byte of which was
-# written by hand from docs/FORMAT.md, "Diagnoses". First the model must give each row, for which no program is
-# needed. Then the program must, and where standard error is closed or full its answer and its status must be the same.
-# At last it must say what the model says of CASES changed texts that SEED makes.
+# Each row is files, a command line, the answer, the exit status, and what is on standard error, each byte of which
+# was written by hand from tests/DIAGNOSES.md and docs/FORMAT.md, "Diagnoses". First the model must give each row, for
+# which no program is needed. Then the program must, and where standard error is closed or full its answer and its
+# status must be the same. At last it must say what the model says of CASES changed texts that SEED makes.
 
 import os
 import pathlib
@@ -22,10 +22,13 @@ import declarations  # noqa: E402
 import diagnoses  # noqa: E402  (in tests/model)
 import places  # noqa: E402
 import unlawful_runs  # noqa: E402
+import usual  # noqa: E402
 from command_line import seed_and_counts  # noqa: E402
 from tables import text_of  # noqa: E402  (in the folder above)
 
 TABLES = [
+    ("usual mistakes of declarations", usual.DECLARATIONS),
+    ("usual mistakes of assignments", usual.ASSIGNMENTS),
     ("bytes of declarations", declarations.BYTES),
     ("first words of declarations", declarations.WORDS),
     ("forms of directives", declarations.FORMS),

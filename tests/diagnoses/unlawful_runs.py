@@ -1,4 +1,4 @@
-# Rows of runs with a step that may not be made: docs/FORMAT.md, "Diagnoses", the table of `not lawful N`. Each is written by hand.
+# Rows of runs with a step that may not be made: tests/DIAGNOSES.md, the table of `not lawful N`. Each is written by hand.
 
 AB = "item a / item b / flush a b"
 TWO = "item a / item b / item c / flush a b b / flush c a"

@@ -1,6 +1,6 @@
 """Declarations, and for each an answer, an assignment and a run of it, all of which are forged and cut off.
 
-As in the tables of tests/rows, ` / ` parts lines. Most are worked examples of docs/FORMAT.md. What the program says of them is
+As in the tables of tests/rows, ` / ` parts lines. Most are worked examples of tests/rows/worked.py. What the program says of them is
 compared with the model, so what is wrong stands here on purpose.
 """
 

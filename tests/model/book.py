@@ -4,10 +4,11 @@
 #     book.py check DECL ASSIGN HEX
 #     book.py helpers H ..
 #
-# The last form is one of the others, with H helpers. It prints what `book` and `check` of `test_runtime` print. It was written from docs/FORMAT.md alone, "Histories" above all;
-# see plan.py for what such a model is. A book's state is here the replay of its rows and nothing
-# else: each call says what it answers and which row that appends, and the row alone changes the
-# state. A context is a workqueue and the number of a helper, or RESCUER.
+# The last form is one of the others, with H helpers. It prints what `book` and `check` of `test_runtime` print. It
+# was written from docs/FORMAT.md ("Steps" and "Histories"), docs/RUNTIME.md ("Books") and tests/FORMATS.md alone; see
+# plan.py for what such a model is. A book's state is here the replay of its rows and nothing else: each call says
+# what it answers and which row that appends, and the row alone changes the state. A context is a workqueue and the
+# number of a helper, or RESCUER.
 
 import collections
 import dataclasses

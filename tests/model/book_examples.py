@@ -1,9 +1,9 @@
-# The worked histories of docs/FORMAT.md, which the model in book.py must answer as the page says,
+# Worked histories, which the model in book.py must answer as they stand here,
 # and the program too:
 #
 #     book_examples.py
 #
-# drive_books.py goes through them before it compares anything. As on the page, ` / ` parts lines.
+# drive_books.py goes through them before it compares anything. ` / ` parts lines.
 
 import sys
 
@@ -247,12 +247,12 @@ def model_answer(words):
 def failures():
     """What is shown of each example that the model answers in another way."""
     return [
-        f"{what}: the page has {page}, the model has {model_answer(words)}"
+        f"{what}: wanted {page}, the model has {model_answer(words)}"
         for what, words, page in cases() if model_answer(words) != page
     ]
 
 
 if __name__ == "__main__":
     failed = failures()
-    print("\n".join(failed) or f"books: {len(list(cases()))} examples of the page agree")
+    print("\n".join(failed) or f"books: {len(list(cases()))} worked histories agree")
     sys.exit(1 if failed else 0)

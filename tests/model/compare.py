@@ -10,7 +10,7 @@
 # each command there are the cases at the limits of docs/FORMAT.md and at each place of small texts, once
 # each, and then CASES random ones; of `run`, which makes threads, RUNS, or a fifth as many. The same SEED makes the
 # same cases. It fails where an answer differs, and where some kind of answer never came, as may be with
-# few CASES. Before all this the model must answer the worked examples of the page (examples.py).
+# few CASES. Before all this the model must answer the worked examples (examples.py).
 #
 # What the program prints is then given back to it: the plans and circles to `PROGRAM check`, the
 # plans as assignments to `PROGRAM deadlock`, and the runs, those behind circles too, to `PROGRAM
@@ -371,9 +371,9 @@ def main(arguments):
     failed = examples.failures()
     if failed:
         print("\n".join(failed))
-        print(f"model: {len(failed)} of {examples.count()} examples of the page differ")
+        print(f"model: {len(failed)} of {examples.count()} worked examples differ")
         return 1
-    print(f"model: {examples.count()} examples of the page agree")
+    print(f"model: {examples.count()} worked examples agree")
 
     folders = []
 

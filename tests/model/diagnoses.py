@@ -2,8 +2,9 @@
 #
 #     diagnoses.py PROGRAM [SEED] [CASES]
 #
-# The model is a second reading of docs/FORMAT.md, "Diagnoses", over the readers beside it. See plan.py for what the
-# model is. tests/diagnoses has rows that were written by hand from the same section, and the model must give them.
+# The model is a second reading of tests/DIAGNOSES.md and of docs/FORMAT.md, "Diagnoses", over the readers beside it.
+# See plan.py for what the model is. tests/diagnoses has rows that were written by hand from the same section, and the
+# model must give them.
 #
 # The comparison changes texts that the other tests have: bytes are replaced, words swapped, misspelt or moved, lines
 # dropped, doubled and exchanged, and files put in each other's place. The program must print the model's answer, with

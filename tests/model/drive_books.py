@@ -2,7 +2,7 @@
 #
 #     drive_books.py PROGRAM [SEED] [SEQUENCES] [HISTORIES] [--only CASE]
 #
-# It gives the program the worked histories of docs/FORMAT.md, the cases at the limits and those of
+# It gives the program the worked histories of book_examples.py, the cases at the limits and those of
 # the command line, then SEQUENCES random sequences of calls, and HISTORIES random histories, most
 # of them changed somewhere. What is printed and the exit status must be the model's, byte by byte.
 # The same SEED makes the same cases. It ends at the first difference and keeps the files of it. It

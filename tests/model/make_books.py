@@ -1,5 +1,5 @@
 # Makes up calls of books and histories for drive_books.py and book_properties.py: those at the
-# limits of docs/FORMAT.md, and random ones. The same seed makes the same ones.
+# limits of docs/RUNTIME.md and tests/FORMATS.md, and random ones. The same seed makes the same ones.
 
 import collections
 import dataclasses

@@ -1,4 +1,4 @@
-# A model of what standard error says of a step that may not be made: docs/FORMAT.md, "Diagnoses", the table of `not lawful N`.
+# A model of what standard error says of a step that may not be made: tests/DIAGNOSES.md, the table of `not lawful N`.
 
 from steps import OVER, RESCUER, State
 

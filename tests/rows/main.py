@@ -4,8 +4,9 @@
 #
 # Each row is texts and the answer to them: `PROGRAM plan`, `check`, `deadlock`, `replay`, `circles`,
 # `dot` or `run` must print just that, with the exit status that goes with it. To standard error it must
-# print nothing, but beside a refusal or a `no` its diagnosis. What is printed must be true, too: a plan or
-# a circle is then given to `check`, and a run to `replay`. It takes a few seconds.
+# print nothing, but beside a refusal or a `no` its diagnosis. The worked examples of worked.py are rows,
+# too; the model must give them as well. What is printed must be true: a plan or a circle is then given to
+# `check`, and a run to `replay`. It takes a few seconds.
 
 import pathlib
 import sys
@@ -21,6 +22,7 @@ import plans  # noqa: E402
 import prefixes  # noqa: E402
 import replays  # noqa: E402
 import runs  # noqa: E402
+import worked  # noqa: E402
 from tables import Case, run_cases, text_of  # noqa: E402  (in the folder above)
 
 # "Faults and exit statuses": the status that goes with the first word of an answer.
@@ -102,6 +104,12 @@ def table_cases():
         yield case("limits of what is run with helpers", "run", [text], answer, "8")
     for words in runs.WRONG_HELPERS:
         yield Case("what is no number of helpers", ["run", 0, *words], [b"item a\n"], b"", 2, complains=True)
+    for command, rows in [
+        ("plan", worked.PLANS), ("check", worked.CHECKS), ("replay", worked.REPLAYS), ("deadlock", worked.DEADLOCKS),
+        ("run", worked.RUNS), ("circles", worked.CIRCLES), ("dot", worked.DOTS)
+    ]:
+        for *texts, answer in rows:
+            yield case(f"worked examples, {command}", command, texts, answer)
     for command, texts, fronts in prefixes.PREFIXES:
         yield from prefix_cases(command, [text_of(text) for text in texts], fronts)
 

@@ -1,7 +1,7 @@
 # The command `plan`: declarations, and the answer to each.
 #
 # The rules are those of docs/FORMAT.md, from "Lines, words and numbers" to "Circle texts", and each
-# answer was worked out by hand from them. Some of the rows are the page's worked examples.
+# answer was worked out by hand from them. Some of the rows are worked examples, too (worked.py).
 
 TWO = "plan 2 / wq 0 b / wq 1 a / chain 2 / arc a b"
 
