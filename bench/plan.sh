@@ -91,6 +91,8 @@ def run(program, path, status, first):
         child = os.fork()
         if child == 0:
             os.dup2(answer.fileno(), 1)
+            # The empty text has a note on standard error.
+            os.dup2(os.open(os.devnull, os.O_WRONLY), 2)
             os.execv(command[0], command)
         _, ended, usage = os.wait4(child, 0)
         seconds = time.perf_counter() - begun
