@@ -250,19 +250,27 @@ CIRCLES = [
     ("item a / item b / item c", "safe"),
     (R, "safe"),
     (S, "components 1 / component 1 / arc a a"),
+    # c only leads to the circle.
     ("item a / item b / item c / ordered a b / flush a a / flush c a",
      "components 1 / component 1 / arc a a"),
     ("item a / item b / ordered a b / flush a b", "components 1 / component 1 / arc a b"),
+    # In order of place, not of the items.
     ("item a / item b / ordered a b / flush b a / flush a b",
      "components 1 / component 2 / arc b a / arc a b"),
+    # No item waits for itself by a chain of flushes: the groups do.
     (T, T_CROSSED),
+    # Components come in the order of their workqueues, though the other one has the least place.
     (D, "components 2 / component 2 / arc a b / arc b a / component 2 / arc d c / arc c d"),
+    # What leads to a circle, and what it leads to, are in none.
     ("item in / item a / item b / item c / item out / flush in a / flush a b / flush b c / flush c a"
      " / flush c out", "components 1 / component 3 / arc a b / arc b c / arc c a"),
+    # Two circles with an item in common are one component.
     ("item a / item b / item c / flush a b c / flush b a / flush c a",
      "components 1 / component 4 / arc a b / arc a c / arc b a / arc c a"),
+    # Each flush is an arc of its own.
     ("item a / item b / flush a b b / flush b a / flush a b",
      "components 1 / component 4 / arc a b / arc a b / arc b a / arc a b"),
+    # Waits for a whole workqueue are arcs like others.
     (W, "safe"),
     ("item a / item b / flush a b / flushwq b a / flushwq a b",
      "components 1 / component 3 / arc a b / arc b a / arc a b"),
