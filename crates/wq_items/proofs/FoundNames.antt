@@ -1,8 +1,9 @@
 -- Where a name is among names.
 use Rattle.std.proofs.Common.{◌≡◌, ℕ, suc, ◌+◌, Bool, true, false, not, cond, ltb, List, [], ◌∷◌, length, map, Option, Some, None, is_some, refl, sym, ap, ◌∙◌, arith, one-add, inl, inr}
 use Rattle.std.specs.Prelude.{position, bytes_eq}
-use Rattle.std.specs.List.{list_any, prefix_len, position_or_len}
+use Rattle.std.specs.List.{All, list_any, prefix_len, position_or_len}
 use Rattle.std.proofs.lemmas.Bool.{cases_lt, lt-ltb, le-ltb}
+use Rattle.std.proofs.lemmas.List.Elements.{All-head, All-tail}
 use Rattle.wq_items.specs.Table.{item_named}
 
 prefix_len-map : {X Y : Type 0} (p : Y → Bool) (f : X → Y) (xs : List X) → prefix_len p (map f xs) ≡ prefix_len (λ x. p (f x)) xs
@@ -37,6 +38,20 @@ list_any-step p x xs false e rest = rw (e, one-add) (rest ∙ sym (ltb-suc (posi
 list_any-is : {X : Type 0} (p : X → Bool) (xs : List X) → list_any p xs ≡ ltb (position_or_len p xs) (length xs)
 list_any-is p [] = refl
 list_any-is p (x ∷ xs) = list_any-step p x xs (p x) refl (list_any-is p xs)
+
+prefix_len-agree : {X : Type 0} (p q : X → Bool) (xs : List X) → All (λ x. p x ≡ q x) xs → prefix_len p xs ≡ prefix_len q xs
+prefix_len-agree p q [] h = refl
+prefix_len-agree p q (x ∷ xs) h =
+    ap (λ (b : Bool). cond b (1 + prefix_len p xs) 0) (All-head (λ y. p y ≡ q y) x xs h) ∙ ap (λ (n : ℕ). cond (q x) (1 + n) 0) (prefix_len-agree p q xs (All-tail (λ y. p y ≡ q y) x xs h))
+
+-- tests that agree at each element find the same first one
+pub position-agree : {X : Type 0} (p q : X → Bool) (xs : List X) → All (λ x. p x ≡ q x) xs → position p xs ≡ position q xs
+unfolding place
+position-agree p q xs h = ap (λ (n : ℕ). place n (length xs)) (prefix_len-agree (λ x. not (p x)) (λ x. not (q x)) xs (λ i d lt. ap not (h i d lt)))
+
+pub list_any-agree : {X : Type 0} (p q : X → Bool) (xs : List X) → All (λ x. p x ≡ q x) xs → list_any p xs ≡ list_any q xs
+list_any-agree p q xs h =
+    list_any-is p xs ∙ ap (λ (n : ℕ). ltb n (length xs)) (prefix_len-agree (λ x. not (p x)) (λ x. not (q x)) xs (λ i d lt. ap not (h i d lt))) ∙ sym (list_any-is q xs)
 
 pub none_is : {X : Type 0} (b : Bool) (n : X) → cond b (Some n) None ≡ None → b ≡ false
 none_is true n e = absurd cc

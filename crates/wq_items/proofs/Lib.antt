@@ -12,6 +12,7 @@ pub mod Pigeonhole
 pub mod Tables
 pub mod BuildingLemmas
 pub mod FlushLemmas
+pub mod ByKeyLemmas
 pub mod FaultLemmas
 pub mod SliceLemmas
 pub mod ReadLemmas

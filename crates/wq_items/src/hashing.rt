@@ -5,22 +5,24 @@
 //! seed: what a map finds is defined without its hashes.
 //!
 //! A name is hashed in time in its length, in one pass. Most names have at most eight bytes: of these a number is hashed and
-//! compared that stands for all of their bytes (`short`).
+//! compared that stands for all of their bytes (`short`). A name keeps its hash, so that a map doesn't hash it again.
 
-ghost use Rattle.std.specs.Prelude.{◌≡◌, ◌∷◌, [], List, ℕ, fold, bytes_eq};
+ghost use Rattle.std.specs.Prelude.{◌≡◌, ◌==◌, ◌&&◌, List, ℕ, if◌then◌else◌, bytes_eq};
 ghost use Rattle.std.specs.Hash as fed;
 ghost use Rattle.std.specs.Hash.FoldHasher as folding;
 ghost use Rattle.std.specs.Cmp.Rules.{comparing, hashing};
 ghost use Rattle.std.proofs.Common.{rules};
-ghost use Rattle.wq_items.specs.Short.{taken};
+ghost use Rattle.wq_items.specs.Hashing.{hash_of};
+ghost use Rattle.wq_items.specs.Short.{is_short, short_number};
 
 use crate::short::{are_same_short, are_same_tiny, is_short, is_tiny, short_number, tiny_number};
 use std::hash::{BuildHasher, FoldHasher, Hash, Hasher};
 
-/// A name, as a slice of the text.
+/// A name, as a slice of the text, and its hash.
 #[derive(Clone, Copy)]
 pub(crate) struct Name<'a> {
     pub(crate) bytes: &'a [u8],
+    pub(crate) hash: u64,
 }
 
 /// Whether two longer names are the same. It stands apart, so that the look-up of a short name is small.
@@ -48,12 +50,12 @@ pub(crate) fn are_same(a: &[u8], b: &[u8]) -> bool
 }
 
 impl<'a> PartialEq for Name<'a> {
-    ghost eq = { λ x y. bytes_eq x.bytes.now y.bytes.now };
+    ghost eq = { λ x y. (x.hash == y.hash) && bytes_eq x.bytes.now y.bytes.now };
 
     ghost laws = { Prim.search (comparing, rules) };
 
     fn eq(&self, other: &Self) -> bool {
-        are_same(self.bytes, other.bytes)
+        self.hash == other.hash && are_same(self.bytes, other.bytes)
     }
 }
 
@@ -62,50 +64,13 @@ impl<'a> Eq for Name<'a> {
 }
 
 impl<'a> Hash for Name<'a> {
-    ghost hash_input = { λ n. n.bytes.now ∷ [] };
+    ghost hash_input = { λ n. fed.u64 n.hash };
 
     ghost respects_eq = { Prim.search (hashing, rules) };
 
     fn hash<H: Hasher>(&self, state: &mut H) {
-        state.write(self.bytes);
+        state.write_u64(self.hash);
     }
-}
-
-/// Makes the hasher of each name, with one seed.
-#[derive(Clone, Copy)]
-pub(crate) struct Seeded {
-    /// The state after the seed, with which each name begins.
-    begun: FoldHasher,
-    seed: u64,
-}
-
-impl Seeded {
-    /// Makes hashers with this seed.
-    pub(crate) fn new(seed: u64) -> Seeded {
-        let mut begun = FoldHasher::default();
-        begun.write_u64(seed);
-        Seeded { begun, seed }
-    }
-}
-
-impl BuildHasher for Seeded {
-    type Hasher = SeededHasher;
-
-    ghost build_hasher = { λ s. record { hasher = s.begun; seed = s.seed } };
-
-    fn build_hasher(&self) -> SeededHasher {
-        SeededHasher {
-            hasher: self.begun,
-            seed: self.seed,
-        }
-    }
-}
-
-/// Hashes the seed, then what is written, then the seed again.
-#[derive(Clone, Copy)]
-pub(crate) struct SeededHasher {
-    hasher: FoldHasher,
-    seed: u64,
 }
 
 /// Hashes a longer name. It stands apart, so that the look-up of a short name is small.
@@ -116,24 +81,79 @@ fn write_long(hasher: &mut FoldHasher, bytes: &[u8])
     hasher.write(bytes);
 }
 
-impl Hasher for SeededHasher {
-    ghost write = { λ s bytes. record { hasher = fold folding.write s.hasher (taken bytes); seed = s.seed } };
+/// Hashes names, with one seed: the seed, then a name, then the seed again.
+#[derive(Clone, Copy)]
+pub(crate) struct Seeded {
+    /// The state after the seed, with which each name begins.
+    begun: FoldHasher,
+    seed: u64,
+}
 
-    ghost finish = { λ s. folding.finish (fold folding.write s.hasher (fed.u64 s.seed)) };
+impl Seeded {
+    /// Hashes with this seed.
+    pub(crate) fn new(seed: u64) -> Seeded {
+        let mut begun = FoldHasher::default();
+        begun.write_u64(seed);
+        Seeded { begun, seed }
+    }
+
+    /// These bytes as a name, with its hash.
+    #[inline(always)]
+    pub(crate) fn name<'a>(&self, bytes: &'a [u8]) -> Name<'a>
+        ensures bytes { result.bytes.now ≡ bytes.now }
+        ensures hash { result.hash ≡ hash_of self.now bytes.now }
+    {
+        let mut hasher = self.begun;
+        if is_short(bytes) {
+            hasher.write_u64(short_number(bytes));
+        } else if is_tiny(bytes) {
+            hasher.write_u64(u64::from(tiny_number(bytes)));
+        } else {
+            write_long(&mut hasher, bytes);
+        }
+        hasher.write_u64(self.seed);
+        Name {
+            bytes,
+            hash: hasher.finish(),
+        }
+    }
+}
+
+/// Hands on the hash that a name brings.
+#[derive(Clone, Copy)]
+pub(crate) struct Brought {
+    hash: u64,
+}
+
+impl Brought {
+    /// No hash yet.
+    pub(crate) fn new() -> Brought {
+        Brought { hash: 0 }
+    }
+}
+
+impl BuildHasher for Brought {
+    type Hasher = Brought;
+
+    ghost build_hasher = { λ b. b };
+
+    fn build_hasher(&self) -> Brought {
+        *self
+    }
+}
+
+impl Hasher for Brought {
+    ghost write = { λ b bytes. record { hash = if is_short bytes then short_number bytes else b.hash } };
+
+    ghost finish = { λ b. b.hash };
 
     fn finish(&self) -> u64 {
-        let mut hasher = self.hasher;
-        hasher.write_u64(self.seed);
-        hasher.finish()
+        self.hash
     }
 
     fn write(&mut self, bytes: &[u8]) {
         if is_short(bytes) {
-            self.hasher.write_u64(short_number(bytes));
-        } else if is_tiny(bytes) {
-            self.hasher.write_u64(u64::from(tiny_number(bytes)));
-        } else {
-            write_long(&mut self.hasher, bytes);
+            self.hash = short_number(bytes);
         }
     }
 }

@@ -14,6 +14,7 @@ mod fault;
 mod flush;
 mod hashing;
 pub mod laws;
+mod named;
 mod names;
 mod short;
 mod table;

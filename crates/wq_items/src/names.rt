@@ -3,10 +3,11 @@
 //! No name is declared twice, by "Items and groups" in docs/FORMAT.md. A name is found in constant time on average, by its hash,
 //! which depends on a seed. The names themselves stay in the text. `find` and `add` hash their name once.
 
-ghost use Rattle.std.specs.Prelude.{◌≡◌, ◌<◌, ◌+◌, ◌++◌, ◌∷◌, [], List, ℕ, length, is_some, not, false, Some, slice_get, IfOk, OnErr, if◌then◌else◌};
+ghost use Rattle.std.specs.Prelude.{◌≡◌, ◌≢◌, ◌<◌, ◌≤◌, ◌++◌, ◌∷◌, [], List, ℕ, length, is_some, not, false, AllPairs, IfOk, IfErr, OnErr, if◌then◌else◌};
 ghost use Rattle.wq_items.specs.Table.{item_named};
 
-use crate::hashing::{Name, Seeded};
+use crate::hashing::{Brought, Name, Seeded};
+use crate::named::Named;
 use indexmap::IndexSet;
 use std::alloc::{AllocError, Allocator};
 use std::marker::Model;
@@ -14,15 +15,19 @@ use std::marker::Model;
 /// Names that differ, in the order in which they were added. Contracts see the list of the names.
 #[derive(Drop)]
 pub(crate) struct Names<'a, A: Allocator> {
-    set: IndexSet<Name<'a>, Seeded, A>,
+    set: IndexSet<Name<'a>, Brought, A>,
+    hasher: Seeded,
 }
 
 impl<'a, A: Allocator> Model for Names<'a, A> {
-    ghost use Rattle.std.specs.Prelude.{List, ℕ, map};
+    ghost use Rattle.std.specs.Prelude.{List, ℕ};
+    ghost use Rattle.wq_items.specs.Hashing.{AreHashed, names_of};
 
     ghost Value = { List (List ℕ) };
 
-    ghost view = { λ n. map (λ k. k.bytes.now) n.set.keys };
+    ghost view = { λ n. names_of n.set.keys };
+
+    ghost invariant = { λ n. AreHashed n.hasher n.set.keys };
 }
 
 impl<'a, A: Allocator + Copy> Names<'a, A> {
@@ -31,7 +36,8 @@ impl<'a, A: Allocator + Copy> Names<'a, A> {
         ensures { result ≡ [] }
     {
         Names {
-            set: IndexSet::with_hasher(alloc, Seeded::new(seed)),
+            set: IndexSet::with_hasher(alloc, Brought::new()),
+            hasher: Seeded::new(seed),
         }
     }
 
@@ -46,15 +52,7 @@ impl<'a, A: Allocator + Copy> Names<'a, A> {
     pub(crate) fn find(&self, name: &[u8]) -> Option<usize>
         ensures { result ≡ item_named self.now name.now }
     {
-        self.set.get_index_of(&Name { bytes: name })
-    }
-
-    /// The name with this number.
-    pub(crate) fn get(&self, i: usize) -> &'a [u8]
-        requires { i < length self.now }
-        ensures { slice_get self.now i ≡ Some result.now }
-    {
-        self.set.as_slice()[i].bytes
+        self.set.get_index_of(&self.hasher.name(name))
     }
 
     /// Adds a name where it isn't there yet, and returns whether it did.
@@ -63,7 +61,7 @@ impl<'a, A: Allocator + Copy> Names<'a, A> {
         ensures names { IfOk result (λ added. self.new ≡ (if added then self.old ++ (name.now ∷ []) else self.old)) }
         ensures absent { OnErr result (is_some (item_named self.old name.now) ≡ false) }
     {
-        let added = self.set.insert(Name { bytes: name })?;
+        let added = self.set.insert(self.hasher.name(name))?;
         self.make_room();
         Ok(added)
     }
@@ -77,5 +75,15 @@ impl<'a, A: Allocator + Copy> Names<'a, A> {
         if len == self.set.capacity() {
             self.set.reserve(len.saturating_mul(7)).ok();
         }
+    }
+
+    /// The names with their numbers, without the map. The only error is out of memory, which can't occur where there is no name.
+    pub(crate) fn finish(self, alloc: A) -> Result<Named<'a, A>, AllocError>
+        requires few { length self ≤ 4096 }
+        requires distinct { AllPairs (λ (a b : List ℕ). a ≢ b) self }
+        ensures names { IfOk result (λ named. named ≡ self.entry) }
+        ensures memory { IfErr result (λ _. 0 < length self.entry) }
+    {
+        Named::new(alloc, self.hasher, self.set.as_slice())
     }
 }

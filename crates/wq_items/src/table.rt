@@ -19,6 +19,7 @@ ghost use Rattle.wq_items.specs.Building.{table_of, declared, item_declared, flu
 use crate::fault::ItemError;
 use crate::flush::Flushes;
 use crate::hashing::are_same;
+use crate::named::Named;
 use crate::names::Names;
 use crate::target::{ItemId, Target};
 use crate::waits::Waits;
@@ -39,7 +40,7 @@ const SEED: u64 = 0;
 /// The items of a declaration, by number. Contracts see the record of their names, spans and targets.
 #[derive(Drop)]
 pub struct ItemTable<'a, A: Allocator> {
-    names: Names<'a, A>,
+    names: Named<'a, A>,
     spans: Vec<Span, A>,
     waits: Waits<A>,
     flushes: u32,
@@ -359,7 +360,7 @@ impl<'a, A: Allocator + Copy> Building<'a, A> {
         } = self;
         let waits = waits.by_item(alloc)?;
         Ok(ItemTable {
-            names,
+            names: names.finish(alloc)?,
             spans,
             waits,
             flushes,
