@@ -9,7 +9,7 @@ use Rattle.wq_core.specs.declared.entry.Entry.{Entry}
 use Rattle.wq_core.specs.declared.entry.Waiting.{Waiting}
 use Rattle.wq_core.specs.declared.entry.Running.{Running}
 use Rattle.wq_core.specs.declared.step.Step.{Step}
-use Rattle.wq_core.specs.declared.step.Step.TheVariants.{Queue, Cancel, Start, Wait, Over, WaitAll, OverAll, Finish, Help}
+use Rattle.wq_core.specs.declared.step.Step.TheVariants.{Queue}
 use Rattle.wq_core.specs.declared.step.StepError.{StepError}
 use Rattle.wq_core.specs.declared.step.StepError.TheVariants.{NotLawful, NumbersUsedUp}
 use Rattle.wq_core.specs.Wiring.{Wiring, IsWiring, max_helpers, helpers_of, items, lane_of, declared_by, count_on}
@@ -167,14 +167,7 @@ IsNumberOf m step answer = MatchOption answer (¬ Lawful m.wiring m.state step) 
 -- the step is a queueing, and would be given the number that no entry is given
 abbrev pub UsesUp : State → Step → Type 0
 UsesUp s (Queue i) = s.next ≡ max_number
-UsesUp s (Cancel i) = ⊥
-UsesUp s (Start q i) = ⊥
-UsesUp s (Wait q b) = ⊥
-UsesUp s (Over q b) = ⊥
-UsesUp s (WaitAll q b) = ⊥
-UsesUp s (OverAll q b) = ⊥
-UsesUp s (Finish q i) = ⊥
-UsesUp s (Help q h deed) = ⊥
+UsesUp s _ = ⊥
 
 -- the machine after a step
 abbrev pub machine_after : Machine → Step → Machine

@@ -2,7 +2,7 @@
 use Rattle.std.specs.Prelude.{◌≡◌, ℕ, ◌<◌, ◌⊎◌, not, ◌==◌, List, [], ◌∷◌, ◌++◌, filter, map}
 use Rattle.std.specs.List.{list_any, range_with_len}
 use Rattle.wq_core.specs.declared.step.Step.{Step}
-use Rattle.wq_core.specs.declared.step.Step.TheVariants.{Queue, Cancel, Start, Wait, Over, WaitAll, OverAll, Finish, Help}
+use Rattle.wq_core.specs.declared.step.Step.TheVariants.{Queue, Start, Wait, Over, WaitAll, OverAll, Finish, Help}
 use Rattle.wq_core.specs.declared.step.HelpStep.{HelpStep}
 use Rattle.wq_core.specs.Wiring.{Wiring, items}
 use Rattle.wq_core.specs.State.{State}
@@ -11,15 +11,13 @@ use Rattle.wq_core.specs.Runs.{KeepsOrder, GoesOn}
 
 -- the rescuer of lane q makes the step
 abbrev pub IsStepOfLane : ℕ → Step → Type 0
-IsStepOfLane q (Queue i) = ⊥
-IsStepOfLane q (Cancel i) = ⊥
 IsStepOfLane q (Start p i) = p ≡ q
 IsStepOfLane q (Wait p b) = p ≡ q
 IsStepOfLane q (Over p b) = p ≡ q
 IsStepOfLane q (WaitAll p b) = p ≡ q
 IsStepOfLane q (OverAll p b) = p ≡ q
 IsStepOfLane q (Finish p i) = p ≡ q
-IsStepOfLane q (Help p h deed) = ⊥
+IsStepOfLane q _ = ⊥
 
 -- the rescuer of lane q can make a step
 abbrev pub RescuerCanMove : Wiring → State → ℕ → Type 0

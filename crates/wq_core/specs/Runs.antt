@@ -4,9 +4,9 @@ use Rattle.std.specs.List.{All, count_by}
 use Rattle.wq_items.specs.declared.target.Target.{Target}
 use Rattle.wq_core.specs.declared.entry.Running.{Running}
 use Rattle.wq_core.specs.declared.step.Step.{Step}
-use Rattle.wq_core.specs.declared.step.Step.TheVariants.{Queue, Cancel, Start, Wait, Over, WaitAll, OverAll, Finish, Help}
+use Rattle.wq_core.specs.declared.step.Step.TheVariants.{Queue, Cancel, Wait, WaitAll, Finish, Help}
 use Rattle.wq_core.specs.declared.step.HelpStep.{HelpStep}
-use Rattle.wq_core.specs.declared.step.HelpStep.TheVariants.{Start as DoStart, Wait as DoWait, WaitAll as DoWaitAll, Over as DoOver, OverAll as DoOverAll, Finish as DoFinish}
+use Rattle.wq_core.specs.declared.step.HelpStep.TheVariants.{Start as DoStart, Wait as DoWait, WaitAll as DoWaitAll, Finish as DoFinish}
 use Rattle.wq_core.specs.Wiring.{Wiring, items, declared_by}
 use Rattle.wq_core.specs.State.{State, lane_at, empty_state, RunsIn}
 use Rattle.wq_core.specs.Rules.{Lawful, effect}
@@ -33,13 +33,7 @@ end_of w steps = after w (empty_state w) steps
 abbrev pub is_rescuer_step : Step → Bool
 is_rescuer_step (Queue i) = false
 is_rescuer_step (Cancel i) = false
-is_rescuer_step (Start q i) = true
-is_rescuer_step (Wait q b) = true
-is_rescuer_step (Over q b) = true
-is_rescuer_step (WaitAll q b) = true
-is_rescuer_step (OverAll q b) = true
-is_rescuer_step (Finish q i) = true
-is_rescuer_step (Help q h deed) = true
+is_rescuer_step _ = true
 
 -- a rescuer or a helper makes the step
 abbrev pub IsRescuerStep : Step → Type 0
@@ -47,15 +41,8 @@ IsRescuerStep step = MatchBool (is_rescuer_step step) ⊤ ⊥
 
 -- a helper makes the step
 abbrev pub IsHelp : Step → Type 0
-IsHelp (Queue i) = ⊥
-IsHelp (Cancel i) = ⊥
-IsHelp (Start q i) = ⊥
-IsHelp (Wait q b) = ⊥
-IsHelp (Over q b) = ⊥
-IsHelp (WaitAll q b) = ⊥
-IsHelp (OverAll q b) = ⊥
-IsHelp (Finish q i) = ⊥
 IsHelp (Help q h deed) = ⊤
+IsHelp _ = ⊥
 
 -- no helper makes one of the steps
 abbrev pub HasNoHelp : List Step → Type 0
@@ -64,24 +51,15 @@ HasNoHelp steps = All (λ (step : Step). ¬ IsHelp step) steps
 -- the context goes on with what it runs: it does anything but a start
 abbrev pub GoesOn : HelpStep → Type 0
 GoesOn (DoStart i) = ⊥
-GoesOn (DoWait b) = ⊤
-GoesOn (DoWaitAll b) = ⊤
-GoesOn (DoOver b) = ⊤
-GoesOn (DoOverAll b) = ⊤
-GoesOn (DoFinish i) = ⊤
+GoesOn _ = ⊤
 
 -- a step that doesn't hang on what is queued or cancelled, or on what helpers take: any but a queueing, a cancellation and a
 -- helper's start
 abbrev pub IsForcedStep : Step → Type 0
 IsForcedStep (Queue i) = ⊥
 IsForcedStep (Cancel i) = ⊥
-IsForcedStep (Start q i) = ⊤
-IsForcedStep (Wait q b) = ⊤
-IsForcedStep (Over q b) = ⊤
-IsForcedStep (WaitAll q b) = ⊤
-IsForcedStep (OverAll q b) = ⊤
-IsForcedStep (Finish q i) = ⊤
 IsForcedStep (Help q h deed) = GoesOn deed
+IsForcedStep _ = ⊤
 
 -- ---- executions that flush as declared
 
@@ -93,24 +71,18 @@ IsNextWait w s q c whole b = (r : Running) × RunsIn (lane_at s q) c r
 -- what context c of lane q does keeps to the order of the declaration: its next wait is for the next declared target, of the kind
 -- that is declared there, and it finishes after the last
 abbrev pub KeepsOrderIn : Wiring → State → ℕ → ℕ → HelpStep → Type 0
-KeepsOrderIn w s q c (DoStart i) = ⊤
 KeepsOrderIn w s q c (DoWait b) = IsNextWait w s q c false b
 KeepsOrderIn w s q c (DoWaitAll b) = IsNextWait w s q c true b
-KeepsOrderIn w s q c (DoOver b) = ⊤
-KeepsOrderIn w s q c (DoOverAll b) = ⊤
 KeepsOrderIn w s q c (DoFinish i) = (r : Running) × RunsIn (lane_at s q) c r × (r.made ≡ length (declared_by w r.entry.item))
+KeepsOrderIn w s q c _ = ⊤
 
 -- what runs keeps to the order of its declaration, in each context
 abbrev pub KeepsOrder : Wiring → State → Step → Type 0
-KeepsOrder w s (Queue i) = ⊤
-KeepsOrder w s (Cancel i) = ⊤
-KeepsOrder w s (Start q i) = KeepsOrderIn w s q 0 (DoStart i)
 KeepsOrder w s (Wait q b) = KeepsOrderIn w s q 0 (DoWait b)
-KeepsOrder w s (Over q b) = KeepsOrderIn w s q 0 (DoOver b)
 KeepsOrder w s (WaitAll q b) = KeepsOrderIn w s q 0 (DoWaitAll b)
-KeepsOrder w s (OverAll q b) = KeepsOrderIn w s q 0 (DoOverAll b)
 KeepsOrder w s (Finish q i) = KeepsOrderIn w s q 0 (DoFinish i)
 KeepsOrder w s (Help q h deed) = KeepsOrderIn w s q h deed
+KeepsOrder w s _ = ⊤
 
 -- each execution makes the waits that its item declares, in their order, and finishes only after the last
 abbrev pub AsDeclaredFrom : Wiring → State → List Step → Type 0
@@ -122,26 +94,12 @@ AsDeclaredFrom w s (step ∷ steps) = KeepsOrder w s step × AsDeclaredFrom w (e
 -- the step queues item i
 abbrev pub queues : ℕ → Step → Bool
 queues i (Queue j) = j == i
-queues i (Cancel j) = false
-queues i (Start q j) = false
-queues i (Wait q b) = false
-queues i (Over q b) = false
-queues i (WaitAll q b) = false
-queues i (OverAll q b) = false
-queues i (Finish q j) = false
-queues i (Help q h deed) = false
+queues i _ = false
 
 -- the step cancels an item
 abbrev pub IsCancel : Step → Type 0
-IsCancel (Queue i) = ⊥
 IsCancel (Cancel i) = ⊤
-IsCancel (Start q i) = ⊥
-IsCancel (Wait q b) = ⊥
-IsCancel (Over q b) = ⊥
-IsCancel (WaitAll q b) = ⊥
-IsCancel (OverAll q b) = ⊥
-IsCancel (Finish q i) = ⊥
-IsCancel (Help q h deed) = ⊥
+IsCancel _ = ⊥
 
 -- each item is queued exactly once, and none is cancelled
 pub record IsOnce (w : Wiring) (steps : List Step) : Type 0 where

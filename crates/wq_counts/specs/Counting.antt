@@ -33,7 +33,6 @@ help_kind_in (DoFinish i) = Some FinishKind
 abbrev pub kind_in : Event → Option Kind
 kind_in (Queue i) = Some QueueKind
 kind_in (Cancel i) = Some CancelKind
-kind_in (Start q i) = None
 kind_in (Wait q b) = Some WaitKind
 kind_in (Over q b) = Some OverKind
 kind_in (Finish q i) = Some FinishKind
@@ -41,25 +40,14 @@ kind_in (Ask i) = Some AskKind
 kind_in (Told i) = Some ToldKind
 kind_in (WaitAll q b) = Some WaitAllKind
 kind_in (OverAll q b) = Some OverAllKind
-kind_in (AskLane q) = None
-kind_in (ToldLane q) = None
 kind_in (Help q h step) = help_kind_in step
+kind_in _ = None
 
 -- the kind of an event, if it is counted for its lane
 abbrev pub lane_kind_in : Event → Option LaneKind
-lane_kind_in (Queue i) = None
-lane_kind_in (Cancel i) = None
-lane_kind_in (Start q i) = None
-lane_kind_in (Wait q b) = None
-lane_kind_in (Over q b) = None
-lane_kind_in (Finish q i) = None
-lane_kind_in (Ask i) = None
-lane_kind_in (Told i) = None
-lane_kind_in (WaitAll q b) = None
-lane_kind_in (OverAll q b) = None
 lane_kind_in (AskLane q) = Some AskLaneKind
 lane_kind_in (ToldLane q) = Some ToldLaneKind
-lane_kind_in (Help q h step) = None
+lane_kind_in _ = None
 
 -- the kind of a wait, for an item or a whole lane
 abbrev pub wait_kind : Bool → Kind
@@ -149,19 +137,9 @@ slot_in (Help q h step) = deed_item step
 
 -- a row of this event is counted
 abbrev pub is_counted : Event → Bool
-is_counted (Queue i) = true
-is_counted (Cancel i) = true
 is_counted (Start q i) = false
-is_counted (Wait q b) = true
-is_counted (Over q b) = true
-is_counted (Finish q i) = true
-is_counted (Ask i) = true
-is_counted (Told i) = true
-is_counted (WaitAll q b) = true
-is_counted (OverAll q b) = true
-is_counted (AskLane q) = true
-is_counted (ToldLane q) = true
 is_counted (Help q h step) = is_some (help_kind_in step)
+is_counted _ = true
 
 -- the count of an item, a kind and an answer
 abbrev pub made : List ℕ → ℕ → Kind → Bool → ℕ

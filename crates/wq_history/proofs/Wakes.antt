@@ -340,15 +340,6 @@ unchanged-enough b wake =
     let suffices = same-suffices b.wiring (state b) b.closed wake in
     record { all = λ c lets becomes. suffices.all c lets becomes.before becomes.now; one_each = suffices.one_each }
 
--- what the law says of a book before is said of its state, of whether it is closed, and of its wiring
-pub WakesEnough-same : (b c new : BookView) (wake : Wake) → state b ≡ state c → b.closed ≡ c.closed → b.wiring ≡ c.wiring → WakesEnough b new wake → WakesEnough c new wake
-WakesEnough-same b c new wake states closed wirings enough = record {
-  all = λ x lets becomes.
-      let before : ¬ IsMetIn (state b) b.closed x = subst (λ (s : State). ¬ IsMetIn s b.closed x) (sym states) (subst (λ (k : Bool). ¬ IsMetIn (state c) k x) (sym closed) becomes.before) in
-      subst (λ (w : Wiring). WakesAll wake (sleepers_for w x)) wirings (enough.all x lets (record { before = before; now = becomes.now }));
-  one_each = λ q. subst (λ (s : State). (startable (lane_at (state new) q) ≤ startable (lane_at s q)) ⊎ ((startable (lane_at (state new) q) ≤ startable (lane_at s q) + 1) × WakesOne wake (Contexts q))) states (enough.one_each q);
-}
-
 -- ---- so somebody is woken for each condition that is met now
 
 some-woken : (wake : Wake) (c : Condition) (q : ℕ) → WakesContexts wake.contexts q → WakesOne wake (Contexts q)

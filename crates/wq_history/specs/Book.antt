@@ -96,56 +96,31 @@ IsNext b q i = (e : Entry) × (next_of (lane_at (state b) q) ≡ Some e) × (e.i
 abbrev pub RefusesNew : Wiring → ℕ → BookError → Type 0
 RefusesNew w rows TooManyRows = max_rows < rows
 RefusesNew w rows OutOfMemory = (rows ≤ max_rows) × ((0 < rows) ⊎ ((0 < items w) ⊎ (0 < w.lanes)))
-RefusesNew w rows HistoryFull = ⊥
-RefusesNew w rows Closed = ⊥
-RefusesNew w rows Undeclared = ⊥
-RefusesNew w rows TooManyWaits = ⊥
-RefusesNew w rows WrongLane = ⊥
-RefusesNew w rows NoItem = ⊥
+RefusesNew w rows _ = ⊥
 
 -- `queue` of item i: no such item; the book is closed; too few rows are free
 abbrev pub RefusesQueue : BookView → ℕ → BookError → Type 0
 RefusesQueue b i NoItem = items b.wiring ≤ i
 RefusesQueue b i Closed = (i < items b.wiring) × (b.closed ≡ true)
 RefusesQueue b i HistoryFull = (i < items b.wiring) × (b.closed ≡ false) × LacksRows b (Queue i)
-RefusesQueue b i Undeclared = ⊥
-RefusesQueue b i TooManyWaits = ⊥
-RefusesQueue b i WrongLane = ⊥
-RefusesQueue b i TooManyRows = ⊥
-RefusesQueue b i OutOfMemory = ⊥
+RefusesQueue b i _ = ⊥
 
 -- `cancel` or `ask` of item i, whichever has this event: no such item; too few rows are free
 abbrev pub RefusesItem : BookView → ℕ → (ℕ → Event) → BookError → Type 0
 RefusesItem b i event NoItem = items b.wiring ≤ i
 RefusesItem b i event HistoryFull = (i < items b.wiring) × LacksRows b (event i)
-RefusesItem b i event Closed = ⊥
-RefusesItem b i event Undeclared = ⊥
-RefusesItem b i event TooManyWaits = ⊥
-RefusesItem b i event WrongLane = ⊥
-RefusesItem b i event TooManyRows = ⊥
-RefusesItem b i event OutOfMemory = ⊥
+RefusesItem b i event _ = ⊥
 
 -- `ask_lane` of lane q: no such lane; too few rows are free
 abbrev pub RefusesAskLane : BookView → ℕ → BookError → Type 0
 RefusesAskLane b q WrongLane = b.wiring.lanes ≤ q
 RefusesAskLane b q HistoryFull = (q < b.wiring.lanes) × LacksRows b (AskLane q)
-RefusesAskLane b q NoItem = ⊥
-RefusesAskLane b q Closed = ⊥
-RefusesAskLane b q Undeclared = ⊥
-RefusesAskLane b q TooManyWaits = ⊥
-RefusesAskLane b q TooManyRows = ⊥
-RefusesAskLane b q OutOfMemory = ⊥
+RefusesAskLane b q _ = ⊥
 
 -- the call is refused because its lane is the wrong one, which this states
 abbrev pub RefusesLane : Type 0 → BookError → Type 0
 RefusesLane wrong WrongLane = wrong
-RefusesLane wrong NoItem = ⊥
-RefusesLane wrong HistoryFull = ⊥
-RefusesLane wrong Closed = ⊥
-RefusesLane wrong Undeclared = ⊥
-RefusesLane wrong TooManyWaits = ⊥
-RefusesLane wrong TooManyRows = ⊥
-RefusesLane wrong OutOfMemory = ⊥
+RefusesLane wrong _ = ⊥
 
 -- `start` of context c of lane q is wrong: there is no such lane or no such context, or it runs an entry
 abbrev pub IsWrongToStart : BookView → ℕ → ℕ → Type 0

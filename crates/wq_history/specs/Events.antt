@@ -100,35 +100,15 @@ is_subject (OfLane q) (OfLane p) = p == q
 
 -- a caller asks about the subject
 abbrev pub asks : Subject → Event → Bool
-asks x (Queue j) = false
-asks x (Cancel j) = false
-asks x (Start q j) = false
-asks x (Wait q b) = false
-asks x (Over q b) = false
-asks x (Finish q j) = false
 asks x (Ask j) = is_subject x (OfItem j)
-asks x (Told j) = false
-asks x (WaitAll q b) = false
-asks x (OverAll q b) = false
 asks x (AskLane q) = is_subject x (OfLane q)
-asks x (ToldLane q) = false
-asks x (Help q h deed) = false
+asks x _ = false
 
 -- a caller who asked about the subject is told
 abbrev pub tells : Subject → Event → Bool
-tells x (Queue j) = false
-tells x (Cancel j) = false
-tells x (Start q j) = false
-tells x (Wait q b) = false
-tells x (Over q b) = false
-tells x (Finish q j) = false
-tells x (Ask j) = false
 tells x (Told j) = is_subject x (OfItem j)
-tells x (WaitAll q b) = false
-tells x (OverAll q b) = false
-tells x (AskLane q) = false
 tells x (ToldLane q) = is_subject x (OfLane q)
-tells x (Help q h deed) = false
+tells x _ = false
 
 -- the row is of a caller who begins to wait for the subject
 abbrev pub begins_to_wait : Subject → Row → Bool
@@ -140,19 +120,9 @@ ends_a_wait x row = tells x row.event
 
 -- a caller asks about some item or some lane
 abbrev pub is_ask : Event → Bool
-is_ask (Queue j) = false
-is_ask (Cancel j) = false
-is_ask (Start q j) = false
-is_ask (Wait q b) = false
-is_ask (Over q b) = false
-is_ask (Finish q j) = false
 is_ask (Ask j) = true
-is_ask (Told j) = false
-is_ask (WaitAll q b) = false
-is_ask (OverAll q b) = false
 is_ask (AskLane q) = true
-is_ask (ToldLane q) = false
-is_ask (Help q h deed) = false
+is_ask _ = false
 
 -- a caller who asked about some item or some lane is told
 abbrev pub is_told : Event → Bool

@@ -82,10 +82,9 @@ WakesContext Everybody q = Unit {0}
 
 -- all contexts of lane q are woken
 abbrev pub WakesContexts : WokenContexts → ℕ → Type 0
-WakesContexts Nobody q = ⊥
-WakesContexts (One p) q = ⊥
 WakesContexts (AllOf p) q = p ≡ q
 WakesContexts Everybody q = Unit {0}
+WakesContexts _ q = ⊥
 
 -- one of these sleepers is woken, or all of them
 abbrev pub WakesOne : Wake → Sleepers → Type 0
@@ -108,10 +107,7 @@ startable lane = count_by (λ (e : Entry). not (is_running lane e.item)) lane.pe
 -- all who sleep for such a condition go on once it is met. For work each entry takes one context
 abbrev pub LetsAllGo : Condition → Type 0
 LetsAllGo (WorkOn q) = ⊥
-LetsAllGo (EndOf q) = Unit {0}
-LetsAllGo (ItemDone i mark) = Unit {0}
-LetsAllGo (LaneDone q mark) = Unit {0}
-LetsAllGo AllDone = Unit {0}
+LetsAllGo _ = Unit {0}
 
 -- enough are woken: all who sleep for a condition that has become true; and, for each entry more of a lane that may be started,
 -- one of its contexts, but never for more than one entry
@@ -149,11 +145,8 @@ WakesByCancel b q wake = WakesIfEnded b q wake.contexts × WakesWaiters b q wake
 -- what a context of lane q does
 abbrev pub WakesByDeed : BookView → ℕ → HelpStep → Wake → Type 0
 WakesByDeed b q (DoStart i) wake = WakesByStart b q wake
-WakesByDeed b q (DoWait t) wake = wake ≡ nobody
-WakesByDeed b q (DoWaitAll t) wake = wake ≡ nobody
-WakesByDeed b q (DoOver t) wake = wake ≡ nobody
-WakesByDeed b q (DoOverAll t) wake = wake ≡ nobody
 WakesByDeed b q (DoFinish i) wake = WakesByFinish b q i wake
+WakesByDeed b q _ wake = wake ≡ nobody
 
 -- an event that came with this `yes`: a queueing wakes one context of its lane. Asks and those who are told wake nobody, nor does
 -- what came to nothing

@@ -51,25 +51,21 @@ item_in (Ask item) = item
 item_in (Told item) = item
 item_in (WaitAll lane target) = target
 item_in (OverAll lane target) = target
-item_in (AskLane lane) = 0
-item_in (ToldLane lane) = 0
 item_in (Help lane helper step) = deed_item step
+item_in _ = 0
 
 -- the lane of an event, or 0 if it has none
 abbrev pub lane_in : Event → ℕ
-lane_in (Queue item) = 0
-lane_in (Cancel item) = 0
 lane_in (Start lane item) = lane
 lane_in (Wait lane target) = lane
 lane_in (Over lane target) = lane
 lane_in (Finish lane item) = lane
-lane_in (Ask item) = 0
-lane_in (Told item) = 0
 lane_in (WaitAll lane target) = lane
 lane_in (OverAll lane target) = lane
 lane_in (AskLane lane) = lane
 lane_in (ToldLane lane) = lane
 lane_in (Help lane helper step) = lane
+lane_in _ = 0
 
 -- the number of the helper that made the step of an event, or 0 if none did
 abbrev pub helper_in : Event → ℕ
@@ -102,28 +98,22 @@ HasHelperNumber _ = ⊤
 -- a helper's step may have this answer, as the rescuer's may
 abbrev pub HelpMayAnswer : HelpStep → Bool → Type 0
 HelpMayAnswer (DoStart item) said = IsTrue said
-HelpMayAnswer (DoWait target) said = ⊤
-HelpMayAnswer (DoWaitAll target) said = ⊤
 HelpMayAnswer (DoOver target) said = IsTrue said
 HelpMayAnswer (DoOverAll target) said = IsTrue said
 HelpMayAnswer (DoFinish item) said = IsTrue said
+HelpMayAnswer _ said = ⊤
 
 -- there may be such an event, with this answer: events that can't come to nothing always have yes, and a helper has a number
 -- from 1 to 8
 abbrev pub MayAnswer : Event → Bool → Type 0
-MayAnswer (Queue item) said = ⊤
-MayAnswer (Cancel item) said = ⊤
 MayAnswer (Start lane item) said = IsTrue said
-MayAnswer (Wait lane target) said = ⊤
 MayAnswer (Over lane target) said = IsTrue said
 MayAnswer (Finish lane item) said = IsTrue said
-MayAnswer (Ask item) said = ⊤
 MayAnswer (Told item) said = IsTrue said
-MayAnswer (WaitAll lane target) said = ⊤
 MayAnswer (OverAll lane target) said = IsTrue said
-MayAnswer (AskLane lane) said = ⊤
 MayAnswer (ToldLane lane) said = IsTrue said
 MayAnswer (Help lane helper step) said = IsHelperNumber helper × HelpMayAnswer step said
+MayAnswer _ said = ⊤
 
 -- a row that may be packed: there may be its event, with its answer
 abbrev pub IsPackable : Row → Type 0
