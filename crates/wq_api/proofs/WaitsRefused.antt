@@ -6,7 +6,7 @@ use Rattle.wq_core.specs.Wiring.{Wiring, items, HasContext}
 use Rattle.wq_counts.specs.Counting.{raised, wait_kind}
 use Rattle.wq_held.specs.declared.fault.CallError.{CallError}
 use Rattle.wq_held.specs.declared.fault.CallError.TheVariants.{HistoryFull, Closed, Undeclared, TooManyWaits, WrongLane, NotAsked, NoItem}
-use Rattle.wq_held.specs.Locked.{HasRoom, asked_and_cancelled}
+use Rattle.wq_held.specs.Locked.{SeatHasRoom, asked_and_cancelled}
 use Rattle.wq_under_lock.specs.Refusals.{RefusesCancelWork, RefusesFlushLane, RefusesWaitFor, RefusesWaitIn}
 use Rattle.wq_api.specs.WaitingCalls.{RefusesFlushWork, flush_refused, RefusedCancelSync, RefusesFlushWorkqueue, lane_flush_refused, waited_for, RefusedWaitFor, RefusedWaitIn, IsHelper, RefusesHelpWaitFor, RefusedHelpWaitFor}
 
@@ -41,7 +41,7 @@ both_not_counted w old new i NotAsked why same = absurd why
 both_not_counted w old new i NoItem why same = same
 
 -- if no ask of the item waits, its ask and its cancellation stay counted
-pub told_refused : (w : Wiring) (counts : List ℕ) (i : ℕ) (e : CallError) → i < items w → HasRoom counts → e ≡ NotAsked → RefusesFlushWork w counts i e
+pub told_refused : (w : Wiring) (counts : List ℕ) (i : ℕ) (e : CallError) → i < items w → SeatHasRoom counts → e ≡ NotAsked → RefusesFlushWork w counts i e
 told_refused w counts i e there room is = subst (λ y. RefusesFlushWork w counts i y) (sym is) (there, room)
 
 pub told_not_counted : (old between new : List ℕ) (i : ℕ) (taken : Bool) (e : CallError) → between ≡ asked_and_cancelled old i true taken → new ≡ between → e ≡ NotAsked
@@ -81,7 +81,7 @@ wait_not_counted w old new q c whole target NotAsked same = same
 wait_not_counted w old new q c whole target NoItem same = same
 
 -- once it waits, it is refused only because of the wrong lane
-pub over_refused : (w : Wiring) (counts : List ℕ) (q c : ℕ) (e : CallError) → HasRoom counts → e ≡ WrongLane → RefusesWaitIn w counts q c e
+pub over_refused : (w : Wiring) (counts : List ℕ) (q c : ℕ) (e : CallError) → SeatHasRoom counts → e ≡ WrongLane → RefusesWaitIn w counts q c e
 over_refused w counts q c e room is = subst (λ y. RefusesWaitIn w counts q c y) (sym is) (inr room)
 
 pub over_counted : (w : Wiring) (old new : List ℕ) (q c : ℕ) (whole : Bool) (target : ℕ) (unfinished : Bool) (e : CallError) → HasContext w q c
@@ -127,8 +127,8 @@ rescuer_counted w old new q whole target NoItem same = same
 
 -- what a wait of the rescuer answers
 pub rescuer_waited : (w : Wiring) (old new : List ℕ) (q : ℕ) (whole : Bool) (target : ℕ) (r : Result Bool CallError)
-    → IfOk r (λ said. HasContext w q 0 × (target < items w) × HasRoom old × (new ≡ waited_for old whole target said))
-    → IfOk r (λ said. (q < w.lanes) × (target < items w) × HasRoom old × (new ≡ waited_for old whole target said))
+    → IfOk r (λ said. HasContext w q 0 × (target < items w) × SeatHasRoom old × (new ≡ waited_for old whole target said))
+    → IfOk r (λ said. (q < w.lanes) × (target < items w) × SeatHasRoom old × (new ≡ waited_for old whole target said))
 rescuer_waited w old new q whole target (Ok said) known = (known.0.0, known.1, known.2, known.3)
 rescuer_waited w old new q whole target (Err e) known = tt
 
@@ -167,8 +167,8 @@ helper_counted w old new q h whole target NoItem some same = same
 
 -- what a wait of a helper answers
 pub helper_waited : (w : Wiring) (old new : List ℕ) (q h : ℕ) (whole : Bool) (target : ℕ) (r : Result Bool CallError) → 0 < h
-    → IfOk r (λ said. HasContext w q h × (target < items w) × HasRoom old × (new ≡ waited_for old whole target said))
-    → IfOk r (λ said. IsHelper w q h × (target < items w) × HasRoom old × (new ≡ waited_for old whole target said))
+    → IfOk r (λ said. HasContext w q h × (target < items w) × SeatHasRoom old × (new ≡ waited_for old whole target said))
+    → IfOk r (λ said. IsHelper w q h × (target < items w) × SeatHasRoom old × (new ≡ waited_for old whole target said))
 helper_waited w old new q h whole target (Ok said) some known = ((some, known.0), known.1, known.2, known.3)
 helper_waited w old new q h whole target (Err e) some known = tt
 

@@ -1,13 +1,16 @@
 -- Locking: what a lock asks of the calls that it hands what it protects, and what is known of them afterwards.
-use Rattle.std.specs.Prelude.{◌≡◌, ℕ, Option, Bool, true, Result, Err}
+use Rattle.std.specs.Prelude.{◌≡◌, ◌⊎◌, ℕ, Option, Bool, true, Result, Err}
 use denote.Ref.{MutBor}
 use Rattle.wq_core.specs.Wiring.{Wiring}
 use Rattle.wq_history.specs.declared.sleepers.Sleepers.{Sleepers}
 use Rattle.wq_history.specs.declared.sleepers.Wake.{Wake}
 use Rattle.wq_history.specs.Events.{wait_event, over_event, finish_event}
-use Rattle.wq_history.specs.Book.{BookView, AppendsOne, HasNothingToStart}
+use Rattle.wq_history.specs.Book.{BookView, AppendsOne, HasNothingToStart, IsWrongToStart, RefusesWait}
 use Rattle.wq_history.specs.Answers.{AnswersStart}
-use Rattle.wq_held.specs.Locked.{HeldView, Holds}
+use Rattle.wq_held.specs.declared.fault.CallError.{CallError}
+use Rattle.wq_held.specs.declared.fault.CallError.TheVariants.{WrongLane}
+use Rattle.wq_held.specs.Errors.{RefusedAs}
+use Rattle.wq_held.specs.Locked.{HeldView, Holds, IsWrongToGoOn, IsWrongToFinish}
 use Rattle.wq_under_lock.specs.declared.turn.Turn.{Turn}
 use Rattle.wq_under_lock.specs.declared.turn.Turn.TheVariants.{Answers, Sleeps}
 use Rattle.wq_under_lock.specs.Turns.{Wakes, HasEnded}
@@ -58,6 +61,28 @@ WasOverIn w rows q c whole b = UnderLock w rows (λ h. (new : BookView) × Appen
 -- of something that the lock may protect: context c of lane q finished an entry of item i, and a row says so
 abbrev pub WasFinishedIn : Wiring → ℕ → ℕ → ℕ → ℕ → Type 0
 WasFinishedIn w rows q c i = UnderLock w rows (λ h. (new : BookView) × AppendsOne h.book new (finish_event q c i) true)
+
+-- of something that the lock may protect: there is no context c of lane q, or it runs an entry already, so that it can start none
+abbrev pub WasWrongToStartIn : Wiring → ℕ → ℕ → ℕ → Type 0
+WasWrongToStartIn w rows q c = UnderLock w rows (λ h. IsWrongToStart h.book q c)
+
+-- of something that the lock may protect: context c of lane q doesn't run an entry of item i, or that waits
+abbrev pub WasWrongToFinishIn : Wiring → ℕ → ℕ → ℕ → ℕ → Type 0
+WasWrongToFinishIn w rows q c i = UnderLock w rows (λ h. IsWrongToFinish h.book q c i)
+
+-- of something that the lock may protect: the book refuses what context c of lane q runs a wait for item b, or for the whole lane of
+-- b, for this cause
+abbrev pub WasRefusedWaitIn : Wiring → ℕ → ℕ → ℕ → Bool → ℕ → CallError → Type 0
+WasRefusedWaitIn w rows q c whole b e = UnderLock w rows (λ h. RefusedAs (RefusesWait h.book q c whole b) e)
+
+-- of something that the lock may protect: context c of lane q doesn't wait so
+abbrev pub WasWrongToGoOnIn : Wiring → ℕ → ℕ → ℕ → Bool → ℕ → Type 0
+WasWrongToGoOnIn w rows q c whole b = UnderLock w rows (λ h. IsWrongToGoOn h.book q c whole b)
+
+-- such a wait was refused for this cause: it couldn't begin; or it began, and then the context was no longer waiting (64)
+abbrev pub WasCutShortIn : Wiring → ℕ → ℕ → ℕ → Bool → ℕ → CallError → Type 0
+WasCutShortIn w rows q c whole b e = WasRefusedWaitIn w rows q c whole b e
+    ⊎ ((e ≡ WrongLane) × ((unfinished : Bool) × WasBegunIn w rows q c whole b unfinished) × WasWrongToGoOnIn w rows q c whole b)
 
 -- of something that the lock may protect: the book is closed, nothing is pending on lane q, and context c of the lane, which
 -- exists, runs nothing and has nothing to start. So whoever serves this context is done

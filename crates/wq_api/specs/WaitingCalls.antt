@@ -6,7 +6,7 @@ use Rattle.wq_counts.specs.declared.kind.Kind.TheVariants.{Ask as AskKind, Told 
 use Rattle.wq_counts.specs.Counting.{raised, raised_asked, raised_told, wait_kind, over_kind}
 use Rattle.wq_held.specs.declared.fault.CallError.{CallError}
 use Rattle.wq_held.specs.declared.fault.CallError.TheVariants.{HistoryFull, Closed, Undeclared, TooManyWaits, WrongLane, NotAsked, NoItem}
-use Rattle.wq_held.specs.Locked.{HasRoom, IsOnLane, asked_and_cancelled}
+use Rattle.wq_held.specs.Locked.{SeatHasRoom, IsOnLane, asked_and_cancelled}
 use Rattle.wq_under_lock.specs.Refusals.{RefusesWaitOf}
 
 -- ---- flushes and cancellations
@@ -16,11 +16,8 @@ use Rattle.wq_under_lock.specs.Refusals.{RefusesWaitOf}
 abbrev pub RefusesFlushWork : Wiring → List ℕ → ℕ → CallError → Type 0
 RefusesFlushWork w counts i NoItem = items w ≤ i
 RefusesFlushWork w counts i HistoryFull = i < items w
-RefusesFlushWork w counts i NotAsked = (i < items w) × HasRoom counts
-RefusesFlushWork w counts i Closed = ⊥
-RefusesFlushWork w counts i Undeclared = ⊥
-RefusesFlushWork w counts i TooManyWaits = ⊥
-RefusesFlushWork w counts i WrongLane = ⊥
+RefusesFlushWork w counts i NotAsked = (i < items w) × SeatHasRoom counts
+RefusesFlushWork w counts i _ = ⊥
 
 -- counts after a flush that waited, or found its item idle
 abbrev pub flushed : List ℕ → ℕ → Bool → List ℕ
@@ -60,11 +57,8 @@ RefusedCancelSync old new i NoItem = new ≡ old
 abbrev pub RefusesFlushWorkqueue : Wiring → List ℕ → ℕ → CallError → Type 0
 RefusesFlushWorkqueue w counts q WrongLane = w.lanes ≤ q
 RefusesFlushWorkqueue w counts q HistoryFull = q < w.lanes
-RefusesFlushWorkqueue w counts q NotAsked = (q < w.lanes) × HasRoom counts
-RefusesFlushWorkqueue w counts q Closed = ⊥
-RefusesFlushWorkqueue w counts q Undeclared = ⊥
-RefusesFlushWorkqueue w counts q TooManyWaits = ⊥
-RefusesFlushWorkqueue w counts q NoItem = ⊥
+RefusesFlushWorkqueue w counts q NotAsked = (q < w.lanes) × SeatHasRoom counts
+RefusesFlushWorkqueue w counts q _ = ⊥
 
 -- counts after a flush of a lane that waited, or found its lane idle
 abbrev pub lane_flushed : List ℕ → ℕ → Bool → List ℕ

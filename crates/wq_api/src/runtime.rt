@@ -10,14 +10,14 @@
 
 ghost use Rattle.std.specs.Prelude.{◌≡◌, ◌<◌, ◌≤◌, ◌↔◌, ◌*◌, length, vec_len, replicate, Bool, true, IsTrue, IfOk, IfErr, OnOk, IfSome, IfNone};
 ghost use Rattle.wq_groups.specs.Declaration.{declaration_of};
-ghost use Rattle.wq_core.specs.Wiring.{wiring, with_helpers, helpers_of, HasContext, items};
+ghost use Rattle.wq_core.specs.Wiring.{wiring, with_helpers, lane_of, helpers_of, HasContext, items};
 ghost use Rattle.wq_counts.specs.declared.kind.Kind.TheVariants.{Queue, Cancel, Told as ToldKind};
 ghost use Rattle.wq_counts.specs.Counting.{counts_each, raised, raised_told};
 ghost use Rattle.wq_held.specs.declared.fault.CallError.TheVariants.{NotAsked};
 ghost use Rattle.wq_held.specs.declared.fault.SeatError.TheVariants.{TooManySeats, OutOfMemory as SeatOutOfMemory};
 ghost use Rattle.wq_history.specs.Book.{BookView};
 ghost use Rattle.wq_history.specs.Answers.{AnswersAsk, AnswersAskLane};
-ghost use Rattle.wq_held.specs.Locked.{max_runtime_lanes, slots, IsOnLane, HasRoom, CountsAsk, CountsAskLane, AsksAndCancels, CountsAskAndCancel};
+ghost use Rattle.wq_held.specs.Locked.{max_runtime_lanes, slots, IsOnLane, SeatHasRoom, CountsAsk, CountsAskLane, AsksAndCancels, CountsAskAndCancel};
 ghost use Rattle.wq_under_lock.specs.Refusals.{RefusesRuntime, MakesRuntime, RefusesQueueWork, RefusesCancelWork, RefusesFlushLane};
 ghost use Rattle.wq_api.specs.WaitingCalls.{RefusesFlushWork, flushed, flush_refused, CountsCancelSync, RefusedCancelSync, RefusesFlushWorkqueue, lane_flushed, lane_flush_refused};
 ghost use Rattle.wq_api.specs.Locking.{UnderLock};
@@ -165,11 +165,29 @@ impl<N: Naming, A: Allocator> WqRuntime<N, A> {
         q: LaneId,
         item: ItemId,
     ) -> Result<bool, CallError>
-        ensures counted { IfOk result (λ accepted. IsOnLane N.wiring q item × HasRoom seat.old × (seat.new ≡ raised seat.old item Queue accepted)) }
+        ensures counted { IfOk result (λ accepted. IsOnLane N.wiring q item × SeatHasRoom seat.old × (seat.new ≡ raised seat.old item Queue accepted)) }
         ensures refused { IfErr result (λ e. RefusesQueueWork N.wiring seat.old q item e × (seat.new ≡ seat.old)) }
     {
         self.lock.call(rt, seat, (), |held, seat, _| {
             wq_under_lock::queue_work(held, seat, q, item)
+        })
+    }
+
+    /// Queues an item on its own workqueue, whichever that is: `queue_work` for a caller who knows the item alone.
+    ///
+    /// The error is the first of these that holds: `NoItem` (66); `HistoryFull` (60), where the seat is full; `Closed` (61);
+    /// `HistoryFull` (60), where fewer rows are free than `queue_work` needs. After an error nothing is changed or counted.
+    pub fn queue_item<R: Wait>(
+        &self,
+        rt: &R,
+        seat: &mut Seat<N, A>,
+        item: ItemId,
+    ) -> Result<bool, CallError>
+        ensures counted { IfOk result (λ accepted. (item < items N.wiring) × SeatHasRoom seat.old × (seat.new ≡ raised seat.old item Queue accepted)) }
+        ensures refused { IfErr result (λ e. RefusesQueueWork N.wiring seat.old (lane_of N.wiring item) item e × (seat.new ≡ seat.old)) }
+    {
+        self.lock.call(rt, seat, (), |held, seat, _| {
+            wq_under_lock::queue_item(held, seat, item)
         })
     }
 
@@ -183,7 +201,7 @@ impl<N: Naming, A: Allocator> WqRuntime<N, A> {
         seat: &mut Seat<N, A>,
         item: ItemId,
     ) -> Result<bool, CallError>
-        ensures counted { IfOk result (λ taken. (item < items N.wiring) × HasRoom seat.old × (seat.new ≡ raised seat.old item Cancel taken)) }
+        ensures counted { IfOk result (λ taken. (item < items N.wiring) × SeatHasRoom seat.old × (seat.new ≡ raised seat.old item Cancel taken)) }
         ensures refused { IfErr result (λ e. RefusesCancelWork N.wiring item e × (seat.new ≡ seat.old)) }
     {
         self.lock.call(rt, seat, (), |held, seat, _| {
@@ -199,7 +217,7 @@ impl<N: Naming, A: Allocator> WqRuntime<N, A> {
         item: ItemId,
     ) -> Result<Ask, CallError>
         ensures row { IfOk result (λ answer. (old : BookView) × (new : BookView) × AnswersAsk old new item answer) }
-        ensures counted { IfOk result (λ answer. (item < items N.wiring) × HasRoom seat.old × CountsAsk seat.old seat.new item answer) }
+        ensures counted { IfOk result (λ answer. (item < items N.wiring) × SeatHasRoom seat.old × CountsAsk seat.old seat.new item answer) }
         ensures refused { IfErr result (λ e. RefusesCancelWork N.wiring item e × (seat.new ≡ seat.old)) }
     {
         self.lock.call(rt, seat, (), |held, seat, _| {
@@ -215,7 +233,7 @@ impl<N: Naming, A: Allocator> WqRuntime<N, A> {
         q: LaneId,
     ) -> Result<LaneAsk, CallError>
         ensures row { IfOk result (λ answer. (old : BookView) × (new : BookView) × AnswersAskLane old new q answer) }
-        ensures counted { IfOk result (λ answer. (q < N.wiring.lanes) × HasRoom seat.old × CountsAskLane seat.old seat.new q answer) }
+        ensures counted { IfOk result (λ answer. (q < N.wiring.lanes) × SeatHasRoom seat.old × CountsAskLane seat.old seat.new q answer) }
         ensures refused { IfErr result (λ e. RefusesFlushLane N.wiring q e × (seat.new ≡ seat.old)) }
     {
         self.lock.call(rt, seat, (), |held, seat, _| {
@@ -231,7 +249,7 @@ impl<N: Naming, A: Allocator> WqRuntime<N, A> {
         item: ItemId,
     ) -> Result<(Ask, bool), CallError>
         ensures rows { IfOk result (λ both. (old : BookView) × (new : BookView) × AsksAndCancels old new item both.0 both.1) }
-        ensures counted { IfOk result (λ both. (item < items N.wiring) × HasRoom seat.old × CountsAskAndCancel seat.old seat.new item both.0 both.1) }
+        ensures counted { IfOk result (λ both. (item < items N.wiring) × SeatHasRoom seat.old × CountsAskAndCancel seat.old seat.new item both.0 both.1) }
         ensures refused { IfErr result (λ e. RefusesCancelWork N.wiring item e × (seat.new ≡ seat.old)) }
     {
         self.lock.call(rt, seat, (), |held, seat, _| {
@@ -277,7 +295,7 @@ impl<N: Naming, A: Allocator> WqRuntime<N, A> {
         seat: &mut Seat<N, A>,
         item: ItemId,
     ) -> Result<bool, CallError>
-        ensures counted { IfOk result (λ waited. (item < items N.wiring) × HasRoom seat.old × (seat.new ≡ flushed seat.old item waited)) }
+        ensures counted { IfOk result (λ waited. (item < items N.wiring) × SeatHasRoom seat.old × (seat.new ≡ flushed seat.old item waited)) }
         ensures refused { IfErr result (λ e. RefusesFlushWork N.wiring seat.old item e × (seat.new ≡ flush_refused seat.old item e)) }
     {
         match self.begin_flush(rt, seat, item)? {
@@ -302,7 +320,7 @@ impl<N: Naming, A: Allocator> WqRuntime<N, A> {
         seat: &mut Seat<N, A>,
         q: LaneId,
     ) -> Result<(), CallError>
-        ensures counted { OnOk result ((q < N.wiring.lanes) × HasRoom seat.old × ((waited : Bool) × (seat.new ≡ lane_flushed seat.old q waited))) }
+        ensures counted { OnOk result ((q < N.wiring.lanes) × SeatHasRoom seat.old × ((waited : Bool) × (seat.new ≡ lane_flushed seat.old q waited))) }
         ensures refused { IfErr result (λ e. RefusesFlushWorkqueue N.wiring seat.old q e × (seat.new ≡ lane_flush_refused seat.old q e)) }
     {
         match self.begin_flush_lane(rt, seat, q)? {
@@ -324,7 +342,7 @@ impl<N: Naming, A: Allocator> WqRuntime<N, A> {
         seat: &mut Seat<N, A>,
         item: ItemId,
     ) -> Result<bool, CallError>
-        ensures counted { IfOk result (λ taken. (item < items N.wiring) × HasRoom seat.old × CountsCancelSync seat.old seat.new item taken) }
+        ensures counted { IfOk result (λ taken. (item < items N.wiring) × SeatHasRoom seat.old × CountsCancelSync seat.old seat.new item taken) }
         ensures refused { IfErr result (λ e. RefusesFlushWork N.wiring seat.old item e × RefusedCancelSync seat.old seat.new item e) }
     {
         let (answer, taken) = self.begin_cancel_sync(rt, seat, item)?;

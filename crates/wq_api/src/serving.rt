@@ -6,16 +6,16 @@
 //! helper's call is the rescuer's with the number of the helper after the workqueue; both are one call by context. Apart from what
 //! it waits for, a call takes the time of the book's events.
 
-ghost use Rattle.std.specs.Prelude.{◌≡◌, ◌<◌, sum, true, false, IfOk, IfErr, OnOk, IfSome, IfNone};
+ghost use Rattle.std.specs.Prelude.{◌≡◌, ◌<◌, sum, true, false, IfOk, IfErr, OnOk, OnErr, IfSome, IfNone};
 ghost use Rattle.wq_core.specs.Wiring.{items, HasContext};
 ghost use Rattle.wq_counts.specs.declared.kind.Kind.TheVariants.{Finish as FinishKind};
 ghost use Rattle.wq_counts.specs.Counting.{raised, wait_kind, over_kind};
 ghost use Rattle.wq_held.specs.declared.fault.CallError.TheVariants.{WrongLane};
-ghost use Rattle.wq_held.specs.Locked.{IsOnLane, HasRoom};
+ghost use Rattle.wq_held.specs.Locked.{IsOnLane, SeatHasRoom};
 ghost use Rattle.wq_under_lock.specs.Refusals.{RefusesWaitFor, RefusesWaitIn};
 ghost use Rattle.wq_under_lock.specs.Turns.{AnswersWith, IfAnswers, Wakes, WakesEnoughOf};
 ghost use Rattle.wq_api.specs.WaitingCalls.{IsHelper, waited_for, RefusedWaitFor, RefusedWaitIn, RefusesHelpWaitFor, RefusedHelpWaitFor, HasWaiter};
-ghost use Rattle.wq_api.specs.Locking.{WasStartedIn, WasBegunIn, WasOverIn, WasFinishedIn, WasDone, WasDoneIn};
+ghost use Rattle.wq_api.specs.Locking.{WasStartedIn, WasBegunIn, WasOverIn, WasFinishedIn, WasDone, WasDoneIn, WasWrongToStartIn, WasWrongToFinishIn, WasWrongToGoOnIn, WasRefusedWaitIn, WasCutShortIn};
 
 use crate::runtime::WqRuntime;
 use std::alloc::Allocator;
@@ -37,6 +37,7 @@ fn next_turn<N: Naming, A: Allocator>(
     ensures refused { IfAnswers result (λ r wake. IfErr r (λ e. e ≡ WrongLane)) }
     ensures ended { IfAnswers result (λ r wake. IfOk r (λ next. IfNone next (WasDoneIn N.wiring N.rows q helper))) }
     ensures made { IfAnswers result (λ r wake. IfOk r (λ next. WasStartedIn N.wiring N.rows q helper next)) }
+    ensures cause { IfAnswers result (λ r wake. OnErr r (WasWrongToStartIn N.wiring N.rows q helper)) }
     ensures wakes { Wakes N.wiring.lanes WakesEnoughOf held.old held.new result }
 {
     wq_under_lock::next(held, q, helper)
@@ -51,10 +52,11 @@ fn wait_turn<N: Naming, A: Allocator>(
     whole: bool,
     target: ItemId,
 ) -> Turn<Result<bool, CallError>, ()>
-    ensures counted { AnswersWith result (λ r wake. IfOk r (λ unfinished. HasContext N.wiring q helper × (target < items N.wiring) × HasRoom seat.old × (seat.new ≡ raised seat.old target (wait_kind whole) unfinished))) }
+    ensures counted { AnswersWith result (λ r wake. IfOk r (λ unfinished. HasContext N.wiring q helper × (target < items N.wiring) × SeatHasRoom seat.old × (seat.new ≡ raised seat.old target (wait_kind whole) unfinished))) }
     ensures refused { AnswersWith result (λ r wake. IfErr r (λ e. RefusesWaitIn N.wiring seat.old q helper e × (seat.new ≡ seat.old))) }
-    ensures waiter { AnswersWith result (λ r wake. HasContext N.wiring q helper → HasRoom seat.old → HasWaiter N.wiring q whole target r) }
+    ensures waiter { AnswersWith result (λ r wake. HasContext N.wiring q helper → SeatHasRoom seat.old → HasWaiter N.wiring q whole target r) }
     ensures began { AnswersWith result (λ r wake. IfOk r (λ unfinished. WasBegunIn N.wiring N.rows q helper whole target unfinished)) }
+    ensures cause { AnswersWith result (λ r wake. HasContext N.wiring q helper → SeatHasRoom seat.old → IfErr r (λ e. WasRefusedWaitIn N.wiring N.rows q helper whole target e)) }
     ensures wakes { Wakes N.wiring.lanes WakesEnoughOf held.old held.new result }
 {
     wq_under_lock::begin_wait(held, seat, q, helper, whole, target)
@@ -78,6 +80,7 @@ impl<N: Naming, A: Allocator> WqRuntime<N, A> {
         ensures refused { IfErr result (λ e. e ≡ WrongLane) }
         ensures ended { IfOk result (λ next. IfNone next (WasDoneIn N.wiring N.rows q helper)) }
         ensures made { IfOk result (λ next. WasStartedIn N.wiring N.rows q helper next) }
+        ensures cause { OnErr result (WasWrongToStartIn N.wiring N.rows q helper) }
     {
         self.lock.call(rt, &mut (), (), |held, _, _| { next_turn(held, q, helper) })
     }
@@ -92,10 +95,11 @@ impl<N: Naming, A: Allocator> WqRuntime<N, A> {
         whole: bool,
         target: ItemId,
     ) -> Result<bool, CallError>
-        ensures counted { IfOk result (λ unfinished. HasContext N.wiring q helper × (target < items N.wiring) × HasRoom seat.old × (seat.new ≡ raised seat.old target (wait_kind whole) unfinished)) }
+        ensures counted { IfOk result (λ unfinished. HasContext N.wiring q helper × (target < items N.wiring) × SeatHasRoom seat.old × (seat.new ≡ raised seat.old target (wait_kind whole) unfinished)) }
         ensures refused { IfErr result (λ e. RefusesWaitIn N.wiring seat.old q helper e × (seat.new ≡ seat.old)) }
-        ensures waiter { HasContext N.wiring q helper → HasRoom seat.old → HasWaiter N.wiring q whole target result }
+        ensures waiter { HasContext N.wiring q helper → SeatHasRoom seat.old → HasWaiter N.wiring q whole target result }
         ensures began { IfOk result (λ unfinished. WasBegunIn N.wiring N.rows q helper whole target unfinished) }
+        ensures cause { HasContext N.wiring q helper → SeatHasRoom seat.old → IfErr result (λ e. WasRefusedWaitIn N.wiring N.rows q helper whole target e) }
     {
         self.lock.call(rt, seat, (), |held, seat, _| {
             wait_turn(held, seat, q, helper, whole, target)
@@ -103,7 +107,7 @@ impl<N: Naming, A: Allocator> WqRuntime<N, A> {
     }
 
     /// Waits until the wait of a context for an item, or for its whole workqueue, is over.
-    #[tactic(auto, using(crate::proofs::Waiters::wait_over))]
+    #[tactic(auto, using(crate::proofs::Waiters::wait_over, crate::proofs::Waiters::over_wrong))]
     fn go_on<R: Wait>(
         &self,
         rt: &R,
@@ -116,6 +120,7 @@ impl<N: Naming, A: Allocator> WqRuntime<N, A> {
         ensures counted { OnOk result (seat.new ≡ raised seat.old target (over_kind whole) true) }
         ensures refused { IfErr result (λ e. (e ≡ WrongLane) × (seat.new ≡ seat.old)) }
         ensures over { OnOk result (WasOverIn N.wiring N.rows q helper whole target) }
+        ensures cause { OnErr result (WasWrongToGoOnIn N.wiring N.rows q helper whole target) }
     {
         self.lock.call(rt, seat, (), |held, seat, _| {
             wq_under_lock::go_on(held, seat, q, helper, whole, target)
@@ -133,11 +138,12 @@ impl<N: Naming, A: Allocator> WqRuntime<N, A> {
         whole: bool,
         target: ItemId,
     ) -> Result<bool, CallError>
-        ensures counted { IfOk result (λ unfinished. HasContext N.wiring q helper × (target < items N.wiring) × HasRoom seat.old × (seat.new ≡ waited_for seat.old whole target unfinished)) }
+        ensures counted { IfOk result (λ unfinished. HasContext N.wiring q helper × (target < items N.wiring) × SeatHasRoom seat.old × (seat.new ≡ waited_for seat.old whole target unfinished)) }
         ensures refused { IfErr result (λ e. RefusesWaitIn N.wiring seat.old q helper e × RefusedWaitIn N.wiring seat.old seat.new q helper whole target e) }
-        ensures waiter { HasContext N.wiring q helper → HasRoom seat.old → HasWaiter N.wiring q whole target result }
+        ensures waiter { HasContext N.wiring q helper → SeatHasRoom seat.old → HasWaiter N.wiring q whole target result }
         ensures began { IfOk result (λ unfinished. WasBegunIn N.wiring N.rows q helper whole target unfinished) }
         ensures over { OnOk result (WasOverIn N.wiring N.rows q helper whole target) }
+        ensures cause { HasContext N.wiring q helper → SeatHasRoom seat.old → IfErr result (λ e. WasCutShortIn N.wiring N.rows q helper whole target e) }
     {
         let unfinished = self.begin_wait(rt, seat, q, helper, whole, target)?;
         self.go_on(rt, seat, q, helper, whole, target)?;
@@ -159,11 +165,12 @@ impl<N: Naming, A: Allocator> WqRuntime<N, A> {
         helper: u8,
         target: ItemId,
     ) -> Result<bool, CallError>
-        ensures counted { IfOk result (λ unfinished. HasContext N.wiring q helper × (target < items N.wiring) × HasRoom seat.old × (seat.new ≡ waited_for seat.old false target unfinished)) }
+        ensures counted { IfOk result (λ unfinished. HasContext N.wiring q helper × (target < items N.wiring) × SeatHasRoom seat.old × (seat.new ≡ waited_for seat.old false target unfinished)) }
         ensures refused { IfErr result (λ e. RefusesWaitIn N.wiring seat.old q helper e × RefusedWaitIn N.wiring seat.old seat.new q helper false target e) }
-        ensures waiter { HasContext N.wiring q helper → HasRoom seat.old → HasWaiter N.wiring q false target result }
+        ensures waiter { HasContext N.wiring q helper → SeatHasRoom seat.old → HasWaiter N.wiring q false target result }
         ensures began { IfOk result (λ unfinished. WasBegunIn N.wiring N.rows q helper false target unfinished) }
         ensures over { OnOk result (WasOverIn N.wiring N.rows q helper false target) }
+        ensures cause { HasContext N.wiring q helper → SeatHasRoom seat.old → IfErr result (λ e. WasCutShortIn N.wiring N.rows q helper false target e) }
     {
         self.wait_by(rt, seat, q, helper, false, target)
     }
@@ -183,11 +190,12 @@ impl<N: Naming, A: Allocator> WqRuntime<N, A> {
         helper: u8,
         target: ItemId,
     ) -> Result<bool, CallError>
-        ensures counted { IfOk result (λ unfinished. HasContext N.wiring q helper × (target < items N.wiring) × HasRoom seat.old × (seat.new ≡ waited_for seat.old true target unfinished)) }
+        ensures counted { IfOk result (λ unfinished. HasContext N.wiring q helper × (target < items N.wiring) × SeatHasRoom seat.old × (seat.new ≡ waited_for seat.old true target unfinished)) }
         ensures refused { IfErr result (λ e. RefusesWaitIn N.wiring seat.old q helper e × RefusedWaitIn N.wiring seat.old seat.new q helper true target e) }
-        ensures waiter { HasContext N.wiring q helper → HasRoom seat.old → HasWaiter N.wiring q true target result }
+        ensures waiter { HasContext N.wiring q helper → SeatHasRoom seat.old → HasWaiter N.wiring q true target result }
         ensures began { IfOk result (λ unfinished. WasBegunIn N.wiring N.rows q helper true target unfinished) }
         ensures over { OnOk result (WasOverIn N.wiring N.rows q helper true target) }
+        ensures cause { HasContext N.wiring q helper → SeatHasRoom seat.old → IfErr result (λ e. WasCutShortIn N.wiring N.rows q helper true target e) }
     {
         self.wait_by(rt, seat, q, helper, true, target)
     }
@@ -196,7 +204,7 @@ impl<N: Naming, A: Allocator> WqRuntime<N, A> {
     ///
     /// The only error is `WrongLane` (64): there is no such context, it runs nothing or an entry of another item, or it waits.
     /// After an error nothing is changed or counted.
-    #[tactic(auto, using(crate::proofs::Waiters::entry_finished))]
+    #[tactic(auto, using(crate::proofs::Waiters::entry_finished, crate::proofs::Waiters::finish_refused))]
     pub fn finish_in<R: Wait>(
         &self,
         rt: &R,
@@ -208,6 +216,7 @@ impl<N: Naming, A: Allocator> WqRuntime<N, A> {
         ensures counted { OnOk result (HasContext N.wiring q helper × IsOnLane N.wiring q item × (seat.new ≡ raised seat.old item FinishKind true)) }
         ensures refused { IfErr result (λ e. (e ≡ WrongLane) × (seat.new ≡ seat.old)) }
         ensures made { OnOk result (WasFinishedIn N.wiring N.rows q helper item) }
+        ensures cause { OnErr result (WasWrongToFinishIn N.wiring N.rows q helper item) }
     {
         self.lock.call(rt, seat, (), |held, seat, _| {
             wq_under_lock::finish_work(held, seat, q, helper, item)
@@ -226,6 +235,7 @@ impl<N: Naming, A: Allocator> WqRuntime<N, A> {
         ensures refused { IfErr result (λ e. e ≡ WrongLane) }
         ensures ended { IfOk result (λ next. IfNone next (WasDone N.wiring N.rows q)) }
         ensures made { IfOk result (λ next. WasStartedIn N.wiring N.rows q 0 next) }
+        ensures cause { OnErr result (WasWrongToStartIn N.wiring N.rows q 0) }
     {
         self.next_in(rt, q, 0)
     }
@@ -244,11 +254,12 @@ impl<N: Naming, A: Allocator> WqRuntime<N, A> {
         q: LaneId,
         target: ItemId,
     ) -> Result<bool, CallError>
-        ensures counted { IfOk result (λ unfinished. (q < N.wiring.lanes) × (target < items N.wiring) × HasRoom seat.old × (seat.new ≡ waited_for seat.old false target unfinished)) }
+        ensures counted { IfOk result (λ unfinished. (q < N.wiring.lanes) × (target < items N.wiring) × SeatHasRoom seat.old × (seat.new ≡ waited_for seat.old false target unfinished)) }
         ensures refused { IfErr result (λ e. RefusesWaitFor N.wiring seat.old q e × RefusedWaitFor N.wiring seat.old seat.new q false target e) }
-        ensures waiter { q < N.wiring.lanes → HasRoom seat.old → HasWaiter N.wiring q false target result }
+        ensures waiter { q < N.wiring.lanes → SeatHasRoom seat.old → HasWaiter N.wiring q false target result }
         ensures began { IfOk result (λ unfinished. WasBegunIn N.wiring N.rows q 0 false target unfinished) }
         ensures over { OnOk result (WasOverIn N.wiring N.rows q 0 false target) }
+        ensures cause { q < N.wiring.lanes → SeatHasRoom seat.old → IfErr result (λ e. WasCutShortIn N.wiring N.rows q 0 false target e) }
     {
         self.wait_for_in(rt, seat, q, 0, target)
     }
@@ -267,11 +278,12 @@ impl<N: Naming, A: Allocator> WqRuntime<N, A> {
         q: LaneId,
         target: ItemId,
     ) -> Result<bool, CallError>
-        ensures counted { IfOk result (λ unfinished. (q < N.wiring.lanes) × (target < items N.wiring) × HasRoom seat.old × (seat.new ≡ waited_for seat.old true target unfinished)) }
+        ensures counted { IfOk result (λ unfinished. (q < N.wiring.lanes) × (target < items N.wiring) × SeatHasRoom seat.old × (seat.new ≡ waited_for seat.old true target unfinished)) }
         ensures refused { IfErr result (λ e. RefusesWaitFor N.wiring seat.old q e × RefusedWaitFor N.wiring seat.old seat.new q true target e) }
-        ensures waiter { q < N.wiring.lanes → HasRoom seat.old → HasWaiter N.wiring q true target result }
+        ensures waiter { q < N.wiring.lanes → SeatHasRoom seat.old → HasWaiter N.wiring q true target result }
         ensures began { IfOk result (λ unfinished. WasBegunIn N.wiring N.rows q 0 true target unfinished) }
         ensures over { OnOk result (WasOverIn N.wiring N.rows q 0 true target) }
+        ensures cause { q < N.wiring.lanes → SeatHasRoom seat.old → IfErr result (λ e. WasCutShortIn N.wiring N.rows q 0 true target e) }
     {
         self.wait_all_for_in(rt, seat, q, 0, target)
     }
@@ -290,6 +302,7 @@ impl<N: Naming, A: Allocator> WqRuntime<N, A> {
         ensures counted { OnOk result (IsOnLane N.wiring q item × (seat.new ≡ raised seat.old item FinishKind true)) }
         ensures refused { IfErr result (λ e. (e ≡ WrongLane) × (seat.new ≡ seat.old)) }
         ensures made { OnOk result (WasFinishedIn N.wiring N.rows q 0 item) }
+        ensures cause { OnErr result (WasWrongToFinishIn N.wiring N.rows q 0 item) }
     {
         self.finish_in(rt, seat, q, 0, item)
     }
@@ -306,6 +319,7 @@ impl<N: Naming, A: Allocator> WqRuntime<N, A> {
         ensures refused { IfErr result (λ e. e ≡ WrongLane) }
         ensures ended { IfOk result (λ next. IfNone next (WasDoneIn N.wiring N.rows q h)) }
         ensures made { IfOk result (λ next. WasStartedIn N.wiring N.rows q h next) }
+        ensures cause { 0 < h → OnErr result (WasWrongToStartIn N.wiring N.rows q h) }
     {
         if h == 0 {
             return Err(CallError::WrongLane);
@@ -327,11 +341,12 @@ impl<N: Naming, A: Allocator> WqRuntime<N, A> {
         h: u8,
         target: ItemId,
     ) -> Result<bool, CallError>
-        ensures counted { IfOk result (λ unfinished. IsHelper N.wiring q h × (target < items N.wiring) × HasRoom seat.old × (seat.new ≡ waited_for seat.old false target unfinished)) }
+        ensures counted { IfOk result (λ unfinished. IsHelper N.wiring q h × (target < items N.wiring) × SeatHasRoom seat.old × (seat.new ≡ waited_for seat.old false target unfinished)) }
         ensures refused { IfErr result (λ e. RefusesHelpWaitFor N.wiring seat.old q h e × RefusedHelpWaitFor N.wiring seat.old seat.new q h false target e) }
-        ensures waiter { IsHelper N.wiring q h → HasRoom seat.old → HasWaiter N.wiring q false target result }
+        ensures waiter { IsHelper N.wiring q h → SeatHasRoom seat.old → HasWaiter N.wiring q false target result }
         ensures began { IfOk result (λ unfinished. WasBegunIn N.wiring N.rows q h false target unfinished) }
         ensures over { OnOk result (WasOverIn N.wiring N.rows q h false target) }
+        ensures cause { IsHelper N.wiring q h → SeatHasRoom seat.old → IfErr result (λ e. WasCutShortIn N.wiring N.rows q h false target e) }
     {
         if h == 0 {
             return Err(CallError::WrongLane);
@@ -353,11 +368,12 @@ impl<N: Naming, A: Allocator> WqRuntime<N, A> {
         h: u8,
         target: ItemId,
     ) -> Result<bool, CallError>
-        ensures counted { IfOk result (λ unfinished. IsHelper N.wiring q h × (target < items N.wiring) × HasRoom seat.old × (seat.new ≡ waited_for seat.old true target unfinished)) }
+        ensures counted { IfOk result (λ unfinished. IsHelper N.wiring q h × (target < items N.wiring) × SeatHasRoom seat.old × (seat.new ≡ waited_for seat.old true target unfinished)) }
         ensures refused { IfErr result (λ e. RefusesHelpWaitFor N.wiring seat.old q h e × RefusedHelpWaitFor N.wiring seat.old seat.new q h true target e) }
-        ensures waiter { IsHelper N.wiring q h → HasRoom seat.old → HasWaiter N.wiring q true target result }
+        ensures waiter { IsHelper N.wiring q h → SeatHasRoom seat.old → HasWaiter N.wiring q true target result }
         ensures began { IfOk result (λ unfinished. WasBegunIn N.wiring N.rows q h true target unfinished) }
         ensures over { OnOk result (WasOverIn N.wiring N.rows q h true target) }
+        ensures cause { IsHelper N.wiring q h → SeatHasRoom seat.old → IfErr result (λ e. WasCutShortIn N.wiring N.rows q h true target e) }
     {
         if h == 0 {
             return Err(CallError::WrongLane);
@@ -380,6 +396,7 @@ impl<N: Naming, A: Allocator> WqRuntime<N, A> {
         ensures counted { OnOk result (IsHelper N.wiring q h × IsOnLane N.wiring q item × (seat.new ≡ raised seat.old item FinishKind true)) }
         ensures refused { IfErr result (λ e. (e ≡ WrongLane) × (seat.new ≡ seat.old)) }
         ensures made { OnOk result (WasFinishedIn N.wiring N.rows q h item) }
+        ensures cause { 0 < h → OnErr result (WasWrongToFinishIn N.wiring N.rows q h item) }
     {
         if h == 0 {
             return Err(CallError::WrongLane);

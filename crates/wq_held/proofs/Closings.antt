@@ -10,7 +10,7 @@ use Rattle.wq_items.proofs.Lists.{Contains-first}
 use Rattle.wq_core.specs.declared.entry.Entry.{Entry}
 use Rattle.wq_core.specs.declared.entry.Running.{Running}
 use Rattle.wq_core.specs.Wiring.{Wiring, IsWiring, items}
-use Rattle.wq_core.specs.State.{Lane, State, idle_lane, run_by, RunsIn, IsUnfinishedOn, HasUnfinished}
+use Rattle.wq_core.specs.State.{Lane, State, idle_lane, IsUnfinishedOn, HasUnfinished}
 use Rattle.wq_core.proofs.LaneLemmas.{idle_lane-unfinished}
 use Rattle.wq_rows.specs.declared.event.Event.{Event}
 use Rattle.wq_rows.specs.declared.event.Event.TheVariants.{Queue, Cancel, Start, Wait, Over, Finish, Ask, Told, WaitAll, OverAll, AskLane, ToldLane, Help}
@@ -29,7 +29,7 @@ use Rattle.wq_history.specs.Book.{BookView, state, IsBook}
 use Rattle.wq_history.proofs.Counting.{CountsAsks-none, all_asks_waiting-count}
 use Rattle.wq_history.proofs.LegalRows.{AreCounted-legal, IsLegal-prefix}
 use Rattle.wq_history.proofs.KeptRows.{exist}
-use Rattle.wq_held.specs.Locked.{slots, IsHeld, IsSeat}
+use Rattle.wq_held.specs.Locked.{slots, IsProtected, IsSeat}
 use Rattle.wq_held.proofs.Locking.{sum-replicate_zero, item_slot, lane_slot}
 use Rattle.wq_held.specs.Closing.{SumsSeats, Agrees, IsClosed}
 
@@ -292,7 +292,7 @@ agrees_exactly w book counts tallies agree wiring legal of_counts of_tallies tal
       (λ p h. below_counts w book counts tallies wiring legal tallied each p (omega (arith, h, of_tallies))) (sym sum_is)
 
 pub IsClosed-held : (w : Wiring) (rows parts : ℕ) (book : BookView) (tallies empty : List ℕ) (made_seats left amount : ℕ) (seats : List (List ℕ)) (counts : List ℕ) (agree : Bool)
-    → IsHeld w rows parts book tallies empty made_seats left amount → IsBook book → ¬ HasUnfinished (state book) → all_asks_waiting book.rows ≡ 0
+    → IsProtected w rows parts book tallies empty made_seats left amount → IsBook book → ¬ HasUnfinished (state book) → all_asks_waiting book.rows ≡ 0
     → SumsSeats seats counts → HasCountsOf (slots w) counts → sum counts ≡ sum tallies → (IsTrue agree ↔ (counts ≡ tallies))
     → IsClosed w rows seats book counts agree
 IsClosed-held w rows parts book tallies empty made_seats left amount seats counts agree held is_book idle nobody sums of_counts sum_is same = record {

@@ -28,7 +28,7 @@ use Rattle.wq_history.proofs.LegalRows.{IsRun-legal}
 use Rattle.wq_history.specs.Book.{BookView, state, IsBook, LaneRuns, HasPendingOn, Appends, AppendsOne, IsWaiting, IsNotWaiting, RefusesLane}
 use Rattle.wq_history.specs.Answers.{AnswersOver}
 use Rattle.wq_history.proofs.KeptRows.{exist}
-use Rattle.wq_held.specs.Locked.{max_runtime_lanes, slots, IsHeld, Holds, HasNothingPending, RunsItem, WaitsFor, AnswersOverOf}
+use Rattle.wq_held.specs.Locked.{max_runtime_lanes, slots, IsProtected, Holds, HasNothingPending, RunsItem, WaitsFor, AnswersOverOf}
 
 -- ---- slots of counts
 
@@ -69,7 +69,7 @@ sum-replicate_zero n = sum_by-replicate (λ (k : ℕ). k) n 0 ∙ omega arith
 
 -- the tallies are few: at most as many as the rows that a history may have
 pub few_tallies : (w : Wiring) (rows parts : ℕ) (b : BookView) (tallies sums : List ℕ) (seats left amount : ℕ)
-    → IsHeld w rows parts b tallies sums seats left amount → IsBook b → sum tallies < 4294967295
+    → IsProtected w rows parts b tallies sums seats left amount → IsBook b → sum tallies < 4294967295
 few_tallies w rows parts b tallies sums seats left amount held book =
     omega (arith, held.counted, counted_rows-le-length b.rows, book.enough, book.limit)
 
@@ -91,10 +91,10 @@ lane-appended w b new event said n of_wiring book appends =
     subst (λ (x : Wiring). lane_in event < x.lanes) of_wiring (exist b.wiring b.rows event said n book.wiring book.legal appends.may).1
 
 -- a row is appended, and counted, unless it is one that isn't counted
-pub IsHeld-noted : (w : Wiring) (rows parts : ℕ) (b new : BookView) (tallies sums : List ℕ) (seats left amount : ℕ) (event : Event) (said : Bool) (n : ℕ)
-    → IsHeld w rows parts b tallies sums seats left amount → IsBook b → Appends b new event said n
-    → IsHeld w rows parts new (noted_as tallies event said) sums seats left amount
-IsHeld-noted w rows parts b new tallies sums seats left amount event said n held book appends =
+pub IsProtected-noted : (w : Wiring) (rows parts : ℕ) (b new : BookView) (tallies sums : List ℕ) (seats left amount : ℕ) (event : Event) (said : Bool) (n : ℕ)
+    → IsProtected w rows parts b tallies sums seats left amount → IsBook b → Appends b new event said n
+    → IsProtected w rows parts new (noted_as tallies event said) sums seats left amount
+IsProtected-noted w rows parts b new tallies sums seats left amount event said n held book appends =
     let row : Row = record { event = event; yes = said; number = n } in
     let within : slot_in event < slots w = slot-appended w b new event said n held.of_wiring book appends in
     let rows_are : new.rows ≡ b.rows ++ (row ∷ []) = ap (λ (x : BookView). x.rows) appends.is_new in
@@ -118,12 +118,12 @@ IsHeld-noted w rows parts b new tallies sums seats left amount event said n held
     }
 
 -- the same for counts that are known to be these
-pub IsHeld-counted : (w : Wiring) (rows parts : ℕ) (b new : BookView) (tallies sums : List ℕ) (seats left amount : ℕ) (event : Event) (said : Bool) (n : ℕ) (counts : List ℕ)
+pub IsProtected-counted : (w : Wiring) (rows parts : ℕ) (b new : BookView) (tallies sums : List ℕ) (seats left amount : ℕ) (event : Event) (said : Bool) (n : ℕ) (counts : List ℕ)
     → counts ≡ noted_as tallies event said
-    → IsHeld w rows parts b tallies sums seats left amount → IsBook b → Appends b new event said n
-    → IsHeld w rows parts new counts sums seats left amount
-IsHeld-counted w rows parts b new tallies sums seats left amount event said n counts counts_are held book appends =
-    subst (λ ts. IsHeld w rows parts new ts sums seats left amount) (sym counts_are) (IsHeld-noted w rows parts b new tallies sums seats left amount event said n held book appends)
+    → IsProtected w rows parts b tallies sums seats left amount → IsBook b → Appends b new event said n
+    → IsProtected w rows parts new counts sums seats left amount
+IsProtected-counted w rows parts b new tallies sums seats left amount event said n counts counts_are held book appends =
+    subst (λ ts. IsProtected w rows parts new ts sums seats left amount) (sym counts_are) (IsProtected-noted w rows parts b new tallies sums seats left amount event said n held book appends)
 
 -- ---- contexts
 
@@ -195,10 +195,10 @@ noted-finish counts q (suc h) i said = refl
 -- ---- the first and the last
 
 -- a runtime on which nothing has happened
-pub IsHeld-first : (w : Wiring) (rows parts : ℕ) (b : BookView) (tallies sums : List ℕ) (left amount : ℕ) → b.wiring ≡ w → b.room ≡ rows → b.rows ≡ []
+pub IsProtected-first : (w : Wiring) (rows parts : ℕ) (b : BookView) (tallies sums : List ℕ) (left amount : ℕ) → b.wiring ≡ w → b.room ≡ rows → b.rows ≡ []
     → w.lanes ≤ max_runtime_lanes → w.helpers ≤ max_helpers → IsSafe w → parts ≡ 65536 → tallies ≡ replicate (counts_each * slots w) 0 → sums ≡ replicate (counts_each * slots w) 0 → left ≡ parts → amount ≡ 0
-    → IsHeld w rows parts b tallies sums 0 left amount
-IsHeld-first w rows parts b tallies sums left amount of_wiring of_rows empty few_lanes few_helpers safe all_parts no_tallies no_sums all_left none_counted = record {
+    → IsProtected w rows parts b tallies sums 0 left amount
+IsProtected-first w rows parts b tallies sums left amount of_wiring of_rows empty few_lanes few_helpers safe all_parts no_tallies no_sums all_left none_counted = record {
   of_wiring = of_wiring;
   of_rows = of_rows;
   few_lanes = few_lanes;
@@ -215,7 +215,7 @@ IsHeld-first w rows parts b tallies sums left amount of_wiring of_rows empty few
 }
 
 -- the book of a runtime, as whoever takes the lock finds it
-pub Holds-held : (w : Wiring) (rows parts : ℕ) (b : BookView) (tallies sums : List ℕ) (seats left amount : ℕ) → IsHeld w rows parts b tallies sums seats left amount
+pub Holds-held : (w : Wiring) (rows parts : ℕ) (b : BookView) (tallies sums : List ℕ) (seats left amount : ℕ) → IsProtected w rows parts b tallies sums seats left amount
     → IsBook b → Holds w rows b
 Holds-held w rows parts b tallies sums seats left amount held book =
     let legal : IsLegal w b.rows = subst (λ (x : Wiring). IsLegal x b.rows) held.of_wiring book.legal in

@@ -1,7 +1,7 @@
 -- The errors of a runtime's calls: their numbers, and what a refusal of the book comes to.
 use Rattle.std.specs.Prelude.{◌≡◌, ℕ, Option, Some, None}
 use Rattle.wq_history.specs.declared.fault.BookError.{BookError}
-use Rattle.wq_history.specs.declared.fault.BookError.TheVariants.{HistoryFull as BookFull, Closed as BookClosed, Undeclared as BookUndeclared, TooManyWaits as BookTooManyWaits, WrongLane as BookWrongLane, NoItem as BookNoItem, TooManyRows as BookTooManyRows, OutOfMemory as BookOutOfMemory}
+use Rattle.wq_history.specs.declared.fault.BookError.TheVariants.{HistoryFull as BookFull, Closed as BookClosed, Undeclared as BookUndeclared, TooManyWaits as BookTooManyWaits, WrongLane as BookWrongLane, NoItem as BookNoItem}
 use Rattle.wq_held.specs.declared.fault.SeatError.{SeatError}
 use Rattle.wq_held.specs.declared.fault.SeatError.TheVariants.{TooManySeats, OutOfMemory}
 use Rattle.wq_held.specs.declared.fault.CallError.{CallError}
@@ -41,8 +41,7 @@ call_error BookUndeclared = Some Undeclared
 call_error BookTooManyWaits = Some TooManyWaits
 call_error BookWrongLane = Some WrongLane
 call_error BookNoItem = Some NoItem
-call_error BookTooManyRows = None
-call_error BookOutOfMemory = None
+call_error _ = None
 
 -- the refusal is one of a call on a book that was made
 abbrev pub IsOfCall : BookError → Type 0

@@ -22,7 +22,7 @@ use Rattle.wq_history.specs.History.{all_asks_waiting}
 use Rattle.wq_history.specs.Book.{BookView, state, free, IsBook, LaneRuns, IsWaitingBy, IsNotAwake, AppendsOne}
 use Rattle.wq_history.specs.Answers.{AnswersAsk}
 use Rattle.wq_held.specs.declared.fault.CallError.{CallError}
-use Rattle.wq_held.specs.declared.fault.CallError.TheVariants.{HistoryFull, Closed, Undeclared, TooManyWaits, WrongLane, NotAsked, NoItem}
+use Rattle.wq_held.specs.declared.fault.CallError.TheVariants.{HistoryFull, NoItem}
 use Rattle.wq_held.specs.declared.fault.CloseWhy.{CloseWhy}
 use Rattle.wq_held.specs.declared.fault.CloseWhy.TheVariants.{NotIdle, SeatsMissing}
 
@@ -46,7 +46,7 @@ slots w = max (items w) w.lanes
 -- this many rows; there are at most 256 lanes with at most 8 helpers each, and no run of the assignment ends stuck; the tallies are
 -- those of the book's rows, and add up to the number of its counted rows; the room for the sums is kept empty. Each part of the
 -- ledger was given to a seat or is left; at least one is left, and those that are left have no amount
-pub record IsHeld (w : Wiring) (rows parts : ℕ) (book : BookView) (tallies sums : List ℕ) (seats parts_left amount_left : ℕ) : Type 0 where
+pub record IsProtected (w : Wiring) (rows parts : ℕ) (book : BookView) (tallies sums : List ℕ) (seats parts_left amount_left : ℕ) : Type 0 where
   pub of_wiring : book.wiring ≡ w
   pub of_rows : book.room ≡ rows
   pub few_lanes : w.lanes ≤ max_runtime_lanes
@@ -90,8 +90,8 @@ abbrev pub seat_rows : ℕ
 seat_rows = 33554432
 
 -- the seat with these counts isn't full
-abbrev pub HasRoom : List ℕ → Type 0
-HasRoom counts = sum counts < seat_rows
+abbrev pub SeatHasRoom : List ℕ → Type 0
+SeatHasRoom counts = sum counts < seat_rows
 
 -- a caller who asked: a row says whether it waits
 abbrev pub CountsAsk : List ℕ → List ℕ → ℕ → Ask → Type 0
@@ -141,11 +141,7 @@ CountsAskAndCancel old new i (Waiting asked) taken = new ≡ asked_and_cancelled
 abbrev pub RefusesAskAndCancel : BookView → ℕ → CallError → Type 0
 RefusesAskAndCancel b i NoItem = items b.wiring ≤ i
 RefusesAskAndCancel b i HistoryFull = (i < items b.wiring) × (free b < 3)
-RefusesAskAndCancel b i Closed = ⊥
-RefusesAskAndCancel b i Undeclared = ⊥
-RefusesAskAndCancel b i TooManyWaits = ⊥
-RefusesAskAndCancel b i WrongLane = ⊥
-RefusesAskAndCancel b i NotAsked = ⊥
+RefusesAskAndCancel b i _ = ⊥
 
 -- ---- lanes
 

@@ -1,6 +1,6 @@
 //! Why a call of a runtime is refused, why no seat is made, and why a runtime isn't closed.
 //!
-//! The numbers are those of "Histories" and "Runtimes" in docs/FORMAT.md. Every call takes constant time.
+//! The numbers are those of "Books" and "Runtimes" in docs/RUNTIME.md. Every call takes constant time.
 
 ghost use Rattle.std.specs.Prelude.{◌≡◌, Some};
 ghost use Rattle.wq_history.specs.declared.fault.BookError.TheVariants.{OutOfMemory as BookOutOfMemory, TooManyRows as BookTooManyRows};

@@ -52,13 +52,13 @@ pub struct Held<N: Naming, A: Allocator> {
 }
 
 impl<N: Naming, A: Allocator> Model for Held<N, A> {
-    ghost use Rattle.wq_held.specs.Locked.{HeldView, IsHeld};
+    ghost use Rattle.wq_held.specs.Locked.{HeldView, IsProtected};
 
     ghost Value = { HeldView };
 
     ghost view = { λ h. record { book = h.book; seats = h.seats } };
 
-    ghost invariant = { λ h. IsHeld N.wiring N.rows N.parts h.book h.tallies h.sums h.seats h.rest.parts h.rest.amount };
+    ghost invariant = { λ h. IsProtected N.wiring N.rows N.parts h.book h.tallies h.sums h.seats h.rest.parts h.rest.amount };
 }
 
 /// How many slots of counts there are for a book: as many as items or lanes, whichever are more.

@@ -3,22 +3,21 @@ use Rattle.std.proofs.Common.{◌≡◌, ℕ, zero, suc, ◌+◌, ◌<◌, ◌�
 use Rattle.std.specs.Prelude.{Some, Result, Ok, Err, OnOk, OnErr, IfOk, IfErr, option_map, is_ok, is_err, slice_get, true, false}
 use Rattle.std.specs.List.{sum_by, range_with_len}
 use Rattle.std.proofs.lemmas.Bool.{cases_lt, eqb-true}
-use Rattle.std.proofs.lemmas.Result.{IfErr-weaker}
 use Rattle.std.proofs.lemmas.List.Sums.{sum_by-cons, sum_by_push}
 use Rattle.std.proofs.lemmas.Option.{slice_get-map, slice_get_read, slice_get_within}
 use Rattle.std.proofs.lemmas.List.{get_or-replicate, get_or_past, length-replicate, length-append, length-map, map-append, reverse-append, append-nil, append_assoc}
 use Rattle.wq_counts.specs.declared.kind.Kind.TheVariants.{Finish}
 use Rattle.wq_counts.specs.Counting.{place}
 use Rattle.wq_held.specs.declared.fault.CallError.{CallError}
-use Rattle.wq_execution.specs.declared.rescuing.Rescued.{Rescued}
+use Rattle.wq_rescuer.specs.declared.rescuing.Rescued.{Rescued}
 use Rattle.wq_core.specs.declared.step.Context.{Context}
 use Rattle.wq_core.specs.Wiring.{Wiring, items}
-use Rattle.wq_api.specs.Locking.{WasDone, WasDoneIn}
-use Rattle.wq_execution.specs.Executing.{RanOnly, RefusesHelp, RefusesRescue, RefusesServe, finished_of, finished_in_all, CountsRuns, CountsAtMost}
+use Rattle.wq_api.specs.Locking.{WasDoneIn}
+use Rattle.wq_rescuer.specs.Executing.{RanOnly, RefusesServe, finished_of, finished_in_all, CountsRuns, CountsAtMost}
 use Rattle.wq_rescuer.specs.declared.running.RunWhy.{RunWhy}
 use Rattle.wq_rescuer.specs.declared.running.RunWhy.TheVariants.{BodiesDiffer, TooManySeats, OutOfMemory, NoThread}
 use Rattle.wq_rescuer.specs.Contexts.{contexts_of}
-use Rattle.wq_rescuer.specs.Serving.{IsServed, AreServed, CameBackDone, AreDone, AreLastFirst, IsNoSeat, RefusesRun}
+use Rattle.wq_rescuer.specs.Serving.{IsServed, AreServed, CameBackDone, AreBack, AreLastFirst, IsNoSeat, RefusesRun}
 
 -- ---- a seat without counts
 
@@ -61,19 +60,7 @@ is_served w context n before counts runs answer none own all in_all few why most
           (subst (λ (y : CallError). RefusesServe w context.lane context.helper counts y) same why, λ i. omega (arith, (most i).1, none_finished n i));
     }
 
--- why a context is refused, where it serves as the rescuer
-pub rescue_refused : (w : Wiring) (q c : ℕ) (seat : List ℕ) (r : Result Rescued CallError) → c ≡ 0 → IfErr r (λ e. RefusesRescue w q seat e) → IfErr r (λ e. RefusesServe w q c seat e)
-rescue_refused w q c seat r is = IfErr-weaker r _ _ (λ e why other. let h = why other in (h.0, (h.1, omega (arith, is)), h.2))
-
--- and where it serves as a helper
-pub help_refused : (w : Wiring) (q c : ℕ) (seat : List ℕ) (r : Result Rescued CallError) → IfErr r (λ e. RefusesHelp w q c seat e) → IfErr r (λ e. RefusesServe w q c seat e)
-help_refused w q c seat r = IfErr-weaker r _ _ (λ e why other. let h = why other in (h.0, h.1.1, h.2))
-
--- a context that serves as the rescuer is done when the rescuer is
-pub rescue_done : (w : Wiring) (rows q c : ℕ) (r : Result Rescued CallError) → c ≡ 0 → OnOk r (WasDone w rows q) → OnOk r (WasDoneIn w rows q c)
-rescue_done w rows q c r is done = subst (λ (n : ℕ). OnOk r (WasDoneIn w rows q n)) (sym is) done
-
--- and it comes back so
+-- a context that is done comes back so
 pub came_back_done : (w : Wiring) (rows : ℕ) (context : Context) (answer : Result Rescued CallError) → OnOk answer (WasDoneIn w rows context.lane context.helper)
     → CameBackDone w rows context answer
 came_back_done w rows context (Ok r) done = λ x is. ∣ done ∣₁
@@ -251,15 +238,15 @@ all_served w all n seats runs rescued are ended = record {
 }
 
 -- no context has answered
-pub none_done : (w : Wiring) (rows : ℕ) (all : List Context) (rescued : List (Result Rescued CallError)) → rescued ≡ [] → AreDone w rows all rescued
+pub none_done : (w : Wiring) (rows : ℕ) (all : List Context) (rescued : List (Result Rescued CallError)) → rescued ≡ [] → AreBack w rows all rescued
 none_done w rows all rescued none = λ n c a c_at a_at. absurd (past rescued n a a_at (omega (arith, ap length none)))
 
 -- one more context has answered
 pub done_more : (w : Wiring) (rows : ℕ) (all : List Context) (n : ℕ) (rescued more : List (Result Rescued CallError)) (context : Context) (answer : Result Rescued CallError)
-    → AreDone w rows all rescued → length rescued ≡ n → slice_get all n ≡ Some context → CameBackDone w rows context answer
-    → more ≡ rescued ++ (answer ∷ []) → AreDone w rows all more
+    → AreBack w rows all rescued → length rescued ≡ n → slice_get all n ≡ Some context → CameBackDone w rows context answer
+    → more ≡ rescued ++ (answer ∷ []) → AreBack w rows all more
 done_more w rows all n rescued more context answer are long here is added =
-    subst (AreDone w rows all) (sym added) (λ k c a c_at a_at. elim (at_place rescued answer k a a_at) [
+    subst (AreBack w rows all) (sym added) (λ k c a c_at a_at. elim (at_place rescued answer k a a_at) [
       | inl among ↦ are k c a c_at among
       | inr last ↦ (let place : n ≡ k = omega (arith, last.0, long) in
           let same : context ≡ c = some_same context c (sym here ∙ ap (slice_get all) place ∙ c_at) in

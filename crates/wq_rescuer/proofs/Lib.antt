@@ -1,2 +1,3 @@
 pub mod ContextLemmas
+pub mod Executions
 pub mod Handovers

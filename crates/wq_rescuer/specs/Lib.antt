@@ -1,3 +1,3 @@
-pub use Rattle.wq_execution.specs.Executing
+pub mod Executing
 pub mod Contexts
 pub mod Serving

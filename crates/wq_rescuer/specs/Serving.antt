@@ -7,10 +7,10 @@ use Rattle.wq_core.specs.Wiring.{Wiring, items}
 use Rattle.wq_counts.specs.Counting.{counts_each}
 use Rattle.wq_held.specs.declared.fault.CallError.{CallError}
 use Rattle.wq_api.specs.Locking.{WasDoneIn}
-use Rattle.wq_execution.specs.declared.rescuing.Rescued.{Rescued}
+use Rattle.wq_rescuer.specs.declared.rescuing.Rescued.{Rescued}
 use Rattle.wq_rescuer.specs.declared.running.RunWhy.{RunWhy}
 use Rattle.wq_rescuer.specs.declared.running.RunWhy.TheVariants.{BodiesDiffer, TooManySeats, OutOfMemory, NoThread}
-use Rattle.wq_execution.specs.Executing.{RanOnly, RefusesServe, finished_of, finished_in_all}
+use Rattle.wq_rescuer.specs.Executing.{RanOnly, RefusesServe, finished_of, finished_in_all}
 use Rattle.wq_rescuer.specs.Contexts.{contexts_of}
 
 -- a context, whose seat had no counts, and whose body had run nothing: only items of its lane ran; for each item, the seat counts as
@@ -44,8 +44,8 @@ abbrev pub CameBackDone : Wiring → ℕ → Context → Result Rescued CallErro
 CameBackDone w rows context answer = ForOk answer (λ (rescued : Rescued). ∥ WasDoneIn w rows context.lane context.helper ∥₁)
 
 -- so did each of these contexts, one after the other
-abbrev pub AreDone : Wiring → ℕ → List Context → List (Result Rescued CallError) → Type 0
-AreDone w rows served_by rescued = (n : ℕ) (context : Context) (answer : Result Rescued CallError) → slice_get served_by n ≡ Some context → slice_get rescued n ≡ Some answer
+abbrev pub AreBack : Wiring → ℕ → List Context → List (Result Rescued CallError) → Type 0
+AreBack w rows served_by rescued = (n : ℕ) (context : Context) (answer : Result Rescued CallError) → slice_get served_by n ≡ Some context → slice_get rescued n ≡ Some answer
     → CameBackDone w rows context answer
 
 -- everything was run, with this wiring, and this many callers: there is a seat for each context and then for each caller; what the
@@ -81,10 +81,9 @@ AreFirstSeats slots wanted seats = (length seats < wanted) × All (λ seat. seat
 
 -- seats or memory were lacking, before any thread was started
 abbrev pub IsNoSeat : RunWhy → Type 0
-IsNoSeat BodiesDiffer = ⊥
 IsNoSeat TooManySeats = Unit {0}
 IsNoSeat OutOfMemory = Unit {0}
-IsNoSeat NoThread = ⊥
+IsNoSeat _ = ⊥
 
 -- the number of each cause
 abbrev pub run_code : RunWhy → ℕ

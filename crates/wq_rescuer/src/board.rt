@@ -7,15 +7,15 @@ ghost use Rattle.std.specs.List.{All};
 ghost use Rattle.wq_core.specs.Wiring.{items};
 ghost use Rattle.wq_counts.specs.Counting.{counts_each};
 ghost use Rattle.wq_held.specs.Locked.{slots};
-ghost use Rattle.wq_execution.specs.Executing.{NeverRan};
+ghost use Rattle.wq_rescuer.specs.Executing.{NeverRan};
 ghost use Rattle.wq_rescuer.specs.Serving.{HasRoomFor};
 
+use crate::body::Body;
 use crate::calling::{Caller, CallerEnd, CallerJob};
 use crate::context_job::{ContextEnd, ContextJob};
 use std::alloc::{AllocError, Allocator};
 use wq_api::{Naming, Seat};
 use wq_core::Context;
-use wq_execution::Body;
 
 /// Jobs, and what comes back of them.
 #[derive(Drop)]

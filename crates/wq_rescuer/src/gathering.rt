@@ -5,17 +5,18 @@
 ghost use Rattle.std.specs.Prelude.{◌≡◌, ℕ, ◌+◌, ◌<◌, ◌≤◌, [], ◌++◌, length, map, reverse, take, drop, vec_len, vec_capacity, IsTrue};
 ghost use Rattle.std.specs.List.{sum_by};
 ghost use Rattle.wq_rescuer.specs.Contexts.{contexts_of};
-ghost use Rattle.wq_rescuer.specs.Serving.{AreLastFirst, AreServed, AreDone, HasRoomFor, IsRan, finished_by, faults_by};
+ghost use Rattle.wq_rescuer.specs.Serving.{AreLastFirst, AreServed, AreBack, HasRoomFor, IsRan, finished_by, faults_by};
 ghost use Rattle.wq_rescuer.specs.declared.running.RunWhy.TheVariants.{NoThread};
 
 use crate::board::{Board, Jobs};
+use crate::body::Body;
 use crate::calling::{Caller, CallerEnd, CallerJob};
 use crate::context_job::{ContextEnd, ContextJob};
+use crate::rescuing::Rescued;
 use crate::running::{Ran, RunFault, RunWhy};
 use std::alloc::Allocator;
 use wq_api::{CallError, Naming, Seat};
 use wq_core::Context;
-use wq_execution::{Body, Rescued};
 
 /// Lists for what comes back. They are empty while the threads run. Those of the bodies and callers are the ones that were handed in.
 #[derive(Drop)]
@@ -96,7 +97,7 @@ fn gather_contexts<N: Naming, A: Allocator, B: Body + Drop>(
     requires none_rescued { rescued.items ≡ [] }
     requires rescued_room { vec_len ends ≤ vec_capacity rescued }
     ensures served { AreServed N.wiring contexts.now result.seats.items (map B.runs result.bodies.items) result.rescued.items }
-    ensures ended { AreDone N.wiring N.rows contexts.now result.rescued.items }
+    ensures ended { AreBack N.wiring N.rows contexts.now result.rescued.items }
     ensures finished { result.finished ≡ sum_by finished_by result.rescued.items }
     ensures faults { result.faults ≡ sum_by faults_by result.rescued.items }
     ensures room { vec_capacity result.seats ≡ vec_capacity seats }
@@ -175,7 +176,7 @@ pub(crate) fn gather<N: Naming, A: Allocator, B: Body + Drop, C: Caller + Drop>(
     ensures seats { drop (vec_len board.contexts.ends) result.seats.items ≡ reverse (map (λ end. end.seat) board.callers.ends.items) }
     ensures callers { result.callers.items ≡ reverse (map (λ end. end.caller) board.callers.ends.items) }
     ensures results { result.results.items ≡ reverse (map (λ end. end.result) board.callers.ends.items) }
-    ensures ended { AreDone N.wiring N.rows (contexts_of N.wiring) result.rescued.items }
+    ensures ended { AreBack N.wiring N.rows (contexts_of N.wiring) result.rescued.items }
 {
     let Board {
         contexts: served,

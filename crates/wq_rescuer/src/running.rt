@@ -7,14 +7,16 @@ ghost use Rattle.std.specs.Prelude.{◌≡◌, ◌≢◌, ℕ, ◌+◌, ◌<◌,
 ghost use Rattle.std.specs.List.{All};
 ghost use Rattle.wq_core.specs.Wiring.{items};
 ghost use Rattle.wq_held.specs.Locked.{slots};
-ghost use Rattle.wq_execution.specs.Executing.{NeverRan};
+ghost use Rattle.wq_rescuer.specs.Executing.{NeverRan};
 ghost use Rattle.wq_rescuer.specs.Contexts.{contexts_of};
-ghost use Rattle.wq_rescuer.specs.Serving.{AreDone, AreFirstSeats, IsNoSeat, IsRan, RefusesRun, run_code};
+ghost use Rattle.wq_rescuer.specs.Serving.{AreBack, AreFirstSeats, IsNoSeat, IsRan, RefusesRun, run_code};
 ghost use Rattle.wq_rescuer.specs.declared.running.RunWhy.TheVariants.{BodiesDiffer, OutOfMemory, NoThread};
 
 use crate::board::{add_callers, add_contexts};
+use crate::body::Body;
 use crate::calling::Caller;
 use crate::gathering::{Back, are_last_first, gather, hand_back};
+use crate::rescuing::Rescued;
 use crate::space::{NoSpace, Space, reserve};
 use crate::threads::run_threads;
 use std::alloc::Allocator;
@@ -22,7 +24,6 @@ use std::sync::Wait;
 use std::thread::Threads;
 use thiserror::Error;
 use wq_api::{CallError, Naming, Seat, WqRuntime};
-use wq_execution::{Body, Rescued};
 
 /// Why not everything was run.
 #[derive(Clone, Copy, Debug, PartialEq, Eq, Error)]
@@ -116,7 +117,7 @@ pub fn run_all<
     requires width { All (λ body. items N.wiring ≤ B.width body) bodies.items }
     requires never_ran { All (λ body. NeverRan (B.runs body)) bodies.items }
     ensures ran { IfOk result (λ r. (vec_len bodies ≡ length (contexts_of N.wiring)) × IsRan N.wiring (vec_len callers) r.seats.items (map B.runs r.bodies.items) (vec_len r.callers) (vec_len r.results) r.rescued.items r.finished r.faults) }
-    ensures ended { IfOk result (λ r. AreDone N.wiring N.rows (contexts_of N.wiring) r.rescued.items) }
+    ensures ended { IfOk result (λ r. AreBack N.wiring N.rows (contexts_of N.wiring) r.rescued.items) }
     ensures refused { IfErr result (λ f. RefusesRun (length (contexts_of N.wiring)) (vec_len bodies) f.why) }
     ensures no_seats { IfErr result (λ f. f.why ≡ BodiesDiffer → f.seats.items ≡ []) }
     ensures made { IfErr result (λ f. IsNoSeat f.why → AreFirstSeats (slots N.wiring) (vec_len bodies + vec_len callers) f.seats.items) }

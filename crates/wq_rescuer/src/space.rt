@@ -13,14 +13,15 @@ ghost use Rattle.wq_rescuer.specs.Serving.{AreFirstSeats, HasRoomFor, IsNoSeat, 
 ghost use Rattle.wq_rescuer.specs.declared.running.RunWhy.TheVariants.{BodiesDiffer, OutOfMemory};
 
 use crate::board::Board;
+use crate::body::Body;
 use crate::calling::Caller;
 use crate::contexts::{contexts_of, count_contexts};
+use crate::rescuing::Rescued;
 use crate::running::RunWhy;
 use std::alloc::{AllocError, Allocator};
 use std::sync::Wait;
 use wq_api::{CallError, Naming, Seat, SeatError, WqRuntime};
 use wq_core::Context;
-use wq_execution::{Body, Rescued};
 
 /// The contexts, seats, and room: for the jobs, for what comes back of them, and for the answers.
 #[derive(Drop)]

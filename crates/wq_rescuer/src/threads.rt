@@ -7,13 +7,13 @@
 ghost use Rattle.std.specs.Prelude.{◌≡◌, ℕ, ◌+◌, ◌≤◌, vec_len, vec_capacity};
 
 use crate::board::{Board, Jobs};
+use crate::body::Body;
 use crate::calling::{Caller, CallerEnd, CallerJob};
 use std::alloc::Allocator;
 use std::sync::Wait;
 use std::thread;
 use std::thread::{Scope, Threads};
 use wq_api::{Naming, WqRuntime};
-use wq_execution::Body;
 
 /// Starts the callers that no thread has taken yet, and waits until all of them have made their calls.
 fn run_callers<

@@ -18,7 +18,7 @@ use Rattle.wq_under_lock.specs.Refusals.{RefusesWaitIn}
 use Rattle.wq_held.specs.declared.fault.CallError.TheVariants.{HistoryFull, Closed, Undeclared, TooManyWaits, WrongLane, NotAsked, NoItem}
 use Rattle.wq_api.specs.WaitingCalls.{waited_for, RefusedWaitIn}
 use Rattle.wq_rescuer.specs.Executing.{SameFinished}
-use Rattle.wq_script.specs.Scripts.{waits_of, is_target, times_among, CountsWaits, CountsFirstWaits, CountsOnlyWaits}
+use Rattle.wq_script.specs.Scripts.{counted_waits, is_target, times_among, CountsWaits, CountsFirstWaits, CountsOnlyWaits}
 
 -- ---- kinds of waits
 
@@ -61,7 +61,7 @@ raised-none : (n : ℕ) (counts : List ℕ) (i : ℕ) (kind : Kind) (said : Bool
 raised-none n counts i kind said has past = set_past counts (place i kind said) (made counts i kind said + 1) (omega (arith, has, past))
 
 waits-own : (n : ℕ) (counts : List ℕ) (i : ℕ) (whole said : Bool) → HasCountsOf n counts → i < n
-    → waits_of (raised counts i (wait_kind whole) said) whole i ≡ waits_of counts whole i + 1
+    → counted_waits (raised counts i (wait_kind whole) said) whole i ≡ counted_waits counts whole i + 1
 waits-own n counts i whole false has lt =
     let kind = wait_kind whole in
     omega (arith, made-raised_same counts i kind false (omega (arith, has, lt)), made-raised_other counts i i kind kind false true (λ e. omega (arith, e)))
@@ -71,7 +71,7 @@ waits-own n counts i whole true has lt =
 
 -- a count of another item or another kind
 waits-other : (counts : List ℕ) (i j : ℕ) (kind : Kind) (whole said : Bool) → ¬ ((j ≡ i) × (wait_kind whole ≡ kind))
-    → waits_of (raised counts i kind said) whole j ≡ waits_of counts whole j
+    → counted_waits (raised counts i kind said) whole j ≡ counted_waits counts whole j
 waits-other counts i j kind whole said apart =
     let other : (answer : Bool) → place j (wait_kind whole) answer ≢ place i kind said =
     λ answer e. (let same = place-same j i (wait_kind whole) kind answer said e in apart (same.0, same.1)) in
@@ -106,10 +106,10 @@ CountsWaits-wait n counts t said has lt b whole =
         | inl kind ↦ (omega (
           arith,
           times-own t whole b kind e,
-          ap (λ (k : Bool). waits_of more k t.item) kind,
-          ap (waits_of more whole) e,
-          ap (λ (k : Bool). waits_of counts k t.item) kind,
-          ap (waits_of counts whole) e,
+          ap (λ (k : Bool). counted_waits more k t.item) kind,
+          ap (counted_waits more whole) e,
+          ap (λ (k : Bool). counted_waits counts k t.item) kind,
+          ap (counted_waits counts whole) e,
           waits-own n counts t.item t.whole said has lt,
         ))
         | inr ne ↦ (omega (

@@ -16,8 +16,8 @@ abbrev pub runs_of : Script → ℕ → ℕ
 runs_of script i = slice_index script.runs i
 
 -- how many waits for item b a seat counts, or how many for its whole workqueue, whatever their answers
-abbrev pub waits_of : List ℕ → Bool → ℕ → ℕ
-waits_of counts whole b = made counts b (wait_kind whole) true + made counts b (wait_kind whole) false
+abbrev pub counted_waits : List ℕ → Bool → ℕ → ℕ
+counted_waits counts whole b = made counts b (wait_kind whole) true + made counts b (wait_kind whole) false
 
 -- the target is item b, or its whole workqueue
 abbrev pub is_target : Bool → ℕ → Target → Bool
@@ -30,7 +30,7 @@ times_among targets whole b = count_by (λ (t : Target). is_target whole b t) ta
 -- for each item and each kind of wait, a seat counts one more wait for each time that the item is among these targets with this
 -- kind
 abbrev pub CountsWaits : List ℕ → List ℕ → List Target → Type 0
-CountsWaits old new targets = (b : ℕ) (whole : Bool) → waits_of new whole b ≡ waits_of old whole b + times_among targets whole b
+CountsWaits old new targets = (b : ℕ) (whole : Bool) → counted_waits new whole b ≡ counted_waits old whole b + times_among targets whole b
 
 -- the same of the first n of these targets, for some n
 abbrev pub CountsFirstWaits : List ℕ → List ℕ → List Target → Type 0

@@ -45,10 +45,7 @@ fn queue<N: Naming, A: Allocator, R: Wait>(
     ensures counted { IfOk result (λ accepted. (item < items N.wiring) × (seat.new ≡ raised seat.old item Queue accepted)) }
     ensures refused { IfErr result (λ e. RefusesQueueByBody N.wiring seat.old item e × (seat.new ≡ seat.old)) }
 {
-    let Some(lane) = runtime.lane_of(rt, item) else {
-        return Err(CallError::NoItem);
-    };
-    runtime.queue_work(rt, seat, lane, item)
+    runtime.queue_item(rt, seat, item)
 }
 
 impl Act {

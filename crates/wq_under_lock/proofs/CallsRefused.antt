@@ -15,7 +15,7 @@ use Rattle.wq_held.specs.declared.fault.CallError.{CallError}
 use Rattle.wq_held.specs.declared.fault.CallError.TheVariants.{HistoryFull as CallFull, Closed as CallClosed, Undeclared as CallUndeclared, TooManyWaits as CallTooManyWaits, WrongLane as CallWrongLane, NotAsked as CallNotAsked, NoItem as CallNoItem}
 use Rattle.wq_under_lock.specs.declared.fault.NewError.TheVariants.{NotSafe}
 use Rattle.wq_held.specs.Errors.{call_error, RefusedAs}
-use Rattle.wq_held.specs.Locked.{max_runtime_lanes, slots, IsOnLane, HasRoom, RefusesAskAndCancel}
+use Rattle.wq_held.specs.Locked.{max_runtime_lanes, slots, IsOnLane, SeatHasRoom, RefusesAskAndCancel}
 use Rattle.wq_held.proofs.Locking.{context-appended}
 use Rattle.wq_under_lock.specs.Refusals.{RefusesRuntime, RefusesQueueWork, RefusesCancelWork, RefusesFlushLane, RefusesWaitIn}
 
@@ -29,7 +29,7 @@ lane_exists w i wiring there = wiring.within i 0 (omega (arith, there, wiring.on
 
 -- ---- queue
 
-queue_cases : (w : Wiring) (b : BookView) (counts : List ℕ) (q i : ℕ) (e : CallError) → b.wiring ≡ w → IsOnLane w q i → HasRoom counts
+queue_cases : (w : Wiring) (b : BookView) (counts : List ℕ) (q i : ℕ) (e : CallError) → b.wiring ≡ w → IsOnLane w q i → SeatHasRoom counts
     → (x : BookError) → RefusesQueue b i x → call_error x ≡ Some e → RefusesQueueWork w counts q i e
 queue_cases w b counts q i e of_wiring on room HistoryFull why is = moved (λ y. RefusesQueueWork w counts q i y) CallFull e is on
 queue_cases w b counts q i e of_wiring on room Closed why is = moved (λ y. RefusesQueueWork w counts q i y) CallClosed e is (on, room)
@@ -40,7 +40,7 @@ queue_cases w b counts q i e of_wiring on room NoItem why is = moved (λ y. Refu
 queue_cases w b counts q i e of_wiring on room TooManyRows why is = absurd why
 queue_cases w b counts q i e of_wiring on room OutOfMemory why is = absurd why
 
-pub queue_refused : (w : Wiring) (b : BookView) (counts : List ℕ) (q i : ℕ) (e : CallError) → b.wiring ≡ w → IsOnLane w q i → HasRoom counts
+pub queue_refused : (w : Wiring) (b : BookView) (counts : List ℕ) (q i : ℕ) (e : CallError) → b.wiring ≡ w → IsOnLane w q i → SeatHasRoom counts
     → RefusedAs (RefusesQueue b i) e → RefusesQueueWork w counts q i e
 queue_refused w b counts q i e of_wiring on room why = queue_cases w b counts q i e of_wiring on room why.0 why.1 why.2
 
@@ -143,7 +143,7 @@ wait_cases P b q c whole target e wrong undeclared many NoItem why is = absurd w
 wait_cases P b q c whole target e wrong undeclared many TooManyRows why is = absurd why
 wait_cases P b q c whole target e wrong undeclared many OutOfMemory why is = absurd why
 
-pub wait_refused : (w : Wiring) (b : BookView) (counts : List ℕ) (q c : ℕ) (whole : Bool) (target : ℕ) (e : CallError) → HasContext w q c → HasRoom counts
+pub wait_refused : (w : Wiring) (b : BookView) (counts : List ℕ) (q c : ℕ) (whole : Bool) (target : ℕ) (e : CallError) → HasContext w q c → SeatHasRoom counts
     → RefusedAs (RefusesWait b q c whole target) e → RefusesWaitIn w counts q c e
 wait_refused w b counts q c whole target e there room why =
     wait_cases (λ y. RefusesWaitIn w counts q c y) b q c whole target e (inr room) (there, room) (there, room) why.0 why.1 why.2

@@ -4,8 +4,8 @@ use Rattle.wq_core.specs.Wiring.{Wiring, items, lane_of, max_helpers, HasContext
 use Rattle.wq_core.specs.Deadlock.{IsSafe}
 use Rattle.wq_rows.specs.Stored.{max_rows}
 use Rattle.wq_held.specs.declared.fault.CallError.{CallError}
-use Rattle.wq_held.specs.declared.fault.CallError.TheVariants.{HistoryFull, Closed, Undeclared, TooManyWaits, WrongLane, NotAsked, NoItem}
-use Rattle.wq_held.specs.Locked.{max_runtime_lanes, IsOnLane, seat_rows, HasRoom}
+use Rattle.wq_held.specs.declared.fault.CallError.TheVariants.{HistoryFull, Closed, Undeclared, TooManyWaits, WrongLane, NoItem}
+use Rattle.wq_held.specs.Locked.{max_runtime_lanes, IsOnLane, seat_rows, SeatHasRoom}
 use Rattle.wq_under_lock.specs.declared.fault.NewError.{NewError}
 use Rattle.wq_under_lock.specs.declared.fault.NewError.TheVariants.{TooManyLanes, TooManyRows, TooManyHelpers, NotSafe, OutOfMemory}
 
@@ -42,52 +42,38 @@ pub record MakesRuntime (w : Wiring) (rows : ℕ) : Type 0 where
 abbrev pub RefusesQueueWork : Wiring → List ℕ → ℕ → ℕ → CallError → Type 0
 RefusesQueueWork w counts q i NoItem = items w ≤ i
 RefusesQueueWork w counts q i WrongLane = (i < items w) × (lane_of w i ≢ q)
-RefusesQueueWork w counts q i Closed = IsOnLane w q i × HasRoom counts
+RefusesQueueWork w counts q i Closed = IsOnLane w q i × SeatHasRoom counts
 RefusesQueueWork w counts q i HistoryFull = IsOnLane w q i
-RefusesQueueWork w counts q i Undeclared = ⊥
-RefusesQueueWork w counts q i TooManyWaits = ⊥
-RefusesQueueWork w counts q i NotAsked = ⊥
+RefusesQueueWork w counts q i _ = ⊥
 
 -- `cancel_work` of item i, or an ask about it: no such item; the seat or the history is full
 abbrev pub RefusesCancelWork : Wiring → ℕ → CallError → Type 0
 RefusesCancelWork w i NoItem = items w ≤ i
 RefusesCancelWork w i HistoryFull = i < items w
-RefusesCancelWork w i Closed = ⊥
-RefusesCancelWork w i Undeclared = ⊥
-RefusesCancelWork w i TooManyWaits = ⊥
-RefusesCancelWork w i WrongLane = ⊥
-RefusesCancelWork w i NotAsked = ⊥
+RefusesCancelWork w i _ = ⊥
 
 -- an ask about the whole of lane q: no such lane; the seat or the history is full
 abbrev pub RefusesFlushLane : Wiring → ℕ → CallError → Type 0
 RefusesFlushLane w q WrongLane = w.lanes ≤ q
 RefusesFlushLane w q HistoryFull = q < w.lanes
-RefusesFlushLane w q Closed = ⊥
-RefusesFlushLane w q Undeclared = ⊥
-RefusesFlushLane w q TooManyWaits = ⊥
-RefusesFlushLane w q NotAsked = ⊥
-RefusesFlushLane w q NoItem = ⊥
+RefusesFlushLane w q _ = ⊥
 
 -- `wait_for` or `wait_all_for` on lane q, through a seat with these counts: no such lane, or it can't make this step; the seat is
 -- full; what the lane runs declares no such flush, or has made as many waits as it declares
 abbrev pub RefusesWaitFor : Wiring → List ℕ → ℕ → CallError → Type 0
-RefusesWaitFor w counts q WrongLane = (w.lanes ≤ q) ⊎ HasRoom counts
+RefusesWaitFor w counts q WrongLane = (w.lanes ≤ q) ⊎ SeatHasRoom counts
 RefusesWaitFor w counts q HistoryFull = (q < w.lanes) × (seat_rows ≤ sum counts)
-RefusesWaitFor w counts q Undeclared = (q < w.lanes) × HasRoom counts
-RefusesWaitFor w counts q TooManyWaits = (q < w.lanes) × HasRoom counts
-RefusesWaitFor w counts q Closed = ⊥
-RefusesWaitFor w counts q NotAsked = ⊥
-RefusesWaitFor w counts q NoItem = ⊥
+RefusesWaitFor w counts q Undeclared = (q < w.lanes) × SeatHasRoom counts
+RefusesWaitFor w counts q TooManyWaits = (q < w.lanes) × SeatHasRoom counts
+RefusesWaitFor w counts q _ = ⊥
 
 -- the same of a context that exists if `there` says so
 abbrev pub RefusesWaitOf : Type 0 → List ℕ → CallError → Type 0
-RefusesWaitOf there counts WrongLane = (¬ there) ⊎ HasRoom counts
+RefusesWaitOf there counts WrongLane = (¬ there) ⊎ SeatHasRoom counts
 RefusesWaitOf there counts HistoryFull = there × (seat_rows ≤ sum counts)
-RefusesWaitOf there counts Undeclared = there × HasRoom counts
-RefusesWaitOf there counts TooManyWaits = there × HasRoom counts
-RefusesWaitOf there counts Closed = ⊥
-RefusesWaitOf there counts NotAsked = ⊥
-RefusesWaitOf there counts NoItem = ⊥
+RefusesWaitOf there counts Undeclared = there × SeatHasRoom counts
+RefusesWaitOf there counts TooManyWaits = there × SeatHasRoom counts
+RefusesWaitOf there counts _ = ⊥
 
 -- the same of context c of lane q
 abbrev pub RefusesWaitIn : Wiring → List ℕ → ℕ → ℕ → CallError → Type 0

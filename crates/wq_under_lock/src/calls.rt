@@ -4,7 +4,7 @@
 //! answers. A call takes the time of the book's events, and no memory.
 
 ghost use Rattle.std.specs.Prelude.{◌≡◌, ◌<◌, ◌≤◌, IfOk, IfErr, OnOk, OnErr, IfSome, true, false};
-ghost use Rattle.wq_core.specs.Wiring.{items, HasContext};
+ghost use Rattle.wq_core.specs.Wiring.{items, lane_of, HasContext};
 ghost use Rattle.wq_rows.specs.declared.event.Event.TheVariants.{Queue, Cancel, Ask as AskEvent};
 ghost use Rattle.wq_counts.specs.declared.kind.Kind.TheVariants.{Queue as QueueKind, Cancel as CancelKind};
 ghost use Rattle.wq_counts.specs.Counting.{wait_kind, raised};
@@ -13,7 +13,7 @@ ghost use Rattle.wq_history.specs.Book.{AppendsOne, IsWrongToStart, RefusesItem,
 ghost use Rattle.wq_history.specs.Answers.{AnswersAsk, AnswersAskLane, AnswersStart};
 ghost use Rattle.wq_held.specs.declared.fault.CallError.TheVariants.{WrongLane};
 ghost use Rattle.wq_held.specs.Errors.{RefusedAs};
-ghost use Rattle.wq_held.specs.Locked.{IsOnLane, HasRoom, CountsAsk, CountsAskLane, AsksAndCancels, CountsAskAndCancel, RefusesAskAndCancel};
+ghost use Rattle.wq_held.specs.Locked.{IsOnLane, SeatHasRoom, CountsAsk, CountsAskLane, AsksAndCancels, CountsAskAndCancel, RefusesAskAndCancel};
 ghost use Rattle.wq_under_lock.specs.Refusals.{RefusesQueueWork, RefusesCancelWork, RefusesFlushLane, RefusesWaitIn};
 
 use std::alloc::Allocator;
@@ -30,8 +30,8 @@ fn admit<N: Naming, A: Allocator>(
     seat: &Seat<N, A>,
     item: ItemId,
 ) -> Result<(), CallError>
-    ensures admitted { OnOk result ((item < items N.wiring) × HasRoom seat.now) }
-    ensures barred { OnErr result (¬ ((item < items N.wiring) × HasRoom seat.now)) }
+    ensures admitted { OnOk result ((item < items N.wiring) × SeatHasRoom seat.now) }
+    ensures barred { OnErr result (¬ ((item < items N.wiring) × SeatHasRoom seat.now)) }
     ensures refused { IfErr result (λ e. RefusesCancelWork N.wiring item e) }
 {
     if held.lane_of(item).is_none() {
@@ -52,8 +52,8 @@ fn admit_on<N: Naming, A: Allocator>(
     q: LaneId,
     item: ItemId,
 ) -> Result<(), CallError>
-    ensures admitted { OnOk result (IsOnLane N.wiring q item × HasRoom seat.now) }
-    ensures barred { OnErr result (¬ (IsOnLane N.wiring q item × HasRoom seat.now)) }
+    ensures admitted { OnOk result (IsOnLane N.wiring q item × SeatHasRoom seat.now) }
+    ensures barred { OnErr result (¬ (IsOnLane N.wiring q item × SeatHasRoom seat.now)) }
     ensures refused { IfErr result (λ e. RefusesQueueWork N.wiring seat.now q item e) }
 {
     let Some(lane) = held.lane_of(item) else {
@@ -76,8 +76,8 @@ fn admit_lane<N: Naming, A: Allocator>(
     seat: &Seat<N, A>,
     q: LaneId,
 ) -> Result<(), CallError>
-    ensures admitted { OnOk result ((q < N.wiring.lanes) × HasRoom seat.now) }
-    ensures barred { OnErr result (¬ ((q < N.wiring.lanes) × HasRoom seat.now)) }
+    ensures admitted { OnOk result ((q < N.wiring.lanes) × SeatHasRoom seat.now) }
+    ensures barred { OnErr result (¬ ((q < N.wiring.lanes) × SeatHasRoom seat.now)) }
     ensures refused { IfErr result (λ e. RefusesFlushLane N.wiring q e) }
 {
     if usize::from(q.get()) >= held.lanes() {
@@ -103,12 +103,35 @@ pub fn queue<N: Naming, A: Allocator>(
 ) -> Result<bool, CallError>
     ensures row { IfOk result (λ accepted. AppendsOne held.old.book held.new.book (Queue item) accepted) }
     ensures open { OnOk result (held.old.book.closed ≡ false) }
-    ensures counted { IfOk result (λ accepted. IsOnLane N.wiring q item × HasRoom seat.old × (seat.new ≡ raised seat.old item QueueKind accepted)) }
+    ensures counted { IfOk result (λ accepted. IsOnLane N.wiring q item × SeatHasRoom seat.old × (seat.new ≡ raised seat.old item QueueKind accepted)) }
     ensures seats { held.new.seats ≡ held.old.seats }
     ensures refused { IfErr result (λ e. RefusesQueueWork N.wiring seat.old q item e × (held.new ≡ held.old) × (seat.new ≡ seat.old)) }
-    ensures cause { IfErr result (λ e. IsOnLane N.wiring q item → HasRoom seat.old → RefusedAs (RefusesQueue held.old.book item) e) }
+    ensures cause { IfErr result (λ e. IsOnLane N.wiring q item → SeatHasRoom seat.old → RefusedAs (RefusesQueue held.old.book item) e) }
 {
     admit_on(held, seat, q, item)?;
+    held.holds();
+    held.queue(seat, item)
+}
+
+/// Queues an item that exists on its own workqueue, as `queue`.
+///
+/// The error is the first of these that holds: `HistoryFull` (60), where the seat is full; `Closed` (61); `HistoryFull` (60), where
+/// fewer rows are free than `queue` needs. After an error nothing is changed or counted.
+#[tactic(auto, using(crate::proofs::CallsRefused::queue_refused))]
+pub(crate) fn queue_known<N: Naming, A: Allocator>(
+    held: &mut Held<N, A>,
+    seat: &mut Seat<N, A>,
+    item: ItemId,
+) -> Result<bool, CallError>
+    requires known { item < items N.wiring }
+    ensures row { IfOk result (λ accepted. AppendsOne held.old.book held.new.book (Queue item) accepted) }
+    ensures counted { IfOk result (λ accepted. IsOnLane N.wiring (lane_of N.wiring item) item × SeatHasRoom seat.old × (seat.new ≡ raised seat.old item QueueKind accepted)) }
+    ensures refused { IfErr result (λ e. RefusesQueueWork N.wiring seat.old (lane_of N.wiring item) item e × (held.new ≡ held.old) × (seat.new ≡ seat.old)) }
+    ensures cause { IfErr result (λ e. SeatHasRoom seat.old → RefusedAs (RefusesQueue held.old.book item) e) }
+{
+    if seat.is_full() {
+        return Err(CallError::HistoryFull);
+    }
     held.holds();
     held.queue(seat, item)
 }
@@ -124,10 +147,10 @@ pub fn cancel<N: Naming, A: Allocator>(
     item: ItemId,
 ) -> Result<bool, CallError>
     ensures row { IfOk result (λ taken. AppendsOne held.old.book held.new.book (Cancel item) taken) }
-    ensures counted { IfOk result (λ taken. (item < items N.wiring) × HasRoom seat.old × (seat.new ≡ raised seat.old item CancelKind taken)) }
+    ensures counted { IfOk result (λ taken. (item < items N.wiring) × SeatHasRoom seat.old × (seat.new ≡ raised seat.old item CancelKind taken)) }
     ensures seats { held.new.seats ≡ held.old.seats }
     ensures refused { IfErr result (λ e. RefusesCancelWork N.wiring item e × (held.new ≡ held.old) × (seat.new ≡ seat.old)) }
-    ensures cause { IfErr result (λ e. item < items N.wiring → HasRoom seat.old → RefusedAs (RefusesItem held.old.book item Cancel) e) }
+    ensures cause { IfErr result (λ e. item < items N.wiring → SeatHasRoom seat.old → RefusedAs (RefusesItem held.old.book item Cancel) e) }
 {
     admit(held, seat, item)?;
     held.holds();
@@ -145,10 +168,10 @@ pub fn ask<N: Naming, A: Allocator>(
     item: ItemId,
 ) -> Result<Ask, CallError>
     ensures row { IfOk result (λ answer. AnswersAsk held.old.book held.new.book item answer) }
-    ensures counted { IfOk result (λ answer. (item < items N.wiring) × HasRoom seat.old × CountsAsk seat.old seat.new item answer) }
+    ensures counted { IfOk result (λ answer. (item < items N.wiring) × SeatHasRoom seat.old × CountsAsk seat.old seat.new item answer) }
     ensures seats { held.new.seats ≡ held.old.seats }
     ensures refused { IfErr result (λ e. RefusesCancelWork N.wiring item e × (held.new ≡ held.old) × (seat.new ≡ seat.old)) }
-    ensures cause { IfErr result (λ e. item < items N.wiring → HasRoom seat.old → RefusedAs (RefusesItem held.old.book item AskEvent) e) }
+    ensures cause { IfErr result (λ e. item < items N.wiring → SeatHasRoom seat.old → RefusedAs (RefusesItem held.old.book item AskEvent) e) }
 {
     admit(held, seat, item)?;
     held.holds();
@@ -166,10 +189,10 @@ pub fn ask_lane<N: Naming, A: Allocator>(
     q: LaneId,
 ) -> Result<LaneAsk, CallError>
     ensures row { IfOk result (λ answer. AnswersAskLane held.old.book held.new.book q answer) }
-    ensures counted { IfOk result (λ answer. (q < N.wiring.lanes) × HasRoom seat.old × CountsAskLane seat.old seat.new q answer) }
+    ensures counted { IfOk result (λ answer. (q < N.wiring.lanes) × SeatHasRoom seat.old × CountsAskLane seat.old seat.new q answer) }
     ensures seats { held.new.seats ≡ held.old.seats }
     ensures refused { IfErr result (λ e. RefusesFlushLane N.wiring q e × (held.new ≡ held.old) × (seat.new ≡ seat.old)) }
-    ensures cause { IfErr result (λ e. q < N.wiring.lanes → HasRoom seat.old → RefusedAs (RefusesAskLane held.old.book q) e) }
+    ensures cause { IfErr result (λ e. q < N.wiring.lanes → SeatHasRoom seat.old → RefusedAs (RefusesAskLane held.old.book q) e) }
 {
     admit_lane(held, seat, q)?;
     held.holds();
@@ -188,10 +211,10 @@ pub fn ask_and_cancel<N: Naming, A: Allocator>(
 ) -> Result<(Ask, bool), CallError>
     ensures room { OnOk result (3 ≤ free held.old.book) }
     ensures rows { IfOk result (λ r. AsksAndCancels held.old.book held.new.book item r.0 r.1) }
-    ensures counted { IfOk result (λ r. (item < items N.wiring) × HasRoom seat.old × CountsAskAndCancel seat.old seat.new item r.0 r.1) }
+    ensures counted { IfOk result (λ r. (item < items N.wiring) × SeatHasRoom seat.old × CountsAskAndCancel seat.old seat.new item r.0 r.1) }
     ensures seats { held.new.seats ≡ held.old.seats }
     ensures refused { IfErr result (λ e. RefusesCancelWork N.wiring item e × (held.new ≡ held.old) × (seat.new ≡ seat.old)) }
-    ensures cause { IfErr result (λ e. item < items N.wiring → HasRoom seat.old → RefusesAskAndCancel held.old.book item e) }
+    ensures cause { IfErr result (λ e. item < items N.wiring → SeatHasRoom seat.old → RefusesAskAndCancel held.old.book item e) }
 {
     admit(held, seat, item)?;
     held.holds();
@@ -234,10 +257,10 @@ pub fn wait<N: Naming, A: Allocator>(
     target: ItemId,
 ) -> Result<bool, CallError>
     ensures row { IfOk result (λ unfinished. AppendsOne held.old.book held.new.book (wait_event whole q helper target) unfinished) }
-    ensures counted { IfOk result (λ unfinished. HasContext N.wiring q helper × (target < items N.wiring) × HasRoom seat.old × (seat.new ≡ raised seat.old target (wait_kind whole) unfinished)) }
+    ensures counted { IfOk result (λ unfinished. HasContext N.wiring q helper × (target < items N.wiring) × SeatHasRoom seat.old × (seat.new ≡ raised seat.old target (wait_kind whole) unfinished)) }
     ensures seats { held.new.seats ≡ held.old.seats }
     ensures refused { IfErr result (λ e. RefusesWaitIn N.wiring seat.old q helper e × (held.new ≡ held.old) × (seat.new ≡ seat.old)) }
-    ensures cause { IfErr result (λ e. HasContext N.wiring q helper → HasRoom seat.old → RefusedAs (RefusesWait held.old.book q helper whole target) e) }
+    ensures cause { IfErr result (λ e. HasContext N.wiring q helper → SeatHasRoom seat.old → RefusedAs (RefusesWait held.old.book q helper whole target) e) }
 {
     if !held.has_context(q, helper) {
         return Err(CallError::WrongLane);

@@ -22,6 +22,6 @@ pub use turn::{Turn, Watched};
 pub use turns::{
     be_idle, be_told, be_told_lane, begin_cancel_sync, begin_flush, begin_flush_lane, begin_wait,
     cancel_work, close, finish_work, go_on, has_context, helpers_of, lane_of, lanes, next,
-    queue_work, refuse_queueings, seat,
+    queue_item, queue_work, refuse_queueings, seat,
 };
 pub use wq_history::{Sleepers, Wake, WokenContexts};

@@ -5,7 +5,7 @@
 //! memory; only `seat` takes more: time and memory in the number of items or workqueues, whichever are more.
 
 ghost use Rattle.std.specs.Prelude.{◌≡◌, ℕ, ◌+◌, ◌*◌, ◌<◌, ◌≤◌, ◌↔◌, replicate, vec_len, IsTrue, IfOk, IfErr, OnOk, OnErr, IfSome, IfNone, true, false};
-ghost use Rattle.wq_core.specs.Wiring.{items, helpers_of, HasContext};
+ghost use Rattle.wq_core.specs.Wiring.{items, lane_of, helpers_of, HasContext};
 ghost use Rattle.wq_core.specs.State.{lane_at, HasUnfinished, HasUnfinishedBelow, IsBusyBelow};
 ghost use Rattle.wq_rows.specs.declared.event.Event.TheVariants.{Queue, Cancel, Ask as AskEvent, Told as ToldEvent, ToldLane as ToldLaneEvent};
 ghost use Rattle.wq_counts.specs.declared.kind.Kind.TheVariants.{Queue as QueueKind, Cancel as CancelKind, Finish as FinishKind, Told as ToldKind};
@@ -17,7 +17,7 @@ ghost use Rattle.wq_history.specs.Book.{state, Appends, AppendsOne, HasNothingTo
 ghost use Rattle.wq_history.specs.Answers.{AnswersAsk, AnswersAskLane, AnswersStart};
 ghost use Rattle.wq_held.specs.declared.fault.CallError.TheVariants.{WrongLane, NotAsked};
 ghost use Rattle.wq_held.specs.declared.fault.SeatError.TheVariants.{TooManySeats, OutOfMemory as SeatOutOfMemory};
-ghost use Rattle.wq_held.specs.Locked.{max_runtime_lanes, slots, IsOnLane, HasRoom, Holds, CountsAsk, CountsAskLane, AsksAndCancels, CountsAskAndCancel, RefusesAskAndCancel, HasNothingPending, AnswersOverOf, IsWrongToGoOn, IsWrongToFinish, RefusesClose};
+ghost use Rattle.wq_held.specs.Locked.{max_runtime_lanes, slots, IsOnLane, SeatHasRoom, Holds, CountsAsk, CountsAskLane, AsksAndCancels, CountsAskAndCancel, RefusesAskAndCancel, HasNothingPending, AnswersOverOf, IsWrongToGoOn, IsWrongToFinish, RefusesClose};
 ghost use Rattle.wq_held.specs.Errors.{RefusedAs};
 ghost use Rattle.wq_held.specs.Closing.{IsClosed};
 ghost use Rattle.wq_under_lock.specs.Refusals.{RefusesQueueWork, RefusesCancelWork, RefusesFlushLane, RefusesWaitIn};
@@ -107,14 +107,39 @@ pub fn queue_work<N: Naming, A: Allocator>(
     item: ItemId,
 ) -> Turn<Result<bool, CallError>, ()>
     ensures row { AnswersWith result (λ r wake. IfOk r (λ accepted. AppendsOne held.old.book held.new.book (Queue item) accepted)) }
-    ensures counted { AnswersWith result (λ r wake. IfOk r (λ accepted. IsOnLane N.wiring q item × HasRoom seat.old × (seat.new ≡ raised seat.old item QueueKind accepted))) }
+    ensures counted { AnswersWith result (λ r wake. IfOk r (λ accepted. IsOnLane N.wiring q item × SeatHasRoom seat.old × (seat.new ≡ raised seat.old item QueueKind accepted))) }
     ensures refused { AnswersWith result (λ r wake. IfErr r (λ e. RefusesQueueWork N.wiring seat.old q item e × (held.new ≡ held.old) × (seat.new ≡ seat.old))) }
-    ensures cause { AnswersWith result (λ r wake. IfErr r (λ e. IsOnLane N.wiring q item → HasRoom seat.old → RefusedAs (RefusesQueue held.old.book item) e)) }
+    ensures cause { AnswersWith result (λ r wake. IfErr r (λ e. IsOnLane N.wiring q item → SeatHasRoom seat.old → RefusedAs (RefusesQueue held.old.book item) e)) }
     ensures woken { AnswersWith result (λ r wake. wake ≡ woken_by_queueing q r) }
     ensures wakes { Wakes N.wiring.lanes WakesEnoughOf held.old held.new result }
 {
     held.holds();
     let answer = calls::queue(held, seat, q, item);
+    let wake = waking::by_queueing(q, &answer);
+    Turn::Answers(answer, wake)
+}
+
+/// `queue_work` of an item on its own workqueue, whichever that is. One context of it is woken where the item wasn't pending.
+///
+/// The error is the first of these that holds: `NoItem` (66); `HistoryFull` (60), where the seat is full; `Closed` (61);
+/// `HistoryFull` (60), where fewer rows are free than `queue` needs. After an error nothing is changed or counted.
+pub fn queue_item<N: Naming, A: Allocator>(
+    held: &mut Held<N, A>,
+    seat: &mut Seat<N, A>,
+    item: ItemId,
+) -> Turn<Result<bool, CallError>, ()>
+    ensures row { AnswersWith result (λ r wake. IfOk r (λ accepted. AppendsOne held.old.book held.new.book (Queue item) accepted)) }
+    ensures counted { AnswersWith result (λ r wake. IfOk r (λ accepted. (item < items N.wiring) × SeatHasRoom seat.old × (seat.new ≡ raised seat.old item QueueKind accepted))) }
+    ensures refused { AnswersWith result (λ r wake. IfErr r (λ e. RefusesQueueWork N.wiring seat.old (lane_of N.wiring item) item e × (held.new ≡ held.old) × (seat.new ≡ seat.old))) }
+    ensures cause { AnswersWith result (λ r wake. IfErr r (λ e. item < items N.wiring → SeatHasRoom seat.old → RefusedAs (RefusesQueue held.old.book item) e)) }
+    ensures woken { AnswersWith result (λ r wake. wake ≡ woken_by_queueing (lane_of N.wiring item) r) }
+    ensures wakes { Wakes N.wiring.lanes WakesEnoughOf held.old held.new result }
+{
+    held.holds();
+    let Some(q) = held.lane_of(item) else {
+        return Turn::Answers(Err(CallError::NoItem), Wake::nobody());
+    };
+    let answer = calls::queue_known(held, seat, item);
     let wake = waking::by_queueing(q, &answer);
     Turn::Answers(answer, wake)
 }
@@ -126,9 +151,9 @@ pub fn cancel_work<N: Naming, A: Allocator>(
     item: ItemId,
 ) -> Turn<Result<bool, CallError>, ()>
     ensures row { AnswersWith result (λ r wake. IfOk r (λ taken. AppendsOne held.old.book held.new.book (Cancel item) taken)) }
-    ensures counted { AnswersWith result (λ r wake. IfOk r (λ taken. (item < items N.wiring) × HasRoom seat.old × (seat.new ≡ raised seat.old item CancelKind taken))) }
+    ensures counted { AnswersWith result (λ r wake. IfOk r (λ taken. (item < items N.wiring) × SeatHasRoom seat.old × (seat.new ≡ raised seat.old item CancelKind taken))) }
     ensures refused { AnswersWith result (λ r wake. IfErr r (λ e. RefusesCancelWork N.wiring item e × (held.new ≡ held.old) × (seat.new ≡ seat.old))) }
-    ensures cause { AnswersWith result (λ r wake. IfErr r (λ e. item < items N.wiring → HasRoom seat.old → RefusedAs (RefusesItem held.old.book item Cancel) e)) }
+    ensures cause { AnswersWith result (λ r wake. IfErr r (λ e. item < items N.wiring → SeatHasRoom seat.old → RefusedAs (RefusesItem held.old.book item Cancel) e)) }
     ensures woken { AnswersWith result (λ r wake. WakesBySaid held.new (Cancel item) r wake) }
     ensures wakes { Wakes N.wiring.lanes WakesEnoughOf held.old held.new result }
 {
@@ -176,9 +201,9 @@ pub fn begin_flush<N: Naming, A: Allocator>(
     item: ItemId,
 ) -> Turn<Result<Ask, CallError>, ()>
     ensures row { AnswersWith result (λ r wake. IfOk r (λ answer. AnswersAsk held.old.book held.new.book item answer)) }
-    ensures counted { AnswersWith result (λ r wake. IfOk r (λ answer. (item < items N.wiring) × HasRoom seat.old × CountsAsk seat.old seat.new item answer)) }
+    ensures counted { AnswersWith result (λ r wake. IfOk r (λ answer. (item < items N.wiring) × SeatHasRoom seat.old × CountsAsk seat.old seat.new item answer)) }
     ensures refused { AnswersWith result (λ r wake. IfErr r (λ e. RefusesCancelWork N.wiring item e × (held.new ≡ held.old) × (seat.new ≡ seat.old))) }
-    ensures cause { AnswersWith result (λ r wake. IfErr r (λ e. item < items N.wiring → HasRoom seat.old → RefusedAs (RefusesItem held.old.book item AskEvent) e)) }
+    ensures cause { AnswersWith result (λ r wake. IfErr r (λ e. item < items N.wiring → SeatHasRoom seat.old → RefusedAs (RefusesItem held.old.book item AskEvent) e)) }
     ensures woken { AnswersWith result (λ r wake. wake ≡ nobody) }
     ensures wakes { Wakes N.wiring.lanes WakesEnoughOf held.old held.new result }
 {
@@ -193,9 +218,9 @@ pub fn begin_cancel_sync<N: Naming, A: Allocator>(
     item: ItemId,
 ) -> Turn<Result<(Ask, bool), CallError>, ()>
     ensures rows { AnswersWith result (λ r wake. IfOk r (λ both. AsksAndCancels held.old.book held.new.book item both.0 both.1)) }
-    ensures counted { AnswersWith result (λ r wake. IfOk r (λ both. (item < items N.wiring) × HasRoom seat.old × CountsAskAndCancel seat.old seat.new item both.0 both.1)) }
+    ensures counted { AnswersWith result (λ r wake. IfOk r (λ both. (item < items N.wiring) × SeatHasRoom seat.old × CountsAskAndCancel seat.old seat.new item both.0 both.1)) }
     ensures refused { AnswersWith result (λ r wake. IfErr r (λ e. RefusesCancelWork N.wiring item e × (held.new ≡ held.old) × (seat.new ≡ seat.old))) }
-    ensures cause { AnswersWith result (λ r wake. IfErr r (λ e. item < items N.wiring → HasRoom seat.old → RefusesAskAndCancel held.old.book item e)) }
+    ensures cause { AnswersWith result (λ r wake. IfErr r (λ e. item < items N.wiring → SeatHasRoom seat.old → RefusesAskAndCancel held.old.book item e)) }
     ensures woken { AnswersWith result (λ r wake. IfOk r (λ both. WakesBy held.new.book (Cancel item) both.1 wake) × OnErr r (wake ≡ nobody)) }
     ensures wakes { Wakes N.wiring.lanes WakesEnoughOf held.old held.new result }
 {
@@ -247,9 +272,9 @@ pub fn begin_flush_lane<N: Naming, A: Allocator>(
     q: LaneId,
 ) -> Turn<Result<LaneAsk, CallError>, ()>
     ensures row { AnswersWith result (λ r wake. IfOk r (λ answer. AnswersAskLane held.old.book held.new.book q answer)) }
-    ensures counted { AnswersWith result (λ r wake. IfOk r (λ answer. (q < N.wiring.lanes) × HasRoom seat.old × CountsAskLane seat.old seat.new q answer)) }
+    ensures counted { AnswersWith result (λ r wake. IfOk r (λ answer. (q < N.wiring.lanes) × SeatHasRoom seat.old × CountsAskLane seat.old seat.new q answer)) }
     ensures refused { AnswersWith result (λ r wake. IfErr r (λ e. RefusesFlushLane N.wiring q e × (held.new ≡ held.old) × (seat.new ≡ seat.old))) }
-    ensures cause { AnswersWith result (λ r wake. IfErr r (λ e. q < N.wiring.lanes → HasRoom seat.old → RefusedAs (RefusesAskLane held.old.book q) e)) }
+    ensures cause { AnswersWith result (λ r wake. IfErr r (λ e. q < N.wiring.lanes → SeatHasRoom seat.old → RefusedAs (RefusesAskLane held.old.book q) e)) }
     ensures woken { AnswersWith result (λ r wake. wake ≡ nobody) }
     ensures wakes { Wakes N.wiring.lanes WakesEnoughOf held.old held.new result }
 {
@@ -337,9 +362,9 @@ pub fn begin_wait<N: Naming, A: Allocator>(
     target: ItemId,
 ) -> Turn<Result<bool, CallError>, ()>
     ensures row { AnswersWith result (λ r wake. IfOk r (λ unfinished. AppendsOne held.old.book held.new.book (wait_event whole q helper target) unfinished)) }
-    ensures counted { AnswersWith result (λ r wake. IfOk r (λ unfinished. HasContext N.wiring q helper × (target < items N.wiring) × HasRoom seat.old × (seat.new ≡ raised seat.old target (wait_kind whole) unfinished))) }
+    ensures counted { AnswersWith result (λ r wake. IfOk r (λ unfinished. HasContext N.wiring q helper × (target < items N.wiring) × SeatHasRoom seat.old × (seat.new ≡ raised seat.old target (wait_kind whole) unfinished))) }
     ensures refused { AnswersWith result (λ r wake. IfErr r (λ e. RefusesWaitIn N.wiring seat.old q helper e × (held.new ≡ held.old) × (seat.new ≡ seat.old))) }
-    ensures cause { AnswersWith result (λ r wake. IfErr r (λ e. HasContext N.wiring q helper → HasRoom seat.old → RefusedAs (RefusesWait held.old.book q helper whole target) e)) }
+    ensures cause { AnswersWith result (λ r wake. IfErr r (λ e. HasContext N.wiring q helper → SeatHasRoom seat.old → RefusedAs (RefusesWait held.old.book q helper whole target) e)) }
     ensures woken { AnswersWith result (λ r wake. wake ≡ nobody) }
     ensures wakes { Wakes N.wiring.lanes WakesEnoughOf held.old held.new result }
     ensures holds { Holds N.wiring N.rows held.old.book }

@@ -3,7 +3,7 @@ use Rattle.std.specs.List.{All}
 use Rattle.wq_core.specs.Wiring.{items}
 use Rattle.wq_counts.specs.Counting.{counts_each}
 use Rattle.wq_held.specs.Locked.{slots}
-use Rattle.wq_execution.specs.Executing.{NeverRan}
+use Rattle.wq_rescuer.specs.Executing.{NeverRan}
 use Rattle.wq_rescuer.proofs.board.add_contexts.Given as goal
 
 -- each body that is gone has a job, and took a seat

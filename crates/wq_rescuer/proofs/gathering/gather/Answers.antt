@@ -1,5 +1,5 @@
 use Rattle.std.proofs.Common.{map, length, vec_len, sym, ap, subst, ◌∙◌, ◌++◌, drop, reverse, arith}
-use Rattle.wq_rescuer.specs.Serving.{AreDone}
+use Rattle.wq_rescuer.specs.Serving.{AreBack}
 use Rattle.wq_rescuer.proofs.Handovers.{all_contexts_first, contexts_first, nothing_in, drop_first}
 use Rattle.wq_rescuer.proofs.gathering.gather.Goals as goal
 
@@ -21,7 +21,7 @@ returns-clause-ran g c =
 
 pub returns-clause-ended : goal.returns-clause-ended
 returns-clause-ended g c =
-    subst (λ cs. AreDone g.N.Naming.wiring g.N.Naming.rows cs c.gather_contexts-seats.result.rescued.items) c.requires.all c.gather_contexts-seats.ensures.ended
+    subst (λ cs. AreBack g.N.Naming.wiring g.N.Naming.rows cs c.gather_contexts-seats.result.rescued.items) c.requires.all c.gather_contexts-seats.ensures.ended
 
 pub returns-clause-seats : goal.returns-clause-seats
 returns-clause-seats g c =

@@ -1,6 +1,6 @@
 use Rattle.std.proofs.Common.{◌≡◌, ◌+◌, ◌*◌, ◌≤◌, map, vec_len, vec_capacity}
 use Rattle.std.specs.List.{sum_by}
-use Rattle.wq_rescuer.specs.Serving.{AreDone, finished_by, faults_by}
+use Rattle.wq_rescuer.specs.Serving.{AreBack, finished_by, faults_by}
 use Rattle.wq_rescuer.proofs.Handovers.{AreLeft, AreServedTo}
 use Rattle.wq_rescuer.proofs.gathering.gather_contexts.Given as goal
 
@@ -19,7 +19,7 @@ invariant-loop-end g l =
     × (l.finished ≤ vec_len l.seats * 4294967295)
     × (l.faults ≤ vec_len l.seats * 4294967295)
     × AreLeft l.contexts (vec_len l.seats) (map (λ end. end.context) l.ends.items)
-    × AreDone g.N.Naming.wiring g.N.Naming.rows l.contexts l.rescued.items
+    × AreBack g.N.Naming.wiring g.N.Naming.rows l.contexts l.rescued.items
 
 abbrev pub decreases-loop-end : goal.decreases-loop-end
 decreases-loop-end g l = vec_len l.ends

@@ -17,3 +17,6 @@ returns-clause-refused g c =
 
 pub returns-clause-waiter : goal.returns-clause-waiter
 returns-clause-waiter g c there room = c.wait_for_in.ensures.waiter there.1 room
+
+pub returns-clause-cause : goal.returns-clause-cause
+returns-clause-cause g c there room = c.wait_for_in.ensures.cause there.1 room

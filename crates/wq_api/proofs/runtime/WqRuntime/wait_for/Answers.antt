@@ -12,3 +12,6 @@ returns-clause-refused g c =
 
 pub returns-clause-waiter : goal.returns-clause-waiter
 returns-clause-waiter g c there room = c.wait_for_in.ensures.waiter (rescuer_context g.N.Naming.wiring c.args.q there) room
+
+pub returns-clause-cause : goal.returns-clause-cause
+returns-clause-cause g c there room = c.wait_for_in.ensures.cause (rescuer_context g.N.Naming.wiring c.args.q there) room

@@ -2,7 +2,7 @@ use Rattle.std.proofs.Common.{subst}
 use Rattle.wq_rows.specs.declared.event.Event.TheVariants.{Cancel}
 use Rattle.wq_history.specs.Book.{AppendsOne}
 use Rattle.wq_held.specs.Locked.{HeldView}
-use Rattle.wq_held.proofs.Locking.{few_tallies, slot-appended, IsHeld-counted}
+use Rattle.wq_held.proofs.Locking.{few_tallies, slot-appended, IsProtected-counted}
 use Rattle.wq_held.proofs.held.Held.cancel.Goals as goal
 
 pub count-requires-clause-slot : goal.count-requires-clause-slot
@@ -19,7 +19,7 @@ pub invariant_of-self : goal.invariant_of-self
 invariant_of-self g c =
     let h = c.self.inside in
     let row = c.in-Ok.ensures.row in
-    IsHeld-counted _ _ _ h.book c.cancel.new.self h.tallies h.sums h.seats h.rest.parts h.rest.amount (Cancel c.args.item) c.in-Ok.taken row.0
+    IsProtected-counted _ _ _ h.book c.cancel.new.self h.tallies h.sums h.seats h.rest.parts h.rest.amount (Cancel c.args.item) c.in-Ok.taken row.0
     c.count.new.self c.count.ensures.tallies c.self.invariant c.legal.ensures row.1
 
 pub returns-in-Ok-clause-row : goal.returns-in-Ok-clause-row

@@ -5,7 +5,7 @@ use Rattle.wq_counts.specs.Counting.{slot_in, is_counted, noted_as}
 use Rattle.wq_history.specs.Events.{finish_event}
 use Rattle.wq_history.specs.Book.{AppendsOne}
 use Rattle.wq_held.specs.Locked.{HeldView, slots, RunsItem}
-use Rattle.wq_held.proofs.Locking.{few_tallies, slot-appended, context-appended, finish_of, IsHeld-counted, counted-finish, noted-finish}
+use Rattle.wq_held.proofs.Locking.{few_tallies, slot-appended, context-appended, finish_of, IsProtected-counted, counted-finish, noted-finish}
 use Rattle.wq_held.proofs.held.Held.finish.Goals as goal
 
 pub count-requires-clause-counted : goal.count-requires-clause-counted
@@ -37,7 +37,7 @@ invariant_of-self g c =
     let runs : RunsItem b q h c.args.item = subst (λ (x : HeldView). RunsItem x.book q h c.args.item) (sym c.self.view_is) (c.runs.ensures.runs.0 c.if-not-runs.false) in
     let done = c.in-Ok.ensures.row in
     let row = finish_of b c.finish_in.new.self q h c.args.item done.0 runs done.1 done.2 in
-    IsHeld-counted _ _ _ b c.finish_in.new.self held.tallies held.sums held.seats held.rest.parts held.rest.amount (finish_event q h c.args.item) true row.0
+    IsProtected-counted _ _ _ b c.finish_in.new.self held.tallies held.sums held.seats held.rest.parts held.rest.amount (finish_event q h c.args.item) true row.0
     c.count.new.self (c.count.ensures.tallies ∙ ap (λ (e : Event). noted_as held.tallies e true) c.finish_event.ensures) c.self.invariant c.legal.ensures row.1
 
 pub returns-in-Ok-clause-row : goal.returns-in-Ok-clause-row

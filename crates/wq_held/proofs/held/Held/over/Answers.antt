@@ -4,7 +4,7 @@ use Rattle.wq_counts.specs.Counting.{slot_in, is_counted, noted_as}
 use Rattle.wq_history.specs.Events.{over_event}
 use Rattle.wq_history.specs.Answers.{AnswersOver}
 use Rattle.wq_held.specs.Locked.{HeldView, slots, WaitsFor}
-use Rattle.wq_held.proofs.Locking.{few_tallies, slot-appended, over-not_refused, AnswersOverOf-over, IsHeld-counted, counted-over}
+use Rattle.wq_held.proofs.Locking.{few_tallies, slot-appended, over-not_refused, AnswersOverOf-over, IsProtected-counted, counted-over}
 use Rattle.wq_held.proofs.held.Held.over.Goals as goal
 
 pub unreachable-requires : goal.unreachable-requires
@@ -38,5 +38,5 @@ invariant_of-self g c =
     let waits : WaitsFor b c.args.q c.args.helper c.args.whole c.args.target =
     subst (λ (x : HeldView). WaitsFor x.book c.args.q c.args.helper c.args.whole c.args.target) (sym c.self.view_is) (c.waits_for.ensures.0 c.if-not-waits_for.false) in
     let row = AnswersOverOf-over b c.over_in.new.self c.args.q c.args.helper c.args.whole c.args.target true waits (subst (λ said. AnswersOver b c.over_in.new.self c.args.q c.args.helper said) c.if-is_over.true c.in-Ok.ensures.row) in
-    IsHeld-counted _ _ _ b c.over_in.new.self h.tallies h.sums h.seats h.rest.parts h.rest.amount (over_event c.args.whole c.args.q c.args.helper c.args.target) true row.0
+    IsProtected-counted _ _ _ b c.over_in.new.self h.tallies h.sums h.seats h.rest.parts h.rest.amount (over_event c.args.whole c.args.q c.args.helper c.args.target) true row.0
     c.count.new.self (c.count.ensures.tallies ∙ ap (λ (e : Event). noted_as h.tallies e true) c.over_event.ensures) c.self.invariant c.legal.ensures row.1

@@ -2,7 +2,7 @@ use Rattle.std.proofs.Common.{true, sym, ap, subst, ◌∙◌, ◌<◌}
 use Rattle.wq_rows.specs.declared.event.Event.TheVariants.{ToldLane}
 use Rattle.wq_counts.specs.Counting.{noted_as}
 use Rattle.wq_held.specs.Locked.{slots}
-use Rattle.wq_held.proofs.Locking.{few_tallies, slot-appended, IsHeld-counted}
+use Rattle.wq_held.proofs.Locking.{few_tallies, slot-appended, IsProtected-counted}
 use Rattle.wq_held.proofs.held.Held.told_lane.Goals as goal
 
 pub count-requires-clause-slot : goal.count-requires-clause-slot
@@ -19,5 +19,5 @@ count-requires-clause-few g c =
 pub invariant_of-self : goal.invariant_of-self
 invariant_of-self g c =
     let h = c.self.inside in
-    IsHeld-counted _ _ _ h.book c.told_lane.new.self h.tallies h.sums h.seats h.rest.parts h.rest.amount (ToldLane c.args.asked.lane) true c.args.asked.mark
+    IsProtected-counted _ _ _ h.book c.told_lane.new.self h.tallies h.sums h.seats h.rest.parts h.rest.amount (ToldLane c.args.asked.lane) true c.args.asked.mark
     c.count.new.self (c.count.ensures.tallies ∙ ap (λ q. noted_as h.tallies (ToldLane q) true) c.lane-q.ensures) c.self.invariant c.legal.ensures c.in-Done.ensures

@@ -5,7 +5,7 @@ use Rattle.wq_counts.specs.Counting.{slot_in, is_counted, noted_as}
 use Rattle.wq_history.specs.Events.{wait_event}
 use Rattle.wq_history.specs.Book.{AppendsOne}
 use Rattle.wq_held.specs.Locked.{HeldView, slots}
-use Rattle.wq_held.proofs.Locking.{few_tallies, there-appended, slot-appended, context-appended, IsHeld-counted, counted-wait, noted-wait, target-there}
+use Rattle.wq_held.proofs.Locking.{few_tallies, there-appended, slot-appended, context-appended, IsProtected-counted, counted-wait, noted-wait, target-there}
 use Rattle.wq_held.proofs.held.Held.wait.Goals as goal
 
 pub count-requires-clause-counted : goal.count-requires-clause-counted
@@ -29,7 +29,7 @@ invariant_of-self g c =
     let h = c.self.inside in
     let row = c.in-Ok.ensures.row in
     let event : Event = wait_event c.args.whole c.args.q c.args.helper c.args.target in
-    IsHeld-counted _ _ _ h.book c.wait_in.new.self h.tallies h.sums h.seats h.rest.parts h.rest.amount event c.in-Ok.unfinished row.0
+    IsProtected-counted _ _ _ h.book c.wait_in.new.self h.tallies h.sums h.seats h.rest.parts h.rest.amount event c.in-Ok.unfinished row.0
     c.count.new.self (c.count.ensures.tallies ∙ ap (λ (e : Event). noted_as h.tallies e c.in-Ok.unfinished) c.wait_event.ensures) c.self.invariant c.legal.ensures row.1
 
 pub returns-in-Ok-clause-row : goal.returns-in-Ok-clause-row

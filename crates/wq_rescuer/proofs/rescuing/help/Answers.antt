@@ -1,6 +1,6 @@
 use Rattle.std.proofs.Common.{◌<◌, arith}
-use Rattle.wq_execution.proofs.Executions.{helper_served, helper_refused, nothing_else}
-use Rattle.wq_execution.proofs.rescuing.help.Goals as goal
+use Rattle.wq_rescuer.proofs.Executions.{helper_served, helper_refused, nothing_else}
+use Rattle.wq_rescuer.proofs.rescuing.help.Goals as goal
 
 pub returns-then-h-eq0-clause-own : goal.returns-then-h-eq0-clause-own
 returns-then-h-eq0-clause-own g c = nothing_else g.N.Naming.wiring c.args.q (g.B.Body.runs c.args.body.now) c.requires.never_ran

@@ -9,7 +9,7 @@ ghost use Rattle.wq_core.specs.Wiring.{items, HasContext};
 ghost use Rattle.wq_held.specs.Locked.{IsOnLane};
 ghost use Rattle.wq_api.specs.WaitingCalls.{IsHelper};
 ghost use Rattle.wq_api.specs.Locking.{WasDone, WasDoneIn};
-ghost use Rattle.wq_execution.specs.Executing.{NeverRan, RanOnce, RanOnly, SameFinished, CountsRuns, CountsAtMost, finished_in_all, faults_of, RefusesRescue, RefusesServe, RefusesHelp};
+ghost use Rattle.wq_rescuer.specs.Executing.{NeverRan, RanOnce, RanOnly, SameFinished, CountsRuns, CountsAtMost, finished_in_all, faults_of, RefusesRescue, RefusesServe, RefusesHelper};
 
 use crate::body::{Body, BodyFault};
 use crate::work::Work;
@@ -163,7 +163,7 @@ pub fn help<N: Naming, A: Allocator, R: Wait, B: Body>(
     ensures faults { IfOk result (λ r. r.faults ≤ r.finished) }
     ensures helper { OnOk result (IsHelper N.wiring q h) }
     ensures own { RanOnly N.wiring q (B.runs body.new) }
-    ensures why { IfErr result (λ e. RefusesHelp N.wiring q h seat.new e) }
+    ensures why { IfErr result (λ e. RefusesHelper N.wiring q h seat.new e) }
     ensures refused { OnErr result (CountsAtMost seat.old seat.new (B.runs body.new)) }
     ensures ended { OnOk result (WasDoneIn N.wiring N.rows q h) }
 {

@@ -4,7 +4,7 @@
 //! in include/linux/workqueue.h). The body counts its runs, and the context's seat is compared with these counts.
 
 ghost use Rattle.std.specs.Prelude.{◌≡◌, ◌<◌};
-ghost use Rattle.wq_execution.specs.Executing.{RanOnce, SameFinished};
+ghost use Rattle.wq_rescuer.specs.Executing.{RanOnce, SameFinished};
 
 use crate::work::Work;
 use std::alloc::Allocator;

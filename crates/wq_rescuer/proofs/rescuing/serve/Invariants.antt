@@ -1,7 +1,7 @@
 use Rattle.wq_core.specs.Wiring.{items, HasContext}
-use Rattle.wq_execution.specs.Executing.{RanOnly}
-use Rattle.wq_execution.proofs.Executions.{IsServing}
-use Rattle.wq_execution.proofs.rescuing.serve.Given as goal
+use Rattle.wq_rescuer.specs.Executing.{RanOnly}
+use Rattle.wq_rescuer.proofs.Executions.{IsServing}
+use Rattle.wq_rescuer.proofs.rescuing.serve.Given as goal
 
 -- the seat counts as finished what the body ran, and that is of its lane
 abbrev pub invariant-loop : goal.invariant-loop

@@ -5,11 +5,11 @@ use Rattle.wq_core.specs.Wiring.{Wiring, items, HasContext}
 use Rattle.wq_counts.specs.declared.kind.Kind.TheVariants.{Finish}
 use Rattle.wq_counts.specs.Counting.{made}
 use Rattle.wq_held.specs.declared.fault.CallError.{CallError}
-use Rattle.wq_held.specs.declared.fault.CallError.TheVariants.{HistoryFull, Closed, Undeclared, TooManyWaits, WrongLane, NotAsked, NoItem}
+use Rattle.wq_held.specs.declared.fault.CallError.TheVariants.{HistoryFull, Closed, NoItem}
 use Rattle.wq_held.specs.Errors.{call_code}
-use Rattle.wq_held.specs.Locked.{IsOnLane, HasRoom, seat_rows}
+use Rattle.wq_held.specs.Locked.{IsOnLane, SeatHasRoom, seat_rows}
 use Rattle.wq_api.specs.WaitingCalls.{IsHelper}
-use Rattle.wq_execution.specs.declared.body.BodyFault.{BodyFault}
+use Rattle.wq_rescuer.specs.declared.body.BodyFault.{BodyFault}
 
 -- ---- what a body runs: how often each item ran
 
@@ -58,12 +58,9 @@ faults_of (Err fault) = 1
 -- history is full
 abbrev pub RefusesQueueByBody : Wiring → List ℕ → ℕ → CallError → Type 0
 RefusesQueueByBody w counts i NoItem = items w ≤ i
-RefusesQueueByBody w counts i Closed = (i < items w) × HasRoom counts
+RefusesQueueByBody w counts i Closed = (i < items w) × SeatHasRoom counts
 RefusesQueueByBody w counts i HistoryFull = i < items w
-RefusesQueueByBody w counts i Undeclared = ⊥
-RefusesQueueByBody w counts i TooManyWaits = ⊥
-RefusesQueueByBody w counts i WrongLane = ⊥
-RefusesQueueByBody w counts i NotAsked = ⊥
+RefusesQueueByBody w counts i _ = ⊥
 
 -- a rescuer of lane q, whose seat has these counts when it ends: 64, where there is no such lane or another caller drove it; or else
 -- 60, where there is such a lane and the seat is full
@@ -75,5 +72,5 @@ abbrev pub RefusesServe : Wiring → ℕ → ℕ → List ℕ → CallError → 
 RefusesServe w q c seat e = call_code e ≢ 64 → (call_code e ≡ 60) × HasContext w q c × (seat_rows ≤ sum seat)
 
 -- helper h of lane q, likewise
-abbrev pub RefusesHelp : Wiring → ℕ → ℕ → List ℕ → CallError → Type 0
-RefusesHelp w q h seat e = call_code e ≢ 64 → (call_code e ≡ 60) × IsHelper w q h × (seat_rows ≤ sum seat)
+abbrev pub RefusesHelper : Wiring → ℕ → ℕ → List ℕ → CallError → Type 0
+RefusesHelper w q h seat e = call_code e ≢ 64 → (call_code e ≡ 60) × IsHelper w q h × (seat_rows ≤ sum seat)

@@ -10,11 +10,11 @@ use Rattle.wq_counts.specs.Counting.{counts_each, place, HasCountsOf, raised}
 use Rattle.wq_counts.proofs.Places.{place-same, made-raised_same, made-raised_other}
 use Rattle.wq_core.specs.Wiring.{Wiring, HasContext}
 use Rattle.wq_held.specs.Locked.{IsOnLane, seat_rows}
-use Rattle.wq_execution.specs.Executing.{NeverRan, RanOnce, RanOnly, finished_of, finished_in_all, faults_of, SameFinished, CountsRuns, RefusesRescue, RefusesServe, RefusesHelp}
+use Rattle.wq_rescuer.specs.Executing.{NeverRan, RanOnce, RanOnly, finished_of, finished_in_all, faults_of, SameFinished, CountsRuns, RefusesRescue, RefusesServe, RefusesHelper}
 use Rattle.wq_held.specs.declared.fault.CallError.{CallError}
 use Rattle.wq_api.specs.WaitingCalls.{IsHelper}
-use Rattle.wq_execution.specs.declared.body.BodyFault.{BodyFault}
-use Rattle.wq_execution.specs.declared.rescuing.Rescued.{Rescued}
+use Rattle.wq_rescuer.specs.declared.body.BodyFault.{BodyFault}
+use Rattle.wq_rescuer.specs.declared.rescuing.Rescued.{Rescued}
 
 -- ---- one item
 
@@ -164,6 +164,6 @@ pub helper_served : (w : Wiring) (q h : ℕ) (r : Result Rescued CallError) → 
 helper_served w q h (Ok rescued) some there = (some, there)
 helper_served w q h (Err e) some there = tt
 
-pub helper_refused : (w : Wiring) (q h : ℕ) (seat : List ℕ) (r : Result Rescued CallError) → 0 < h → IfErr r (λ e. RefusesServe w q h seat e) → IfErr r (λ e. RefusesHelp w q h seat e)
+pub helper_refused : (w : Wiring) (q h : ℕ) (seat : List ℕ) (r : Result Rescued CallError) → 0 < h → IfErr r (λ e. RefusesServe w q h seat e) → IfErr r (λ e. RefusesHelper w q h seat e)
 helper_refused w q h seat (Ok rescued) some why = tt
 helper_refused w q h seat (Err e) some why = λ other. let is = why other in (is.0, (some, is.1), is.2)

@@ -3,8 +3,8 @@ use Rattle.wq_core.specs.Wiring.{items}
 use Rattle.wq_held.specs.Locked.{seat_rows, slots}
 use Rattle.std.proofs.Math.Nat.{le-max_left}
 use Rattle.std.specs.Prelude.{sum}
-use Rattle.wq_execution.proofs.Executions.{serving_more, one_fault_at_most, ran_only_more, on_lane_of_next, nothing_else, few_finished, few_runs, below_limit}
-use Rattle.wq_execution.proofs.rescuing.serve.Goals as goal
+use Rattle.wq_rescuer.proofs.Executions.{serving_more, one_fault_at_most, ran_only_more, on_lane_of_next, nothing_else, few_finished, few_runs, below_limit}
+use Rattle.wq_rescuer.proofs.rescuing.serve.Goals as goal
 
 pub execute-answer-requires-clause-few : goal.execute-answer-requires-clause-few
 execute-answer-requires-clause-few g c =

@@ -1,5 +1,5 @@
-use Rattle.wq_execution.proofs.Executions.{lane_served, rescuer_refused}
-use Rattle.wq_execution.proofs.rescuing.rescue.Goals as goal
+use Rattle.wq_rescuer.proofs.Executions.{lane_served, rescuer_refused}
+use Rattle.wq_rescuer.proofs.rescuing.rescue.Goals as goal
 
 pub returns-clause-lane : goal.returns-clause-lane
 returns-clause-lane g c = lane_served g.N.Naming.wiring c.args.q c.serve.result c.serve.ensures.context
