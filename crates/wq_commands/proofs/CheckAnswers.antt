@@ -10,12 +10,12 @@ use Rattle.wq_checker.proofs.AnswersDecided.{an_answer}
 use Rattle.wq_checker.proofs.OneAnswer.{one_answer}
 use Rattle.wq_commands.specs.declared.end.End.{End}
 use Rattle.wq_commands.specs.declared.end.End.TheVariants.{Good, Bad}
-use Rattle.wq_commands.specs.Answer.{declared_waits, IsRefused}
+use Rattle.wq_commands.specs.Answer.{declared_waits, PrintsRefusal}
 use Rattle.wq_commands.specs.Checking.{yes_words, no_words, PrintsCheck, AnswersCheck, ChecksDeclared, Checks}
 use Rattle.wq_commands.specs.Declaration.{Declared, declaration}
 use Rattle.wq_commands.proofs.AnswerLemmas.{IsSound, IsSound-declaration, IsDeclaration-sound}
 use Rattle.wq_commands.proofs.CheckLemmas.{IsAsked-read}
-use Rattle.wq_commands.proofs.Refusals.{MatchResult-unique, MatchResult-exist, IsRefused-unique, IsRefused-exist}
+use Rattle.wq_commands.proofs.Refusals.{MatchResult-unique, MatchResult-exist, PrintsRefusal-unique, PrintsRefusal-exist}
 
 PrintsCheck-unique : (names : List (List ℕ)) (answer : Result Yes No) (end other : End) (out printed : List ℕ) → PrintsCheck names answer end out → PrintsCheck names answer other printed
     → (end ≡ other) × (out ≡ printed)
@@ -42,18 +42,18 @@ module _ (s : Declared) (sound : IsSound s) where
   ChecksDeclared-unique : (claim : List ℕ) (end other : End) (out printed : List ℕ) → ChecksDeclared s claim end out → ChecksDeclared s claim other printed
       → (end ≡ other) × (out ≡ printed)
   ChecksDeclared-unique claim end other out printed =
-      MatchResult-unique (answer_of s.table.names s.partition claim) (AnswersCheck s) (λ fault. IsRefused (cert_refusal fault)) end other out printed
-      (λ c read. AnswersCheck-unique c end other out printed (IsAsked-read s claim c sound read)) (λ fault. IsRefused-unique (cert_refusal fault) end other out printed)
+      MatchResult-unique (answer_of s.table.names s.partition claim) (AnswersCheck s) (λ fault. PrintsRefusal (cert_refusal fault)) end other out printed
+      (λ c read. AnswersCheck-unique c end other out printed (IsAsked-read s claim c sound read)) (λ fault. PrintsRefusal-unique (cert_refusal fault) end other out printed)
 
   ChecksDeclared-exist : (claim : List ℕ) → (end : End) × (out : List ℕ) × ChecksDeclared s claim end out
   ChecksDeclared-exist claim =
-      MatchResult-exist (answer_of s.table.names s.partition claim) (AnswersCheck s) (λ fault. IsRefused (cert_refusal fault)) (λ c read. AnswersCheck-exist c) (λ fault. IsRefused-exist (cert_refusal fault))
+      MatchResult-exist (answer_of s.table.names s.partition claim) (AnswersCheck s) (λ fault. PrintsRefusal (cert_refusal fault)) (λ c read. AnswersCheck-exist c) (λ fault. PrintsRefusal-exist (cert_refusal fault))
 
 pub Checks-unique : (text claim : List ℕ) (end other : End) (out printed : List ℕ) → Checks text claim end out → Checks text claim other printed → (end ≡ other) × (out ≡ printed)
 Checks-unique text claim end other out printed =
-    MatchResult-unique (declaration text) (λ s. ChecksDeclared s claim) IsRefused end other out printed
-    (λ s declared. ChecksDeclared-unique s (IsSound-declaration text s declared) claim end other out printed) (λ r. IsRefused-unique r end other out printed)
+    MatchResult-unique (declaration text) (λ s. ChecksDeclared s claim) PrintsRefusal end other out printed
+    (λ s declared. ChecksDeclared-unique s (IsSound-declaration text s declared) claim end other out printed) (λ r. PrintsRefusal-unique r end other out printed)
 
 pub Checks-exist : (text claim : List ℕ) → (end : End) × (out : List ℕ) × Checks text claim end out
 Checks-exist text claim =
-    MatchResult-exist (declaration text) (λ s. ChecksDeclared s claim) IsRefused (λ s declared. ChecksDeclared-exist s (IsSound-declaration text s declared) claim) IsRefused-exist
+    MatchResult-exist (declaration text) (λ s. ChecksDeclared s claim) PrintsRefusal (λ s declared. ChecksDeclared-exist s (IsSound-declaration text s declared) claim) PrintsRefusal-exist

@@ -7,7 +7,7 @@ use Rattle.std.proofs.lemmas.List.{get_or_past}
 use Rattle.std.proofs.lemmas.List.Elements.{All-contains}
 use Rattle.wq_items.specs.declared.target.Target.{Target}
 use Rattle.wq_items.specs.Table.{targets_of}
-use Rattle.wq_items.proofs.Tables.{targets_of-below, ItemWaits-below}
+use Rattle.wq_items.proofs.Tables.{targets_of-below}
 use Rattle.wq_cert.specs.Certificate.{Certificate, PlanCertificate, CircleCertificate, OfPlan, OfCircle}
 use Rattle.wq_cert.specs.Ranges.{IsArcOf, IsCertificateOf}
 use Rattle.wq_cert.specs.Texts.{answer_of}

@@ -20,7 +20,7 @@ use Rattle.wq_commands.specs.Commands.{Plans, ChecksTexts, JudgesTexts, ReplaysT
 use Rattle.wq_commands.specs.Declaration.{Declared, declaration, max_declaration}
 use Rattle.wq_commands.specs.Why.{SaysAssigned, SaysCertificate, SaysChecked, SaysDeclared, SaysFault, SaysLack, SaysReplayed, SaysRun, SaysRunUnder, SaysSteps, refused_for}
 use Rattle.wq_commands.proofs.AnswerLemmas.{declaration-take, Answers-same}
-use Rattle.wq_commands.proofs.InputLemmas.{Checks-take, Judges-take, Replays-take}
+use Rattle.wq_commands.proofs.InputLemmas.{Checks-take, Judges-take, ReplaysRun-take}
 
 -- ---- why, of what was read
 
@@ -83,7 +83,7 @@ JudgesTexts-kept texts outcome out h = (Judges-take outcome.end out texts.first 
 
 pub ReplaysTexts-kept : (texts : Given) (outcome : Outcome) (out : List ℕ) → ReplaysTexts (kept three_texts texts) outcome out → ReplaysTexts texts outcome out
 ReplaysTexts-kept texts outcome out h = (
-  Replays-take outcome.end out texts.first texts.second texts.third h.0,
+  ReplaysRun-take outcome.end out texts.first texts.second texts.third h.0,
   SaysReplayed-take outcome.why texts.first texts.second texts.third h.1,
 )
 

@@ -1,6 +1,6 @@
 -- Answers, computed.
 use Rattle.std.proofs.Common.{◌≡◌, ℕ, zero, suc, ◌<◌, ◌≤◌, List, [], ◌∷◌, codes, refl, sym, subst, ◌∙◌, ap, arith, Some, None, inl, inr, Bool, true, false, not}
-use Rattle.std.specs.Prelude.{◌==◌, filter, slice_get, map, IsTrue}
+use Rattle.std.specs.Prelude.{◌==◌, filter, slice_get, map}
 use Rattle.std.proofs.lemmas.Fmt.{decimal_digit, decimal-digits_of}
 use Rattle.std.proofs.lemmas.List.Elements.{All-from_recursion}
 use Rattle.wq_items.specs.declared.target.Target.{Target}

@@ -1,7 +1,6 @@
 -- Verdicts on assignments: a text has one, and a run that is printed is replayed to a deadlock.
-use Rattle.std.proofs.Common.{◌≡◌, ℕ, ◌+◌, ◌≤◌, inl, inr, List, length, Option, Result, Ok, Err, refl, sym, ap, subst, ◌∙◌, arith}
-use Rattle.std.specs.Prelude.{MatchResult, take}
-use Rattle.std.proofs.lemmas.Result.{MatchResult-weaker}
+use Rattle.std.proofs.Common.{◌≡◌, ℕ, ◌+◌, ◌≤◌, inl, inr, List, length, Result, Ok, Err, refl, sym, ap, subst, ◌∙◌, arith}
+use Rattle.std.specs.Prelude.{MatchResult}
 use Rattle.wq_text.specs.Refusal.{Refusal}
 use Rattle.wq_groups.specs.Declaration.{IsDeclaration}
 use Rattle.wq_groups.specs.Assignment.{Assignment}
@@ -23,21 +22,19 @@ use Rattle.wq_deadlock.proofs.Verdicts.{IsSafeByRanks-ranks, IsDeadlock-walked}
 use Rattle.wq_cert.specs.declared.fault.CertError.{CertError}
 use Rattle.wq_lines.specs.LineText.{line_text}
 use Rattle.wq_cert.specs.Ranges.{IsAssignmentOf}
-use Rattle.wq_cert.specs.Reading.{assignment_reading}
 use Rattle.wq_cert.specs.RunText.{run_text}
-use Rattle.wq_cert.specs.Texts.{assignment_of_text, run_of, cert_refusal, max_certificate}
-use Rattle.wq_cert.proofs.LongCertificates.{text_reading-take}
+use Rattle.wq_cert.specs.Texts.{assignment_of_text, run_of, cert_refusal}
 use Rattle.wq_cert.proofs.PrintedRuns.{run_of-printed}
 use Rattle.wq_cert.proofs.ReadRanges.{IsAssignmentOf-assignment_of_text}
 use Rattle.wq_cert.proofs.TextLength.{length-run_text}
 use Rattle.wq_checker.specs.declared.run.RunEnd.TheVariants.{Deadlock}
 use Rattle.wq_commands.specs.declared.end.End.{End}
 use Rattle.wq_commands.specs.declared.end.End.TheVariants.{Good, Bad, Refused}
-use Rattle.wq_commands.specs.Answer.{declared_waits, refusal_text, IsRefused}
+use Rattle.wq_commands.specs.Answer.{declared_waits, refusal_text, PrintsRefusal}
 use Rattle.wq_commands.specs.Deadlocking.{safe_text, JudgesAssigned, JudgesDeclared, Judges}
-use Rattle.wq_commands.specs.Declaration.{Declared, declaration, max_declaration}
-use Rattle.wq_commands.specs.Replaying.{replay_words, AnswersReplay, ReplaysAssigned, ReplaysDeclared, Replays}
-use Rattle.wq_commands.proofs.AnswerLemmas.{IsSound, IsSound-declaration, IsDeclaration-sound, declaration-take}
+use Rattle.wq_commands.specs.Declaration.{Declared, declaration}
+use Rattle.wq_commands.specs.Replaying.{replay_words, AnswersReplay, ReplaysAssigned, ReplaysDeclared, ReplaysRun}
+use Rattle.wq_commands.proofs.AnswerLemmas.{IsSound, IsSound-declaration, IsDeclaration-sound}
 use Rattle.wq_commands.proofs.CheckLemmas.{MatchResult-ok}
 use Rattle.wq_commands.proofs.NamedSteps.{IsStepOf-deadlock, length-deadlock}
 
@@ -61,7 +58,7 @@ module _ (s : Declared) (sound : IsSound s) (a : Assignment) (assigned : IsAssig
 
   ReplaysAssigned-judged : (out : List ℕ) → JudgesAssigned s a Bad out → ReplaysAssigned s a out Bad (line_text (replay_words Deadlock))
   ReplaysAssigned-judged out (steps, deadlock, is) =
-      MatchResult-ok (run_of s.table.names out) steps (λ made. AnswersReplay s a made Bad (line_text (replay_words Deadlock))) (λ fault. IsRefused (cert_refusal fault) Bad (line_text (replay_words Deadlock)))
+      MatchResult-ok (run_of s.table.names out) steps (λ made. AnswersReplay s a made Bad (line_text (replay_words Deadlock))) (λ fault. PrintsRefusal (cert_refusal fault) Bad (line_text (replay_words Deadlock)))
       (ap (run_of s.table.names) is ∙ run_of-deadlock steps deadlock.deadlocks) (record { run_end = Deadlock; ends = deadlock.deadlocks; status = refl; printed = refl })
 
   -- ---- the one verdict
@@ -108,8 +105,8 @@ module _ (s : Declared) (sound : IsSound s) where
   known text a is = IsAssignmentOf-assignment_of_text s.table.names s.partition sound.partition (sym sound.one_group_each) text a is
 
   judged_once : (r : Result Assignment CertError) → IsKnown r → (end other : End) (out printed : List ℕ)
-      → MatchResult r (λ a. JudgesAssigned s a end out) (λ fault. IsRefused (cert_refusal fault) end out)
-      → MatchResult r (λ a. JudgesAssigned s a other printed) (λ fault. IsRefused (cert_refusal fault) other printed) → (end ≡ other) × (out ≡ printed)
+      → MatchResult r (λ a. JudgesAssigned s a end out) (λ fault. PrintsRefusal (cert_refusal fault) end out)
+      → MatchResult r (λ a. JudgesAssigned s a other printed) (λ fault. PrintsRefusal (cert_refusal fault) other printed) → (end ≡ other) × (out ≡ printed)
   judged_once (Ok a) is end other out printed one two = JudgesAssigned-unique s sound a (is a refl) end other out printed one two
   judged_once (Err fault) is end other out printed one two = (one.0 ∙ sym two.0, one.1 ∙ sym two.1)
 
@@ -117,7 +114,7 @@ module _ (s : Declared) (sound : IsSound s) where
   JudgesDeclared-unique text = judged_once (assignment_of_text s.table.names s.partition text) (known text)
 
   judged : (r : Result Assignment CertError) → IsKnown r
-      → (end : End) × (out : List ℕ) × MatchResult r (λ a. JudgesAssigned s a end out) (λ fault. IsRefused (cert_refusal fault) end out)
+      → (end : End) × (out : List ℕ) × MatchResult r (λ a. JudgesAssigned s a end out) (λ fault. PrintsRefusal (cert_refusal fault) end out)
   judged (Ok a) is = JudgesAssigned-exist s sound a (is a refl)
   judged (Err fault) is = (Refused, refusal_text (cert_refusal fault), (refl, refl))
 
@@ -125,8 +122,8 @@ module _ (s : Declared) (sound : IsSound s) where
   JudgesDeclared-exist text = judged (assignment_of_text s.table.names s.partition text) (known text)
 
   replayed : (out said : List ℕ) (r : Result Assignment CertError) → ((a : Assignment) → r ≡ Ok a → JudgesAssigned s a Bad out → ReplaysAssigned s a out Bad said)
-      → MatchResult r (λ a. JudgesAssigned s a Bad out) (λ fault. IsRefused (cert_refusal fault) Bad out)
-      → MatchResult r (λ a. ReplaysAssigned s a out Bad said) (λ fault. IsRefused (cert_refusal fault) Bad said)
+      → MatchResult r (λ a. JudgesAssigned s a Bad out) (λ fault. PrintsRefusal (cert_refusal fault) Bad out)
+      → MatchResult r (λ a. ReplaysAssigned s a out Bad said) (λ fault. PrintsRefusal (cert_refusal fault) Bad said)
   replayed out said (Ok a) replays judges = replays a refl judges
   replayed out said (Err fault) replays refused = absurd cc
 
@@ -140,8 +137,8 @@ abbrev IsSoundly : Result Declared Refusal → Type 0
 IsSoundly r = (s : Declared) → r ≡ Ok s → IsSound s
 
 judges_once : (r : Result Declared Refusal) → IsSoundly r → (text : List ℕ) (end other : End) (out printed : List ℕ)
-    → MatchResult r (λ s. JudgesDeclared s text end out) (λ refusal. IsRefused refusal end out)
-    → MatchResult r (λ s. JudgesDeclared s text other printed) (λ refusal. IsRefused refusal other printed) → (end ≡ other) × (out ≡ printed)
+    → MatchResult r (λ s. JudgesDeclared s text end out) (λ refusal. PrintsRefusal refusal end out)
+    → MatchResult r (λ s. JudgesDeclared s text other printed) (λ refusal. PrintsRefusal refusal other printed) → (end ≡ other) × (out ≡ printed)
 judges_once (Ok s) sound text end other out printed one two = JudgesDeclared-unique s (sound s refl) text end other out printed one two
 judges_once (Err refusal) sound text end other out printed one two = (one.0 ∙ sym two.0, one.1 ∙ sym two.1)
 
@@ -149,7 +146,7 @@ pub Judges-unique : (declared text : List ℕ) (end other : End) (out printed : 
 Judges-unique declared = judges_once (declaration declared) (IsSound-declaration declared)
 
 judges : (r : Result Declared Refusal) → IsSoundly r → (text : List ℕ)
-    → (end : End) × (out : List ℕ) × MatchResult r (λ s. JudgesDeclared s text end out) (λ refusal. IsRefused refusal end out)
+    → (end : End) × (out : List ℕ) × MatchResult r (λ s. JudgesDeclared s text end out) (λ refusal. PrintsRefusal refusal end out)
 judges (Ok s) sound text = JudgesDeclared-exist s (sound s refl) text
 judges (Err refusal) sound text = (Refused, refusal_text refusal, (refl, refl))
 
@@ -157,11 +154,11 @@ pub Judges-exist : (declared text : List ℕ) → (end : End) × (out : List ℕ
 Judges-exist declared = judges (declaration declared) (IsSound-declaration declared)
 
 replays : (r : Result Declared Refusal) → IsSoundly r → (text out : List ℕ)
-    → MatchResult r (λ s. JudgesDeclared s text Bad out) (λ refusal. IsRefused refusal Bad out)
-    → MatchResult r (λ s. ReplaysDeclared s text out Bad (line_text (replay_words Deadlock))) (λ refusal. IsRefused refusal Bad (line_text (replay_words Deadlock)))
+    → MatchResult r (λ s. JudgesDeclared s text Bad out) (λ refusal. PrintsRefusal refusal Bad out)
+    → MatchResult r (λ s. ReplaysDeclared s text out Bad (line_text (replay_words Deadlock))) (λ refusal. PrintsRefusal refusal Bad (line_text (replay_words Deadlock)))
 replays (Ok s) sound text out answer = ReplaysDeclared-judged s (sound s refl) text out answer
 replays (Err refusal) sound text out refused = absurd cc
 
 -- a run that is printed is answered with `deadlock`
-pub Replays-judged : (declared text out : List ℕ) → Judges declared text Bad out → Replays declared text out Bad (line_text (replay_words Deadlock))
-Replays-judged declared = replays (declaration declared) (IsSound-declaration declared)
+pub ReplaysRun-judged : (declared text out : List ℕ) → Judges declared text Bad out → ReplaysRun declared text out Bad (line_text (replay_words Deadlock))
+ReplaysRun-judged declared = replays (declaration declared) (IsSound-declaration declared)

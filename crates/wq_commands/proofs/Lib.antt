@@ -9,6 +9,8 @@ pub mod InputLemmas
 pub mod CommandLemmas
 pub mod JudgeLemmas
 pub mod NamedSteps
+mod DeclaredLines
+pub mod DeclaredLemmas
 pub mod PromiseLemmas
 pub mod Refusals
 pub mod CheckAnswers

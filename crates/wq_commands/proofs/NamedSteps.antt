@@ -12,7 +12,7 @@ use Rattle.wq_core.specs.Runs.{IsHelp, HasNoHelp}
 use Rattle.wq_core.specs.Deadlock.{DeadlocksBy}
 use Rattle.wq_core.proofs.Wirings.{IsWiring-wiring}
 use Rattle.wq_cert.specs.Ranges.{IsStepOf, IsAssignmentOf}
-use Rattle.wq_cert.specs.RunText.{item_in}
+use Rattle.wq_cert.specs.RunText.{step_item}
 use Rattle.wq_deadlock.specs.Bounds.{IsNamed}
 use Rattle.wq_deadlock.proofs.Named.{IsNamed-run}
 use Rattle.wq_deadlock.proofs.RunLengths.{length-deadlocking}
@@ -49,5 +49,5 @@ module _ (s : Declared) (sound : IsSound s) (a : Assignment) (assigned : IsAssig
       subst (λ n. All (IsStepOf n) steps) sound.table.one_list_each (steps_of-named w assigned.few steps named deadlocks.no_help)
 
   -- so the printer finds its item
-  pub item_in-deadlock : All (λ (step : Step). item_in step < length s.table.names) steps
-  item_in-deadlock = All-weaker (IsStepOf (length s.table.names)) (λ (step : Step). item_in step < length s.table.names) (λ step named. named.0) steps IsStepOf-deadlock
+  pub step_item-deadlock : All (λ (step : Step). step_item step < length s.table.names) steps
+  step_item-deadlock = All-weaker (IsStepOf (length s.table.names)) (λ (step : Step). step_item step < length s.table.names) (λ step named. named.0) steps IsStepOf-deadlock

@@ -23,7 +23,7 @@ use Rattle.wq_commands.proofs.AnswerLemmas.{IsSound, IsSound-declaration, IsDecl
 use Rattle.wq_commands.proofs.CheckAnswers.{Checks-unique}
 use Rattle.wq_commands.proofs.CheckLemmas.{IsAsked-read}
 use Rattle.wq_commands.proofs.JudgeLemmas.{Judges-unique}
-use Rattle.wq_commands.proofs.ReplayAnswers.{Replays-unique}
+use Rattle.wq_commands.proofs.ReplayAnswers.{ReplaysRun-unique}
 use Rattle.wq_commands.proofs.Uniqueness.{Answers-unique}
 
 -- ---- two reasons for the same texts
@@ -103,5 +103,5 @@ JudgesTexts-unique texts one other out printed first second =
 
 pub ReplaysTexts-unique : HasOneAnswer ReplaysTexts
 ReplaysTexts-unique texts one other out printed first second =
-    let same = Replays-unique texts.first texts.second texts.third one.end other.end out printed first.0 second.0 in
+    let same = ReplaysRun-unique texts.first texts.second texts.third one.end other.end out printed first.0 second.0 in
     (same_outcome one other same.0 (SaysReplayed-unique one.why other.why texts.first texts.second texts.third first.1 second.1), same.1)

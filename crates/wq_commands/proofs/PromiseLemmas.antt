@@ -1,13 +1,15 @@
 -- Answers keep what they promise: what is printed is read back, and it is true.
 use Rattle.std.proofs.Common.{◌≡◌, ℕ, zero, suc, ◌+◌, ◌-◌, ◌<◌, ◌≤◌, ◌==◌, Bool, cond, inl, inr, List, [], ◌∷◌, length, map, get_or, Option, Some, None, Result, Ok, Err, refl, sym, ap, subst, ◌∙◌, arith}
-use Rattle.std.specs.Prelude.{MatchResult, slice_index, slice_get, option_map, if◌then◌else◌, ◌⊎◌}
+use Rattle.std.specs.Result.{result_ok}
+use Rattle.std.specs.Prelude.{MatchResult, MatchOption, slice_index, slice_get, option_map, flat_map, if◌then◌else◌, ◌⊎◌}
 use Rattle.std.specs.List.{All, AllAdjacentBelow}
-use Rattle.std.proofs.lemmas.Bool.{ne_eqb, cases_lt}
-use Rattle.std.proofs.lemmas.List.{length-map, get_or_past}
+use Rattle.std.proofs.lemmas.Bool.{ne_eqb}
+use Rattle.std.proofs.lemmas.List.{length-map}
+use Rattle.std.proofs.lemmas.Grind.{flat_map-append}
 use Rattle.std.proofs.lemmas.Option.{slice_get-map, slice_get_within, slice_get-get_or, get_or_from_slice_get}
 use Rattle.wq_text.specs.Refusal.{Refusal}
 use Rattle.wq_groups.specs.Assignment.{Assignment}
-use Rattle.wq_groups.specs.Declaration.{Declaration}
+use Rattle.wq_groups.specs.Declaration.{Declaration, IsDeclaration}
 use Rattle.wq_graph.specs.declared.arc.WaitArc.{WaitArc}
 use Rattle.wq_graph.specs.Graph.{IsArc, group_graph}
 use Rattle.wq_levels.specs.Walks.{IsWalkedCircle}
@@ -22,12 +24,15 @@ use Rattle.wq_core.specs.Wiring.{wiring, own_lanes}
 use Rattle.wq_deadlock.specs.CircleRun.{IsCircleRun}
 use Rattle.wq_cert.specs.declared.fault.CertError.{CertError}
 use Rattle.wq_cert.specs.Certificate.{Certificate, PlanCertificate, CircleCertificate, OfPlan, OfCircle}
+use Rattle.wq_cert.specs.PlanText.{arc_line}
+use Rattle.wq_cert.specs.CircleText.{circle_line}
+use Rattle.wq_cert.specs.RunText.{run_lines}
+use Rattle.wq_cert.specs.Spelled.{SpellsPlan, words_of_text}
 use Rattle.wq_cert.specs.Texts.{answer_of, cert_refusal}
 use Rattle.wq_cert.proofs.PrintedPlans.{answer_of-plan}
 use Rattle.wq_cert.proofs.PrintedCircles.{answer_of-circle}
 use Rattle.wq_cert.proofs.SpelledAnswers.{SpellsCertificate-answer_of, answer_of-spelled, assignment_of_text-spelled}
-use Rattle.wq_items.specs.declared.target.Target.{Target}
-use Rattle.wq_items.specs.Table.{ItemWaits, targets_of}
+use Rattle.wq_items.specs.Table.{ItemWaits}
 use Rattle.wq_groups.proofs.Declarations.{waiting-item, GroupWaits-items}
 use Rattle.wq_checker.specs.Chains.{IsChainAlong, Joins, AllJoin, before_from, before_in_chain, before_in_circle}
 use Rattle.wq_checker.specs.Falling.{AllFall}
@@ -35,19 +40,23 @@ use Rattle.wq_checker.specs.declared.answer.Yes.{Yes}
 use Rattle.wq_checker.specs.declared.answer.Yes.TheVariants as yes
 use Rattle.wq_checker.specs.declared.answer.No.{No}
 use Rattle.wq_checker.specs.Answers.{IsGoodPlan, ShowsDeadlock, AnswersPlan, AnswersCircle}
+use Rattle.wq_checker.proofs.GroupChains.{chain_of_groups}
 use Rattle.wq_checker.proofs.GoodAnswers.{IsChainAlong-good, IsLeast-good, IsCircleAlong-good, Deadlocks-any}
 use Rattle.wq_commands.specs.declared.end.End.{End}
 use Rattle.wq_commands.specs.declared.end.End.TheVariants.{Good, Bad, Refused}
-use Rattle.wq_commands.specs.Answer.{Answers, AnswersDeclared, ends_of, declared_waits, text_of_plan, text_of_circle, refusal_text, IsRefused}
+use Rattle.wq_commands.specs.Answer.{Answers, AnswersDeclared, ends_of, declared_waits, text_of_plan, text_of_circle, refusal_text, PrintsRefusal}
 use Rattle.wq_commands.specs.Declaration.{Declared, declaration}
 use Rattle.wq_lines.specs.LineText.{line_text}
 use Rattle.wq_commands.specs.Checking.{yes_words, PrintsCheck, AnswersCheck, ChecksDeclared, Checks}
 use Rattle.wq_commands.specs.PrintedChecked.{ChecksYesPlan, ChecksYesCircle, ChecksYesOf, ChecksYes}
 use Rattle.wq_commands.proofs.CheckLemmas.{MatchResult-ok, IsAsked-read}
-use Rattle.wq_commands.specs.Promise.{KeepsPlan, KeepsCircle, KeepsDeclared, KeepsPromise}
+use Rattle.wq_commands.specs.DeclaredIn.{Named, named_of}
+use Rattle.wq_commands.proofs.DeclaredLemmas.{declared_in-declaration}
+use Rattle.wq_commands.specs.Promise.{LeadThrough, LeadRound, KeepsDeclared, KeepsPromise}
+use Rattle.wq_commands.specs.Shown.{ShowsPlan, ShowsCircle, ShowsDeclared, ShowsAnswer}
 use Rattle.wq_meter.specs.Meter.{Meter}
 use Rattle.wq_commands.specs.CheckInput.{ChecksInput, KeepsYesOfInput}
-use Rattle.wq_commands.specs.Run.{AnswersInput, KeepsPromiseOfInput}
+use Rattle.wq_commands.specs.Run.{AnswersInput, KeepsPromiseOfInput, ShowsAnswerOfInput}
 use Rattle.wq_commands.specs.PromiseRead.{IsReadAsGoodPlan, IsReadAsGoodCircle}
 use Rattle.wq_commands.specs.YesIsTrue.{IsTrueOfPlan, IsTrueOfCircle, YesIsTrue}
 use Rattle.wq_commands.proofs.TextLength.{length-circled}
@@ -132,9 +141,51 @@ AllFall-plan s sound a plan i j declared =
     let is = IsDeclaration-sound s sound in
     IsPlan-falls d a plan (slice_index d.group_of i) (slice_index d.group_of j) (is.partition.within i 0 (waiting-item d is i j declared)) (GroupWaits-items d is i j declared)
 
+-- ---- arcs that lead through groups, and round
+
+-- a chain along arcs is one that they lead through
+LeadThrough-along : (d : Declaration) (arcs : List (ℕ × ℕ)) (groups : List ℕ) → IsChainAlong d arcs groups → LeadThrough d arcs groups
+LeadThrough-along d _ groups is = record { within = is.within; count = is.count; along = is.along }
+
+-- what comes before an arc that isn't the first doesn't depend on what comes before the first
+before_from-suc : (first : Option (ℕ × ℕ)) (arcs : List (ℕ × ℕ)) (k : ℕ) → before_from first arcs (suc k) ≡ slice_get arcs (suc k - 1)
+before_from-suc first arcs k = ap (λ (b : Bool). cond b first (slice_get arcs (suc k - 1))) (ne_eqb (suc k) 0 (λ is. omega (arith, is)))
+
+Joins-declared : (d : Declaration) (before : Option (ℕ × ℕ)) (arc : ℕ × ℕ) → Joins d before arc → ItemWaits d.waits arc.0 arc.1
+Joins-declared d None arc joins = joins
+Joins-declared d (Some before) arc joins = joins.0
+
+-- arcs that join in a circle join in a chain
+AllJoin-opened : (d : Declaration) (first : Option (ℕ × ℕ)) (arcs : List (ℕ × ℕ)) → AllJoin d (before_from first arcs) arcs → AllJoin d (before_in_chain arcs) arcs
+AllJoin-opened d first _ joined zero arc stands = Joins-declared d first arc (joined zero arc stands)
+AllJoin-opened d first arcs joined (suc k) arc stands =
+    subst (λ (o : Option (ℕ × ℕ)). Joins d o arc) (before_from-suc first arcs k ∙ sym (before_from-suc None arcs k)) (joined (suc k) arc stands)
+
+-- arcs that join in a circle lead round
+LeadRound-joined : (d : Declaration) → IsDeclaration d → (arcs : List (ℕ × ℕ)) → 0 < length arcs → AllJoin d (before_in_circle arcs) arcs → LeadRound d arcs
+LeadRound-joined d is arcs some joined =
+    let none : ℕ × ℕ = (0, 0) in
+    let end : ℕ = length arcs - 1 in
+    let first : ℕ × ℕ = get_or arcs 0 none in
+    let last : ℕ × ℕ = get_or arcs end none in
+    let begins : slice_get arcs 0 ≡ Some first = slice_get-get_or arcs 0 none some in
+    let ends : slice_get arcs end ≡ Some last = slice_get-get_or arcs end none (omega (arith, some)) in
+    let chain = chain_of_groups d is (length arcs + 1) arcs (AllJoin-opened d (slice_get arcs (length arcs - 1)) arcs joined) (omega arith) (λ one. absurd (omega (arith, one, some))) in
+    let share : slice_index d.group_of last.1 ≡ slice_index d.group_of first.0 =
+    (subst (λ (o : Option (ℕ × ℕ)). Joins d o first) ends (joined 0 first begins)).1 in
+    let next : length arcs ≡ end + 1 = omega (arith, some) in
+    record {
+      groups = chain.0;
+      through = LeadThrough-along d arcs chain.0 chain.1;
+      some = some;
+      closes = ap (slice_get chain.0) next ∙ (chain.1.along end last ends).2 ∙ ap (λ (g : ℕ). Some g) share ∙ sym (chain.1.along 0 first begins).1;
+    }
+
+-- ---- what is printed
+
 module _ (s : Declared) (sound : IsSound s) where
-  KeepsPlan-printed : (a : Assignment) → IsPlan (declared_waits s) a → KeepsPlan s (text_of_plan s a)
-  KeepsPlan-printed a plan =
+  ShowsPlan-printed : (a : Assignment) → IsPlan (declared_waits s) a → ShowsPlan s (text_of_plan s a)
+  ShowsPlan-printed a plan =
       let d = declared_waits s in
       let is = IsDeclaration-sound s sound in
       let chain = chain_of (group_graph d) a.lane_of_group in
@@ -159,20 +210,18 @@ module _ (s : Declared) (sound : IsSound s) where
       } in
       let along = IsChainAlong-good d is said (IsAsked-read s (text_of_plan s a) (OfPlan said) sound read) good in
       record {
-        plan = said;
+        kept = record { assignment = a; arcs = arcs; text = refl; least = least; chain = along.0; leads = LeadThrough-along d arcs along.0 along.1; long = along.2 };
+        plan = record { assignment = a; length = a.lanes; arcs = arcs };
+        is_plan = refl;
         limits = spells.0;
-        spelled = spells.1;
+        spelled = subst (λ (n : ℕ). SpellsPlan s.table.names s.partition (words_of_text (text_of_plan s a)) (record { assignment = a; length = n; arcs = arcs })) long spells.1;
         falls = good.falls;
-        least = least;
-        chain = along.0;
         is_chain = along.1;
-        said = long;
-        long = along.2;
       }
 
-  KeepsCircle-printed : (circle : List WaitArc) (steps : List Step) → IsWalkedCircle (group_graph (declared_waits s)) circle
-      → IsCircleRun (wiring (declared_waits s) (own_lanes s.partition.groups)) circle steps → KeepsCircle s (text_of_circle s circle steps)
-  KeepsCircle-printed circle steps walked is_run =
+  ShowsCircle-printed : (circle : List WaitArc) (steps : List Step) → IsWalkedCircle (group_graph (declared_waits s)) circle
+      → IsCircleRun (wiring (declared_waits s) (own_lanes s.partition.groups)) circle steps → ShowsCircle s (text_of_circle s circle steps)
+  ShowsCircle-printed circle steps walked is_run =
       let d = declared_waits s in
       let is = IsDeclaration-sound s sound in
       let arcs = map ends_of circle in
@@ -180,41 +229,68 @@ module _ (s : Declared) (sound : IsSound s) where
       let many : length arcs ≡ length circle = length-map circle ends_of in
       let prints : ArePrintable s.table arcs = ArePrintable-walked s circle arcs sound walked refl in
       let some : 0 < length circle = slice_get_within circle 0 round.first round.begins in
+      let some_arc : 0 < length arcs = omega (arith, some, many) in
       let deadlocks = DeadlocksBy-own_lanes s sound circle steps walked is_run in
       let said : CircleCertificate = record { arcs = arcs; steps = Some steps } in
-      let read = answer_of-circle s.table sound.table s.partition arcs (Some steps) (omega (arith, some, many)) prints.few prints.items (IsStepOf-deadlock s sound (own_lanes s.partition.groups) (IsAssignmentOf-own_lanes s sound) steps deadlocks) (length-circled s sound circle steps walked is_run) in
+      let read = answer_of-circle s.table sound.table s.partition arcs (Some steps) some_arc prints.few prints.items (IsStepOf-deadlock s sound (own_lanes s.partition.groups) (IsAssignmentOf-own_lanes s sound) steps deadlocks) (length-circled s sound circle steps walked is_run) in
       let spells = SpellsCertificate-answer_of s.table.names s.partition (sym sound.one_group_each) (text_of_circle s circle steps) (OfCircle said) read in
       let joined = AllJoin-circle s circle round in
       record {
+        kept = record {
+          arcs = arcs;
+          behind = flat_map line_text (run_lines s.table.names steps);
+          text = flat_map-append line_text (circle_line arcs ∷ map (arc_line s.table.names) arcs) (run_lines s.table.names steps);
+          leads = LeadRound-joined d is arcs some_arc joined;
+          deadlocks = (IsCircled-from_walk d is circle walked).deadlocks;
+        };
+        steps = steps;
+        text = refl;
         circle = said;
+        is_circle = refl;
         limits = spells.0;
         spelled = spells.1;
         goes_round = IsCircleAlong-good d is said (IsAsked-read s (text_of_circle s circle steps) (OfCircle said) sound read) joined;
-        steps = steps;
-        has_run = refl;
         run_deadlocks = deadlocks;
-        deadlocks = (IsCircled-from_walk d is circle walked).deadlocks;
       }
 
 -- ---- any answer
 
-KeepsPromise-declared : (s : Declared) (end : End) (out : List ℕ) → IsSound s → AnswersDeclared s end out → KeepsDeclared s end out
-KeepsPromise-declared s Good out sound prints = subst (KeepsPlan s) (sym prints.text) (KeepsPlan-printed s sound prints.assignment prints.plan)
-KeepsPromise-declared s Bad out sound prints = subst (KeepsCircle s) (sym prints.text) (KeepsCircle-printed s sound prints.circle prints.steps prints.walked prints.is_run)
-KeepsPromise-declared s Refused out sound answers = absurd answers
+ShowsDeclared-answers : (s : Declared) (end : End) (out : List ℕ) → IsSound s → AnswersDeclared s end out → ShowsDeclared s end out
+ShowsDeclared-answers s Good out sound prints = subst (ShowsPlan s) (sym prints.text) (ShowsPlan-printed s sound prints.assignment prints.plan)
+ShowsDeclared-answers s Bad out sound prints = subst (ShowsCircle s) (sym prints.text) (ShowsCircle-printed s sound prints.circle prints.steps prints.walked prints.is_run)
+ShowsDeclared-answers s Refused out sound answers = absurd answers
 
-keeps : (declared : Result Declared Refusal) (end : End) (out : List ℕ) → ((s : Declared) → declared ≡ Ok s → IsSound s)
-    → MatchResult declared (λ s. AnswersDeclared s end out) (λ r. (end ≡ Refused) × (out ≡ refusal_text r)) → MatchResult declared (λ s. KeepsDeclared s end out) (λ r. end ≡ Refused)
-keeps (Ok s) end out sound answers = KeepsPromise-declared s end out (sound s refl) answers
-keeps (Err r) end out sound answers = answers.0
+shows : (declared : Result Declared Refusal) (end : End) (out : List ℕ) → ((s : Declared) → declared ≡ Ok s → IsSound s)
+    → MatchResult declared (λ s. AnswersDeclared s end out) (λ r. (end ≡ Refused) × (out ≡ refusal_text r)) → MatchResult declared (λ s. ShowsDeclared s end out) (λ r. end ≡ Refused)
+shows (Ok s) end out sound answers = ShowsDeclared-answers s end out (sound s refl) answers
+shows (Err r) end out sound answers = answers.0
 
--- an answer keeps its promise
+-- an answer shows what it promises
+pub ShowsAnswer-answers : (text : List ℕ) (end : End) (out : List ℕ) → Answers text end out → ShowsAnswer text end out
+ShowsAnswer-answers text end out answers = shows (declaration text) end out (IsSound-declaration text) answers
+
+KeepsDeclared-shown : (s : Declared) (end : End) (out : List ℕ) → ShowsDeclared s end out → KeepsDeclared (named_of s) end out
+KeepsDeclared-shown s Good out shown = shown.kept
+KeepsDeclared-shown s Bad out shown = shown.kept
+KeepsDeclared-shown s Refused out shown = absurd shown
+
+keeps : (declared : Result Declared Refusal) (end : End) (out : List ℕ) → MatchResult declared (λ s. ShowsDeclared s end out) (λ r. end ≡ Refused)
+    → MatchOption (option_map named_of (result_ok declared)) (end ≡ Refused) (λ s. KeepsDeclared s end out)
+keeps (Ok s) end out shown = KeepsDeclared-shown s end out shown
+keeps (Err r) end out refused = refused
+
+-- and keeps it
 pub KeepsPromise-answers : (text : List ℕ) (end : End) (out : List ℕ) → Answers text end out → KeepsPromise text end out
-KeepsPromise-answers text end out answers = keeps (declaration text) end out (IsSound-declaration text) answers
+KeepsPromise-answers text end out answers =
+    subst (λ (o : Option Named). MatchOption o (end ≡ Refused) (λ s. KeepsDeclared s end out)) (sym (declared_in-declaration text)) (keeps (declaration text) end out (ShowsAnswer-answers text end out answers))
 
 pub KeepsPromiseOfInput-answered : {R : Type 0} {remaining : R → Option (List ℕ)} {old new : Meter R} (end : End) (out : List ℕ)
     → AnswersInput remaining old new end out → KeepsPromiseOfInput remaining old new end out
 KeepsPromiseOfInput-answered end out answered = record { answered = answered; promise = KeepsPromise-answers answered.text end out answered.answer }
+
+pub ShowsAnswerOfInput-answered : {R : Type 0} {remaining : R → Option (List ℕ)} {old new : Meter R} (end : End) (out : List ℕ)
+    → AnswersInput remaining old new end out → ShowsAnswerOfInput remaining old new end out
+ShowsAnswerOfInput-answered end out answered = record { answered = answered; shown = ShowsAnswer-answers answered.text end out answered.answer }
 
 -- ---- what the readers read of it, and what the checker says
 
@@ -239,58 +315,60 @@ AllJoin-along d arcs groups is (suc k) arc stands =
     same_number m n e = cc
 
 module _ (s : Declared) (sound : IsSound s) (out : List ℕ) where
-  pub IsReadAsGoodPlan-kept : (kept : KeepsPlan s out) → IsReadAsGoodPlan s out kept.plan
-  IsReadAsGoodPlan-kept kept = record {
-    read = answer_of-spelled s.table.names s.partition (sym sound.one_group_each) sound.table.distinct out (OfPlan kept.plan) (kept.limits, kept.spelled);
-    assignment = assignment_of_text-spelled s.table.names s.partition (sym sound.one_group_each) sound.table.distinct out kept.plan.assignment (kept.limits, inr (kept.plan, kept.spelled, refl));
-    good = record {
-      falls = kept.falls;
-      long = kept.said;
-      has_group = λ lacks. absurd (omega (arith, kept.is_chain.within 0 0 (omega (arith, kept.long, kept.said, lacks.0)), lacks.1));
-      joined = AllJoin-along (declared_waits s) kept.plan.arcs kept.chain kept.is_chain;
-    };
-  }
+  pub IsReadAsGoodPlan-shown : (shown : ShowsPlan s out) → IsReadAsGoodPlan s out shown.plan
+  IsReadAsGoodPlan-shown shown =
+      let said : shown.plan.length ≡ shown.kept.assignment.lanes = ap (λ (p : PlanCertificate). p.length) shown.is_plan in
+      let of_kept : shown.plan.assignment.lanes ≡ shown.kept.assignment.lanes = ap (λ (p : PlanCertificate). p.assignment.lanes) shown.is_plan in
+      record {
+        read = answer_of-spelled s.table.names s.partition (sym sound.one_group_each) sound.table.distinct out (OfPlan shown.plan) (shown.limits, shown.spelled);
+        assignment = assignment_of_text-spelled s.table.names s.partition (sym sound.one_group_each) sound.table.distinct out shown.plan.assignment (shown.limits, inr (shown.plan, shown.spelled, refl));
+        good = record {
+          falls = shown.falls;
+          long = said ∙ sym of_kept;
+          has_group = λ lacks. absurd (omega (arith, shown.is_chain.within 0 0 (omega (arith, shown.kept.long, said, lacks.0)), lacks.1));
+          joined = AllJoin-along (declared_waits s) shown.plan.arcs shown.kept.chain shown.is_chain;
+        };
+      }
 
-  pub IsReadAsGoodCircle-kept : (kept : KeepsCircle s out) → IsReadAsGoodCircle s out kept.circle
-  IsReadAsGoodCircle-kept kept = record {
-    read = answer_of-spelled s.table.names s.partition (sym sound.one_group_each) sound.table.distinct out (OfCircle kept.circle) (kept.limits, kept.spelled);
-    good = record {
-      joined = kept.goes_round.joined;
-      deadlocks = subst (ShowsDeadlock (declared_waits s)) (sym kept.has_run) kept.run_deadlocks;
-    };
-  }
+  pub IsReadAsGoodCircle-shown : (shown : ShowsCircle s out) → IsReadAsGoodCircle s out shown.circle
+  IsReadAsGoodCircle-shown shown =
+      let run : shown.circle.steps ≡ Some shown.steps = ap (λ (c : CircleCertificate). c.steps) shown.is_circle in
+      record {
+        read = answer_of-spelled s.table.names s.partition (sym sound.one_group_each) sound.table.distinct out (OfCircle shown.circle) (shown.limits, shown.spelled);
+        good = record { joined = shown.goes_round.joined; deadlocks = subst (ShowsDeadlock (declared_waits s)) (sym run) shown.run_deadlocks };
+      }
 
 -- the line that the checker answers to what is printed
 pub Checks-answers : (text out : List ℕ) (end : End) → Answers text end out → ChecksYes text out end
-Checks-answers text out end answers = checked (declaration text) end (IsSound-declaration text) (keeps (declaration text) end out (IsSound-declaration text) answers)
+Checks-answers text out end answers = checked (declaration text) end (IsSound-declaration text) (ShowsAnswer-answers text end out answers)
   where
-    plan_checked : (s : Declared) → IsSound s → KeepsPlan s out → ChecksYesPlan s out
-    plan_checked s sound kept =
-        let is = IsReadAsGoodPlan-kept s sound out kept in
+    plan_checked : (s : Declared) → IsSound s → ShowsPlan s out → ChecksYesPlan s out
+    plan_checked s sound shown =
+        let is = IsReadAsGoodPlan-shown s sound out shown in
         record {
-          plan = kept.plan;
+          plan = shown.plan;
           read = is.read;
           assignment = is.assignment;
-          checked = MatchResult-ok (answer_of s.table.names s.partition out) (OfPlan kept.plan) _ _ is.read (Ok (yes.Plan kept.plan.assignment.lanes), (is.good, refl), (refl, refl));
+          checked = MatchResult-ok (answer_of s.table.names s.partition out) (OfPlan shown.plan) _ _ is.read (Ok (yes.Plan shown.plan.assignment.lanes), (is.good, refl), (refl, refl));
         }
 
-    circle_checked : (s : Declared) → IsSound s → KeepsCircle s out → ChecksYesCircle s out
-    circle_checked s sound kept =
-        let is = IsReadAsGoodCircle-kept s sound out kept in
+    circle_checked : (s : Declared) → IsSound s → ShowsCircle s out → ChecksYesCircle s out
+    circle_checked s sound shown =
+        let is = IsReadAsGoodCircle-shown s sound out shown in
         record {
-          circle = kept.circle;
+          circle = shown.circle;
           read = is.read;
-          checked = MatchResult-ok (answer_of s.table.names s.partition out) (OfCircle kept.circle) _ _ is.read (Ok (yes.Circle (length kept.circle.arcs)), (is.good, refl), (refl, refl));
+          checked = MatchResult-ok (answer_of s.table.names s.partition out) (OfCircle shown.circle) _ _ is.read (Ok (yes.Circle (length shown.circle.arcs)), (is.good, refl), (refl, refl));
         }
 
     checked : (declared : Result Declared Refusal) (end : End) → ((s : Declared) → declared ≡ Ok s → IsSound s)
-        → MatchResult declared (λ s. KeepsDeclared s end out) (λ r. end ≡ Refused) → ChecksYesOf declared out end
-    checked (Ok s) Good sound kept = plan_checked s (sound s refl) kept
-    checked (Ok s) Bad sound kept = circle_checked s (sound s refl) kept
-    checked (Ok s) Refused sound kept = absurd kept
-    checked (Err r) Good sound kept = absurd cc
-    checked (Err r) Bad sound kept = absurd cc
-    checked (Err r) Refused sound kept = tt
+        → MatchResult declared (λ s. ShowsDeclared s end out) (λ r. end ≡ Refused) → ChecksYesOf declared out end
+    checked (Ok s) Good sound shown = plan_checked s (sound s refl) shown
+    checked (Ok s) Bad sound shown = circle_checked s (sound s refl) shown
+    checked (Ok s) Refused sound shown = absurd shown
+    checked (Err r) Good sound shown = absurd cc
+    checked (Err r) Bad sound shown = absurd cc
+    checked (Err r) Refused sound shown = tt
 
 -- ---- a yes is true
 
@@ -338,12 +416,12 @@ module _ (s : Declared) (sound : IsSound s) (claim out : List ℕ) where
   yes_to_certificate (OfCircle circle) read checks = inr (yes_to_circle circle read checks.0 checks.1 checks.2)
 
   yes_to_claim : (r : Result Certificate CertError) → answer_of s.table.names s.partition claim ≡ r
-      → MatchResult r (λ c. AnswersCheck s c Good out) (λ fault. IsRefused (cert_refusal fault) Good out) → IsTrueOfPlan s claim out ⊎ IsTrueOfCircle s claim out
+      → MatchResult r (λ c. AnswersCheck s c Good out) (λ fault. PrintsRefusal (cert_refusal fault) Good out) → IsTrueOfPlan s claim out ⊎ IsTrueOfCircle s claim out
   yes_to_claim (Ok c) read checks = yes_to_certificate c read checks
   yes_to_claim (Err fault) read refused = absurd cc
 
 yes_to_declared : (declared : Result Declared Refusal) (claim out : List ℕ) → ((s : Declared) → declared ≡ Ok s → IsSound s)
-    → MatchResult declared (λ s. ChecksDeclared s claim Good out) (λ r. IsRefused r Good out)
+    → MatchResult declared (λ s. ChecksDeclared s claim Good out) (λ r. PrintsRefusal r Good out)
     → MatchResult declared (λ s. IsTrueOfPlan s claim out ⊎ IsTrueOfCircle s claim out) (λ r. ⊥)
 yes_to_declared (Ok s) claim out sound checks = yes_to_claim s (sound s refl) claim out (answer_of s.table.names s.partition claim) refl checks
 yes_to_declared (Err r) claim out sound refused = absurd cc

@@ -4,7 +4,7 @@ use Rattle.std.specs.Prelude.{MatchResult}
 use Rattle.wq_text.specs.Refusal.{Refusal}
 use Rattle.wq_commands.specs.declared.end.End.{End}
 use Rattle.wq_commands.specs.declared.end.End.TheVariants.{Refused}
-use Rattle.wq_commands.specs.Answer.{IsRefused, refusal_text}
+use Rattle.wq_commands.specs.Answer.{PrintsRefusal, refusal_text}
 
 -- one end and one text, if both belong to the same value or to the same error
 pub MatchResult-unique : {V E : Type 0} (r : Result V E) (Good : V → End → List ℕ → Type 0) (Bad : E → End → List ℕ → Type 0) (end other : End) (out printed : List ℕ)
@@ -22,8 +22,8 @@ pub MatchResult-exist : {V E : Type 0} (r : Result V E) (Good : V → End → Li
 MatchResult-exist (Ok v) Good Bad good bad = good v refl
 MatchResult-exist (Err e) Good Bad good bad = bad e
 
-pub IsRefused-unique : (r : Refusal) (end other : End) (out printed : List ℕ) → IsRefused r end out → IsRefused r other printed → (end ≡ other) × (out ≡ printed)
-IsRefused-unique r end other out printed one two = (one.0 ∙ sym two.0, one.1 ∙ sym two.1)
+pub PrintsRefusal-unique : (r : Refusal) (end other : End) (out printed : List ℕ) → PrintsRefusal r end out → PrintsRefusal r other printed → (end ≡ other) × (out ≡ printed)
+PrintsRefusal-unique r end other out printed one two = (one.0 ∙ sym two.0, one.1 ∙ sym two.1)
 
-pub IsRefused-exist : (r : Refusal) → (end : End) × (out : List ℕ) × IsRefused r end out
-IsRefused-exist r = (Refused, refusal_text r, (refl, refl))
+pub PrintsRefusal-exist : (r : Refusal) → (end : End) × (out : List ℕ) × PrintsRefusal r end out
+PrintsRefusal-exist r = (Refused, refusal_text r, (refl, refl))

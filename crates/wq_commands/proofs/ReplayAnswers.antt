@@ -9,10 +9,10 @@ use Rattle.wq_checker.specs.declared.run.RunEnd.{RunEnd}
 use Rattle.wq_checker.proofs.OneAnswer.{one_end}
 use Rattle.wq_checker.proofs.RunsDecided.{an_end}
 use Rattle.wq_commands.specs.declared.end.End.{End}
-use Rattle.wq_commands.specs.Answer.{declared_waits, IsRefused}
+use Rattle.wq_commands.specs.Answer.{declared_waits, PrintsRefusal}
 use Rattle.wq_commands.specs.Declaration.{Declared, declaration}
-use Rattle.wq_commands.specs.Replaying.{replay_words, replay_end, AnswersReplay, ReplaysAssigned, ReplaysDeclared, Replays}
-use Rattle.wq_commands.proofs.Refusals.{MatchResult-unique, MatchResult-exist, IsRefused-unique, IsRefused-exist}
+use Rattle.wq_commands.specs.Replaying.{replay_words, replay_end, AnswersReplay, ReplaysAssigned, ReplaysDeclared, ReplaysRun}
+use Rattle.wq_commands.proofs.Refusals.{MatchResult-unique, MatchResult-exist, PrintsRefusal-unique, PrintsRefusal-exist}
 
 AnswersReplay-unique : (s : Declared) (a : Assignment) (steps : List Step) (end other : End) (out printed : List ℕ) → AnswersReplay s a steps end out → AnswersReplay s a steps other printed
     → (end ≡ other) × (out ≡ printed)
@@ -29,30 +29,30 @@ module _ (steps : List ℕ) where
   ReplaysAssigned-unique : (s : Declared) (a : Assignment) (end other : End) (out printed : List ℕ) → ReplaysAssigned s a steps end out → ReplaysAssigned s a steps other printed
       → (end ≡ other) × (out ≡ printed)
   ReplaysAssigned-unique s a end other out printed =
-      MatchResult-unique (run_of s.table.names steps) (AnswersReplay s a) (λ fault. IsRefused (cert_refusal fault)) end other out printed
-      (λ made read. AnswersReplay-unique s a made end other out printed) (λ fault. IsRefused-unique (cert_refusal fault) end other out printed)
+      MatchResult-unique (run_of s.table.names steps) (AnswersReplay s a) (λ fault. PrintsRefusal (cert_refusal fault)) end other out printed
+      (λ made read. AnswersReplay-unique s a made end other out printed) (λ fault. PrintsRefusal-unique (cert_refusal fault) end other out printed)
 
   ReplaysAssigned-exist : (s : Declared) (a : Assignment) → (end : End) × (out : List ℕ) × ReplaysAssigned s a steps end out
   ReplaysAssigned-exist s a =
-      MatchResult-exist (run_of s.table.names steps) (AnswersReplay s a) (λ fault. IsRefused (cert_refusal fault)) (λ made read. AnswersReplay-exist s a made) (λ fault. IsRefused-exist (cert_refusal fault))
+      MatchResult-exist (run_of s.table.names steps) (AnswersReplay s a) (λ fault. PrintsRefusal (cert_refusal fault)) (λ made read. AnswersReplay-exist s a made) (λ fault. PrintsRefusal-exist (cert_refusal fault))
 
   module _ (lanes : List ℕ) where
     ReplaysDeclared-unique : (s : Declared) (end other : End) (out printed : List ℕ) → ReplaysDeclared s lanes steps end out → ReplaysDeclared s lanes steps other printed
         → (end ≡ other) × (out ≡ printed)
     ReplaysDeclared-unique s end other out printed =
-        MatchResult-unique (assignment_of_text s.table.names s.partition lanes) (λ a. ReplaysAssigned s a steps) (λ fault. IsRefused (cert_refusal fault)) end other out printed
-        (λ a read. ReplaysAssigned-unique s a end other out printed) (λ fault. IsRefused-unique (cert_refusal fault) end other out printed)
+        MatchResult-unique (assignment_of_text s.table.names s.partition lanes) (λ a. ReplaysAssigned s a steps) (λ fault. PrintsRefusal (cert_refusal fault)) end other out printed
+        (λ a read. ReplaysAssigned-unique s a end other out printed) (λ fault. PrintsRefusal-unique (cert_refusal fault) end other out printed)
 
     ReplaysDeclared-exist : (s : Declared) → (end : End) × (out : List ℕ) × ReplaysDeclared s lanes steps end out
     ReplaysDeclared-exist s =
-        MatchResult-exist (assignment_of_text s.table.names s.partition lanes) (λ a. ReplaysAssigned s a steps) (λ fault. IsRefused (cert_refusal fault)) (λ a read. ReplaysAssigned-exist s a)
-        (λ fault. IsRefused-exist (cert_refusal fault))
+        MatchResult-exist (assignment_of_text s.table.names s.partition lanes) (λ a. ReplaysAssigned s a steps) (λ fault. PrintsRefusal (cert_refusal fault)) (λ a read. ReplaysAssigned-exist s a)
+        (λ fault. PrintsRefusal-exist (cert_refusal fault))
 
-pub Replays-unique : (text lanes steps : List ℕ) (end other : End) (out printed : List ℕ) → Replays text lanes steps end out → Replays text lanes steps other printed → (end ≡ other) × (out ≡ printed)
-Replays-unique text lanes steps end other out printed =
-    MatchResult-unique (declaration text) (λ s. ReplaysDeclared s lanes steps) IsRefused end other out printed
-    (λ s declared. ReplaysDeclared-unique steps lanes s end other out printed) (λ r. IsRefused-unique r end other out printed)
+pub ReplaysRun-unique : (text lanes steps : List ℕ) (end other : End) (out printed : List ℕ) → ReplaysRun text lanes steps end out → ReplaysRun text lanes steps other printed → (end ≡ other) × (out ≡ printed)
+ReplaysRun-unique text lanes steps end other out printed =
+    MatchResult-unique (declaration text) (λ s. ReplaysDeclared s lanes steps) PrintsRefusal end other out printed
+    (λ s declared. ReplaysDeclared-unique steps lanes s end other out printed) (λ r. PrintsRefusal-unique r end other out printed)
 
-pub Replays-exist : (text lanes steps : List ℕ) → (end : End) × (out : List ℕ) × Replays text lanes steps end out
-Replays-exist text lanes steps =
-    MatchResult-exist (declaration text) (λ s. ReplaysDeclared s lanes steps) IsRefused (λ s declared. ReplaysDeclared-exist steps lanes s) IsRefused-exist
+pub ReplaysRun-exist : (text lanes steps : List ℕ) → (end : End) × (out : List ℕ) × ReplaysRun text lanes steps end out
+ReplaysRun-exist text lanes steps =
+    MatchResult-exist (declaration text) (λ s. ReplaysDeclared s lanes steps) PrintsRefusal (λ s declared. ReplaysDeclared-exist steps lanes s) PrintsRefusal-exist

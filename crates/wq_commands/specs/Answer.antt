@@ -22,8 +22,8 @@ abbrev pub refusal_text : Refusal → List ℕ
 refusal_text r = line_text (codes "refused" ∷ decimal r.code ∷ codes "line" ∷ decimal r.line ∷ [])
 
 -- a text is refused, and that is printed
-abbrev pub IsRefused : Refusal → End → List ℕ → Type 0
-IsRefused r end out = (end ≡ Refused) × (out ≡ refusal_text r)
+abbrev pub PrintsRefusal : Refusal → End → List ℕ → Type 0
+PrintsRefusal r end out = (end ≡ Refused) × (out ≡ refusal_text r)
 
 -- what a text declares, without its names
 abbrev pub declared_waits : Declared → Declaration
@@ -65,4 +65,4 @@ AnswersDeclared s Refused out = ⊥
 -- the answer to a text: the answer to what it declares, or its refusal
 abbrev pub Answers : List ℕ → End → List ℕ → Type 0
 Answers text end out =
-    MatchResult (declaration text) (λ s. AnswersDeclared s end out) (λ r. IsRefused r end out)
+    MatchResult (declaration text) (λ s. AnswersDeclared s end out) (λ r. PrintsRefusal r end out)

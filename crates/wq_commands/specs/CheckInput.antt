@@ -7,7 +7,7 @@ use Rattle.wq_commands.specs.declared.end.End.TheVariants.{Good}
 use Rattle.wq_commands.specs.Checking.{Checks}
 use Rattle.wq_commands.specs.Declaration.{max_declaration}
 use Rattle.wq_meter.specs.Input.{Gives}
-use Rattle.wq_commands.specs.Replaying.{Replays}
+use Rattle.wq_commands.specs.Replaying.{ReplaysRun}
 use Rattle.wq_commands.specs.YesIsTrue.{YesIsTrue}
 
 -- this is the checker's answer to the declaration and the certificate that two readers had
@@ -31,4 +31,4 @@ pub record ReplaysInput {D S R : Type 0} (known : D → Option (List ℕ)) (assi
   pub assignment : Gives assigned a_old a_new max_certificate lanes
   pub steps : List ℕ
   pub run : Gives listed r_old r_new max_certificate steps
-  pub answer : Replays text lanes steps end out
+  pub answer : ReplaysRun text lanes steps end out

@@ -7,12 +7,12 @@ use Rattle.wq_cert.specs.Texts.{answer_of, cert_refusal}
 use Rattle.wq_checker.specs.declared.answer.Yes.{Yes}
 use Rattle.wq_checker.specs.declared.answer.Yes.TheVariants as yes
 use Rattle.wq_checker.specs.declared.answer.No.{No}
-use Rattle.wq_checker.specs.declared.answer.No.TheVariants.{NotFalling, LengthDiffers, ChainBroken, CircleBroken, RunBroken}
+use Rattle.wq_checker.specs.declared.answer.No.TheVariants.{NotFalling, ChainBroken, CircleBroken}
 use Rattle.wq_checker.specs.Answers.{AnswersCertificate}
 use Rattle.wq_checker.specs.Codes.{no_code}
 use Rattle.wq_commands.specs.declared.end.End.{End}
 use Rattle.wq_commands.specs.declared.end.End.TheVariants.{Good, Bad}
-use Rattle.wq_commands.specs.Answer.{declared_waits, IsRefused}
+use Rattle.wq_commands.specs.Answer.{declared_waits, PrintsRefusal}
 use Rattle.wq_commands.specs.Declaration.{Declared, declaration}
 
 -- the words of a yes: `yes K` or `yes circle N`
@@ -24,9 +24,8 @@ yes_words (yes.Circle n) = codes "yes" ∷ codes "circle" ∷ decimal n ∷ []
 abbrev pub no_details : List (List ℕ) → No → List (List ℕ)
 no_details names (NotFalling item target) = name_of names item ∷ name_of names target ∷ []
 no_details names (ChainBroken at) = decimal at ∷ []
-no_details names LengthDiffers = []
 no_details names (CircleBroken at) = decimal at ∷ []
-no_details names RunBroken = []
+no_details names _ = []
 
 -- the words of a no: `no 50 ITEM TARGET`, `no 51 AT`, `no 52`, `no 53 AT` or `no 54`
 abbrev pub no_words : List (List ℕ) → No → List (List ℕ)
@@ -35,10 +34,7 @@ no_words names reason = codes "no" ∷ decimal (no_code reason) ∷ no_details n
 -- the items that a no names exist
 abbrev pub NamesItems : List (List ℕ) → No → Type 0
 NamesItems names (NotFalling item target) = (item < length names) × (target < length names)
-NamesItems names (ChainBroken at) = Unit {0}
-NamesItems names LengthDiffers = Unit {0}
-NamesItems names (CircleBroken at) = Unit {0}
-NamesItems names RunBroken = Unit {0}
+NamesItems names _ = Unit {0}
 
 -- the answer that the checker gives is printed: a yes is good, a no is bad
 abbrev pub PrintsCheck : List (List ℕ) → Result Yes No → End → List ℕ → Type 0
@@ -54,8 +50,8 @@ abbrev pub ChecksDeclared : Declared → List ℕ → End → List ℕ → Type 
 ChecksDeclared s text end out =
     MatchResult (answer_of s.table.names s.partition text)
     (λ c. AnswersCheck s c end out)
-    (λ fault. IsRefused (cert_refusal fault) end out)
+    (λ fault. PrintsRefusal (cert_refusal fault) end out)
 
 -- the answer to a declaration text and the text of a certificate: a refusal of the declaration comes first
 abbrev pub Checks : List ℕ → List ℕ → End → List ℕ → Type 0
-Checks declared text end out = MatchResult (declaration declared) (λ s. ChecksDeclared s text end out) (λ r. IsRefused r end out)
+Checks declared text end out = MatchResult (declaration declared) (λ s. ChecksDeclared s text end out) (λ r. PrintsRefusal r end out)

@@ -13,7 +13,7 @@ use Rattle.wq_commands.specs.Answer.{Answers}
 use Rattle.wq_commands.specs.Checking.{Checks}
 use Rattle.wq_commands.specs.Deadlocking.{Judges}
 use Rattle.wq_commands.specs.Declaration.{max_declaration}
-use Rattle.wq_commands.specs.Replaying.{Replays}
+use Rattle.wq_commands.specs.Replaying.{ReplaysRun}
 use Rattle.wq_commands.specs.Why.{SaysAssigned, SaysChecked, SaysDeclared, SaysReplayed}
 
 -- ---- how many texts there are, and how long they may be
@@ -47,7 +47,7 @@ JudgesTexts texts outcome out = Judges texts.first texts.second outcome.end out 
 -- `replay`: how a run ends under a declaration and an assignment
 abbrev pub ReplaysTexts : Given → Outcome → List ℕ → Type 0
 ReplaysTexts texts outcome out =
-    Replays texts.first texts.second texts.third outcome.end out × SaysReplayed texts.first texts.second texts.third outcome.why
+    ReplaysRun texts.first texts.second texts.third outcome.end out × SaysReplayed texts.first texts.second texts.third outcome.why
 
 -- ---- ends
 

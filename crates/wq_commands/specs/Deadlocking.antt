@@ -10,7 +10,7 @@ use Rattle.wq_cert.specs.RunText.{run_text}
 use Rattle.wq_cert.specs.Texts.{assignment_of_text, cert_refusal}
 use Rattle.wq_commands.specs.declared.end.End.{End}
 use Rattle.wq_commands.specs.declared.end.End.TheVariants.{Good, Bad, Refused}
-use Rattle.wq_commands.specs.Answer.{declared_waits, IsRefused}
+use Rattle.wq_commands.specs.Answer.{declared_waits, PrintsRefusal}
 use Rattle.wq_commands.specs.Declaration.{Declared, declaration}
 
 -- `safe`
@@ -28,8 +28,8 @@ JudgesAssigned s a Refused out = ⊥
 -- the verdict on the text of an assignment of a declaration, or its refusal
 abbrev pub JudgesDeclared : Declared → List ℕ → End → List ℕ → Type 0
 JudgesDeclared s text end out =
-    MatchResult (assignment_of_text s.table.names s.partition text) (λ a. JudgesAssigned s a end out) (λ fault. IsRefused (cert_refusal fault) end out)
+    MatchResult (assignment_of_text s.table.names s.partition text) (λ a. JudgesAssigned s a end out) (λ fault. PrintsRefusal (cert_refusal fault) end out)
 
 -- the verdict on the texts of a declaration and an assignment: a refusal of the declaration comes first
 abbrev pub Judges : List ℕ → List ℕ → End → List ℕ → Type 0
-Judges declared text end out = MatchResult (declaration declared) (λ s. JudgesDeclared s text end out) (λ r. IsRefused r end out)
+Judges declared text end out = MatchResult (declaration declared) (λ s. JudgesDeclared s text end out) (λ r. PrintsRefusal r end out)

@@ -1,11 +1,9 @@
 -- What a declaration text declares, pass by pass, or what it is refused for.
 use Rattle.std.specs.Prelude.{ℕ, List, Option, Some, None, Result, Ok, Err}
 use Rattle.wq_decl.specs.declared.directive.Directive.{Directive}
-use Rattle.wq_text.specs.declared.text.TextError.{TextError}
 use Rattle.wq_text.specs.Lines.{lines_of}
 use Rattle.wq_text.specs.Limits.{limit_fault, text_refusal}
 use Rattle.wq_text.specs.Refusal.{Refusal}
-use Rattle.wq_decl.specs.declared.fault.DeclError.{DeclError}
 use Rattle.wq_decl.specs.Reading.{first_fault, directives, decl_refusal}
 use Rattle.wq_items.specs.declared.fault.ItemError.{ItemError}
 use Rattle.wq_items.specs.Table.{Table}

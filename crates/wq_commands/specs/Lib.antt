@@ -7,7 +7,9 @@ pub use Rattle.wq_graph.specs.Graph
 pub use Rattle.wq_levels.specs.Walks
 pub use Rattle.wq_plan.specs.Plan
 pub mod Answer
+pub mod DeclaredIn
 pub mod Promise
+pub mod Shown
 pub mod PromiseRead
 pub mod PrintedChecked
 pub mod Checking

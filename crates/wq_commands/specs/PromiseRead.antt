@@ -1,4 +1,4 @@
--- What the readers read from bytes that keep a promise, and what the checker says about it.
+-- What the readers read from bytes that show what is promised, and what the checker says about it.
 use Rattle.std.specs.Prelude.{◌≡◌, ℕ, List, Ok}
 use Rattle.wq_cert.specs.Certificate.{PlanCertificate, CircleCertificate, OfPlan, OfCircle}
 use Rattle.wq_cert.specs.Texts.{answer_of, assignment_of_text}

@@ -10,7 +10,7 @@ use Rattle.wq_checker.specs.declared.run.RunEnd.TheVariants.{NotLawful, Deadlock
 use Rattle.wq_checker.specs.RunEnds.{EndsAs}
 use Rattle.wq_commands.specs.declared.end.End.{End}
 use Rattle.wq_commands.specs.declared.end.End.TheVariants.{Good, Bad}
-use Rattle.wq_commands.specs.Answer.{declared_waits, IsRefused}
+use Rattle.wq_commands.specs.Answer.{declared_waits, PrintsRefusal}
 use Rattle.wq_commands.specs.Declaration.{Declared, declaration}
 
 -- the words of an answer: `open`, `deadlock`, `stuck` or `not lawful N`
@@ -39,14 +39,14 @@ abbrev pub ReplaysAssigned : Declared → Assignment → List ℕ → End → Li
 ReplaysAssigned s a text end out =
     MatchResult (run_of s.table.names text)
     (λ steps. AnswersReplay s a steps end out)
-    (λ fault. IsRefused (cert_refusal fault) end out)
+    (λ fault. PrintsRefusal (cert_refusal fault) end out)
 
 -- the answer to an assignment of a declaration and a run
 abbrev pub ReplaysDeclared : Declared → List ℕ → List ℕ → End → List ℕ → Type 0
 ReplaysDeclared s assigned text end out =
-    MatchResult (assignment_of_text s.table.names s.partition assigned) (λ a. ReplaysAssigned s a text end out) (λ fault. IsRefused (cert_refusal fault) end out)
+    MatchResult (assignment_of_text s.table.names s.partition assigned) (λ a. ReplaysAssigned s a text end out) (λ fault. PrintsRefusal (cert_refusal fault) end out)
 
 -- the answer to the texts of a declaration, an assignment and a run; if any is refused, the refusal of the first such text is
 -- printed
-abbrev pub Replays : List ℕ → List ℕ → List ℕ → End → List ℕ → Type 0
-Replays declared assigned text end out = MatchResult (declaration declared) (λ s. ReplaysDeclared s assigned text end out) (λ r. IsRefused r end out)
+abbrev pub ReplaysRun : List ℕ → List ℕ → List ℕ → End → List ℕ → Type 0
+ReplaysRun declared assigned text end out = MatchResult (declaration declared) (λ s. ReplaysDeclared s assigned text end out) (λ r. PrintsRefusal r end out)

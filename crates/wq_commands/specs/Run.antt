@@ -5,6 +5,7 @@ use Rattle.wq_commands.specs.Answer.{Answers}
 use Rattle.wq_commands.specs.Declaration.{max_declaration}
 use Rattle.wq_meter.specs.Input.{Gives}
 use Rattle.wq_commands.specs.Promise.{KeepsPromise}
+use Rattle.wq_commands.specs.Shown.{ShowsAnswer}
 use Rattle.wq_meter.specs.Meter.{Meter}
 
 -- this is the answer to the text that a reader had; the reader gave its bytes up to the first one past the limit
@@ -17,3 +18,8 @@ pub record AnswersInput {R : Type 0} (remaining : R → Option (List ℕ)) (old 
 pub record KeepsPromiseOfInput {R : Type 0} (remaining : R → Option (List ℕ)) (old new : Meter R) (end : End) (out : List ℕ) : Type 0 where
   pub answered : AnswersInput remaining old new end out
   pub promise : KeepsPromise answered.text end out
+
+-- this is the answer to the text that a reader had, and its bytes show what is said of the answer to that text
+pub record ShowsAnswerOfInput {R : Type 0} (remaining : R → Option (List ℕ)) (old new : Meter R) (end : End) (out : List ℕ) : Type 0 where
+  pub answered : AnswersInput remaining old new end out
+  pub shown : ShowsAnswer answered.text end out

@@ -12,7 +12,6 @@ use Rattle.wq_checker.specs.declared.answer.No.{No}
 use Rattle.wq_checker.specs.Answers.{AnswersCertificate}
 use Rattle.wq_checker.specs.declared.run.RunEnd.{RunEnd}
 use Rattle.wq_checker.specs.declared.run.RunEnd.TheVariants as ends
-use Rattle.wq_checker.specs.declared.run.RunEnd.TheVariants.{Free, Deadlock, Stuck}
 use Rattle.wq_checker.specs.RunEnds.{EndsAs}
 use Rattle.wq_commands.specs.declared.why.Which.{Which}
 use Rattle.wq_commands.specs.declared.why.Which.TheVariants.{Declaration, Certificate as SecondText, Run}
@@ -40,10 +39,8 @@ SaysAssigned declared assigned why =
 
 -- which step isn't lawful, if a run ends like this
 abbrev pub unlawful : RunEnd → Option Why
-unlawful Free = None
-unlawful Deadlock = None
-unlawful Stuck = None
 unlawful (ends.NotLawful n) = Some (NotLawful n)
+unlawful _ = None
 
 -- how these steps end under an assignment says which of them isn't lawful, if one isn't
 abbrev pub SaysSteps : Declared → Assignment → List Step → Option Why → Type 0

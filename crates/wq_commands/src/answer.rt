@@ -118,7 +118,7 @@ fn answer_declared<A: Allocator + Copy>(
 }
 
 /// The answer to the text of a declaration, and its refusal, if it is refused.
-pub(crate) fn answer<A: Allocator + Copy>(
+pub(crate) fn answer_text<A: Allocator + Copy>(
     alloc: A,
     seed: u64,
     text: &[u8],

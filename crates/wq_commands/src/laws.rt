@@ -2,7 +2,8 @@
 //!
 //! The examples are computed by the definitions, so that a reader can compare them with those of the format.
 
-ghost use Rattle.std.specs.Prelude.{◌≡◌, ℕ, ◌+◌, ◌<◌, ◌≤◌, List, length, take, codes, Ok, Err};
+ghost use Rattle.std.specs.Prelude.{◌≡◌, ℕ, ◌+◌, ◌<◌, ◌≤◌, List, length, take, codes, Ok, Err, option_map};
+ghost use Rattle.std.specs.Result.{result_ok};
 ghost use Rattle.wq_items.specs.Table.{IsTable};
 ghost use Rattle.wq_groups.specs.Partition.{IsPartition};
 ghost use Rattle.wq_groups.specs.Declaration.{IsDeclaration};
@@ -19,12 +20,14 @@ ghost use Rattle.wq_lines.specs.LineText.{line_text};
 ghost use Rattle.wq_checker.specs.declared.run.RunEnd.TheVariants.{Deadlock};
 ghost use Rattle.wq_deadlock.specs.CircleRun.{IsCircleRun};
 ghost use Rattle.wq_commands.specs.Answer.{Answers, declared_waits, text_of_plan, text_of_circle};
-ghost use Rattle.wq_commands.specs.Promise.{KeepsPlan, KeepsCircle, KeepsPromise};
+ghost use Rattle.wq_commands.specs.DeclaredIn.{declared_in, named_of};
+ghost use Rattle.wq_commands.specs.Promise.{KeepsPromise};
+ghost use Rattle.wq_commands.specs.Shown.{ShowsPlan, ShowsCircle, ShowsAnswer};
 ghost use Rattle.wq_commands.specs.PromiseRead.{IsReadAsGoodPlan, IsReadAsGoodCircle};
 ghost use Rattle.wq_commands.specs.PrintedChecked.{ChecksYes};
 ghost use Rattle.wq_commands.specs.Checking.{Checks};
 ghost use Rattle.wq_commands.specs.YesIsTrue.{YesIsTrue};
-ghost use Rattle.wq_commands.specs.Replaying.{replay_words, Replays};
+ghost use Rattle.wq_commands.specs.Replaying.{replay_words, ReplaysRun};
 ghost use Rattle.wq_commands.specs.Deadlocking.{Judges};
 ghost use Rattle.wq_commands.specs.Commands.{Plans, ChecksTexts, JudgesTexts, ReplaysTexts};
 ghost use Rattle.wq_meter.specs.Shell.{HasOneAnswer};
@@ -38,21 +41,31 @@ pub fn a_text_has_one_answer()
     ensures out { (text : List ℕ) (end other : End) (out printed : List ℕ) → Answers text end out → Answers text other printed → out ≡ printed }
 {}
 
-/// An answer keeps what it promises. For a plan text: the assignment that it spells lets no run end stuck; every assignment to
-/// fewer workqueues has a run that ends stuck, with each item queued once and flushing as declared; and the printed arcs are
-/// those of a chain of as many groups as there are workqueues. For a circle text: its arcs go round groups; the run that it
-/// spells is such a run where each group has a workqueue of its own; and every assignment has such a run.
+/// A text declares what its passes make of it, and nothing where a pass finds a fault.
+pub fn a_text_declares_what_its_passes_make()
+    ensures { (text : List ℕ) → declared_in text ≡ option_map named_of (result_ok (declaration text)) }
+{}
+
+/// An answer keeps what it promises. For a plan text: its assignment lets no run end stuck; every assignment to fewer workqueues
+/// has a run that ends stuck, with each item queued once and flushing as declared; and the printed arcs lead through as many
+/// groups as there are workqueues. For a circle text: its arcs lead round groups, and every assignment has such a run.
 pub fn an_answer_keeps_its_promise()
     ensures { (text : List ℕ) (end : End) (out : List ℕ) → Answers text end out → KeepsPromise text end out }
 {}
 
-/// The promise that the printed bytes spell a plan or a circle holds for what is read from them: `read_answer` reads exactly this
-/// plan or this circle, `read_assignment` the assignment of the plan, and the checker calls it good.
+/// An answer shows what it promises, within the limits of a certificate: its bytes spell the plan, each flush of which falls to a
+/// workqueue with a lower number; or the circle with a run after it, which deadlocks where each group has a workqueue of its own.
+pub fn an_answer_shows_its_promise()
+    ensures { (text : List ℕ) (end : End) (out : List ℕ) → Answers text end out → ShowsAnswer text end out }
+{}
+
+/// The plan or the circle that the printed bytes show is the one that is read from them: `read_answer` reads exactly this plan or
+/// this circle, `read_assignment` the assignment of the plan, and the checker calls it good.
 pub fn what_is_promised_is_read()
-    ensures plan { (text out : List ℕ) (s : Declared) → declaration text ≡ Ok s → (kept : KeepsPlan s out) →
-        IsReadAsGoodPlan s out kept.plan }
-    ensures circle { (text out : List ℕ) (s : Declared) → declaration text ≡ Ok s → (kept : KeepsCircle s out) →
-        IsReadAsGoodCircle s out kept.circle }
+    ensures plan { (text out : List ℕ) (s : Declared) → declaration text ≡ Ok s → (shown : ShowsPlan s out) →
+        IsReadAsGoodPlan s out shown.plan }
+    ensures circle { (text out : List ℕ) (s : Declared) → declaration text ≡ Ok s → (shown : ShowsCircle s out) →
+        IsReadAsGoodCircle s out shown.circle }
 {}
 
 /// What `plan` prints is answered with yes: for a plan of K workqueues `check` prints `yes K`, and for a circle of N arcs with
@@ -159,7 +172,7 @@ pub fn an_assignment_has_one_verdict()
 
 /// The run that `deadlock` prints is read back: given the same declaration and assignment, `replay` answers `deadlock` to it.
 pub fn a_printed_run_is_replayed_to_a_deadlock()
-    ensures { (declared text out : List ℕ) → Judges declared text Bad out → Replays declared text out Bad (line_text (replay_words Deadlock)) }
+    ensures { (declared text out : List ℕ) → Judges declared text Bad out → ReplaysRun declared text out Bad (line_text (replay_words Deadlock)) }
 {}
 
 /// A declaration and a certificate have one answer of `check` at most: one end, and one text that is printed.
@@ -178,14 +191,14 @@ pub fn a_check_has_an_answer()
 /// A declaration, an assignment and a run have one answer of `replay` at most: one end, and one text that is printed.
 pub fn a_replay_has_one_answer()
     ensures end { (text lanes steps : List ℕ) (end other : End) (out printed : List ℕ) →
-        Replays text lanes steps end out → Replays text lanes steps other printed → end ≡ other }
+        ReplaysRun text lanes steps end out → ReplaysRun text lanes steps other printed → end ≡ other }
     ensures out { (text lanes steps : List ℕ) (end other : End) (out printed : List ℕ) →
-        Replays text lanes steps end out → Replays text lanes steps other printed → out ≡ printed }
+        ReplaysRun text lanes steps end out → ReplaysRun text lanes steps other printed → out ≡ printed }
 {}
 
 /// A declaration, an assignment and a run have an answer of `replay`.
 pub fn a_replay_has_an_answer()
-    ensures { (text lanes steps : List ℕ) → (end : End) × (out : List ℕ) × Replays text lanes steps end out }
+    ensures { (text lanes steps : List ℕ) → (end : End) × (out : List ℕ) × ReplaysRun text lanes steps end out }
 {}
 
 /// Each of `plan`, `check`, `deadlock` and `replay` has at most one answer to its texts: one end, one text that is printed, and one

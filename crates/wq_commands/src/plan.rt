@@ -5,10 +5,10 @@
 ghost use Rattle.std.specs.Prelude.{◌≡◌, ◌≢◌, ◌≤◌, ◌+◌, ℕ, List, Err, IfOk};
 ghost use Rattle.wq_commands.specs.Declaration.{max_declaration};
 ghost use Rattle.wq_meter.specs.Meter.{count_after, LosesPrefix, WritesPrefix, WritesWhole};
-ghost use Rattle.wq_commands.specs.Run.{AnswersInput, KeepsPromiseOfInput};
+ghost use Rattle.wq_commands.specs.Run.{AnswersInput, KeepsPromiseOfInput, ShowsAnswerOfInput};
 ghost use Rattle.wq_commands.specs.declared.end.End.{End};
 
-use crate::answer::answer;
+use crate::answer::answer_text;
 use crate::end::End;
 use crate::limits::ONE_TEXT;
 use crate::outcome::end_of;
@@ -42,7 +42,7 @@ impl<A: Allocator + Copy> Command<A> for PlanCommand {
     }
 
     fn answer(&self, alloc: A, texts: &Texts<A>) -> Result<(Outcome, Vec<u8, A>), AllocError> {
-        let Answered { end, text, why } = answer(alloc, self.seed, texts.first())?;
+        let Answered { end, text, why } = answer_text(alloc, self.seed, texts.first())?;
         Ok((Outcome { end, why }, text))
     }
 }
@@ -68,8 +68,13 @@ pub fn plan_cmd<R: Read, W: Write, A: Allocator + Copy>(
     // This answer is true. For every declaration text that is answered, either the printed assignment lets no run of queueings,
     // cancellations and steps of rescuers and helpers end stuck, and every assignment to fewer workqueues has a run without
     // helpers, with each item queued once and flushing as declared, that ends stuck; or a printed circle of groups is given and
-    // every assignment has such a run. The run after the circle is that of one workqueue for each group.
+    // every assignment has such a run.
     ensures promised { IfOk result (λ end. (out : List ℕ) × KeepsPromiseOfInput R.remaining reader.old reader.new end out
+        × WritesWhole W.contents writer.old writer.new out) }
+
+    // The written bytes show it, within the limits of a certificate: they spell this plan, whose flushes all fall, or this circle
+    // with a run after it, which deadlocks where each group has its own workqueue.
+    ensures shown { IfOk result (λ end. (out : List ℕ) × ShowsAnswerOfInput R.remaining reader.old reader.new end out
         × WritesWhole W.contents writer.old writer.new out) }
 
     // What a fault leaves.

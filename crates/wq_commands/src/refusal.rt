@@ -3,7 +3,7 @@
 //! It takes constant time.
 
 ghost use Rattle.std.specs.Prelude.{◌≡◌, IfOk};
-ghost use Rattle.wq_commands.specs.Answer.{refusal_text, IsRefused};
+ghost use Rattle.wq_commands.specs.Answer.{refusal_text, PrintsRefusal};
 
 use crate::end::End;
 use std::alloc::{AllocError, Allocator};
@@ -32,7 +32,7 @@ pub fn refuse<A: Allocator + Copy>(
     code: u32,
     line: u32,
 ) -> Result<(End, Vec<u8, A>), AllocError>
-    ensures { IfOk result (λ printed. IsRefused (record { code = code; line = line }) printed.0 printed.1.items) }
+    ensures { IfOk result (λ printed. PrintsRefusal (record { code = code; line = line }) printed.0 printed.1.items) }
 {
     let text = refusal_text(alloc, code, line)?;
     Ok((End::Refused, text))

@@ -4,7 +4,7 @@
 
 ghost use Rattle.std.specs.Prelude.{◌≡◌, ◌∷◌, [], ◌<◌, IfOk, length, codes, decimal};
 ghost use Rattle.wq_lines.specs.LineText.{line_text};
-ghost use Rattle.wq_commands.specs.Replaying.{replay_words, replay_end, AnswersReplay, ReplaysAssigned, ReplaysDeclared, Replays};
+ghost use Rattle.wq_commands.specs.Replaying.{replay_words, replay_end, AnswersReplay, ReplaysAssigned, ReplaysDeclared, ReplaysRun};
 ghost use Rattle.wq_commands.specs.Why.{unlawful, SaysSteps, SaysRunUnder, SaysRun, SaysReplayed};
 
 use crate::declaration::{Stop, read_declaration};
@@ -157,7 +157,7 @@ pub(crate) fn replay<A: Allocator + Copy>(
     assigned: &[u8],
     run: &[u8],
 ) -> Result<Answered<A>, AllocError>
-    ensures answer { IfOk result (λ a. Replays text.now assigned.now run.now a.end a.text.items) }
+    ensures answer { IfOk result (λ a. ReplaysRun text.now assigned.now run.now a.end a.text.items) }
     ensures why { IfOk result (λ a. SaysReplayed text.now assigned.now run.now a.why) }
 {
     match read_declaration(alloc, seed, text) {

@@ -4,7 +4,7 @@
 //! texts again to learn it. It takes constant time.
 
 ghost use Rattle.std.specs.Prelude.{◌≡◌, IfOk, None, Some};
-ghost use Rattle.wq_commands.specs.Answer.{IsRefused};
+ghost use Rattle.wq_commands.specs.Answer.{PrintsRefusal};
 ghost use Rattle.wq_commands.specs.declared.end.End.TheVariants.{Bad};
 ghost use Rattle.wq_commands.specs.declared.why.Why.TheVariants.{No as Lacks};
 ghost use Rattle.wq_commands.specs.Why.{refused_for};
@@ -54,7 +54,7 @@ pub struct Answered<A: Allocator> {
 impl<A: Allocator + Copy> Answered<A> {
     /// The answer where this text is refused. The only error is out of memory (20).
     pub fn refused(alloc: A, which: Which, code: u32, line: u32) -> Result<Self, AllocError>
-        ensures printed { IfOk result (λ a. IsRefused (record { code = code; line = line }) a.end a.text.items) }
+        ensures printed { IfOk result (λ a. PrintsRefusal (record { code = code; line = line }) a.end a.text.items) }
         ensures why { IfOk result (λ a. a.why ≡ refused_for which (record { code = code; line = line })) }
     {
         let (end, text) = refuse(alloc, code, line)?;

@@ -5,13 +5,13 @@ use Rattle.wq_core.specs.declared.step.Step.{Step}
 use Rattle.wq_core.specs.Runs.{HasNoHelp}
 use Rattle.wq_core.specs.Wiring.{own_lanes}
 use Rattle.wq_cert.specs.CircleText.{circle_text}
-use Rattle.wq_cert.specs.RunText.{item_in}
+use Rattle.wq_cert.specs.RunText.{step_item}
 use Rattle.wq_deadlock.proofs.OwnLanes.{IsAssignment-own_lanes}
 use Rattle.wq_commands.specs.Answer.{ends_of}
 use Rattle.wq_commands.specs.Declaration.{Declared}
 use Rattle.wq_commands.proofs.AnswerLemmas.{IsSound, ArePrintable-walked}
 use Rattle.wq_commands.proofs.CircleRuns.{IsCircleRun-deadlock, IsAssignmentOf-own_lanes}
-use Rattle.wq_commands.proofs.NamedSteps.{item_in-deadlock, length-deadlock}
+use Rattle.wq_commands.proofs.NamedSteps.{step_item-deadlock, length-deadlock}
 use Rattle.wq_commands.proofs.answer.text_of_circle.Goals as goal
 
 pub run_of_groups-requires-clause-unsafe_groups : goal.run_of_groups-requires-clause-unsafe_groups
@@ -41,7 +41,7 @@ pub circle_text-requires-clause-step_items : goal.circle_text-requires-clause-st
 circle_text-requires-clause-step_items g c =
     let s : Declared = record { table = c.args.table.now; partition = c.args.groups.now } in
     let sound : IsSound s = record { table = c.len-items.ensures.table; partition = c.len-groups.ensures.partition; one_group_each = c.requires.grouped } in
-    subst (All (λ (step : Step). item_in step < length s.table.names)) (sym c.as_slice.ensures.value) (item_in-deadlock s sound (own_lanes s.partition.groups) (IsAssignmentOf-own_lanes s sound) c.in_ok-steps.steps.items c.in_ok-steps.ensures.deadlocks)
+    subst (All (λ (step : Step). step_item step < length s.table.names)) (sym c.as_slice.ensures.value) (step_item-deadlock s sound (own_lanes s.partition.groups) (IsAssignmentOf-own_lanes s sound) c.in_ok-steps.steps.items c.in_ok-steps.ensures.deadlocks)
 
 pub circle_text-requires-clause-no_help : goal.circle_text-requires-clause-no_help
 circle_text-requires-clause-no_help g c = subst HasNoHelp (sym c.as_slice.ensures.value) c.in_ok-steps.ensures.deadlocks.no_help

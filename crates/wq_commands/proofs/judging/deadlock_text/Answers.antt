@@ -2,7 +2,7 @@ use Rattle.std.proofs.Common.{◌≤◌, length, arith}
 use Rattle.wq_cert.specs.Ranges.{IsAssignmentOf}
 use Rattle.wq_commands.specs.Declaration.{Declared}
 use Rattle.wq_commands.proofs.AnswerLemmas.{IsSound}
-use Rattle.wq_commands.proofs.NamedSteps.{item_in-deadlock, length-deadlock}
+use Rattle.wq_commands.proofs.NamedSteps.{step_item-deadlock, length-deadlock}
 use Rattle.wq_commands.proofs.judging.deadlock_text.Goals as goal
 
 pub run_text-requires-clause-few : goal.run_text-requires-clause-few
@@ -22,4 +22,4 @@ run_text-requires-clause-items g c =
     let a = c.args.assignment.now in
     let lanes : a.lanes ≤ 4096 = omega (arith, c.lanes-lanes.ensures.lanes, c.lanes-lanes.ensures.few) in
     let assigned : IsAssignmentOf s.partition.groups a = record { assignment = record { one_each = c.requires.assigned; within = c.lanes-lanes.ensures.within }; few = lanes } in
-    item_in-deadlock s sound a assigned c.args.steps.now c.requires.deadlock.deadlocks
+    step_item-deadlock s sound a assigned c.args.steps.now c.requires.deadlock.deadlocks

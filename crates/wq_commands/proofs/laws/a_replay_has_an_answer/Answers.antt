@@ -1,5 +1,5 @@
-use Rattle.wq_commands.proofs.ReplayAnswers.{Replays-exist}
+use Rattle.wq_commands.proofs.ReplayAnswers.{ReplaysRun-exist}
 use Rattle.wq_commands.proofs.laws.a_replay_has_an_answer.Goals as goal
 
 pub returns : goal.returns
-returns c = Replays-exist
+returns c = ReplaysRun-exist

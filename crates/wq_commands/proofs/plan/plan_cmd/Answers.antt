@@ -1,8 +1,8 @@
 use Rattle.std.proofs.lemmas.Result.{IfOk-weaker}
 use Rattle.std.proofs.Common.{List, ℕ}
 use Rattle.wq_meter.specs.Meter.{WritesWhole}
-use Rattle.wq_commands.specs.Run.{AnswersInput, KeepsPromiseOfInput}
-use Rattle.wq_commands.proofs.PromiseLemmas.{KeepsPromiseOfInput-answered}
+use Rattle.wq_commands.specs.Run.{AnswersInput, KeepsPromiseOfInput, ShowsAnswerOfInput}
+use Rattle.wq_commands.proofs.PromiseLemmas.{KeepsPromiseOfInput-answered, ShowsAnswerOfInput-answered}
 use Rattle.wq_commands.proofs.CommandLemmas.{Plans-kept, ended_with, stopped_by, only_first}
 use Rattle.wq_commands.proofs.plan.plan_cmd.Goals as goal
 
@@ -20,6 +20,14 @@ returns-clause-promised g c =
     (λ end. (out : List ℕ) × KeepsPromiseOfInput g.R.Read.remaining c.args.reader.now c.carry_out-ended.new.first end out
     × WritesWhole g.W.Write.contents c.args.writer.now c.carry_out-ended.new.writer out)
     (λ outcome h. (h.out, KeepsPromiseOfInput-answered outcome.end h.out (record { text = h.texts.first; given = h.from.0; answer = (Plans-kept h.texts outcome h.out h.answer).0 }), h.written))
+    c.carry_out-ended.ensures.answered is) c.end_of.ensures.end
+
+pub returns-clause-shown : goal.returns-clause-shown
+returns-clause-shown g c =
+    IfOk-weaker c.end_of.result _ _ (λ end is. ended_with c.carry_out-ended.result end _
+    (λ end. (out : List ℕ) × ShowsAnswerOfInput g.R.Read.remaining c.args.reader.now c.carry_out-ended.new.first end out
+    × WritesWhole g.W.Write.contents c.args.writer.now c.carry_out-ended.new.writer out)
+    (λ outcome h. (h.out, ShowsAnswerOfInput-answered outcome.end h.out (record { text = h.texts.first; given = h.from.0; answer = (Plans-kept h.texts outcome h.out h.answer).0 }), h.written))
     c.carry_out-ended.ensures.answered is) c.end_of.ensures.end
 
 pub returns-clause-prefix : goal.returns-clause-prefix

@@ -5,7 +5,7 @@ use Rattle.wq_commands.specs.declared.why.Which.TheVariants.{Declaration}
 use Rattle.wq_commands.specs.Why.{refused_for}
 use Rattle.wq_commands.proofs.AnswerLemmas.{Answers-declared}
 use Rattle.wq_commands.proofs.CheckLemmas.{MatchResult-ok}
-use Rattle.wq_commands.proofs.answer.answer.Goals as goal
+use Rattle.wq_commands.proofs.answer.answer_text.Goals as goal
 
 pub returns-in-Ok-clause-answer : goal.returns-in-Ok-clause-answer
 returns-in-Ok-clause-answer g c =
