@@ -12,7 +12,7 @@ const BREAKS_AT: usize = 10;
 
 /// How far a request has come.
 #[derive(Clone, Copy, PartialEq, Eq)]
-enum Stage {
+enum RequestStage {
     Free,
     Waiting,
     Noted,
@@ -32,7 +32,7 @@ enum Link {
 /// All requests, and the connection.
 #[derive(Drop)]
 pub(crate) struct Disk {
-    stages: [Stage; REQUESTS],
+    stages: [RequestStage; REQUESTS],
     link: Link,
     /// How many records the log has.
     pub(crate) noted: u32,
@@ -46,7 +46,7 @@ impl Disk {
     /// A disk without requests.
     pub(crate) fn new() -> Disk {
         Disk {
-            stages: [Stage::Free; REQUESTS],
+            stages: [RequestStage::Free; REQUESTS],
             link: Link::Fresh,
             noted: 0,
             sent: 0,
@@ -57,15 +57,15 @@ impl Disk {
     /// Adds a request that has come in.
     pub(crate) fn submit(&mut self, request: usize) {
         if let Some(stage) = self.stages.get_mut(request) {
-            *stage = Stage::Waiting;
+            *stage = RequestStage::Waiting;
         }
     }
 
     /// Writes a record of each request that is waiting.
     pub(crate) fn note(&mut self) {
         for stage in self.stages.iter_mut() {
-            if *stage == Stage::Waiting {
-                *stage = Stage::Noted;
+            if *stage == RequestStage::Waiting {
+                *stage = RequestStage::Noted;
                 self.noted = self.noted.saturating_add(1);
             }
         }
@@ -75,14 +75,14 @@ impl Disk {
     pub(crate) fn transmit(&mut self) {
         for (request, stage) in self.stages.iter_mut().enumerate() {
             let is_up = matches!(self.link, Link::Fresh | Link::Mended);
-            if !is_up || *stage != Stage::Noted {
+            if !is_up || *stage != RequestStage::Noted {
                 continue;
             }
             self.sent = self.sent.saturating_add(1);
             if request == BREAKS_AT && self.link == Link::Fresh {
                 self.link = Link::Lost;
             } else {
-                *stage = Stage::Sent;
+                *stage = RequestStage::Sent;
             }
         }
     }
@@ -91,8 +91,8 @@ impl Disk {
     /// lost.
     pub(crate) fn end_requests(&mut self) -> bool {
         for stage in self.stages.iter_mut() {
-            if *stage == Stage::Sent {
-                *stage = Stage::Answered;
+            if *stage == RequestStage::Sent {
+                *stage = RequestStage::Answered;
             }
         }
         let is_lost = self.link == Link::Lost;
@@ -109,6 +109,6 @@ impl Disk {
 
     /// Whether the requests from `first` on, up to `end`, were answered.
     pub(crate) fn are_answered(&self, first: usize, end: usize) -> bool {
-        (first..end).all(|request| self.stages.get(request) == Some(&Stage::Answered))
+        (first..end).all(|request| self.stages.get(request) == Some(&RequestStage::Answered))
     }
 }

@@ -1,13 +1,13 @@
 //! Cases of `circles`, with an assignment and without one.
 
-use crate::command::{Case, Command};
+use crate::command::{Case, PlainCommand};
 use crate::declarations::{CHAIN, GROUPED, LANES, PLAN_OF_TWO, TWO};
 use wq_commands::End;
 
 pub(crate) const CIRCLES: &[Case] = &[
     Case {
         name: "lanes that wait in a circle",
-        command: Command::Circles,
+        command: PlainCommand::Circles,
         texts: &[CHAIN, LANES],
         end: End::Bad,
         answer: "components 1\ncomponent 2\narc a b\narc b c\n",
@@ -15,7 +15,7 @@ pub(crate) const CIRCLES: &[Case] = &[
     },
     Case {
         name: "safe lanes without a circle",
-        command: Command::Circles,
+        command: PlainCommand::Circles,
         texts: &[TWO, PLAN_OF_TWO],
         end: End::Good,
         answer: "safe\n",
@@ -23,7 +23,7 @@ pub(crate) const CIRCLES: &[Case] = &[
     },
     Case {
         name: "lanes of no item",
-        command: Command::Circles,
+        command: PlainCommand::Circles,
         texts: &[TWO, "wq 0 a\n"],
         end: End::Refused,
         answer: "refused 41 line 0\n",
@@ -33,7 +33,7 @@ c: `b` is on no workqueue [refused 41, `wqplan explain 41`]
     },
     Case {
         name: "circles of a declaration that is none",
-        command: Command::Circles,
+        command: PlainCommand::Circles,
         texts: &["item\n", "nope\n"],
         end: End::Refused,
         answer: "refused 5 line 1\n",
@@ -45,7 +45,7 @@ d:1:5: a name is missing [refused 5, `wqplan explain 5`]
     },
     Case {
         name: "groups that wait in a circle",
-        command: Command::OwnCircles,
+        command: PlainCommand::OwnCircles,
         texts: &[GROUPED],
         end: End::Bad,
         answer: "components 1\ncomponent 2\narc a b\narc c d\n",
@@ -53,7 +53,7 @@ d:1:5: a name is missing [refused 5, `wqplan explain 5`]
     },
     Case {
         name: "two components",
-        command: Command::OwnCircles,
+        command: PlainCommand::OwnCircles,
         texts: &["item a\nitem b\nitem c\nflush c c\nflush a b\nflush b a c\n"],
         end: End::Bad,
         answer: "components 2\ncomponent 2\narc a b\narc b a\ncomponent 1\narc c c\n",
@@ -61,7 +61,7 @@ d:1:5: a name is missing [refused 5, `wqplan explain 5`]
     },
     Case {
         name: "groups without a circle",
-        command: Command::OwnCircles,
+        command: PlainCommand::OwnCircles,
         texts: &[CHAIN],
         end: End::Good,
         answer: "safe\n",
@@ -69,7 +69,7 @@ d:1:5: a name is missing [refused 5, `wqplan explain 5`]
     },
     Case {
         name: "circles of an item twice",
-        command: Command::OwnCircles,
+        command: PlainCommand::OwnCircles,
         texts: &["item a\nitem a\n"],
         end: End::Refused,
         answer: "refused 7 line 2\n",

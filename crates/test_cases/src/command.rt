@@ -13,7 +13,7 @@ use wq_commands::{
     CheckCommand, DeadlockCommand, End, Fault, Metered, Outcome, PlanCommand, ReplayCommand,
     carry_out, end_of,
 };
-use wq_diagnosis::{Diagnosing, Kind};
+use wq_diagnosis::{CertificateKind, Diagnosing};
 use wq_dot::DotCommand;
 
 /// The seed of the hashes of names. No answer depends on it.
@@ -21,7 +21,7 @@ pub const SEED: u64 = 0;
 
 /// A command that takes no threads.
 #[derive(Clone, Copy)]
-pub enum Command {
+pub enum PlainCommand {
     Plan,
     Check,
     Deadlock,
@@ -36,27 +36,30 @@ pub enum Command {
     OwnDot,
 }
 
-impl Command {
+impl PlainCommand {
     /// How many texts it has.
     pub fn texts(self) -> usize {
         match self {
-            Command::Plan | Command::OwnCircles | Command::OwnDot => 1,
-            Command::Check | Command::Deadlock | Command::Circles | Command::Dot => 2,
-            Command::Replay => 3,
+            PlainCommand::Plan | PlainCommand::OwnCircles | PlainCommand::OwnDot => 1,
+            PlainCommand::Check
+            | PlainCommand::Deadlock
+            | PlainCommand::Circles
+            | PlainCommand::Dot => 2,
+            PlainCommand::Replay => 3,
         }
     }
 
     /// The words by which it is asked for.
     pub fn words(self) -> &'static str {
         match self {
-            Command::Plan => "plan DECL",
-            Command::Check => "check DECL CERT",
-            Command::Deadlock => "deadlock DECL ASSIGN",
-            Command::Replay => "replay DECL ASSIGN RUN",
-            Command::Circles => "circles DECL ASSIGN",
-            Command::OwnCircles => "circles DECL",
-            Command::Dot => "dot DECL ASSIGN",
-            Command::OwnDot => "dot DECL",
+            PlainCommand::Plan => "plan DECL",
+            PlainCommand::Check => "check DECL CERT",
+            PlainCommand::Deadlock => "deadlock DECL ASSIGN",
+            PlainCommand::Replay => "replay DECL ASSIGN RUN",
+            PlainCommand::Circles => "circles DECL ASSIGN",
+            PlainCommand::OwnCircles => "circles DECL",
+            PlainCommand::Dot => "dot DECL ASSIGN",
+            PlainCommand::OwnDot => "dot DECL",
         }
     }
 }
@@ -64,7 +67,7 @@ impl Command {
 /// A command, its texts in turn, how it ends on them, what it writes, and what it says then.
 pub struct Case {
     pub name: &'static str,
-    pub command: Command,
+    pub command: PlainCommand,
     pub texts: &'static [&'static str],
     pub end: End,
     pub answer: &'static str,
@@ -96,11 +99,11 @@ pub struct Readers<R> {
 const NAMES: (&str, &str, &str) = ("d", "c", "r");
 
 /// What is said of the texts of a command.
-fn voice(command: Command) -> Diagnosing<'static> {
+fn voice(command: PlainCommand) -> Diagnosing<'static> {
     let (declaration, certificate, run) = NAMES;
     let kind = match command {
-        Command::Check => Kind::Answer,
-        _ => Kind::Assignment,
+        PlainCommand::Check => CertificateKind::Answer,
+        _ => CertificateKind::Assignment,
     };
     Diagnosing {
         seed: SEED,
@@ -138,7 +141,7 @@ where
 /// Performs a command over as many of these readers as it has texts, and says on `teller` what there is to be said.
 pub fn perform<A: Allocator + Copy, R: Read, W: Write, E: Write>(
     alloc: A,
-    command: Command,
+    command: PlainCommand,
     readers: &mut Readers<R>,
     writer: &mut Metered<W>,
     teller: &mut Metered<E>,
@@ -146,8 +149,8 @@ pub fn perform<A: Allocator + Copy, R: Read, W: Write, E: Write>(
     let seed = SEED;
     let voice = voice(command);
     match command {
-        Command::Plan => carry(alloc, &PlanCommand { seed }, voice, readers, writer, teller),
-        Command::Check => carry(
+        PlainCommand::Plan => carry(alloc, &PlanCommand { seed }, voice, readers, writer, teller),
+        PlainCommand::Check => carry(
             alloc,
             &CheckCommand { seed },
             voice,
@@ -155,7 +158,7 @@ pub fn perform<A: Allocator + Copy, R: Read, W: Write, E: Write>(
             writer,
             teller,
         ),
-        Command::Deadlock => carry(
+        PlainCommand::Deadlock => carry(
             alloc,
             &DeadlockCommand { seed },
             voice,
@@ -163,7 +166,7 @@ pub fn perform<A: Allocator + Copy, R: Read, W: Write, E: Write>(
             writer,
             teller,
         ),
-        Command::Replay => carry(
+        PlainCommand::Replay => carry(
             alloc,
             &ReplayCommand { seed },
             voice,
@@ -171,13 +174,13 @@ pub fn perform<A: Allocator + Copy, R: Read, W: Write, E: Write>(
             writer,
             teller,
         ),
-        Command::Circles | Command::OwnCircles => {
-            let assigned = matches!(command, Command::Circles);
+        PlainCommand::Circles | PlainCommand::OwnCircles => {
+            let assigned = matches!(command, PlainCommand::Circles);
             let command = CirclesCommand { seed, assigned };
             carry(alloc, &command, voice, readers, writer, teller)
         }
-        Command::Dot | Command::OwnDot => {
-            let assigned = matches!(command, Command::Dot);
+        PlainCommand::Dot | PlainCommand::OwnDot => {
+            let assigned = matches!(command, PlainCommand::Dot);
             let command = DotCommand { seed, assigned };
             carry(alloc, &command, voice, readers, writer, teller)
         }

@@ -1,6 +1,6 @@
 //! Cases of `deadlock`.
 
-use crate::command::{Case, Command};
+use crate::command::{Case, PlainCommand};
 use crate::declarations::{
     CHAIN, CROSSED, CROSSED_HANGS, HANGS, LANES, PLAN_OF_TWO, TWO, TWO_FLUSHES,
 };
@@ -9,7 +9,7 @@ use wq_commands::End;
 pub(crate) const DEADLOCKS: &[Case] = &[
     Case {
         name: "lanes that hang",
-        command: Command::Deadlock,
+        command: PlainCommand::Deadlock,
         texts: &[CHAIN, LANES],
         end: End::Bad,
         answer: HANGS,
@@ -17,7 +17,7 @@ pub(crate) const DEADLOCKS: &[Case] = &[
     },
     Case {
         name: "two lanes that hang",
-        command: Command::Deadlock,
+        command: PlainCommand::Deadlock,
         texts: &[TWO_FLUSHES, CROSSED],
         end: End::Bad,
         answer: CROSSED_HANGS,
@@ -25,7 +25,7 @@ pub(crate) const DEADLOCKS: &[Case] = &[
     },
     Case {
         name: "safe lanes",
-        command: Command::Deadlock,
+        command: PlainCommand::Deadlock,
         texts: &[CHAIN, "wq 0 b\nwq 1\nwq 2 a\nwq 3 c\n"],
         end: End::Good,
         answer: "safe\n",
@@ -33,7 +33,7 @@ pub(crate) const DEADLOCKS: &[Case] = &[
     },
     Case {
         name: "lanes of a plan",
-        command: Command::Deadlock,
+        command: PlainCommand::Deadlock,
         texts: &[TWO, PLAN_OF_TWO],
         end: End::Good,
         answer: "safe\n",
@@ -41,7 +41,7 @@ pub(crate) const DEADLOCKS: &[Case] = &[
     },
     Case {
         name: "lanes without an item",
-        command: Command::Deadlock,
+        command: PlainCommand::Deadlock,
         texts: &[TWO, "wq 0 a\n"],
         end: End::Refused,
         answer: "refused 41 line 0\n",
@@ -51,7 +51,7 @@ c: `b` is on no workqueue [refused 41, `wqplan explain 41`]
     },
     Case {
         name: "a declaration and lanes that are none",
-        command: Command::Deadlock,
+        command: PlainCommand::Deadlock,
         texts: &["item\n", "nope\n"],
         end: End::Refused,
         answer: "refused 5 line 1\n",

@@ -1,6 +1,6 @@
 //! Cases of what is said of texts that are refused, and of certificates to which `check` says no.
 //!
-//! Each was written by hand from "Diagnoses" in docs/FORMAT.md; tests/diagnoses has many more. A call takes the time of reading
+//! Each was written by hand from "Diagnoses" in docs/FORMAT.md; tests/cli/diagnoses has many more. A call takes the time of reading
 //! the texts and of seeking the fault in them.
 
 use crate::command::SEED;
@@ -8,8 +8,8 @@ use crate::declarations::{PLAN_OF_TWO, TWO};
 use std::alloc::{AllocError, Allocator};
 use wq_commands::{CheckCommand, Command, Texts, Voice};
 use wq_diagnosis::{
-    Diagnosing, Kind, Source, of_certificate, of_declaration, of_no, of_no_item, of_too_many,
-    of_unlawful, of_unread,
+    CertificateKind, Diagnosing, Source, of_certificate, of_declaration, of_no, of_no_item,
+    of_too_many, of_unlawful, of_unread,
 };
 
 /// What is asked to say what is wrong.
@@ -362,7 +362,12 @@ fn say_of_check<A: Allocator + Copy>(
     let texts = Texts::new(first, second, Vec::new(alloc));
     let command = CheckCommand { seed: SEED };
     let (outcome, _) = command.answer(alloc, &texts)?;
-    let voice = Diagnosing::two(SEED, declaration.file, Kind::Answer, certificate.file);
+    let voice = Diagnosing::two(
+        SEED,
+        declaration.file,
+        CertificateKind::Answer,
+        certificate.file,
+    );
     voice.say(alloc, &texts, &outcome)
 }
 
@@ -383,9 +388,15 @@ pub fn say<A: Allocator + Copy>(alloc: A, case: &Said) -> Result<Option<Vec<u8, 
     };
     match case.saying {
         Saying::OfDeclaration => of_declaration(alloc, SEED, declaration),
-        Saying::OfAnswer => of_certificate(alloc, SEED, Kind::Answer, text, certificate),
-        Saying::OfAssignment => of_certificate(alloc, SEED, Kind::Assignment, text, certificate),
-        Saying::OfRun => of_certificate(alloc, SEED, Kind::Run, text, certificate),
+        Saying::OfAnswer => of_certificate(alloc, SEED, CertificateKind::Answer, text, certificate),
+        Saying::OfAssignment => of_certificate(
+            alloc,
+            SEED,
+            CertificateKind::Assignment,
+            text,
+            certificate,
+        ),
+        Saying::OfRun => of_certificate(alloc, SEED, CertificateKind::Run, text, certificate),
         Saying::OfNo => of_no(alloc, SEED, text, certificate),
         Saying::OfNoItem => of_no_item(alloc, SEED, declaration),
         Saying::OfTooMany => Ok(Some(of_too_many(alloc, declaration)?)),

@@ -1,6 +1,6 @@
 //! Cases of `dot`, with an assignment and without one.
 
-use crate::command::{Case, Command};
+use crate::command::{Case, PlainCommand};
 use crate::declarations::{CHAIN, GROUPED, LANES, TWO};
 use wq_commands::End;
 
@@ -93,7 +93,7 @@ digraph wqplan {
 pub(crate) const DRAWINGS: &[Case] = &[
     Case {
         name: "a drawing of a plan",
-        command: Command::OwnDot,
+        command: PlainCommand::OwnDot,
         texts: &[TWO],
         end: End::Good,
         answer: DRAWN_PLAN,
@@ -101,7 +101,7 @@ pub(crate) const DRAWINGS: &[Case] = &[
     },
     Case {
         name: "a drawing of a circle of groups",
-        command: Command::OwnDot,
+        command: PlainCommand::OwnDot,
         texts: &[GROUPED],
         end: End::Good,
         answer: DRAWN_GROUPS,
@@ -109,7 +109,7 @@ pub(crate) const DRAWINGS: &[Case] = &[
     },
     Case {
         name: "a drawing of a declaration that is none",
-        command: Command::OwnDot,
+        command: PlainCommand::OwnDot,
         texts: &["items a\n"],
         end: End::Refused,
         answer: "refused 4 line 1\n",
@@ -121,7 +121,7 @@ d:1:1: `items` isn't a directive [refused 4, `wqplan explain 4`]
     },
     Case {
         name: "a drawing of safe lanes",
-        command: Command::Dot,
+        command: PlainCommand::Dot,
         texts: &[TWO, "wq 0 b\nwq 1\nwq 2 a\n"],
         end: End::Good,
         answer: DRAWN_SAFE,
@@ -129,7 +129,7 @@ d:1:1: `items` isn't a directive [refused 4, `wqplan explain 4`]
     },
     Case {
         name: "a drawing of lanes that hang",
-        command: Command::Dot,
+        command: PlainCommand::Dot,
         texts: &[CHAIN, LANES],
         end: End::Good,
         answer: DRAWN_LANES,
@@ -137,7 +137,7 @@ d:1:1: `items` isn't a directive [refused 4, `wqplan explain 4`]
     },
     Case {
         name: "a drawing of lanes that are none",
-        command: Command::Dot,
+        command: PlainCommand::Dot,
         texts: &[TWO, "wq 1 a b\n"],
         end: End::Refused,
         answer: "refused 43 line 1\n",

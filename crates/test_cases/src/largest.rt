@@ -1,4 +1,4 @@
-//! The largest declaration of examples/, byte for byte that of examples/xfs.wq and examples/xfs.assign, as tests/examples.sh tests.
+//! The largest declaration of examples/, byte for byte that of examples/xfs.wq and examples/xfs.assign, as tests/cli/examples.sh tests.
 
 /// examples/xfs.wq.
 pub const LARGEST: &str = "\

@@ -2,7 +2,7 @@
 //! requests for memory. It is a library of the tests.
 //!
 //! Each answer was worked out by hand from docs/FORMAT.md, but for those of the largest declaration in examples/, whose answers
-//! are the texts of the commands after it. There are many more cases in tests/rows, for the program. What a case does is tested;
+//! are the texts of the commands after it. There are many more cases in tests/cli/rows, for the program. What a case does is tested;
 //! that the heap is an allocator is proved.
 #![tactic(auto)]
 
@@ -20,7 +20,7 @@ mod refusing_heap;
 mod replays;
 mod runs;
 
-pub use command::{Case, Command, Readers, SEED, cases, perform};
+pub use command::{Case, PlainCommand, Readers, SEED, cases, perform};
 pub use declarations::TWO;
 pub use diagnoses::{Said, Saying, say, sayings};
 pub use fakes::{Endless, Failure, Fake};

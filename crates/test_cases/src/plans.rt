@@ -1,13 +1,13 @@
 //! Cases of `plan`.
 
-use crate::command::{Case, Command};
+use crate::command::{Case, PlainCommand};
 use crate::declarations::{CHAIN_OF_FOUR, CIRCLE, EACH_OTHER, GROUPED, ITSELF, PLAN_OF_TWO, TWO};
 use wq_commands::End;
 
 pub(crate) const PLANS: &[Case] = &[
     Case {
         name: "a plan",
-        command: Command::Plan,
+        command: PlainCommand::Plan,
         texts: &[TWO],
         end: End::Good,
         answer: PLAN_OF_TWO,
@@ -15,7 +15,7 @@ pub(crate) const PLANS: &[Case] = &[
     },
     Case {
         name: "a plan of groups",
-        command: Command::Plan,
+        command: PlainCommand::Plan,
         texts: &["item a\nitem b\nitem c\nitem d\nordered b c\nflush a b\nflush c d\n"],
         end: End::Good,
         answer: "plan 3\nwq 0 d\nwq 1 b c\nwq 2 a\nchain 3\narc a b\narc c d\n",
@@ -23,7 +23,7 @@ pub(crate) const PLANS: &[Case] = &[
     },
     Case {
         name: "a plan of a chain and an item beside it",
-        command: Command::Plan,
+        command: PlainCommand::Plan,
         texts: &[CHAIN_OF_FOUR],
         end: End::Good,
         answer: "plan 3\nwq 0 c d\nwq 1 b\nwq 2 a\nchain 3\narc a b\narc b c\n",
@@ -31,7 +31,7 @@ pub(crate) const PLANS: &[Case] = &[
     },
     Case {
         name: "no item",
-        command: Command::Plan,
+        command: PlainCommand::Plan,
         texts: &[""],
         end: End::Good,
         answer: "plan 0\nchain 0\n",
@@ -41,7 +41,7 @@ d: note: no item is declared: is this the right file?
     },
     Case {
         name: "a circle",
-        command: Command::Plan,
+        command: PlainCommand::Plan,
         texts: &[ITSELF],
         end: End::Bad,
         answer: CIRCLE,
@@ -49,7 +49,7 @@ d: note: no item is declared: is this the right file?
     },
     Case {
         name: "a circle of two items",
-        command: Command::Plan,
+        command: PlainCommand::Plan,
         texts: &[EACH_OTHER],
         end: End::Bad,
         answer: "circle 2\narc a b\narc b a\nrun 6\nqueue a\nqueue b\nstart 0 a\nwait 0 b\nstart 1 b\nwait 1 a\n",
@@ -57,7 +57,7 @@ d: note: no item is declared: is this the right file?
     },
     Case {
         name: "a circle of groups",
-        command: Command::Plan,
+        command: PlainCommand::Plan,
         texts: &[GROUPED],
         end: End::Bad,
         answer: "circle 2\narc a b\narc c d\nrun 8\nqueue a\nqueue c\nqueue b\nqueue d\nstart 0 a\nwait 0 b\nstart 1 c\nwait 1 d\n",
@@ -65,7 +65,7 @@ d: note: no item is declared: is this the right file?
     },
     Case {
         name: "a circle within a group",
-        command: Command::Plan,
+        command: PlainCommand::Plan,
         texts: &["item a\nitem b\nitem c\nordered c b\nflush a c\nflush c b\n"],
         end: End::Bad,
         answer: "circle 1\narc c b\nrun 7\nqueue c\nqueue a\nqueue b\nstart 0 a\nwait 0 c\nstart 1 c\nwait 1 b\n",
@@ -73,7 +73,7 @@ d: note: no item is declared: is this the right file?
     },
     Case {
         name: "a line that is none",
-        command: Command::Plan,
+        command: PlainCommand::Plan,
         texts: &["item a\nitems b\n"],
         end: End::Refused,
         answer: "refused 4 line 2\n",
@@ -85,7 +85,7 @@ d:2:1: `items` isn't a directive [refused 4, `wqplan explain 4`]
     },
     Case {
         name: "an item twice",
-        command: Command::Plan,
+        command: PlainCommand::Plan,
         texts: &["item a\nitem a\n"],
         end: End::Refused,
         answer: "refused 7 line 2\n",
@@ -97,7 +97,7 @@ d:2:6: the item `a` is declared twice [refused 7, `wqplan explain 7`]
     },
     Case {
         name: "an item that isn't there",
-        command: Command::Plan,
+        command: PlainCommand::Plan,
         texts: &["item a\nitem b\nflush a b\nflush b c\n"],
         end: End::Refused,
         answer: "refused 8 line 4\n",
@@ -109,7 +109,7 @@ d:4:9: no item `c` is declared above this line [refused 8, `wqplan explain 8`]
     },
     Case {
         name: "an item in two groups",
-        command: Command::Plan,
+        command: PlainCommand::Plan,
         texts: &["item a\nitem b\nordered a b\nordered b\n"],
         end: End::Refused,
         answer: "refused 11 line 4\n",

@@ -1,13 +1,13 @@
 //! Cases of `replay`.
 
-use crate::command::{Case, Command};
+use crate::command::{Case, PlainCommand};
 use crate::declarations::{CHAIN, HANGS, LANES, TWO};
 use wq_commands::End;
 
 pub(crate) const REPLAYS: &[Case] = &[
     Case {
         name: "a run that hangs",
-        command: Command::Replay,
+        command: PlainCommand::Replay,
         texts: &[CHAIN, LANES, HANGS],
         end: End::Bad,
         answer: "deadlock\n",
@@ -15,7 +15,7 @@ pub(crate) const REPLAYS: &[Case] = &[
     },
     Case {
         name: "a run within a workqueue that hangs",
-        command: Command::Replay,
+        command: PlainCommand::Replay,
         texts: &[
             TWO,
             "wq 0 a b\n",
@@ -27,7 +27,7 @@ pub(crate) const REPLAYS: &[Case] = &[
     },
     Case {
         name: "a run that goes on",
-        command: Command::Replay,
+        command: PlainCommand::Replay,
         texts: &[TWO, "wq 0 a b\n", "run 2\nqueue a\nstart 0 a\n"],
         end: End::Good,
         answer: "open\n",
@@ -35,7 +35,7 @@ pub(crate) const REPLAYS: &[Case] = &[
     },
     Case {
         name: "a step that isn't lawful",
-        command: Command::Replay,
+        command: PlainCommand::Replay,
         texts: &[TWO, "wq 0 a b\n", "run 1\nstart 0 a\n"],
         end: End::Bad,
         answer: "not lawful 1\n",
@@ -47,7 +47,7 @@ r:2:9: nothing is pending on workqueue 0 [not lawful 1]
     },
     Case {
         name: "an assignment that is none",
-        command: Command::Replay,
+        command: PlainCommand::Replay,
         texts: &[TWO, "wq 0 a\n", "run 0\n"],
         end: End::Refused,
         answer: "refused 41 line 0\n",
@@ -57,7 +57,7 @@ c: `b` is on no workqueue [refused 41, `wqplan explain 41`]
     },
     Case {
         name: "a run of four thousand million steps",
-        command: Command::Replay,
+        command: PlainCommand::Replay,
         texts: &[TWO, "wq 0 a b\n", "run 4294967295\n"],
         end: End::Refused,
         answer: "refused 40 line 0\n",
@@ -67,7 +67,7 @@ r: expected a step, but the text ends [refused 40, `wqplan explain 40`]
     },
     Case {
         name: "a run that is none",
-        command: Command::Replay,
+        command: PlainCommand::Replay,
         texts: &[TWO, "wq 0 a b\n", "run 1\nnope\n"],
         end: End::Refused,
         answer: "refused 40 line 2\n",

@@ -11,7 +11,7 @@ use wq_commands::{End, Fault, Metered};
 
 /// How a run ended, what it wrote and said, and how many bytes of its heap it left in use.
 #[derive(Drop)]
-struct Ran {
+struct HeapRun {
     end: Result<End, Fault>,
     written: Vec<u8>,
     said: Vec<u8>,
@@ -19,7 +19,7 @@ struct Ran {
 }
 
 /// Runs a case with a heap of this many bytes. What is written and said is of another one.
-fn run_in(alloc: Global, size: usize, case: &Case) -> Result<Ran, AllocError> {
+fn run_in(alloc: Global, size: usize, case: &Case) -> Result<HeapRun, AllocError> {
     let heap = LocalHeap::new(alloc, size)?;
     let mut readers = Readers {
         first: Metered::new(case.text(0)),
@@ -29,7 +29,7 @@ fn run_in(alloc: Global, size: usize, case: &Case) -> Result<Ran, AllocError> {
     let mut writer = Metered::new(Vec::new(alloc));
     let mut teller = Metered::new(Vec::new(alloc));
     let end = perform(&heap, case.command, &mut readers, &mut writer, &mut teller);
-    Ok(Ran {
+    Ok(HeapRun {
         end,
         written: writer.into_inner(),
         said: teller.into_inner(),
@@ -49,7 +49,7 @@ enum Reached {
 }
 
 /// What a run came to, if it ended as it may.
-fn judged(ran: &Ran, case: &Case) -> Option<Reached> {
+fn judged(ran: &HeapRun, case: &Case) -> Option<Reached> {
     let said = ran.said.as_slice();
     let is_answered = ran.end == Ok(case.end) && ran.written.as_slice() == case.answer.as_bytes();
     if ran.end == Err(Fault::Memory) && ran.written.is_empty() && said.is_empty() {

@@ -2,7 +2,7 @@
 //!
 //! Here are readers, writers and heaps of the tests' own, calls whose results no answer shows, and a plan that is found in another
 //! way. What they rely on: docs/FORMAT.md and docs/DEFINITIONS.md, from which each expected value was worked out by hand. Texts and
-//! the answers to them are in tests/rows and tests/book, for the programs. Each test takes a few seconds at most.
+//! the answers to them are in tests/cli/rows and tests/runtime/book, for the programs. Each test takes a few seconds at most.
 //!
 //! Tests are proved as any code is. So they are few, each over a table of cases, and they assert one truth value in place of
 //! comparing tuples.

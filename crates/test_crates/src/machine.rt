@@ -1,8 +1,8 @@
 //! The machine: what it says of steps, of the work that is left and of its lanes.
 //!
 //! The rules are those of "The machine" in docs/DEFINITIONS.md, from which each number and each refusal was worked out by hand. Which
-//! steps are lawful and which numbers they give is tested in tests/rows and tests/book, too. The tests take time in the number of
-//! steps.
+//! steps are lawful and which numbers they give is tested in tests/cli/rows and tests/runtime/book, too. The tests take time in the
+//! number of steps.
 
 use crate::declared::{core_in, helped_core_in};
 use std::alloc::{Allocator, Global};

@@ -10,7 +10,7 @@ mod sessions;
 mod testbed;
 
 use crate::loads::Load;
-use crate::sessions::{Request, Task, answer};
+use crate::sessions::{Task, TaskText, answer};
 use crate::testbed::{
     MAX_HELPERS, MAX_TEXT, Setting, ended, misused, print_answer, read_file, read_texts, unread,
     without_helpers, words,
@@ -75,7 +75,7 @@ fn perform<R: Files + Print + AllocGlobal + Threads + Wait + Clock + Sync>(
         Some(path) => read_file(rt, path, MAX_TEXT)?,
         None => Vec::new(rt.alloc()),
     };
-    let request = Request {
+    let request = TaskText {
         task: order.task,
         text: &text,
     };

@@ -23,4 +23,4 @@ mod sleeping;
 
 pub use answering::answer;
 pub use ran::put_contexts;
-pub use requests::{Request, Task};
+pub use requests::{Task, TaskText};

@@ -6,7 +6,7 @@ use crate::devices::Devices;
 use std::alloc::Allocator;
 use std::sync::Wait;
 use std::thread::Threads;
-use test_cases::{Case, Command, RunCase, SEED, perform};
+use test_cases::{Case, PlainCommand, RunCase, SEED, perform};
 use wq_commands::{End, Fault};
 use wq_diagnosis::Diagnosing;
 use wq_explain::{Explained, explain_cmd};
@@ -14,50 +14,50 @@ use wq_run::{CommandFault, carry_out_run, end_of_run};
 
 /// What is asked for.
 #[derive(Clone, Copy)]
-pub(crate) enum Order {
+pub(crate) enum AnyCommand {
     /// A command that takes no threads.
-    Of(Command),
+    Of(PlainCommand),
     /// `run`.
     Run,
     /// `explain` of a word, or of all.
     Explain(Option<&'static str>),
 }
 
-impl Order {
+impl AnyCommand {
     /// The words by which it is asked for.
     pub(crate) fn words(self) -> &'static str {
         match self {
-            Order::Of(command) => command.words(),
-            Order::Run => "run DECL",
-            Order::Explain(_) => "explain",
+            AnyCommand::Of(command) => command.words(),
+            AnyCommand::Run => "run DECL",
+            AnyCommand::Explain(_) => "explain",
         }
     }
 
     /// How many texts it has.
     pub(crate) fn texts(self) -> usize {
         match self {
-            Order::Of(command) => command.texts(),
-            Order::Run => 1,
-            Order::Explain(_) => 0,
+            AnyCommand::Of(command) => command.texts(),
+            AnyCommand::Run => 1,
+            AnyCommand::Explain(_) => 0,
         }
     }
 }
 
 /// What is asked for, its texts in turn, how it ends on them, what it writes, and what it says then.
 #[derive(Clone, Copy)]
-pub(crate) struct Asked<'t, 'a> {
-    pub(crate) order: Order,
+pub(crate) struct Wanted<'t, 'a> {
+    pub(crate) order: AnyCommand,
     pub(crate) texts: [&'t [u8]; 3],
     pub(crate) end: End,
     pub(crate) answer: &'a [u8],
     pub(crate) said: &'a [u8],
 }
 
-impl<'t> Asked<'t, '_> {
+impl<'t> Wanted<'t, '_> {
     /// What a case asks for.
-    pub(crate) fn of(case: &Case) -> Asked<'static, 'static> {
-        Asked {
-            order: Order::Of(case.command),
+    pub(crate) fn of(case: &Case) -> Wanted<'static, 'static> {
+        Wanted {
+            order: AnyCommand::Of(case.command),
             texts: [case.text(0), case.text(1), case.text(2)],
             end: case.end,
             answer: case.answer.as_bytes(),
@@ -66,9 +66,9 @@ impl<'t> Asked<'t, '_> {
     }
 
     /// What a case of `run` asks for.
-    pub(crate) fn of_run(case: &RunCase) -> Asked<'static, 'static> {
-        Asked {
-            order: Order::Run,
+    pub(crate) fn of_run(case: &RunCase) -> Wanted<'static, 'static> {
+        Wanted {
+            order: AnyCommand::Run,
             texts: [case.text.as_bytes(), b"", b""],
             end: case.end,
             answer: case.answer.as_bytes(),
@@ -123,11 +123,11 @@ fn run<R: Threads + Wait + Sync, A: Allocator + Copy + Send + Sync>(
 pub(crate) fn carry<R: Threads + Wait + Sync, A: Allocator + Copy + Send + Sync>(
     rt: &R,
     alloc: A,
-    order: Order,
+    order: AnyCommand,
     devices: &mut Devices<'_>,
 ) -> Result<End, CommandFault> {
     match order {
-        Order::Of(command) => {
+        AnyCommand::Of(command) => {
             let Devices {
                 readers,
                 writer,
@@ -135,7 +135,7 @@ pub(crate) fn carry<R: Threads + Wait + Sync, A: Allocator + Copy + Send + Sync>
             } = devices;
             Ok(perform(alloc, command, readers, writer, teller)?)
         }
-        Order::Run => run(rt, alloc, devices),
-        Order::Explain(word) => Ok(explain(alloc, word, devices)?),
+        AnyCommand::Run => run(rt, alloc, devices),
+        AnyCommand::Explain(word) => Ok(explain(alloc, word, devices)?),
     }
 }

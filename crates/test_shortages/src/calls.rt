@@ -3,7 +3,7 @@
 //! What each call answers was worked out by hand from "Runtimes" in docs/RUNTIME.md. They take time in the rows of the history.
 
 use crate::closing::closes;
-use crate::trial::Outcome;
+use crate::trial::TrialEnd;
 use std::alloc::Allocator;
 use std::sync::Wait;
 use wq_api::{CallError, CloseWhy, Closed, Naming, Seat, SeatError, WqRuntime};
@@ -82,17 +82,17 @@ pub(crate) fn sit<N: Naming, R: Wait, A: Allocator + Copy>(
     ample: A,
     heap: A,
     runtime: WqRuntime<N, A>,
-) -> Outcome {
+) -> TrialEnd {
     match runtime.seat(rt, heap) {
         Ok(mut seat) => {
             let is_answered = make_calls(rt, &runtime, &mut seat);
             if close_twice(ample, runtime, seat) && is_answered {
-                Outcome::Answered
+                TrialEnd::Answered
             } else {
-                Outcome::Wrong
+                TrialEnd::Wrong
             }
         }
-        Err(SeatError::OutOfMemory) if closes(runtime, Vec::new(ample)) => Outcome::Refused,
-        Err(_) => Outcome::Wrong,
+        Err(SeatError::OutOfMemory) if closes(runtime, Vec::new(ample)) => TrialEnd::Refused,
+        Err(_) => TrialEnd::Wrong,
     }
 }

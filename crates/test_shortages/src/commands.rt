@@ -1,6 +1,6 @@
 //! The cases of the commands. They take the time of all runs.
 
-use crate::asked::Asked;
+use crate::asked::Wanted;
 use crate::failing::put_failing;
 use crate::memory::put_memory;
 use std::io;
@@ -13,7 +13,7 @@ use test_cases::{Case, cases, run_cases};
 pub(crate) fn put_asked<R: Print + AllocGlobal + Threads + Wait + Sync>(
     rt: &R,
     name: &str,
-    asked: Asked<'_, '_>,
+    asked: Wanted<'_, '_>,
 ) -> io::Result<bool> {
     let memory = put_memory(rt, name, asked)?;
     let failing = put_failing(rt, name, asked)?;
@@ -27,7 +27,7 @@ fn put_table<R: Print + AllocGlobal + Threads + Wait + Sync>(
 ) -> io::Result<bool> {
     let mut is_right = true;
     for case in table {
-        is_right &= put_asked(rt, case.name, Asked::of(case))?;
+        is_right &= put_asked(rt, case.name, Wanted::of(case))?;
     }
     Ok(is_right)
 }
@@ -47,7 +47,7 @@ pub(crate) fn put_cases<R: Print + AllocGlobal + Threads + Wait + Sync>(
 pub(crate) fn put_runs<R: Print + AllocGlobal + Threads + Wait + Sync>(rt: &R) -> io::Result<bool> {
     let mut is_right = true;
     for case in run_cases() {
-        is_right &= put_asked(rt, case.name, Asked::of_run(case))?;
+        is_right &= put_asked(rt, case.name, Wanted::of_run(case))?;
     }
     Ok(is_right)
 }

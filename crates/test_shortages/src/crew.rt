@@ -6,7 +6,7 @@ ghost use Rattle.std.specs.Prelude.{◌≡◌, length};
 ghost use Rattle.wq_core.specs.Wiring.{items};
 
 use crate::closing::closes;
-use crate::trial::Outcome;
+use crate::trial::TrialEnd;
 use std::alloc::Allocator;
 use std::sync::Wait;
 use std::thread::Threads;
@@ -21,14 +21,14 @@ pub(crate) fn serve<
     N: Naming + Send + Sync,
     R: Threads + Wait + Sync,
     A: Allocator + Copy + Send + Sync,
->(rt: &R, ample: A, heap: A, runtime: WqRuntime<N, A>, table: &ItemTable<'_, A>) -> Outcome
+>(rt: &R, ample: A, heap: A, runtime: WqRuntime<N, A>, table: &ItemTable<'_, A>) -> TrialEnd
     requires { items N.wiring ≡ length table.now.waits }
 {
     let Ok(bodies) = script_bodies(ample, table, count_contexts(rt, &runtime)) else {
-        return Outcome::Wrong;
+        return TrialEnd::Wrong;
     };
     let Ok(callers) = script_callers(ample, table.len()) else {
-        return Outcome::Wrong;
+        return TrialEnd::Wrong;
     };
     match run_all(rt, heap, &runtime, bodies, callers) {
         Ok(
@@ -40,9 +40,9 @@ pub(crate) fn serve<
             },
         ) => {
             if closes(runtime, seats) && (finished, faults) == (2, 0) {
-                Outcome::Answered
+                TrialEnd::Answered
             } else {
-                Outcome::Wrong
+                TrialEnd::Wrong
             }
         }
         Err(
@@ -55,9 +55,9 @@ pub(crate) fn serve<
         ) => {
             let handed_back = (bodies.len(), callers.len());
             if closes(runtime, seats) && (why, handed_back) == (RunWhy::OutOfMemory, (2, 2)) {
-                Outcome::Refused
+                TrialEnd::Refused
             } else {
-                Outcome::Wrong
+                TrialEnd::Wrong
             }
         }
     }

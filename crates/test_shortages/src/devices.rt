@@ -2,7 +2,7 @@
 //!
 //! A call takes the time of the command.
 
-use crate::asked::{Asked, Order, carry};
+use crate::asked::{AnyCommand, Wanted, carry};
 use std::alloc::{Allocator, Global};
 use std::sync::Wait;
 use std::thread::Threads;
@@ -69,7 +69,7 @@ pub(crate) fn failing_writer(
 
 /// How a command ended, what was counted of its devices, and what it wrote and said.
 #[derive(Drop)]
-pub(crate) struct Ran {
+pub(crate) struct DeviceRun {
     pub(crate) end: Result<End, CommandFault>,
     pub(crate) reads: [Counts; 3],
     pub(crate) writes: Counts,
@@ -78,14 +78,14 @@ pub(crate) struct Ran {
     pub(crate) said: Vec<u8>,
 }
 
-impl Ran {
+impl DeviceRun {
     /// Whether it is answered as it should be.
-    pub(crate) fn is_answered(&self, asked: &Asked<'_, '_>) -> bool {
+    pub(crate) fn is_answered(&self, asked: &Wanted<'_, '_>) -> bool {
         self.end == Ok(asked.end) && self.written.as_slice() == asked.answer
     }
 
     /// Whether it is answered, and all is said that there is to be said.
-    pub(crate) fn is_whole(&self, asked: &Asked<'_, '_>) -> bool {
+    pub(crate) fn is_whole(&self, asked: &Wanted<'_, '_>) -> bool {
         self.is_answered(asked) && self.said.as_slice() == asked.said
     }
 
@@ -109,16 +109,16 @@ fn counts<D>(metered: &Metered<D>) -> Counts {
 pub(crate) fn run_over<R: Threads + Wait + Sync, A: Allocator + Copy + Send + Sync>(
     rt: &R,
     alloc: A,
-    order: Order,
+    order: AnyCommand,
     mut devices: Devices<'_>,
-) -> Ran {
+) -> DeviceRun {
     let end = carry(rt, alloc, order, &mut devices);
     let Devices {
         readers,
         writer,
         teller,
     } = devices;
-    Ran {
+    DeviceRun {
         end,
         reads: [
             counts(&readers.first),
@@ -136,9 +136,14 @@ pub(crate) fn run_over<R: Threads + Wait + Sync, A: Allocator + Copy + Send + Sy
 pub(crate) fn answered<R: Threads + Wait + Sync>(
     rt: &R,
     alloc: Global,
-    order: Order,
+    order: AnyCommand,
     texts: [&[u8]; 3],
 ) -> Result<(End, Vec<u8>), CommandFault> {
-    let Ran { end, written, .. } = run_over(rt, alloc, order, Devices::new(alloc, texts, WHOLE));
+    let DeviceRun { end, written, .. } = run_over(
+        rt,
+        alloc,
+        order,
+        Devices::new(alloc, texts, WHOLE),
+    );
     Ok((end?, written))
 }

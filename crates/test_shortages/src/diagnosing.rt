@@ -1,17 +1,17 @@
 //! The cases of what is said of texts that are refused. They take the time of all runs.
 
-use crate::trial::{Outcome, put_trial};
+use crate::trial::{TrialEnd, put_trial};
 use std::alloc::{AllocError, Global};
 use std::io;
 use test_cases::{RefusingHeap, Said, say, sayings};
 
 /// How a case ends with this heap.
-fn outcome(heap: &RefusingHeap<Global>, case: &Said) -> Outcome {
+fn outcome(heap: &RefusingHeap<Global>, case: &Said) -> TrialEnd {
     match say(heap, case) {
-        Ok(Some(said)) if said.as_slice() == case.said.as_bytes() => Outcome::Answered,
-        Ok(None) if case.said.is_empty() => Outcome::Answered,
-        Err(AllocError) => Outcome::Refused,
-        Ok(_) => Outcome::Wrong,
+        Ok(Some(said)) if said.as_slice() == case.said.as_bytes() => TrialEnd::Answered,
+        Ok(None) if case.said.is_empty() => TrialEnd::Answered,
+        Err(AllocError) => TrialEnd::Refused,
+        Ok(_) => TrialEnd::Wrong,
     }
 }
 

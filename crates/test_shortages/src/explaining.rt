@@ -1,7 +1,7 @@
 //! The command `explain`, of a number, of a word that has no explanation, and of all. What it answers with enough memory is what it
-//! should answer; tests/explain.sh says what that is. It takes the time of all runs.
+//! should answer; tests/cli/explain.sh says what that is. It takes the time of all runs.
 
-use crate::asked::{Asked, Order};
+use crate::asked::{AnyCommand, Wanted};
 use crate::commands::put_asked;
 use crate::devices::answered;
 use std::io;
@@ -19,11 +19,11 @@ fn put_word<R: Print + AllocGlobal + Threads + Wait + Sync>(
     name: &str,
     word: Option<&'static str>,
 ) -> io::Result<bool> {
-    let (order, texts) = (Order::Explain(word), no_texts());
+    let (order, texts) = (AnyCommand::Explain(word), no_texts());
     let Ok((end, answer)) = answered(rt, rt.alloc(), order, texts) else {
         return Ok(false);
     };
-    let asked = Asked {
+    let asked = Wanted {
         order,
         texts,
         end,

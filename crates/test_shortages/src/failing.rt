@@ -1,9 +1,9 @@
 //! Commands over devices that move a byte a call, or a few, and with each call of a device failing in turn. It takes the time of all
 //! runs.
 
-use crate::asked::Asked;
+use crate::asked::Wanted;
 use crate::devices::{
-    CHUNK, Counts, Devices, Pieces, Ran, UNASKED, WHOLE, failing_writer, run_over,
+    CHUNK, Counts, DeviceRun, Devices, Pieces, UNASKED, WHOLE, failing_writer, run_over,
 };
 use std::alloc::Global;
 use std::io::{self, ErrorKind};
@@ -35,15 +35,15 @@ const ONE: Pieces = Pieces {
 
 /// How many runs ended as they should, and how many did not.
 #[derive(Clone, Copy)]
-struct Tally {
+struct DeviceTally {
     right: u64,
     wrong: u64,
 }
 
 /// No run.
-const NONE: Tally = Tally { right: 0, wrong: 0 };
+const NONE: DeviceTally = DeviceTally { right: 0, wrong: 0 };
 
-impl Tally {
+impl DeviceTally {
     /// Counts a run.
     fn note(&mut self, is_right: bool) {
         let count = if is_right {
@@ -74,7 +74,7 @@ fn failed(successes: u32) -> Counts {
 }
 
 /// What is counted of the reader of a text that is read to its end, one byte a call. A command asks only for texts that it has.
-fn read_one_by_one(asked: &Asked<'_, '_>, at: usize) -> Counts {
+fn read_one_by_one(asked: &Wanted<'_, '_>, at: usize) -> Counts {
     if at >= asked.order.texts() {
         return UNASKED;
     }
@@ -83,7 +83,7 @@ fn read_one_by_one(asked: &Asked<'_, '_>, at: usize) -> Counts {
 }
 
 /// Whether a command over devices of one byte a call is answered, and asks for each byte once.
-fn is_one_by_one(ran: &Ran, asked: &Asked<'_, '_>) -> bool {
+fn is_one_by_one(ran: &DeviceRun, asked: &Wanted<'_, '_>) -> bool {
     let [first, second, third] = ran.reads;
     ran.is_whole(asked)
         && first == read_one_by_one(asked, 0)
@@ -94,7 +94,7 @@ fn is_one_by_one(ran: &Ran, asked: &Asked<'_, '_>) -> bool {
 }
 
 /// What is counted of the reader of a text, where the one of the text at `at` failed: it isn't asked, if it comes later.
-fn read_before(asked: &Asked<'_, '_>, text: usize, at: usize, successes: u32) -> Counts {
+fn read_before(asked: &Wanted<'_, '_>, text: usize, at: usize, successes: u32) -> Counts {
     if text < at {
         at_once(asked.text(text))
     } else if text == at {
@@ -105,7 +105,7 @@ fn read_before(asked: &Asked<'_, '_>, text: usize, at: usize, successes: u32) ->
 }
 
 /// Whether a read of the text at `at` was the end of a command, after so many that gave a byte each.
-fn is_unread(ran: &Ran, asked: &Asked<'_, '_>, at: usize, successes: u32) -> bool {
+fn is_unread(ran: &DeviceRun, asked: &Wanted<'_, '_>, at: usize, successes: u32) -> bool {
     let [first, second, third] = ran.reads;
     ran.end == Err(CommandFault::Common(Fault::Read))
         && ran.is_untouched()
@@ -115,7 +115,7 @@ fn is_unread(ran: &Ran, asked: &Asked<'_, '_>, at: usize, successes: u32) -> boo
 }
 
 /// Whether a write was the end of a command, after so many that took a byte each.
-fn is_unwritten(ran: &Ran, asked: &Asked<'_, '_>, successes: u32) -> bool {
+fn is_unwritten(ran: &DeviceRun, asked: &Wanted<'_, '_>, successes: u32) -> bool {
     ran.end == Err(CommandFault::Common(Fault::Write))
         && ran.is_silent()
         && ran.writes == failed(successes)
@@ -123,7 +123,7 @@ fn is_unwritten(ran: &Ran, asked: &Asked<'_, '_>, successes: u32) -> bool {
 }
 
 /// Whether a command is answered, and only the first bytes are said, a call for each.
-fn is_cut_short(ran: &Ran, asked: &Asked<'_, '_>, successes: u32) -> bool {
+fn is_cut_short(ran: &DeviceRun, asked: &Wanted<'_, '_>, successes: u32) -> bool {
     ran.is_answered(asked)
         && ran.tells == failed(successes)
         && asked.said.get(..successes as usize) == Some(ran.said.as_slice())
@@ -133,7 +133,7 @@ fn is_cut_short(ran: &Ran, asked: &Asked<'_, '_>, successes: u32) -> bool {
 fn fail_read<R: Threads + Wait + Sync>(
     rt: &R,
     alloc: Global,
-    asked: &Asked<'_, '_>,
+    asked: &Wanted<'_, '_>,
     at: usize,
     successes: u32,
     failure: Failure,
@@ -172,7 +172,7 @@ fn fail_read<R: Threads + Wait + Sync>(
 fn fail_write<R: Threads + Wait + Sync>(
     rt: &R,
     alloc: Global,
-    asked: &Asked<'_, '_>,
+    asked: &Wanted<'_, '_>,
     successes: u32,
     failure: Failure,
 ) -> bool {
@@ -186,7 +186,7 @@ fn fail_write<R: Threads + Wait + Sync>(
 fn fail_tell<R: Threads + Wait + Sync>(
     rt: &R,
     alloc: Global,
-    asked: &Asked<'_, '_>,
+    asked: &Wanted<'_, '_>,
     successes: u32,
     failure: Failure,
 ) -> bool {
@@ -205,9 +205,9 @@ fn count(bytes: &[u8]) -> u32 {
 fn fail_reads<R: Threads + Wait + Sync>(
     rt: &R,
     alloc: Global,
-    asked: &Asked<'_, '_>,
+    asked: &Wanted<'_, '_>,
     failure: Failure,
-    tally: &mut Tally,
+    tally: &mut DeviceTally,
 ) {
     for at in 0..asked.order.texts() {
         for successes in 0..=count(asked.text(at)) {
@@ -220,9 +220,9 @@ fn fail_reads<R: Threads + Wait + Sync>(
 fn fail_writes<R: Threads + Wait + Sync>(
     rt: &R,
     alloc: Global,
-    asked: &Asked<'_, '_>,
+    asked: &Wanted<'_, '_>,
     failure: Failure,
-    tally: &mut Tally,
+    tally: &mut DeviceTally,
 ) {
     for successes in 0..count(asked.answer) {
         tally.note(fail_write(rt, alloc, asked, successes, failure));
@@ -233,9 +233,9 @@ fn fail_writes<R: Threads + Wait + Sync>(
 fn fail_tells<R: Threads + Wait + Sync>(
     rt: &R,
     alloc: Global,
-    asked: &Asked<'_, '_>,
+    asked: &Wanted<'_, '_>,
     failure: Failure,
-    tally: &mut Tally,
+    tally: &mut DeviceTally,
 ) {
     for successes in 0..count(asked.said) {
         tally.note(fail_tell(rt, alloc, asked, successes, failure));
@@ -244,14 +244,14 @@ fn fail_tells<R: Threads + Wait + Sync>(
 
 /// The runs over devices that move a few bytes a call, and of those over devices of which a call fails.
 #[derive(Clone, Copy)]
-struct Tallies {
-    pieces: Tally,
-    reads: Tally,
-    writes: Tally,
-    tells: Tally,
+struct DeviceTallies {
+    pieces: DeviceTally,
+    reads: DeviceTally,
+    writes: DeviceTally,
+    tells: DeviceTally,
 }
 
-impl Tallies {
+impl DeviceTallies {
     /// Whether all of these ended as they should.
     fn are_right(&self) -> bool {
         let wrong = (
@@ -265,7 +265,11 @@ impl Tallies {
 }
 
 /// Tries a command over devices that move a few bytes a call.
-fn put_in_pieces<R: Threads + Wait + Sync>(rt: &R, alloc: Global, asked: &Asked<'_, '_>) -> Tally {
+fn put_in_pieces<R: Threads + Wait + Sync>(
+    rt: &R,
+    alloc: Global,
+    asked: &Wanted<'_, '_>,
+) -> DeviceTally {
     let mut tally = NONE;
     for (reads, writes, tells) in [
         (1, 5, 2),
@@ -286,8 +290,8 @@ fn put_in_pieces<R: Threads + Wait + Sync>(rt: &R, alloc: Global, asked: &Asked<
 }
 
 /// Tries a command over all these devices.
-fn tried<R: Threads + Wait + Sync>(rt: &R, alloc: Global, asked: &Asked<'_, '_>) -> Tallies {
-    let mut tallies = Tallies {
+fn tried<R: Threads + Wait + Sync>(rt: &R, alloc: Global, asked: &Wanted<'_, '_>) -> DeviceTallies {
+    let mut tallies = DeviceTallies {
         pieces: put_in_pieces(rt, alloc, asked),
         reads: NONE,
         writes: NONE,
@@ -305,7 +309,11 @@ fn tried<R: Threads + Wait + Sync>(rt: &R, alloc: Global, asked: &Asked<'_, '_>)
 
 /// How many calls there are of all readers, of the writer and of the teller, where each moves one byte. Nothing where the command
 /// isn't answered so, or asks for more.
-fn calls<R: Threads + Wait + Sync>(rt: &R, alloc: Global, asked: &Asked<'_, '_>) -> Option<Counts> {
+fn calls<R: Threads + Wait + Sync>(
+    rt: &R,
+    alloc: Global,
+    asked: &Wanted<'_, '_>,
+) -> Option<Counts> {
     let devices = Devices::new(alloc, asked.texts, ONE);
     let ran = run_over(rt, alloc, asked.order, devices);
     if !is_one_by_one(&ran, asked) {
@@ -322,7 +330,7 @@ fn calls<R: Threads + Wait + Sync>(rt: &R, alloc: Global, asked: &Asked<'_, '_>)
 pub(crate) fn put_failing<R: Print + AllocGlobal + Threads + Wait + Sync>(
     rt: &R,
     name: &str,
-    asked: Asked<'_, '_>,
+    asked: Wanted<'_, '_>,
 ) -> io::Result<bool> {
     let words = asked.order.words();
     let Some((reads, writes, tells)) = calls(rt, rt.alloc(), &asked) else {

@@ -1,18 +1,18 @@
 //! Each command on the largest declaration of examples/. What it answers with enough memory is what it should answer, and
 //! is the certificate of the commands after it. No text is refused, so nothing is said. It takes the time of all runs.
 
-use crate::asked::{Asked, Order};
+use crate::asked::{AnyCommand, Wanted};
 use crate::devices::answered;
 use crate::memory::put_memory;
 use std::io;
 use std::sync::Wait;
 use std::thread::Threads;
-use test_cases::{Command, LARGEST, LARGEST_LANES, LARGEST_ON_ONE};
+use test_cases::{LARGEST, LARGEST_LANES, LARGEST_ON_ONE, PlainCommand};
 
 /// Tries a command on these texts: the largest declaration, and two more. Gives its answer, if all runs ended as they should.
 fn put_largest<'t, R: Print + AllocGlobal + Threads + Wait + Sync>(
     rt: &R,
-    order: Order,
+    order: AnyCommand,
     name: &str,
     first: &'t [u8],
     second: &'t [u8],
@@ -22,7 +22,7 @@ fn put_largest<'t, R: Print + AllocGlobal + Threads + Wait + Sync>(
     let Ok((end, answer)) = answered(rt, rt.alloc(), order, texts) else {
         return Ok(None);
     };
-    let asked = Asked {
+    let asked = Wanted {
         order,
         texts,
         end,
@@ -36,13 +36,13 @@ fn put_largest<'t, R: Print + AllocGlobal + Threads + Wait + Sync>(
 /// Tries a command on the largest declaration and another text. Gives whether all runs ended as they should.
 fn put_with<R: Print + AllocGlobal + Threads + Wait + Sync>(
     rt: &R,
-    command: Command,
+    command: PlainCommand,
     name: &str,
     second: &[u8],
 ) -> io::Result<bool> {
     let answer = put_largest(
         rt,
-        Order::Of(command),
+        AnyCommand::Of(command),
         name,
         LARGEST.as_bytes(),
         second,
@@ -57,24 +57,27 @@ fn put_assigned<R: Print + AllocGlobal + Threads + Wait + Sync>(
     name: &str,
     lanes: &[u8],
 ) -> io::Result<bool> {
-    let deadlock = put_with(rt, Command::Deadlock, name, lanes)?;
-    let circles = put_with(rt, Command::Circles, name, lanes)?;
-    let dot = put_with(rt, Command::Dot, name, lanes)?;
+    let deadlock = put_with(rt, PlainCommand::Deadlock, name, lanes)?;
+    let circles = put_with(rt, PlainCommand::Circles, name, lanes)?;
+    let dot = put_with(rt, PlainCommand::Dot, name, lanes)?;
     Ok(deadlock && circles && dot)
 }
 
 /// Checks the plan. Gives whether all runs ended as they should.
 fn put_plan<R: Print + AllocGlobal + Threads + Wait + Sync>(rt: &R) -> io::Result<bool> {
-    let plan = Order::Of(Command::Plan);
+    let plan = AnyCommand::Of(PlainCommand::Plan);
     let Some(plan) = put_largest(rt, plan, "xfs", LARGEST.as_bytes(), b"", b"")? else {
         return Ok(false);
     };
-    put_with(rt, Command::Check, "xfs and its plan", &plan)
+    put_with(rt, PlainCommand::Check, "xfs and its plan", &plan)
 }
 
 /// Makes the run by which all items on one workqueue hang. Gives whether all runs ended as they should.
 fn put_hanging<R: Print + AllocGlobal + Threads + Wait + Sync>(rt: &R) -> io::Result<bool> {
-    let (one, deadlock) = (LARGEST_ON_ONE.as_bytes(), Order::Of(Command::Deadlock));
+    let (one, deadlock) = (
+        LARGEST_ON_ONE.as_bytes(),
+        AnyCommand::Of(PlainCommand::Deadlock),
+    );
     let Some(hangs) = put_largest(
         rt,
         deadlock,
@@ -86,7 +89,7 @@ fn put_hanging<R: Print + AllocGlobal + Threads + Wait + Sync>(rt: &R) -> io::Re
     else {
         return Ok(false);
     };
-    let replay = Order::Of(Command::Replay);
+    let replay = AnyCommand::Of(PlainCommand::Replay);
     let answer = put_largest(
         rt,
         replay,
@@ -100,7 +103,7 @@ fn put_hanging<R: Print + AllocGlobal + Threads + Wait + Sync>(rt: &R) -> io::Re
 
 /// Runs the plan. Gives whether all runs ended as they should.
 fn put_run<R: Print + AllocGlobal + Threads + Wait + Sync>(rt: &R) -> io::Result<bool> {
-    let answer = put_largest(rt, Order::Run, "xfs", LARGEST.as_bytes(), b"", b"")?;
+    let answer = put_largest(rt, AnyCommand::Run, "xfs", LARGEST.as_bytes(), b"", b"")?;
     Ok(answer.is_some())
 }
 
@@ -112,10 +115,10 @@ pub(crate) fn put_all_largest<R: Print + AllocGlobal + Threads + Wait + Sync>(
     let plan = put_plan(rt)?;
     let hanging = put_hanging(rt)?;
     let assigned = put_assigned(rt, "xfs and its workqueues", LARGEST_LANES.as_bytes())?;
-    let circles = put_with(rt, Command::Circles, "xfs on one workqueue", one)?;
-    let dot = put_with(rt, Command::Dot, "xfs on one workqueue", one)?;
-    let own_circles = put_with(rt, Command::OwnCircles, "xfs", b"")?;
-    let own_dot = put_with(rt, Command::OwnDot, "xfs", b"")?;
+    let circles = put_with(rt, PlainCommand::Circles, "xfs on one workqueue", one)?;
+    let dot = put_with(rt, PlainCommand::Dot, "xfs on one workqueue", one)?;
+    let own_circles = put_with(rt, PlainCommand::OwnCircles, "xfs", b"")?;
+    let own_dot = put_with(rt, PlainCommand::OwnDot, "xfs", b"")?;
     let run = put_run(rt)?;
     Ok(plan && hanging && assigned && circles && dot && own_circles && own_dot && run)
 }

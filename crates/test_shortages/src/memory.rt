@@ -1,8 +1,8 @@
 //! Commands with a heap that refuses one request for memory, or that one and all after it. It takes the time of all runs.
 
-use crate::asked::Asked;
-use crate::devices::{Devices, Ran, WHOLE, run_over};
-use crate::trial::{Outcome, put_trial};
+use crate::asked::Wanted;
+use crate::devices::{DeviceRun, Devices, WHOLE, run_over};
+use crate::trial::{TrialEnd, put_trial};
 use std::alloc::Global;
 use std::io;
 use std::sync::Wait;
@@ -12,14 +12,14 @@ use wq_commands::Fault;
 use wq_run::CommandFault;
 
 /// What came of a command. A thread may lack the memory, too.
-fn judged(ran: &Ran, asked: &Asked<'_, '_>) -> Outcome {
+fn judged(ran: &DeviceRun, asked: &Wanted<'_, '_>) -> TrialEnd {
     match ran.end {
-        _ if ran.is_whole(asked) => Outcome::Answered,
-        Ok(_) if ran.is_answered(asked) && ran.is_silent() => Outcome::Unsaid,
+        _ if ran.is_whole(asked) => TrialEnd::Answered,
+        Ok(_) if ran.is_answered(asked) && ran.is_silent() => TrialEnd::Unsaid,
         Err(CommandFault::Common(Fault::Memory) | CommandFault::Thread) if ran.is_untouched() => {
-            Outcome::Refused
+            TrialEnd::Refused
         }
-        _ => Outcome::Wrong,
+        _ => TrialEnd::Wrong,
     }
 }
 
@@ -28,8 +28,8 @@ fn outcome<R: Threads + Wait + Sync>(
     rt: &R,
     alloc: Global,
     heap: &RefusingHeap<Global>,
-    asked: Asked<'_, '_>,
-) -> Outcome {
+    asked: Wanted<'_, '_>,
+) -> TrialEnd {
     let devices = Devices::new(alloc, asked.texts, WHOLE);
     let ran = run_over(rt, heap, asked.order, devices);
     judged(&ran, &asked)
@@ -40,7 +40,7 @@ fn outcome<R: Threads + Wait + Sync>(
 pub(crate) fn put_memory<R: Print + AllocGlobal + Threads + Wait + Sync>(
     rt: &R,
     name: &str,
-    asked: Asked<'_, '_>,
+    asked: Wanted<'_, '_>,
 ) -> io::Result<bool> {
     let alloc = rt.alloc();
     put_trial(

@@ -1,6 +1,6 @@
 //! The command `run` of a plan that has too many workqueues. It takes the time of all runs.
 
-use crate::asked::{Asked, Order};
+use crate::asked::{AnyCommand, Wanted};
 use crate::memory::put_memory;
 use std::alloc::{AllocError, Global};
 use std::io;
@@ -25,8 +25,8 @@ pub(crate) fn put_too_many<R: Print + AllocGlobal + Threads + Wait + Sync>(
     rt: &R,
 ) -> io::Result<bool> {
     let text = chain(rt.alloc())?;
-    let asked = Asked {
-        order: Order::Run,
+    let asked = Wanted {
+        order: AnyCommand::Run,
         texts: [text.as_bytes(), b"", b""],
         end: End::Refused,
         answer: b"refused 69 line 0\n",

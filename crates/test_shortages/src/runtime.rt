@@ -9,7 +9,7 @@ ghost use Rattle.wq_core.specs.Wiring.{wiring};
 
 use crate::calls::sit;
 use crate::crew::serve;
-use crate::trial::{Outcome, put_trial};
+use crate::trial::{TrialEnd, put_trial};
 use std::alloc::{Allocator, Global};
 use std::io;
 use std::marker::Brand;
@@ -43,7 +43,7 @@ fn run<N: Naming + Send + Sync, R: Threads + Wait + Sync, A: Allocator + Copy + 
     blank: Blank,
     declared: &Declaration<'_, A>,
     plan: &Assignment<A>,
-) -> Outcome
+) -> TrialEnd
     requires name { blank.name ≡ N.name }
     requires parts { blank.parts ≡ N.parts }
     requires all_parts { N.parts ≡ 65536 }
@@ -61,8 +61,8 @@ fn run<N: Naming + Send + Sync, R: Threads + Wait + Sync, A: Allocator + Copy + 
     match (part, made) {
         (Part::Calls, Ok(runtime)) => sit(rt, ample, heap, runtime),
         (Part::Crew, Ok(runtime)) => serve(rt, ample, heap, runtime, table),
-        (Part::Calls, Err(NewError::OutOfMemory)) => Outcome::Refused,
-        (_, Err(_)) => Outcome::Wrong,
+        (Part::Calls, Err(NewError::OutOfMemory)) => TrialEnd::Refused,
+        (_, Err(_)) => TrialEnd::Wrong,
     }
 }
 
@@ -74,7 +74,7 @@ fn play<R: Threads + Wait + Sync, A: Allocator + Copy + Send + Sync>(
     heap: A,
     declared: &Declaration<'_, A>,
     plan: &Assignment<A>,
-) -> Outcome
+) -> TrialEnd
     requires grouped { length declared.now.groups.group_of ≡ length declared.now.table.names }
     requires assigned { length plan.now.lane_of_group ≡ declared.now.groups.groups }
 {
@@ -88,14 +88,14 @@ fn play_declared<R: Threads + Wait + Sync, A: Allocator + Copy + Send + Sync>(
     ample: A,
     heap: A,
     declared: &Declaration<'_, A>,
-) -> Outcome
+) -> TrialEnd
     requires { length declared.now.groups.group_of ≡ length declared.now.table.names }
 {
     match solve(ample, &declared.table, &declared.groups) {
         Ok(Answer::Plan { assignment, .. }) => {
             play(rt, part, ample, heap, declared, &assignment)
         }
-        Ok(Answer::Circle { .. }) | Err(_) => Outcome::Wrong,
+        Ok(Answer::Circle { .. }) | Err(_) => TrialEnd::Wrong,
     }
 }
 
@@ -105,11 +105,11 @@ fn outcome<R: Threads + Wait + Sync>(
     alloc: Global,
     heap: &RefusingHeap<Global>,
     part: Part,
-) -> Outcome {
+) -> TrialEnd {
     let ample = RefusingHeap::ample(alloc);
     match read_declaration(&ample, SEED, TWO.as_bytes()) {
         Ok(declared) => play_declared(rt, part, &ample, heap, &declared),
-        Err(_) => Outcome::Wrong,
+        Err(_) => TrialEnd::Wrong,
     }
 }
 

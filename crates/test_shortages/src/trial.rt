@@ -8,7 +8,7 @@ use test_cases::{Refusing, RefusingHeap};
 
 /// How a run ends.
 #[derive(Clone, Copy, PartialEq, Eq)]
-pub(crate) enum Outcome {
+pub(crate) enum TrialEnd {
     /// As it does with enough memory. Where requests were refused, it got along without them.
     Answered,
     /// As it does with enough memory, but nothing is said of the answer.
@@ -21,13 +21,13 @@ pub(crate) enum Outcome {
 
 /// How the runs ended in which a request was refused.
 #[derive(Clone, Copy)]
-struct Tally {
+struct RefusalTally {
     refused: u64,
     unsaid: u64,
     answered: u64,
 }
 
-impl Tally {
+impl RefusalTally {
     /// How many requests there are.
     fn requests(&self) -> u64 {
         let refused = self.refused.saturating_add(self.unsaid);
@@ -40,14 +40,14 @@ const MOST: u64 = 1_000_000;
 
 /// Runs something with the first request refused, with the second, and so on, until none is. The error is the number of the request
 /// with which it ends as it should not.
-fn refuse_each<F: Fn(&RefusingHeap<Global>) -> Outcome>(
+fn refuse_each<F: Fn(&RefusingHeap<Global>) -> TrialEnd>(
     alloc: Global,
     refusing: Refusing,
     run: &F,
-) -> Result<Tally, u64>
+) -> Result<RefusalTally, u64>
     requires { F.IsAlwaysCallable run.now }
 {
-    let mut tally = Tally {
+    let mut tally = RefusalTally {
         refused: 0,
         unsaid: 0,
         answered: 0,
@@ -56,10 +56,10 @@ fn refuse_each<F: Fn(&RefusingHeap<Global>) -> Outcome>(
         let heap = RefusingHeap::new(alloc, refusing, nth);
         let outcome = run(&heap);
         match (heap.has_refused(), outcome) {
-            (true, Outcome::Refused) => tally.refused = tally.refused.saturating_add(1),
-            (true, Outcome::Unsaid) => tally.unsaid = tally.unsaid.saturating_add(1),
-            (true, Outcome::Answered) => tally.answered = tally.answered.saturating_add(1),
-            (false, Outcome::Answered) => return Ok(tally),
+            (true, TrialEnd::Refused) => tally.refused = tally.refused.saturating_add(1),
+            (true, TrialEnd::Unsaid) => tally.unsaid = tally.unsaid.saturating_add(1),
+            (true, TrialEnd::Answered) => tally.answered = tally.answered.saturating_add(1),
+            (false, TrialEnd::Answered) => return Ok(tally),
             _ => return Err(nth),
         }
     }
@@ -74,8 +74,8 @@ fn put_tallies<R: Print>(
     rt: &R,
     what: &str,
     name: &str,
-    one: Result<Tally, u64>,
-    all: Result<Tally, u64>,
+    one: Result<RefusalTally, u64>,
+    all: Result<RefusalTally, u64>,
 ) -> io::Result<bool> {
     match (one, all) {
         (Ok(one), Ok(all)) => {
@@ -103,7 +103,7 @@ fn put_tallies<R: Print>(
 
 /// Runs something with each of its requests for memory refused in turn, alone and with all after it, and prints a line. What it
 /// takes of another heap isn't refused. Gives whether all runs ended as they should.
-pub(crate) fn put_trial<R: Print + AllocGlobal, F: Fn(&RefusingHeap<Global>) -> Outcome>(
+pub(crate) fn put_trial<R: Print + AllocGlobal, F: Fn(&RefusingHeap<Global>) -> TrialEnd>(
     rt: &R,
     what: &str,
     name: &str,

@@ -11,8 +11,8 @@ use Rattle.wq_core.specs.declared.step.Step.TheVariants.{Queue, Cancel, Start, W
 use Rattle.wq_core.specs.Runs.{IsHelp}
 use Rattle.wq_cert.specs.Forms.{number_of, items_of, count_form, wq_form, arc_form, item_step, lane_step, step_form}
 use Rattle.wq_cert.specs.PlanText.{name_of, workqueue_line}
-use Rattle.wq_cert.specs.RunText.{item_in, step_line}
-use Rattle.wq_cert.specs.LineRows.{SpellsCount, SpellsArc, SpellsStep, lane_in}
+use Rattle.wq_cert.specs.RunText.{step_item, step_line}
+use Rattle.wq_cert.specs.LineRows.{SpellsCount, SpellsArc, SpellsStep, step_lane}
 use Rattle.wq_cert.specs.Reading.{names_far_lane}
 use Rattle.wq_cert.proofs.SpelledNumbers.{guarded, one_of, AreBoth-zip, zip-AreBoth, Spells-number_of, number_of-Spells, Names-item_named, item_named-name_of, AreNames-items_of, items_of-names_of}
 
@@ -89,9 +89,9 @@ arc_form-SpellsArc names words differ arc line =
 
 -- the workqueue of a step, if it names one, is a number
 abbrev pub IsNumbered : Step → Type 0
-IsNumbered step = IfSome (lane_in step) (λ q. q < 2 ^ 32)
+IsNumbered step = IfSome (step_lane step) (λ q. q < 2 ^ 32)
 
-SpellsStep-at : (names words others : List (List ℕ)) (step other : Step) → words ≡ others → other ≡ step → others ≡ step_line names other → item_in other < length names → (¬ IsHelp other) → IsNumbered other
+SpellsStep-at : (names words others : List (List ℕ)) (step other : Step) → words ≡ others → other ≡ step → others ≡ step_line names other → step_item other < length names → (¬ IsHelp other) → IsNumbered other
     → SpellsStep names words step
 SpellsStep-at names words others step other same is line known own fits =
     subst (SpellsStep names words) is (record { words_are = same ∙ line; known = known; no_help = own; fits = fits })
@@ -174,7 +174,7 @@ module _ (names : List (List ℕ)) (differ : AllPairs (λ (a b : List ℕ). a �
         right = item_named-name_of names differ i known;
       }))
 
-  pub step_form-line : (step : Step) → item_in step < length names → (¬ IsHelp step) → IsNumbered step → step_form names (step_line names step) ≡ Some step
+  pub step_form-line : (step : Step) → step_item step < length names → (¬ IsHelp step) → IsNumbered step → step_form names (step_line names step) ≡ Some step
   step_form-line (Queue i) known own fits = item_said (codes "queue") i known
   step_form-line (Cancel i) known own fits = item_said (codes "cancel") i known
   step_form-line (Start q i) known own fits = lane_said (codes "start") q i known fits
@@ -198,7 +198,7 @@ IsNumbered-near (Finish q i) near = omega (arith, ltb-false 4095 q near)
 IsNumbered-near (Help q h deed) near = omega (arith, ltb-false 4095 q near)
 
 -- a step that names no workqueue above 4,095
-pub names_far_lane-near : (step : Step) → (IsSomeAnd (lane_in step) (λ q. 4095 < q) → ⊥) → names_far_lane step ≡ false
+pub names_far_lane-near : (step : Step) → (IsSomeAnd (step_lane step) (λ q. 4095 < q) → ⊥) → names_far_lane step ≡ false
 names_far_lane-near (Queue i) near = refl
 names_far_lane-near (Cancel i) near = refl
 names_far_lane-near (Start q i) near = le-ltb 4095 q (omega (arith, near))
@@ -209,7 +209,7 @@ names_far_lane-near (OverAll q b) near = le-ltb 4095 q (omega (arith, near))
 names_far_lane-near (Finish q i) near = le-ltb 4095 q (omega (arith, near))
 names_far_lane-near (Help q h deed) near = le-ltb 4095 q (omega (arith, near))
 
-pub names_far_lane-far : (step : Step) → IsSomeAnd (lane_in step) (λ q. 4095 < q) → names_far_lane step ≡ true
+pub names_far_lane-far : (step : Step) → IsSomeAnd (step_lane step) (λ q. 4095 < q) → names_far_lane step ≡ true
 names_far_lane-far (Queue i) far = absurd far
 names_far_lane-far (Cancel i) far = absurd far
 names_far_lane-far (Start q i) far = lt-ltb 4095 q far

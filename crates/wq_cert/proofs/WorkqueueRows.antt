@@ -16,7 +16,7 @@ use Rattle.wq_cert.specs.declared.fault.CertError.TheVariants.{BadCertLine, NotA
 use Rattle.wq_cert.specs.Forms.{begins_with, wq_form}
 use Rattle.wq_cert.specs.Lines.{CertLine}
 use Rattle.wq_cert.specs.PlanText.{plan_line, workqueue_line}
-use Rattle.wq_cert.specs.WorkqueueRows.{AreFirstWorkqueues, SpellsWorkqueue, SpellsNextWorkqueue, BreaksRow}
+use Rattle.wq_cert.specs.WorkqueueRows.{AreFirstWorkqueues, SpellsWorkqueue, SpellsNextWorkqueue, BreaksWorkqueueRow}
 use Rattle.wq_items.specs.Building.{and_then}
 use Rattle.wq_cert.specs.Reading.{Read, and_read, count_reading, has_stood, splits_group, wq_reading, next_workqueues, all_workqueues, plan_reading, workqueues_reading}
 use Rattle.wq_cert.specs.Spelled.{words_in, workqueue_lines}
@@ -57,27 +57,27 @@ module _ (names : List (List ℕ)) (group_of : List ℕ) (workqueues : List (Lis
     next_turn items h =
         said_turn (length workqueues, items) h.says ∙ ap (λ (b : Bool). cond b (Err (NumberOutOfRange line.no)) (in_once group_of workqueues line.no items)) (in_range h.room)
 
-    pub wq_reading-BreaksRow : AreFirstWorkqueues (length names) group_of workqueues → (fault : CertError) → BreaksRow names group_of workqueues line fault → wq_reading names group_of workqueues line ≡ Err fault
-    wq_reading-BreaksRow first (BadCertLine n) h =
+    pub wq_reading-BreaksWorkqueueRow : AreFirstWorkqueues (length names) group_of workqueues → (fault : CertError) → BreaksWorkqueueRow names group_of workqueues line fault → wq_reading names group_of workqueues line ≡ Err fault
+    wq_reading-BreaksWorkqueueRow first (BadCertLine n) h =
         wq_reading-turn names group_of workqueues line ∙ ap judged (says_none h.1 (wq_form names line.words) refl) ∙ ap (λ (m : ℕ). Err (BadCertLine m)) (sym h.0)
-    wq_reading-BreaksRow first (NumberOutOfRange n) h =
+    wq_reading-BreaksWorkqueueRow first (NumberOutOfRange n) h =
         let items = h.1.1 in
         said_turn h.1 h.2
         ∙ ap (λ (b : Bool). cond b (Err (NumberOutOfRange line.no)) (in_once group_of workqueues line.no items)) (out_of_range h.1.0 h.3)
         ∙ ap (λ (m : ℕ). Err (NumberOutOfRange m)) (sym h.0)
-    wq_reading-BreaksRow first (NotAllItems n) h =
+    wq_reading-BreaksWorkqueueRow first (NotAllItems n) h =
         let stood : has_stood (concat workqueues) h.1 ≡ true = true_from_ne_false (has_stood (concat workqueues) h.1) (λ fresh. h.3 (Once-has_stood (concat workqueues) h.1 first.once fresh)) in
         next_turn h.1 h.2
         ∙ ap (λ (b : Bool). cond b (Err (NotAllItems line.no)) (in_groups group_of workqueues line.no h.1)) stood
         ∙ ap (λ (m : ℕ). Err (NotAllItems m)) (sym h.0)
-    wq_reading-BreaksRow first (GroupSplit n) h =
+    wq_reading-BreaksWorkqueueRow first (GroupSplit n) h =
         let split : splits_group group_of (concat workqueues) h.1 ≡ true =
         true_from_ne_false (splits_group group_of (concat workqueues) h.1) (λ apart. h.4 (GroupsAreWhole-push group_of workqueues h.1 first.whole (AreApart-splits_group group_of (concat workqueues) h.1 apart))) in
         next_turn h.1 h.2
         ∙ ap (λ (b : Bool). cond b (Err (NotAllItems line.no)) (in_groups group_of workqueues line.no h.1)) (has_stood-Once (concat workqueues) h.1 h.3)
         ∙ ap (λ (b : Bool). cond b (Err (GroupSplit line.no)) (Ok h.1)) split
         ∙ ap (λ (m : ℕ). Err (GroupSplit m)) (sym h.0)
-    wq_reading-BreaksRow first OutOfMemory h = absurd h
+    wq_reading-BreaksWorkqueueRow first OutOfMemory h = absurd h
 
 -- ---- after the lines of these workqueues
 
@@ -131,26 +131,26 @@ module _ (names : List (List ℕ)) (group_of : List ℕ) (differ : AllPairs (λ 
 -- ---- texts
 
 module _ (names : List (List ℕ)) (p : Partition) (differ : AllPairs (λ (a b : List ℕ). a ≢ b) names) where
-  pub plan_reading-BreaksRow : (k : ℕ) (workqueues : List (List ℕ)) (before : List CertLine) (line : CertLine) (behind : List CertLine) (fault : CertError) → k ≤ 4096 → length workqueues < k
-      → words_in before ≡ plan_line k ∷ workqueue_lines names workqueues → AreFirstWorkqueues (length names) p.group_of workqueues → BreaksRow names p.group_of workqueues line fault
+  pub plan_reading-BreaksWorkqueueRow : (k : ℕ) (workqueues : List (List ℕ)) (before : List CertLine) (line : CertLine) (behind : List CertLine) (fault : CertError) → k ≤ 4096 → length workqueues < k
+      → words_in before ≡ plan_line k ∷ workqueue_lines names workqueues → AreFirstWorkqueues (length names) p.group_of workqueues → BreaksWorkqueueRow names p.group_of workqueues line fault
       → plan_reading names p (before ++ (line ∷ behind)) ≡ Err fault
-  plan_reading-BreaksRow k workqueues [] line behind fault few below words first breaks = absurd cc
-  plan_reading-BreaksRow k workqueues (opening ∷ lines) line behind fault few below words first breaks =
+  plan_reading-BreaksWorkqueueRow k workqueues [] line behind fault few below words first breaks = absurd cc
+  plan_reading-BreaksWorkqueueRow k workqueues (opening ∷ lines) line behind fault few below words first breaks =
       let opens : opening.words ≡ plan_line k = cc in
       let others : words_in lines ≡ workqueue_lines names workqueues = cc in
       let rest = lines ++ (line ∷ behind) in
       let count : count_reading (codes "plan") opening ≡ Ok k = (IsReadBy-count (codes "plan")).said opening k opens few in
       let refused : next_workqueues names p.group_of k [] rest ≡ Err fault =
       refused-next_workqueues names p.group_of differ line behind fault workqueues [] lines k (AreGrown-first (length names) p.group_of workqueues first) others below
-      (wq_reading-BreaksRow names p.group_of workqueues line differ first fault breaks) in
+      (wq_reading-BreaksWorkqueueRow names p.group_of workqueues line differ first fault breaks) in
       plan_reading-turn names p (opening ∷ rest)
       ∙ ap (λ (r : Result ℕ CertError). and_read (behind_plan names p) (and_then (λ n. Ok (n, rest)) r)) count
       ∙ ap (λ (r : Read (List (List ℕ))). and_read (with_chain names p) r) refused
 
-  pub workqueues_reading-BreaksRow : (workqueues : List (List ℕ)) (before : List CertLine) (line : CertLine) (behind : List CertLine) (fault : CertError)
-      → words_in before ≡ workqueue_lines names workqueues → begins_with (codes "wq") line.words ≡ true → AreFirstWorkqueues (length names) p.group_of workqueues → BreaksRow names p.group_of workqueues line fault
+  pub workqueues_reading-BreaksWorkqueueRow : (workqueues : List (List ℕ)) (before : List CertLine) (line : CertLine) (behind : List CertLine) (fault : CertError)
+      → words_in before ≡ workqueue_lines names workqueues → begins_with (codes "wq") line.words ≡ true → AreFirstWorkqueues (length names) p.group_of workqueues → BreaksWorkqueueRow names p.group_of workqueues line fault
       → workqueues_reading names p (before ++ (line ∷ behind)) ≡ Err fault
-  workqueues_reading-BreaksRow workqueues before line behind fault words is_wq first breaks =
+  workqueues_reading-BreaksWorkqueueRow workqueues before line behind fault words is_wq first breaks =
       ap (and_read (assigned p))
       (refused-all_workqueues names p.group_of differ line behind fault workqueues [] before (AreGrown-first (length names) p.group_of workqueues first) words is_wq
-      (wq_reading-BreaksRow names p.group_of workqueues line differ first fault breaks))
+      (wq_reading-BreaksWorkqueueRow names p.group_of workqueues line differ first fault breaks))

@@ -5,16 +5,16 @@ use Rattle.std.specs.List.{All}
 use Rattle.wq_groups.specs.Partition.{Partition}
 use Rattle.wq_groups.specs.Assignment.{max_lanes}
 use Rattle.wq_core.specs.declared.step.Step.{Step}
-use Rattle.wq_core.specs.declared.step.Step.TheVariants.{Queue, Cancel, Start, Wait, Over, WaitAll, OverAll, Finish, Help}
+use Rattle.wq_core.specs.declared.step.Step.TheVariants.{Start, Wait, Over, WaitAll, OverAll, Finish, Help}
 use Rattle.wq_core.specs.Runs.{IsHelp}
 use Rattle.wq_cert.specs.declared.fault.CertError.{CertError}
-use Rattle.wq_cert.specs.declared.fault.CertError.TheVariants.{BadCertLine, NotAllItems, GroupSplit, NumberOutOfRange, OutOfMemory}
+use Rattle.wq_cert.specs.declared.fault.CertError.TheVariants.{BadCertLine, NumberOutOfRange}
 use Rattle.wq_cert.specs.CircleText.{circle_line}
 use Rattle.wq_cert.specs.Lines.{CertLine}
 use Rattle.wq_cert.specs.PlanText.{plan_line, arc_line}
 use Rattle.wq_cert.specs.Ranges.{IsArcOf, IsStepOf}
 use Rattle.wq_cert.specs.Reading.{max_count}
-use Rattle.wq_cert.specs.RunText.{step_line, item_in}
+use Rattle.wq_cert.specs.RunText.{step_line, step_item}
 use Rattle.wq_cert.specs.Spelled.{AreWorkqueues, workqueue_lines, count_line}
 
 -- which line is expected, if it isn't that of a workqueue
@@ -43,23 +43,22 @@ pub record SpellsArc (names words : List (List ℕ)) (arc : ℕ × ℕ) : Type 0
   pub known : IsArcOf (length names) arc
 
 -- the workqueue that a step names, if it names one
-abbrev pub lane_in : Step → Option ℕ
-lane_in (Queue i) = None
-lane_in (Cancel i) = None
-lane_in (Start q i) = Some q
-lane_in (Wait q b) = Some q
-lane_in (Over q b) = Some q
-lane_in (WaitAll q b) = Some q
-lane_in (OverAll q b) = Some q
-lane_in (Finish q i) = Some q
-lane_in (Help q h deed) = Some q
+abbrev pub step_lane : Step → Option ℕ
+step_lane (Start q i) = Some q
+step_lane (Wait q b) = Some q
+step_lane (Over q b) = Some q
+step_lane (WaitAll q b) = Some q
+step_lane (OverAll q b) = Some q
+step_lane (Finish q i) = Some q
+step_lane (Help q h deed) = Some q
+step_lane _ = None
 
 -- the words are those of a step of a declared item, whose workqueue, if it names one, is a number; no helper makes the step
 pub record SpellsStep (names words : List (List ℕ)) (step : Step) : Type 0 where
   pub words_are : words ≡ step_line names step
-  pub known : item_in step < length names
+  pub known : step_item step < length names
   pub no_help : ¬ IsHelp step
-  pub fits : IfSome (lane_in step) (λ q. q < 2 ^ 32)
+  pub fits : IfSome (step_lane step) (λ q. q < 2 ^ 32)
 
 -- the words have the form: the keyword, and numbers and declared items in their places
 abbrev pub HasForm : List (List ℕ) → LineForm → List (List ℕ) → Type 0
@@ -76,17 +75,14 @@ abbrev pub IsOutOfRange : List (List ℕ) → LineForm → List (List ℕ) → T
 IsOutOfRange names PlanLine words = (k : ℕ) × SpellsCount (codes "plan") words k × (max_count < k)
 IsOutOfRange names ChainLine words = (n : ℕ) × SpellsCount (codes "chain") words n × (max_count < n)
 IsOutOfRange names CircleLine words = (n : ℕ) × SpellsCount (codes "circle") words n × ((n ≡ 0) ⊎ (max_count < n))
-IsOutOfRange names ArcLine words = ⊥
-IsOutOfRange names RunLine words = ⊥
-IsOutOfRange names StepLine words = (step : Step) × SpellsStep names words step × IsSomeAnd (lane_in step) (λ q. max_lanes ≤ q)
+IsOutOfRange names StepLine words = (step : Step) × SpellsStep names words step × IsSomeAnd (step_lane step) (λ q. max_lanes ≤ q)
+IsOutOfRange names _ words = ⊥
 
 -- the row of this fault is the first that the line breaks, where one of this form is expected
 abbrev pub BreaksLine : List (List ℕ) → LineForm → CertLine → CertError → Type 0
 BreaksLine names form line (BadCertLine n) = (n ≡ line.no) × (¬ HasForm names form line.words)
 BreaksLine names form line (NumberOutOfRange n) = (n ≡ line.no) × IsOutOfRange names form line.words
-BreaksLine names form line (NotAllItems n) = ⊥
-BreaksLine names form line (GroupSplit n) = ⊥
-BreaksLine names form line OutOfMemory = ⊥
+BreaksLine names form line _ = ⊥
 
 -- the line breaks no row
 abbrev pub KeepsLine : List (List ℕ) → LineForm → CertLine → Type 0

@@ -7,7 +7,7 @@ use Rattle.wq_core.specs.Runs.{IsHelp}
 use Rattle.wq_core.specs.State.{max_number}
 use Rattle.wq_cert.specs.Certificate.{PlanCertificate, CircleCertificate, Certificate, OfPlan, OfCircle}
 use Rattle.wq_cert.specs.Reading.{names_far_lane, max_count}
-use Rattle.wq_cert.specs.RunText.{item_in}
+use Rattle.wq_cert.specs.RunText.{step_item}
 
 -- the item and the target of an arc are two of this many items, or one of them twice
 abbrev pub IsArcOf : ℕ → ℕ × ℕ → Type 0
@@ -15,7 +15,7 @@ IsArcOf items arc = (arc.0 < items) × (arc.1 < items)
 
 -- a step names one of this many items, and a workqueue below 4,096 if it names one; no helper makes it
 abbrev pub IsStepOf : ℕ → Step → Type 0
-IsStepOf items step = (item_in step < items) × (names_far_lane step ≡ false) × (¬ IsHelp step)
+IsStepOf items step = (step_item step < items) × (names_far_lane step ≡ false) × (¬ IsHelp step)
 
 -- an assignment of this many groups to at most 4,096 workqueues
 pub record IsAssignmentOf (groups : ℕ) (a : Assignment) : Type 0 where

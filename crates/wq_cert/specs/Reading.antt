@@ -7,7 +7,7 @@ use Rattle.wq_items.specs.Building.{and_then}
 use Rattle.wq_groups.specs.Partition.{Partition}
 use Rattle.wq_groups.specs.Assignment.{Assignment, max_lanes}
 use Rattle.wq_core.specs.declared.step.Step.{Step}
-use Rattle.wq_core.specs.declared.step.Step.TheVariants.{Queue, Cancel, Start, Wait, Over, WaitAll, OverAll, Finish, Help}
+use Rattle.wq_core.specs.declared.step.Step.TheVariants.{Start, Wait, Over, WaitAll, OverAll, Finish, Help}
 use Rattle.wq_cert.specs.declared.fault.CertError.{CertError}
 use Rattle.wq_cert.specs.declared.fault.CertError.TheVariants.{BadCertLine, NotAllItems, GroupSplit, NumberOutOfRange}
 use Rattle.wq_cert.specs.Certificate.{PlanCertificate, CircleCertificate, Certificate, OfPlan, OfCircle}
@@ -57,8 +57,6 @@ arc_reading names line = ok_or (arc_form names line.words) (BadCertLine line.no)
 
 -- the step names a workqueue above 4,095
 abbrev pub names_far_lane : Step → Bool
-names_far_lane (Queue i) = false
-names_far_lane (Cancel i) = false
 names_far_lane (Start q i) = nat_lt 4095 q
 names_far_lane (Wait q b) = nat_lt 4095 q
 names_far_lane (Over q b) = nat_lt 4095 q
@@ -66,6 +64,7 @@ names_far_lane (WaitAll q b) = nat_lt 4095 q
 names_far_lane (OverAll q b) = nat_lt 4095 q
 names_far_lane (Finish q i) = nat_lt 4095 q
 names_far_lane (Help q h deed) = nat_lt 4095 q
+names_far_lane _ = false
 
 -- the step that the line with this number says, if it says one and names no workqueue above 4,095
 abbrev pub step_in_range : ℕ → Option Step → Result Step CertError

@@ -32,13 +32,13 @@ abbrev pub run_text : List (List ℕ) → List Step → List ℕ
 run_text names steps = flat_map line_text (run_lines names steps)
 
 -- the item that a step names
-abbrev pub item_in : Step → ℕ
-item_in (Queue i) = i
-item_in (Cancel i) = i
-item_in (Start q i) = i
-item_in (Wait q b) = b
-item_in (Over q b) = b
-item_in (WaitAll q b) = b
-item_in (OverAll q b) = b
-item_in (Finish q i) = i
-item_in (Help q h deed) = deed_item deed
+abbrev pub step_item : Step → ℕ
+step_item (Queue i) = i
+step_item (Cancel i) = i
+step_item (Start q i) = i
+step_item (Wait q b) = b
+step_item (Over q b) = b
+step_item (WaitAll q b) = b
+step_item (OverAll q b) = b
+step_item (Finish q i) = i
+step_item (Help q h deed) = deed_item deed

@@ -37,15 +37,15 @@ abbrev pub SplitNoGroup : List ℕ → List (List ℕ) → List ℕ → Type 0
 SplitNoGroup group_of workqueues items = GroupsAreWhole group_of (workqueues ++ (items ∷ []))
 
 -- the row of this fault is the first that the line after these workqueues breaks
-abbrev pub BreaksRow : List (List ℕ) → List ℕ → List (List ℕ) → CertLine → CertError → Type 0
-BreaksRow names group_of workqueues line (BadCertLine n) = (n ≡ line.no) × ((workqueue : ℕ × List ℕ) → ¬ SpellsWorkqueue names line.words workqueue)
-BreaksRow names group_of workqueues line (NumberOutOfRange n) =
+abbrev pub BreaksWorkqueueRow : List (List ℕ) → List ℕ → List (List ℕ) → CertLine → CertError → Type 0
+BreaksWorkqueueRow names group_of workqueues line (BadCertLine n) = (n ≡ line.no) × ((workqueue : ℕ × List ℕ) → ¬ SpellsWorkqueue names line.words workqueue)
+BreaksWorkqueueRow names group_of workqueues line (NumberOutOfRange n) =
     (n ≡ line.no) × (workqueue : ℕ × List ℕ) × SpellsWorkqueue names line.words workqueue × ((workqueue.0 ≢ length workqueues) ⊎ (max_lanes ≤ length workqueues))
-BreaksRow names group_of workqueues line (NotAllItems n) =
+BreaksWorkqueueRow names group_of workqueues line (NotAllItems n) =
     (n ≡ line.no) × (items : List ℕ) × SpellsNextWorkqueue names line.words workqueues items × (¬ StandOnce workqueues items)
-BreaksRow names group_of workqueues line (GroupSplit n) =
+BreaksWorkqueueRow names group_of workqueues line (GroupSplit n) =
     (n ≡ line.no) × (items : List ℕ) × SpellsNextWorkqueue names line.words workqueues items × StandOnce workqueues items × (¬ SplitNoGroup group_of workqueues items)
-BreaksRow names group_of workqueues line OutOfMemory = ⊥
+BreaksWorkqueueRow names group_of workqueues line OutOfMemory = ⊥
 
 -- ---- after the workqueues
 

@@ -8,7 +8,7 @@ ghost use Rattle.wq_core.specs.declared.step.Step.{Step};
 ghost use Rattle.wq_core.specs.Runs.{HasNoHelp};
 ghost use Rattle.wq_lines.specs.LineText.{line_text};
 ghost use Rattle.wq_cert.specs.CircleText.{circle_line, circle_text};
-ghost use Rattle.wq_cert.specs.RunText.{item_in};
+ghost use Rattle.wq_cert.specs.RunText.{step_item};
 
 use crate::arc_printing::put_arc_line;
 use crate::run_printing::put_run;
@@ -61,7 +61,7 @@ pub fn circle_text<A: Allocator + Copy>(
     requires few { length arcs.now < 2 ^ 32 }
     requires items { All (λ (arc : ℕ × ℕ). (arc.0 < length table.now.names) × (arc.1 < length table.now.names)) arcs.now }
     requires few_steps { IfSome steps (λ run. length run.now < 2 ^ 32) }
-    requires step_items { IfSome steps (λ run. All (λ (step : Step). item_in step < length table.now.names) run.now) }
+    requires step_items { IfSome steps (λ run. All (λ (step : Step). step_item step < length table.now.names) run.now) }
     requires no_help { IfSome steps (λ run. HasNoHelp run.now) }
     ensures { IfOk result (λ text. text.items ≡ circle_text table.now.names arcs.now (option_copied steps.entry)) }
 {

@@ -24,7 +24,7 @@ ghost use Rattle.wq_cert.specs.Ranges.{IsArcOf, IsStepOf, IsAssignmentOf, IsRunO
 ghost use Rattle.wq_cert.specs.LineRows.{LineForm, StandsInPlan, StandsInCircle, StandsInRun, BreaksLine, KeepsLine};
 ghost use Rattle.wq_cert.specs.Lines.{CertLine};
 ghost use Rattle.wq_cert.specs.Reading.{assignment_of, plan_reading, circle_reading, run_reading, workqueues_reading};
-ghost use Rattle.wq_cert.specs.WorkqueueRows.{AreFirstWorkqueues, BreaksRow, AllStand, begins_workqueue};
+ghost use Rattle.wq_cert.specs.WorkqueueRows.{AreFirstWorkqueues, BreaksWorkqueueRow, AllStand, begins_workqueue};
 ghost use Rattle.wq_cert.specs.Spelled.{words_in, words_of_text, workqueue_lines, IsOnWorkqueue, AreWorkqueues, SpellsPlan, SpellsCircle, SpellsRun, SpellsWorkqueues, SpellsCertificate, SpellsAssignment, KeepsLimits};
 
 /// What is read is in range: items that are declared, groups on at most 4,096 workqueues, as many arcs as the text says, and
@@ -104,12 +104,12 @@ pub fn the_line_of_a_workqueue_is_refused_by_its_first_row()
     ensures plan { (names : List (List ℕ)) (p : Partition) (k : ℕ) (workqueues : List (List ℕ)) (before : List CertLine)
         (line : CertLine) (after : List CertLine) (fault : CertError) → AllPairs (λ (a b : List ℕ). a ≢ b) names →
         k ≤ 4096 → length workqueues < k → words_in before ≡ plan_line k ∷ workqueue_lines names workqueues →
-        AreFirstWorkqueues (length names) p.group_of workqueues → BreaksRow names p.group_of workqueues line fault →
+        AreFirstWorkqueues (length names) p.group_of workqueues → BreaksWorkqueueRow names p.group_of workqueues line fault →
         plan_reading names p (before ++ (line ∷ after)) ≡ Err fault }
     ensures workqueues { (names : List (List ℕ)) (p : Partition) (workqueues : List (List ℕ)) (before : List CertLine)
         (line : CertLine) (after : List CertLine) (fault : CertError) → AllPairs (λ (a b : List ℕ). a ≢ b) names →
         words_in before ≡ workqueue_lines names workqueues → begins_with (codes "wq") line.words ≡ true →
-        AreFirstWorkqueues (length names) p.group_of workqueues → BreaksRow names p.group_of workqueues line fault →
+        AreFirstWorkqueues (length names) p.group_of workqueues → BreaksWorkqueueRow names p.group_of workqueues line fault →
         workqueues_reading names p (before ++ (line ∷ after)) ≡ Err fault }
 {}
 

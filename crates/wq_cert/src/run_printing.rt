@@ -9,7 +9,7 @@ ghost use Rattle.wq_core.specs.declared.step.Step.{Step};
 ghost use Rattle.wq_core.specs.Runs.{HasNoHelp, IsHelp};
 ghost use Rattle.wq_lines.specs.LineText.{line_text};
 ghost use Rattle.wq_cert.specs.PlanText.{name_of};
-ghost use Rattle.wq_cert.specs.RunText.{item_in, run_line, step_line, run_lines, run_text};
+ghost use Rattle.wq_cert.specs.RunText.{step_item, run_line, step_line, run_lines, run_text};
 
 use std::alloc::{AllocError, Allocator};
 use wq_core::Step;
@@ -66,7 +66,7 @@ fn put_step_line<A: Allocator + Copy>(
     table: &ItemTable<'_, A>,
     step: Step,
 ) -> Result<(), AllocError>
-    requires item { item_in step < length table.now.names }
+    requires item { step_item step < length table.now.names }
     requires no_help { ¬ IsHelp step }
     ensures { OnOk result (out.new.items ≡ out.old.items ++ line_text (step_line table.now.names step)) }
 {
@@ -90,7 +90,7 @@ pub(crate) fn put_run<A: Allocator + Copy>(
     steps: &[Step],
 ) -> Result<(), AllocError>
     requires few { length steps.now < 2 ^ 32 }
-    requires items { All (λ (step : Step). item_in step < length table.now.names) steps.now }
+    requires items { All (λ (step : Step). step_item step < length table.now.names) steps.now }
     requires no_help { HasNoHelp steps.now }
     ensures { OnOk result (out.new.items ≡ out.old.items ++ run_text table.now.names steps.now) }
 {
@@ -111,7 +111,7 @@ pub fn run_text<A: Allocator + Copy>(
     steps: &[Step],
 ) -> Result<Vec<u8, A>, AllocError>
     requires few { length steps.now < 2 ^ 32 }
-    requires items { All (λ (step : Step). item_in step < length table.now.names) steps.now }
+    requires items { All (λ (step : Step). step_item step < length table.now.names) steps.now }
     requires no_help { HasNoHelp steps.now }
     ensures { IfOk result (λ text. text.items ≡ run_text table.now.names steps.now) }
 {

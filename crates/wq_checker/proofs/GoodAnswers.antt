@@ -1,13 +1,11 @@
 -- What good certificates imply: safe assignments, lanes that wait in a circle, and runs that deadlock.
 use Rattle.std.proofs.Common.{◌≡◌, ℕ, ◌<◌, List, length, Result, Ok, sym, subst, ◌∙◌, arith}
-use Rattle.std.specs.Prelude.{slice_index}
-use Rattle.std.proofs.lemmas.List.{get_or-map}
 use Rattle.wq_items.specs.Chain.{Circle}
 use Rattle.wq_groups.specs.Declaration.{Declaration, IsDeclaration}
 use Rattle.wq_groups.specs.Assignment.{Assignment, IsAssignment}
 use Rattle.wq_groups.proofs.Declarations.{waiting-item, awaited-item}
 use Rattle.wq_groups.proofs.Lanes.{item_lanes-at}
-use Rattle.wq_core.specs.Wiring.{LaneWaits, wiring, lane_of}
+use Rattle.wq_core.specs.Wiring.{LaneWaits, wiring}
 use Rattle.wq_core.specs.Deadlock.{IsSafe, Deadlocks, IsLeast}
 use Rattle.wq_core.proofs.CircleKnots.{Deadlocks-circle}
 use Rattle.wq_core.proofs.LaneCircles.{Circle-lanes, Circle-few_lanes}

@@ -11,7 +11,6 @@ use Rattle.wq_items.specs.Table.{ItemWaits}
 use Rattle.wq_groups.specs.Declaration.{Declaration, IsDeclaration, GroupWaits}
 use Rattle.wq_groups.proofs.Declarations.{waiting-item, awaited-item, GroupWaits-items}
 use Rattle.wq_checker.specs.Chains.{Joins, AllJoin, before_from, before_in_circle, before_in_chain, IsChainAlong, heads, IsCircleAlong}
-use Rattle.wq_checker.proofs.FallingLemmas.{Declares-within, Declares-waits}
 
 -- the group of item i
 abbrev group : Declaration → ℕ → ℕ

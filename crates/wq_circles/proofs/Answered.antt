@@ -21,14 +21,14 @@ use Rattle.wq_cert.proofs.ReadRanges.{IsAssignmentOf-assignment_of_text}
 use Rattle.wq_meter.specs.Shell.{HasOneAnswer}
 use Rattle.wq_commands.specs.declared.end.End.{End}
 use Rattle.wq_commands.specs.declared.end.End.TheVariants.{Good, Bad, Refused}
-use Rattle.wq_commands.specs.Answer.{Answers, declared_waits, IsRefused}
+use Rattle.wq_commands.specs.Answer.{Answers, declared_waits, PrintsRefusal}
 use Rattle.wq_commands.specs.Deadlocking.{JudgesAssigned, JudgesDeclared, Judges}
 use Rattle.wq_commands.specs.Declaration.{Declared, declaration}
-use Rattle.wq_commands.specs.Promise.{KeepsDeclared}
+use Rattle.wq_commands.specs.Shown.{ShowsDeclared}
 use Rattle.wq_commands.proofs.AnswerLemmas.{IsSound, IsSound-declaration, IsDeclaration-sound}
 use Rattle.wq_commands.proofs.CircleRuns.{IsAssignmentOf-own_lanes}
 use Rattle.wq_commands.proofs.OneOutcome.{SaysAssigned-unique, SaysDeclared-unique, same_outcome}
-use Rattle.wq_commands.proofs.PromiseLemmas.{KeepsPromise-answers}
+use Rattle.wq_commands.proofs.PromiseLemmas.{ShowsAnswer-answers}
 use Rattle.wq_circles.specs.Components.{AreComponents}
 use Rattle.wq_circles.specs.ComponentsText.{components_text}
 use Rattle.wq_circles.specs.Circling.{CirclesAssigned, CirclesDeclared, Circles, CirclesTexts, OwnCircles}
@@ -40,7 +40,7 @@ matched : {V E : Type 0} (r : Result V E) (P Q : V → Type 0) (F G : E → Type
 matched (Ok v) P Q F G C good bad one two = good v refl one two
 matched (Err e) P Q F G C good bad one two = bad e one two
 
-refused_once : (end other : End) (out printed : List ℕ) (r : Refusal) → IsRefused r end out → IsRefused r other printed → (end ≡ other) × (out ≡ printed)
+refused_once : (end other : End) (out printed : List ℕ) (r : Refusal) → PrintsRefusal r end out → PrintsRefusal r other printed → (end ≡ other) × (out ≡ printed)
 refused_once end other out printed r one two = (one.0 ∙ sym two.0, one.1 ∙ sym two.1)
 
 -- ---- one answer
@@ -57,17 +57,17 @@ CirclesAssigned-unique s a Refused other out printed one two = absurd one
 
 CirclesDeclared-unique : (s : Declared) (text : List ℕ) (end other : End) (out printed : List ℕ) → CirclesDeclared s text end out → CirclesDeclared s text other printed → (end ≡ other) × (out ≡ printed)
 CirclesDeclared-unique s text end other out printed =
-    matched (assignment_of_text s.table.names s.partition text) (λ a. CirclesAssigned s a end out) (λ a. CirclesAssigned s a other printed) (λ fault. IsRefused (cert_refusal fault) end out) (λ fault. IsRefused (cert_refusal fault) other printed)
+    matched (assignment_of_text s.table.names s.partition text) (λ a. CirclesAssigned s a end out) (λ a. CirclesAssigned s a other printed) (λ fault. PrintsRefusal (cert_refusal fault) end out) (λ fault. PrintsRefusal (cert_refusal fault) other printed)
     ((end ≡ other) × (out ≡ printed)) (λ a is. CirclesAssigned-unique s a end other out printed) (λ fault. refused_once end other out printed (cert_refusal fault))
 
 pub Circles-unique : (declared text : List ℕ) (end other : End) (out printed : List ℕ) → Circles declared text end out → Circles declared text other printed → (end ≡ other) × (out ≡ printed)
 Circles-unique declared text end other out printed =
-    matched (declaration declared) (λ s. CirclesDeclared s text end out) (λ s. CirclesDeclared s text other printed) (λ r. IsRefused r end out) (λ r. IsRefused r other printed)
+    matched (declaration declared) (λ s. CirclesDeclared s text end out) (λ s. CirclesDeclared s text other printed) (λ r. PrintsRefusal r end out) (λ r. PrintsRefusal r other printed)
     ((end ≡ other) × (out ≡ printed)) (λ s is. CirclesDeclared-unique s text end other out printed) (refused_once end other out printed)
 
 pub OwnCircles-unique : (declared : List ℕ) (end other : End) (out printed : List ℕ) → OwnCircles declared end out → OwnCircles declared other printed → (end ≡ other) × (out ≡ printed)
 OwnCircles-unique declared end other out printed =
-    matched (declaration declared) (λ s. CirclesAssigned s (own_lanes s.partition.groups) end out) (λ s. CirclesAssigned s (own_lanes s.partition.groups) other printed) (λ r. IsRefused r end out) (λ r. IsRefused r other printed)
+    matched (declaration declared) (λ s. CirclesAssigned s (own_lanes s.partition.groups) end out) (λ s. CirclesAssigned s (own_lanes s.partition.groups) other printed) (λ r. PrintsRefusal r end out) (λ r. PrintsRefusal r other printed)
     ((end ≡ other) × (out ≡ printed)) (λ s is. CirclesAssigned-unique s (own_lanes s.partition.groups) end other out printed) (refused_once end other out printed)
 
 pub CirclesTexts-unique : (assigned : Bool) → HasOneAnswer (CirclesTexts assigned)
@@ -98,9 +98,9 @@ module _ (s : Declared) (sound : IsSound s) (a : Assignment) (assigned : IsAssig
 
 pub Circles-judged : (declared text : List ℕ) (end other : End) (out printed : List ℕ) → Circles declared text end out → Judges declared text other printed → end ≡ other
 Circles-judged declared text end other out printed =
-    matched (declaration declared) (λ s. CirclesDeclared s text end out) (λ s. JudgesDeclared s text other printed) (λ r. IsRefused r end out) (λ r. IsRefused r other printed) (end ≡ other)
+    matched (declaration declared) (λ s. CirclesDeclared s text end out) (λ s. JudgesDeclared s text other printed) (λ r. PrintsRefusal r end out) (λ r. PrintsRefusal r other printed) (end ≡ other)
     (λ s is.
-    matched (assignment_of_text s.table.names s.partition text) (λ a. CirclesAssigned s a end out) (λ a. JudgesAssigned s a other printed) (λ fault. IsRefused (cert_refusal fault) end out) (λ fault. IsRefused (cert_refusal fault) other printed) (end ≡ other)
+    matched (assignment_of_text s.table.names s.partition text) (λ a. CirclesAssigned s a end out) (λ a. JudgesAssigned s a other printed) (λ fault. PrintsRefusal (cert_refusal fault) end out) (λ fault. PrintsRefusal (cert_refusal fault) other printed) (end ≡ other)
     (λ a read. let sound = IsSound-declaration declared s is in
     ends_as_judged s sound a (IsAssignmentOf-assignment_of_text s.table.names s.partition sound.partition (sym sound.one_group_each) text a read) end other out printed)
     (λ fault one two. one.0 ∙ sym two.0))
@@ -119,15 +119,15 @@ module _ (s : Declared) (sound : IsSound s) where
       let waits = Circle-map _ (GroupWaits (declared_waits s)) (λ g. g) (λ p q arc. (GroupWaits-HasArc (declared_waits s) declares p q).1 arc) groups in
       not_safe-deadlocks (wiring (declared_waits s) a) (Deadlocks-circle (wiring (declared_waits s) a) (IsWiring-wiring (declared_waits s) a declares assignment) (Circle-lanes (declared_waits s) a waits))
 
-  ends_as_planned : (end other : End) (out printed : List ℕ) → CirclesAssigned s (own_lanes s.partition.groups) end out → KeepsDeclared s other printed → end ≡ other
+  ends_as_planned : (end other : End) (out printed : List ℕ) → CirclesAssigned s (own_lanes s.partition.groups) end out → ShowsDeclared s other printed → end ≡ other
   ends_as_planned Good Good out printed one two = refl
   ends_as_planned Good Bad out printed one two =
       let own = own_lanes s.partition.groups in
-      absurd (not_safe-deadlocks (wiring (declared_waits s) own) (two.deadlocks own (IsAssignment-own_lanes s.partition.groups)) (safe s sound own (IsAssignmentOf-own_lanes s sound) one.0))
+      absurd (not_safe-deadlocks (wiring (declared_waits s) own) (two.kept.deadlocks own (IsAssignment-own_lanes s.partition.groups)) (safe s sound own (IsAssignmentOf-own_lanes s sound) one.0))
   ends_as_planned Good Refused out printed one two = absurd two
   ends_as_planned Bad Good out printed one two = elim (none_or_circle (declared_waits s) (own_lanes s.partition.groups) declares (IsAssignment-own_lanes s.partition.groups) one.components one.are) [
     | inl none ↦ absurd (one.some none)
-    | inr circle ↦ absurd (no_plan two.plan.assignment circle two.least.assignment two.least.safe)
+    | inr circle ↦ absurd (no_plan two.kept.assignment circle two.kept.least.assignment two.kept.least.safe)
   ]
   ends_as_planned Bad Bad out printed one two = refl
   ends_as_planned Bad Refused out printed one two = absurd two
@@ -135,5 +135,5 @@ module _ (s : Declared) (sound : IsSound s) where
 
 pub OwnCircles-planned : (declared : List ℕ) (end other : End) (out printed : List ℕ) → OwnCircles declared end out → Answers declared other printed → end ≡ other
 OwnCircles-planned declared end other out printed circles answers =
-    matched (declaration declared) (λ s. CirclesAssigned s (own_lanes s.partition.groups) end out) (λ s. KeepsDeclared s other printed) (λ r. IsRefused r end out) (λ r. other ≡ Refused) (end ≡ other)
-    (λ s is. ends_as_planned s (IsSound-declaration declared s is) end other out printed) (λ r one two. one.0 ∙ sym two) circles (KeepsPromise-answers declared other printed answers)
+    matched (declaration declared) (λ s. CirclesAssigned s (own_lanes s.partition.groups) end out) (λ s. ShowsDeclared s other printed) (λ r. PrintsRefusal r end out) (λ r. other ≡ Refused) (end ≡ other)
+    (λ s is. ends_as_planned s (IsSound-declaration declared s is) end other out printed) (λ r one two. one.0 ∙ sym two) circles (ShowsAnswer-answers declared other printed answers)

@@ -68,7 +68,7 @@ Leads-back R n finished k i y is less within arc together = ends (at_v together)
 
 -- the vertices at place k of the order and after it are found, with all that are together with them; for each that is found the
 -- lowest is known
-pub record AreDone (lists : List (List ℕ)) (finished : List ℕ) (k : ℕ) (s : Search) (lowest : List ℕ) : Type 0 where
+pub record AreFoundFrom (lists : List (List ℕ)) (finished : List ℕ) (k : ℕ) (s : Search) (lowest : List ℕ) : Type 0 where
   pub marks : length s.marks ≡ length lists
   pub found : AreFound s
   pub one_each : length lowest ≡ length lists
@@ -76,9 +76,9 @@ pub record AreDone (lists : List (List ℕ)) (finished : List ℕ) (k : ℕ) (s 
   pub closed : (v w : ℕ) → Next lists w v → Contains s.order w → Contains s.order v
   pub answers : (v : ℕ) → Contains s.order v → IsLowest (NextBack lists) v (slice_index lowest v)
 
-pub AreDone-none : (lists : List (List ℕ)) (finished : List ℕ) (s : Search) (lowest : List ℕ) → s.marks ≡ replicate (length lists) false → s.order ≡ []
-    → length lowest ≡ length lists → AreDone lists finished (length finished) s lowest
-AreDone-none lists finished s lowest unmarked empty one_each = record {
+pub AreFoundFrom-none : (lists : List (List ℕ)) (finished : List ℕ) (s : Search) (lowest : List ℕ) → s.marks ≡ replicate (length lists) false → s.order ≡ []
+    → length lowest ≡ length lists → AreFoundFrom lists finished (length finished) s lowest
+AreFoundFrom-none lists finished s lowest unmarked empty one_each = record {
   marks = ap length unmarked ∙ length-replicate (length lists) false;
   found = AreFound-none s (length lists) unmarked empty;
   one_each = one_each;
@@ -90,9 +90,9 @@ AreDone-none lists finished s lowest unmarked empty one_each = record {
   none v has = omega (arith, ap length empty, has.1)
 
 -- the vertex before place k is found already
-pub AreDone-skipped : (lists : List (List ℕ)) (finished : List ℕ) (k j : ℕ) (s : Search) (lowest : List ℕ) → AreDone lists finished k s lowest → j + 1 ≡ k
-    → Contains s.order (slice_index finished j) → AreDone lists finished j s lowest
-AreDone-skipped lists finished k j s lowest is next has = record {
+pub AreFoundFrom-skipped : (lists : List (List ℕ)) (finished : List ℕ) (k j : ℕ) (s : Search) (lowest : List ℕ) → AreFoundFrom lists finished k s lowest → j + 1 ≡ k
+    → Contains s.order (slice_index finished j) → AreFoundFrom lists finished j s lowest
+AreFoundFrom-skipped lists finished k j s lowest is next has = record {
   marks = is.marks;
   found = is.found;
   one_each = is.one_each;
@@ -105,11 +105,11 @@ AreDone-skipped lists finished k j s lowest is next has = record {
   later i le lt (inr other) = is.later i (omega (arith, le, other, next)) lt
 
 -- the vertex before place k finds its component
-pub AreDone-more : (lists : List (List ℕ)) (finished : List ℕ) (k j : ℕ) (s t : Search) (lowest new : List ℕ) → AreDone lists finished k s lowest → j + 1 ≡ k
+pub AreFoundFrom-more : (lists : List (List ℕ)) (finished : List ℕ) (k j : ℕ) (s t : Search) (lowest new : List ℕ) → AreFoundFrom lists finished k s lowest → j + 1 ≡ k
     → j < length finished → IsFinishing (NextBack lists) (length lists) finished → ((u : ℕ) → All (λ w. w < length lists) (listed_at lists u))
     → ¬ Contains s.order (slice_index finished j) → Spreads lists s (slice_index finished j) t → AreSettled (drop (length s.order) t.order) lowest new
-    → AreDone lists finished j t new
-AreDone-more lists finished k j s t lowest new is next inside ordered within unfound spreads settled = record {
+    → AreFoundFrom lists finished j t new
+AreFoundFrom-more lists finished k j s t lowest new is next inside ordered within unfound spreads settled = record {
   marks = spreads.marks ∙ is.marks;
   found = spreads.found;
   one_each = settled.one_each ∙ is.one_each;
@@ -218,7 +218,7 @@ AreDone-more lists finished k j s t lowest new is next inside ordered within unf
   later i le lt (inl own) = subst (Contains t.order) (sym (ap (slice_index finished) own)) v_in
   later i le lt (inr other) = (spreads.reached (slice_index finished i)).1 (inl (is.later i (omega (arith, le, other, next)) lt))
 
-pub AreLowest-done : (lists : List (List ℕ)) (finished : List ℕ) (s : Search) (lowest : List ℕ) → AreDone lists finished 0 s lowest
+pub AreLowest-done : (lists : List (List ℕ)) (finished : List ℕ) (s : Search) (lowest : List ℕ) → AreFoundFrom lists finished 0 s lowest
     → IsFinishing (NextBack lists) (length lists) finished → AreLowest (NextBack lists) (length lists) lowest
 AreLowest-done lists finished s lowest is ordered = record {
   one_each = is.one_each;

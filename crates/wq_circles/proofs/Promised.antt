@@ -16,7 +16,7 @@ use Rattle.wq_cert.specs.Texts.{assignment_of_text, cert_refusal}
 use Rattle.wq_cert.proofs.ReadRanges.{IsAssignmentOf-assignment_of_text}
 use Rattle.wq_commands.specs.declared.end.End.{End}
 use Rattle.wq_commands.specs.declared.end.End.TheVariants.{Good, Bad, Refused}
-use Rattle.wq_commands.specs.Answer.{declared_waits, IsRefused}
+use Rattle.wq_commands.specs.Answer.{declared_waits, PrintsRefusal}
 use Rattle.wq_commands.specs.Declaration.{Declared, declaration}
 use Rattle.wq_commands.proofs.AnswerLemmas.{IsSound, IsSound-declaration, IsDeclaration-sound}
 use Rattle.wq_commands.proofs.CircleRuns.{IsAssignmentOf-own_lanes}
@@ -92,9 +92,9 @@ by_case (Err e) P Q F G good bad one = bad e one
 
 pub KeepsCircles-answers : (declared text : List ℕ) (end : End) (out : List ℕ) → Circles declared text end out → KeepsCircles declared text end out
 KeepsCircles-answers declared text end out =
-    by_case (declaration declared) (λ s. CirclesDeclared s text end out) (λ s. KeepsCirclesDeclared s text end out) (λ r. IsRefused r end out) (λ r. end ≡ Refused)
+    by_case (declaration declared) (λ s. CirclesDeclared s text end out) (λ s. KeepsCirclesDeclared s text end out) (λ r. PrintsRefusal r end out) (λ r. end ≡ Refused)
     (λ s is.
-    by_case (assignment_of_text s.table.names s.partition text) (λ a. CirclesAssigned s a end out) (λ a. KeepsAssigned s a end out) (λ fault. IsRefused (cert_refusal fault) end out) (λ fault. end ≡ Refused)
+    by_case (assignment_of_text s.table.names s.partition text) (λ a. CirclesAssigned s a end out) (λ a. KeepsAssigned s a end out) (λ fault. PrintsRefusal (cert_refusal fault) end out) (λ fault. end ≡ Refused)
     (λ a read. let sound = IsSound-declaration declared s is in
     kept s sound a (IsAssignmentOf-assignment_of_text s.table.names s.partition sound.partition (sym sound.one_group_each) text a read) end out)
     (λ fault refused. refused.0))
@@ -102,7 +102,7 @@ KeepsCircles-answers declared text end out =
 
 pub KeepsOwnCircles-answers : (declared : List ℕ) (end : End) (out : List ℕ) → OwnCircles declared end out → KeepsOwnCircles declared end out
 KeepsOwnCircles-answers declared end out =
-    by_case (declaration declared) (λ s. CirclesAssigned s (own_lanes s.partition.groups) end out) (λ s. KeepsAssigned s (own_lanes s.partition.groups) end out) (λ r. IsRefused r end out) (λ r. end ≡ Refused)
+    by_case (declaration declared) (λ s. CirclesAssigned s (own_lanes s.partition.groups) end out) (λ s. KeepsAssigned s (own_lanes s.partition.groups) end out) (λ r. PrintsRefusal r end out) (λ r. end ≡ Refused)
     (λ s is. let sound = IsSound-declaration declared s is in kept s sound (own_lanes s.partition.groups) (IsAssignmentOf-own_lanes s sound) end out)
     (λ r refused. refused.0)
 

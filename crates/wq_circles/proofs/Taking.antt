@@ -12,7 +12,7 @@ use Rattle.wq_cert.specs.Texts.{cert_refusal, max_certificate}
 use Rattle.wq_cert.proofs.LongCertificates.{text_reading-take}
 use Rattle.wq_commands.specs.declared.end.End.{End}
 use Rattle.wq_commands.specs.declared.why.Outcome.{Outcome}
-use Rattle.wq_commands.specs.Answer.{IsRefused}
+use Rattle.wq_commands.specs.Answer.{PrintsRefusal}
 use Rattle.wq_commands.specs.Declaration.{Declared, declaration, max_declaration}
 use Rattle.wq_commands.proofs.AnswerLemmas.{declaration-take}
 use Rattle.wq_commands.proofs.CommandLemmas.{SaysAssigned-take, SaysDeclared-take}
@@ -23,18 +23,18 @@ use Rattle.wq_circles.specs.Circling.{CirclesAssigned, CirclesDeclared, Circles,
 module _ (end : End) (out : List ℕ) where
   CirclesDeclared-take : (text : List ℕ) (s : Declared) → CirclesDeclared s (take (max_certificate + 1) text) end out → CirclesDeclared s text end out
   CirclesDeclared-take text s answer =
-      subst (λ (r : Result Assignment CertError). MatchResult r (λ a. CirclesAssigned s a end out) (λ fault. IsRefused (cert_refusal fault) end out))
+      subst (λ (r : Result Assignment CertError). MatchResult r (λ a. CirclesAssigned s a end out) (λ fault. PrintsRefusal (cert_refusal fault) end out))
       (text_reading-take (assignment_reading s.table.names s.partition) text) answer
 
   pub Circles-take : (declared text : List ℕ) → Circles (take (max_declaration + 1) declared) (take (max_certificate + 1) text) end out → Circles declared text end out
   Circles-take declared text answer =
       MatchResult-weaker (declaration declared)
-      (subst (λ (d : Result Declared Refusal). MatchResult d (λ s. CirclesDeclared s (take (max_certificate + 1) text) end out) (λ r. IsRefused r end out)) (declaration-take declared) answer)
+      (subst (λ (d : Result Declared Refusal). MatchResult d (λ s. CirclesDeclared s (take (max_certificate + 1) text) end out) (λ r. PrintsRefusal r end out)) (declaration-take declared) answer)
       (CirclesDeclared-take text) (λ r refused. refused)
 
   pub OwnCircles-take : (declared : List ℕ) → OwnCircles (take (max_declaration + 1) declared) end out → OwnCircles declared end out
   OwnCircles-take declared answer =
-      subst (λ (d : Result Declared Refusal). MatchResult d (λ s. CirclesAssigned s (own_lanes s.partition.groups) end out) (λ r. IsRefused r end out)) (declaration-take declared) answer
+      subst (λ (d : Result Declared Refusal). MatchResult d (λ s. CirclesAssigned s (own_lanes s.partition.groups) end out) (λ r. PrintsRefusal r end out)) (declaration-take declared) answer
 
 -- ---- the command
 

@@ -10,7 +10,7 @@ use Rattle.wq_graph.specs.declared.arc.WaitArc.{WaitArc}
 use Rattle.wq_graph.specs.Graph.{HasArc, IsGraph, arcs_at}
 use Rattle.wq_graph.proofs.ListLemmas.{Contains-cases, Contains-map, Contains-from_map}
 use Rattle.wq_circles.specs.Leading.{Leads}
-use Rattle.wq_circles.specs.Lists.{Next, listed_at, heads_of, HasTails, AreTails}
+use Rattle.wq_circles.specs.Lists.{Next, listed_at, head_lists, HasTails, AreTurned}
 use Rattle.wq_circles.proofs.Leading.{Leads-arc, Leads-trans}
 
 nothing_in : (w : ℕ) → ¬ Contains [] w
@@ -29,37 +29,37 @@ Next-below lists v w next = elim (cases_lt v (length lists)) [
   | inr le ↦ absurd (nothing_in w (subst (λ (l : List ℕ). Contains l w) (past_end lists v [] le) next))
 ]
 
-pub listed_at-heads_of : (graph : List (List WaitArc)) (v : ℕ) → listed_at (heads_of graph) v ≡ map (λ (a : WaitArc). a.head) (arcs_at graph v)
-listed_at-heads_of [] v = refl
-listed_at-heads_of (arcs ∷ graph) zero = refl
-listed_at-heads_of (arcs ∷ graph) (suc v) = listed_at-heads_of graph v
+pub listed_at-head_lists : (graph : List (List WaitArc)) (v : ℕ) → listed_at (head_lists graph) v ≡ map (λ (a : WaitArc). a.head) (arcs_at graph v)
+listed_at-head_lists [] v = refl
+listed_at-head_lists (arcs ∷ graph) zero = refl
+listed_at-head_lists (arcs ∷ graph) (suc v) = listed_at-head_lists graph v
 
-pub Next-heads : (graph : List (List WaitArc)) (v w : ℕ) → HasArc graph v w → Next (heads_of graph) v w
+pub Next-heads : (graph : List (List WaitArc)) (v w : ℕ) → HasArc graph v w → Next (head_lists graph) v w
 Next-heads graph v w (k, a, lt, at, head) =
-    subst (λ (l : List ℕ). Contains l w) (sym (listed_at-heads_of graph v))
+    subst (λ (l : List ℕ). Contains l w) (sym (listed_at-head_lists graph v))
     (subst (Contains (map (λ (b : WaitArc). b.head) (arcs_at graph v))) head (Contains-map (λ (b : WaitArc). b.head) (arcs_at graph v) a (k, lt, at)))
 
-pub HasArc-heads : (graph : List (List WaitArc)) (v w : ℕ) → Next (heads_of graph) v w → HasArc graph v w
+pub HasArc-heads : (graph : List (List WaitArc)) (v w : ℕ) → Next (head_lists graph) v w → HasArc graph v w
 HasArc-heads graph v w next =
-    let from = Contains-from_map (λ (b : WaitArc). b.head) (arcs_at graph v) w (subst (λ (l : List ℕ). Contains l w) (listed_at-heads_of graph v) next) in
+    let from = Contains-from_map (λ (b : WaitArc). b.head) (arcs_at graph v) w (subst (λ (l : List ℕ). Contains l w) (listed_at-head_lists graph v) next) in
     (from.1.0, from.0, from.1.1, from.1.2, from.2)
 
 -- the heads of a wait graph are vertices
-pub heads_of-below : (graph : List (List WaitArc)) → IsGraph graph → (v : ℕ) → All (λ w. w < length graph) (listed_at (heads_of graph) v)
-heads_of-below graph is v k d lt = elim (cases_lt v (length graph)) [
+pub head_lists-below : (graph : List (List WaitArc)) → IsGraph graph → (v : ℕ) → All (λ w. w < length graph) (listed_at (head_lists graph) v)
+head_lists-below graph is v k d lt = elim (cases_lt v (length graph)) [
   | inl inside ↦
-      let same = listed_at-heads_of graph v in
+      let same = listed_at-head_lists graph v in
       let within : k < length (arcs_at graph v) = omega (arith, lt, ap length same, length-map (arcs_at graph v) (λ (b : WaitArc). b.head)) in
       let a : WaitArc = record { src = 0; dst = 0; head = 0; place = 0 } in
       let head : (get_or (arcs_at graph v) k a).head < length graph = is.heads v [] inside k a within in
       subst (λ (n : ℕ). n < length graph) (sym (get_or-map (λ (b : WaitArc). b.head) (arcs_at graph v) k a d within) ∙ ap (λ (l : List ℕ). get_or l k d) (sym same)) head
   | inr past ↦
-      let none : listed_at (heads_of graph) v ≡ [] = past_end (heads_of graph) v [] (omega (arith, past, length-map graph (map (λ (b : WaitArc). b.head)))) in
+      let none : listed_at (head_lists graph) v ≡ [] = past_end (head_lists graph) v [] (omega (arith, past, length-map graph (map (λ (b : WaitArc). b.head)))) in
       absurd (omega (arith, lt, ap length none))
 ]
 
 pub Next-in_range : (graph : List (List WaitArc)) → IsGraph graph → (v w : ℕ) → HasArc graph v w → w < length graph
-Next-in_range graph is v w arc = All-contains (λ x. x < length graph) (listed_at (heads_of graph) v) w (heads_of-below graph is v) (Next-heads graph v w arc)
+Next-in_range graph is v w arc = All-contains (λ x. x < length graph) (listed_at (head_lists graph) v) w (head_lists-below graph is v) (Next-heads graph v w arc)
 
 -- the same for lists that are kept as vectors
 pub lists-below : {A : Type 0} (lists : List (Vec ℕ A)) (shown : List (List ℕ)) (n : ℕ) → map (λ (l : Vec ℕ A). l.items) lists ≡ shown
@@ -113,27 +113,27 @@ Leads-turned R S arcs v w leads = go v leads.others leads.some leads.chain leads
       Leads-trans S w x v (go x (y ∷ ys) (λ same. (let bad : y ∷ ys ≡ [] = same in absurd (cc))) is.1 ends) (Leads-arc S x v (arcs v x is.0))
 
 -- the tails of a graph's heads are its arcs turned round
-pub Next-tails : (graph : List (List WaitArc)) (tails : List (List ℕ)) → IsGraph graph → AreTails (heads_of graph) tails → (v w : ℕ) → HasArc graph v w → Next tails w v
+pub Next-tails : (graph : List (List WaitArc)) (tails : List (List ℕ)) → IsGraph graph → AreTurned (head_lists graph) tails → (v w : ℕ) → HasArc graph v w → Next tails w v
 Next-tails graph tails is turned v w arc =
-    let long : length (heads_of graph) ≡ length graph = length-map graph (map (λ (b : WaitArc). b.head)) in
-    let next : Next (heads_of graph) v w = Next-heads graph v w arc in
+    let long : length (head_lists graph) ≡ length graph = length-map graph (map (λ (b : WaitArc). b.head)) in
+    let next : Next (head_lists graph) v w = Next-heads graph v w arc in
     let head : w < length graph = Next-in_range graph is v w arc in
-    (turned.turned v w (omega (arith, long, head))).1 (Next-below (heads_of graph) v w next, next)
+    (turned.turned v w (omega (arith, long, head))).1 (Next-below (head_lists graph) v w next, next)
 
-pub HasArc-tails : (graph : List (List WaitArc)) (tails : List (List ℕ)) → AreTails (heads_of graph) tails → (w v : ℕ) → Next tails w v → HasArc graph v w
+pub HasArc-tails : (graph : List (List WaitArc)) (tails : List (List ℕ)) → AreTurned (head_lists graph) tails → (w v : ℕ) → Next tails w v → HasArc graph v w
 HasArc-tails graph tails turned w v next =
     let below : w < length tails = Next-below tails w v next in
     let same = turned.one_each in
     HasArc-heads graph v w ((turned.turned v w (omega (arith, below, same))).0 next).1
 
 -- the tails are vertices
-pub tails-below : (graph : List (List WaitArc)) (tails : List (List ℕ)) → AreTails (heads_of graph) tails → (w : ℕ) → All (λ v. v < length tails) (listed_at tails w)
+pub tails-below : (graph : List (List WaitArc)) (tails : List (List ℕ)) → AreTurned (head_lists graph) tails → (w : ℕ) → All (λ v. v < length tails) (listed_at tails w)
 tails-below graph tails turned w k d lt = elim (cases_lt w (length tails)) [
   | inl inside ↦
       let v : ℕ = get_or (listed_at tails w) k d in
       let same = turned.one_each in
       let next : Next tails w v = (k, lt, get_or_default (listed_at tails w) k v d lt) in
-      let below : v < length (heads_of graph) = ((turned.turned v w (omega (arith, inside, same))).0 next).0 in
+      let below : v < length (head_lists graph) = ((turned.turned v w (omega (arith, inside, same))).0 next).0 in
       omega (arith, below, same)
   | inr past ↦ absurd (omega (arith, lt, ap length (past_end tails w [] past)))
 ]
@@ -232,5 +232,5 @@ AreTailsUpTo-more heads old new v are has = record {
     | inr other ↦ (has.tails u w (in_old w lt)).1 (inl ((are.turned u w lt).1 (omega (arith, both.0, other), both.1)))
   ]
 
-pub AreTails-all : (heads tails : List (List ℕ)) → AreTailsUpTo heads tails (length heads) → AreTails heads tails
-AreTails-all heads tails are = record { one_each = are.one_each; turned = are.turned }
+pub AreTurned-all : (heads tails : List (List ℕ)) → AreTailsUpTo heads tails (length heads) → AreTurned heads tails
+AreTurned-all heads tails are = record { one_each = are.one_each; turned = are.turned }

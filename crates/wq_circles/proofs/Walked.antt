@@ -8,7 +8,7 @@ use Rattle.std.proofs.lemmas.Option.{get_or_from_slice_get, slice_get_within, sl
 use Rattle.wq_circles.specs.Leading.{Leads}
 use Rattle.wq_circles.specs.Lists.{Next, listed_at}
 use Rattle.wq_circles.specs.Searching.{is_marked}
-use Rattle.wq_circles.specs.Finishing.{Follows, IsFinishing, IsVisited, IsWalk, LeadToLast, StandsBy, Walk, WentOn, steps_to, with_finished, with_followed, with_visited}
+use Rattle.wq_circles.specs.Finishing.{Follows, IsFinishing, IsVisited, IsWalkSoFar, LeadToLast, StandsBy, Walk, WentOn, steps_to, with_vertex_finished, with_followed, with_visited}
 use Rattle.wq_circles.proofs.Leading.{Leads-arc, Leads-trans}
 use Rattle.wq_circles.proofs.Once.{place-of, at_most, once_push, once_take, Contains-from_take, Contains-take}
 
@@ -40,7 +40,7 @@ IsTop-contains : (path : List ℕ) (v : ℕ) → IsTop path v → Contains path 
 IsTop-contains path v top = (let some = top.some in subst (Contains path) top.last (Contains-get_or path (length path - 1) 0 (omega (arith, some))))
 
 -- where the search is, is a vertex
-pub IsTop-below : (lists : List (List ℕ)) (s : Walk) (v : ℕ) → IsWalk lists s → IsTop s.path v → v < length lists
+pub IsTop-below : (lists : List (List ℕ)) (s : Walk) (v : ℕ) → IsWalkSoFar lists s → IsTop s.path v → v < length lists
 IsTop-below lists s v is top = All-contains (λ u. u < length lists) s.path v is.path_below (IsTop-contains s.path v top)
 
 -- without a last vertex the path is empty
@@ -52,9 +52,9 @@ no_top (v ∷ path) none =
 -- ---- the steps
 
 -- more of a list was passed
-IsWalk-followed : (lists : List (List ℕ)) (s : Walk) (v count : ℕ) → IsWalk lists s → v < length lists
-    → ((k : ℕ) → slice_index s.followed v ≤ k → k < count → k < length (listed_at lists v) → IsVisited s (slice_index (listed_at lists v) k)) → IsWalk lists (with_followed s v count)
-IsWalk-followed lists s v count is inside passed = record {
+IsWalkSoFar-followed : (lists : List (List ℕ)) (s : Walk) (v count : ℕ) → IsWalkSoFar lists s → v < length lists
+    → ((k : ℕ) → slice_index s.followed v ≤ k → k < count → k < length (listed_at lists v) → IsVisited s (slice_index (listed_at lists v) k)) → IsWalkSoFar lists (with_followed s v count)
+IsWalkSoFar-followed lists s v count is inside passed = record {
   marks = is.marks;
   counts = length-set s.followed v count ∙ is.counts;
   path_below = is.path_below;
@@ -81,9 +81,9 @@ IsWalk-followed lists s v count is inside passed = record {
     go (inr other) (inr le) = (let now = get_or-set_other s.followed v u count 0 other in absurd (omega (arith, lt, le, now)))
 
 -- one more vertex is visited, to which each of the path leads
-IsWalk-visited : (lists : List (List ℕ)) (s : Walk) (w : ℕ) → IsWalk lists s → w < length lists → is_marked s.visited w ≡ false
-    → ((i : ℕ) → i < length s.path → Leads (Next lists) (slice_index s.path i) w) → IsWalk lists (with_visited s w)
-IsWalk-visited lists s w is inside unmarked led = record {
+IsWalkSoFar-visited : (lists : List (List ℕ)) (s : Walk) (w : ℕ) → IsWalkSoFar lists s → w < length lists → is_marked s.visited w ≡ false
+    → ((i : ℕ) → i < length s.path → Leads (Next lists) (slice_index s.path i) w) → IsWalkSoFar lists (with_visited s w)
+IsWalkSoFar-visited lists s w is inside unmarked led = record {
   marks = length-set s.visited w true ∙ is.marks;
   counts = is.counts;
   finished_below = is.finished_below;
@@ -142,8 +142,8 @@ IsWalk-visited lists s w is inside unmarked led = record {
         (subst (Leads (Next lists) (slice_index s.path i)) (sym (get_or_push s.path w 0 j at)) (led i (omega (arith, less, at))))
 
 -- the last vertex of the path is finished
-IsWalk-finished : (lists : List (List ℕ)) (s : Walk) (v : ℕ) → IsWalk lists s → IsTop s.path v → ((w : ℕ) → Next lists v w → IsVisited s w) → IsWalk lists (with_finished s v)
-IsWalk-finished lists s v is top all = record {
+IsWalkSoFar-finished : (lists : List (List ℕ)) (s : Walk) (v : ℕ) → IsWalkSoFar lists s → IsTop s.path v → ((w : ℕ) → Next lists v w → IsVisited s w) → IsWalkSoFar lists (with_vertex_finished s v)
+IsWalkSoFar-finished lists s v is top all = record {
   marks = is.marks;
   counts = is.counts;
   path_below = All-take (λ u. u < length lists) end s.path is.path_below;
@@ -271,7 +271,7 @@ IsWalk-finished lists s v is top all = record {
 -- ---- one step
 
 -- the vertex that comes next is one
-pub Follows-inside : (lists : List (List ℕ)) (s : Walk) (v w : ℕ) (t : Walk) → IsWalk lists s → All (λ u. u < length lists) (listed_at lists v) → Follows s (listed_at lists v) v (Some w) t
+pub Follows-inside : (lists : List (List ℕ)) (s : Walk) (v w : ℕ) (t : Walk) → IsWalkSoFar lists s → All (λ u. u < length lists) (listed_at lists v) → Follows s (listed_at lists v) v (Some w) t
     → (w < length lists) × (w < length t.visited)
 Follows-inside lists s v w t is within follows =
     let inside : w < length lists = All-contains (λ u. u < length lists) (listed_at lists v) w within follows.tells.0 in
@@ -280,11 +280,11 @@ Follows-inside lists s v w t is within follows =
     (inside, omega (arith, inside, marks, same))
 
 -- the next vertex is visited
-pub WentOn-some : (lists : List (List ℕ)) (s : Walk) (v w : ℕ) (t : Walk) → IsWalk lists s → IsTop s.path v → Follows s (listed_at lists v) v (Some w) t → w < length lists
+pub WentOn-some : (lists : List (List ℕ)) (s : Walk) (v w : ℕ) (t : Walk) → IsWalkSoFar lists s → IsTop s.path v → Follows s (listed_at lists v) v (Some w) t → w < length lists
     → WentOn lists s (with_visited t w)
 WentOn-some lists s v w t is top follows inside =
     subst (λ (x : Walk). WentOn lists s (with_visited x w)) (sym follows.after) (record {
-      walk = IsWalk-visited lists past w (IsWalk-followed lists s v follows.count is v_below follows.passed) inside follows.tells.1 led;
+      walk = IsWalkSoFar-visited lists past w (IsWalkSoFar-followed lists s v follows.count is v_below follows.passed) inside follows.tells.1 led;
       keeps = λ u holds. marked_more s.visited w u (omega (arith, inside, marks)) holds;
     })
   where
@@ -311,10 +311,10 @@ WentOn-some lists s v w t is top follows inside =
     ]
 
 -- there is no next vertex: the last one is finished
-pub WentOn-none : (lists : List (List ℕ)) (s : Walk) (v : ℕ) (t : Walk) → IsWalk lists s → IsTop s.path v → Follows s (listed_at lists v) v None t → WentOn lists s (with_finished t v)
+pub WentOn-none : (lists : List (List ℕ)) (s : Walk) (v : ℕ) (t : Walk) → IsWalkSoFar lists s → IsTop s.path v → Follows s (listed_at lists v) v None t → WentOn lists s (with_vertex_finished t v)
 WentOn-none lists s v t is top follows =
-    subst (λ (x : Walk). WentOn lists s (with_finished x v)) (sym follows.after) (record {
-      walk = IsWalk-finished lists past v (IsWalk-followed lists s v follows.count is v_below follows.passed) top all;
+    subst (λ (x : Walk). WentOn lists s (with_vertex_finished x v)) (sym follows.after) (record {
+      walk = IsWalkSoFar-finished lists past v (IsWalkSoFar-followed lists s v follows.count is v_below follows.passed) top all;
       keeps = λ u holds. holds;
     })
   where
@@ -336,28 +336,28 @@ WentOn-none lists s v t is top follows =
 -- ---- from one root
 
 -- the search comes to a root
-pub WentOn-root : (lists : List (List ℕ)) (s : Walk) (w : ℕ) → IsWalk lists s → s.path ≡ [] → w < length lists → is_marked s.visited w ≡ false
+pub WentOn-root : (lists : List (List ℕ)) (s : Walk) (w : ℕ) → IsWalkSoFar lists s → s.path ≡ [] → w < length lists → is_marked s.visited w ≡ false
     → WentOn lists s (with_visited s w) × IsVisited (with_visited s w) w
 WentOn-root lists s w is at_rest inside unmarked =
     let marks = is.marks in
     let in_marks : w < length s.visited = omega (arith, inside, marks) in (
       record {
-        walk = IsWalk-visited lists s w is inside unmarked (λ i lt. absurd (omega (arith, lt, ap length at_rest)));
+        walk = IsWalkSoFar-visited lists s w is inside unmarked (λ i lt. absurd (omega (arith, lt, ap length at_rest)));
         keeps = λ u holds. marked_more s.visited w u in_marks holds;
       },
       get_or-set_same s.visited w true false in_marks,
     )
 
 -- there are at most three steps for each vertex (two, to be exact)
-pub few_steps : (lists : List (List ℕ)) (s : Walk) → IsWalk lists s → steps_to s ≤ 3 * length lists
+pub few_steps : (lists : List (List ℕ)) (s : Walk) → IsWalkSoFar lists s → steps_to s ≤ 3 * length lists
 few_steps lists s is =
     omega (arith, at_most (length lists) s.path is.path_below is.path_once, at_most (length lists) s.finished is.finished_below is.finished_once)
 
 -- ---- from all
 
-pub IsWalk-none : (lists : List (List ℕ)) (s : Walk) → s.visited ≡ replicate (length lists) false → s.followed ≡ replicate (length lists) 0 → s.path ≡ [] → s.finished ≡ []
-    → IsWalk lists s
-IsWalk-none lists s unvisited unfollowed no_path none = record {
+pub IsWalkSoFar-none : (lists : List (List ℕ)) (s : Walk) → s.visited ≡ replicate (length lists) false → s.followed ≡ replicate (length lists) 0 → s.path ≡ [] → s.finished ≡ []
+    → IsWalkSoFar lists s
+IsWalkSoFar-none lists s unvisited unfollowed no_path none = record {
   marks = ap length unvisited ∙ length-replicate (length lists) false;
   counts = ap length unfollowed ∙ length-replicate {A = ℕ} (length lists) 0;
   path_below = subst (All (λ v. v < length lists)) (sym no_path) (All-nil (λ v. v < length lists));
@@ -388,7 +388,7 @@ IsWalk-none lists s unvisited unfollowed no_path none = record {
         | inr past ↦ omega (arith, lt, at, get_or_past {X = ℕ} (replicate (length lists) 0) v 0 (omega (arith, past, length-replicate {A = ℕ} (length lists) 0)))
       ]
 
-pub IsFinishing-all : (lists : List (List ℕ)) (s : Walk) → IsWalk lists s → s.path ≡ [] → ((v : ℕ) → v < length lists → IsVisited s v)
+pub IsFinishing-all : (lists : List (List ℕ)) (s : Walk) → IsWalkSoFar lists s → s.path ≡ [] → ((v : ℕ) → v < length lists → IsVisited s v)
     → IsFinishing (Next lists) (length lists) s.finished
 IsFinishing-all lists s is no_path all = record {
   below = is.finished_below;

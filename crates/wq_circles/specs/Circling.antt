@@ -9,7 +9,7 @@ use Rattle.wq_meter.specs.declared.texts.Limits.{Limits}
 use Rattle.wq_commands.specs.declared.end.End.{End}
 use Rattle.wq_commands.specs.declared.why.Outcome.{Outcome}
 use Rattle.wq_commands.specs.declared.end.End.TheVariants.{Good, Bad, Refused}
-use Rattle.wq_commands.specs.Answer.{declared_waits, IsRefused}
+use Rattle.wq_commands.specs.Answer.{declared_waits, PrintsRefusal}
 use Rattle.wq_commands.specs.Commands.{one_text, two_texts}
 use Rattle.wq_commands.specs.Deadlocking.{safe_text}
 use Rattle.wq_commands.specs.Declaration.{Declared, declaration}
@@ -33,16 +33,16 @@ CirclesAssigned s a Refused out = ⊥
 -- the answer to the text of an assignment of a declaration, or its refusal
 abbrev pub CirclesDeclared : Declared → List ℕ → End → List ℕ → Type 0
 CirclesDeclared s text end out =
-    MatchResult (assignment_of_text s.table.names s.partition text) (λ a. CirclesAssigned s a end out) (λ fault. IsRefused (cert_refusal fault) end out)
+    MatchResult (assignment_of_text s.table.names s.partition text) (λ a. CirclesAssigned s a end out) (λ fault. PrintsRefusal (cert_refusal fault) end out)
 
 -- the answer to the texts of a declaration and an assignment: a refusal of the declaration comes first
 abbrev pub Circles : List ℕ → List ℕ → End → List ℕ → Type 0
-Circles declared text end out = MatchResult (declaration declared) (λ s. CirclesDeclared s text end out) (λ r. IsRefused r end out)
+Circles declared text end out = MatchResult (declaration declared) (λ s. CirclesDeclared s text end out) (λ r. PrintsRefusal r end out)
 
 -- the answer to only the text of a declaration: each group has its own workqueue, with the group's number
 abbrev pub OwnCircles : List ℕ → End → List ℕ → Type 0
 OwnCircles declared end out =
-    MatchResult (declaration declared) (λ s. CirclesAssigned s (own_lanes s.partition.groups) end out) (λ r. IsRefused r end out)
+    MatchResult (declaration declared) (λ s. CirclesAssigned s (own_lanes s.partition.groups) end out) (λ r. PrintsRefusal r end out)
 
 -- ---- the command, with an assignment or without one
 

@@ -47,8 +47,8 @@ abbrev pub with_followed : Walk → ℕ → ℕ → Walk
 with_followed s v count = record { visited = s.visited; followed = slice_set s.followed v count; path = s.path; finished = s.finished }
 
 -- the search after vertex v, the last of the path, was finished
-abbrev pub with_finished : Walk → ℕ → Walk
-with_finished s v = record { visited = s.visited; followed = s.followed; path = take (length s.path - 1) s.path; finished = s.finished ++ (v ∷ []) }
+abbrev pub with_vertex_finished : Walk → ℕ → Walk
+with_vertex_finished s v = record { visited = s.visited; followed = s.followed; path = take (length s.path - 1) s.path; finished = s.finished ++ (v ∷ []) }
 
 -- the search went from s to t, as it passed those next in vertex v's list that were visited; `next` is the first one that
 -- wasn't
@@ -64,7 +64,7 @@ steps_to s = length s.path + 2 * length s.finished
 
 -- what holds between two steps: the visited vertices are those of the path and the finished ones, each once; each vertex of the
 -- path leads to the later ones; the arcs of a finished vertex, and those that were followed, lead to visited ones
-pub record IsWalk (lists : List (List ℕ)) (s : Walk) : Type 0 where
+pub record IsWalkSoFar (lists : List (List ℕ)) (s : Walk) : Type 0 where
   pub marks : length s.visited ≡ length lists
   pub counts : length s.followed ≡ length lists
   pub path_below : All (λ v. v < length lists) s.path
@@ -80,5 +80,5 @@ pub record IsWalk (lists : List (List ℕ)) (s : Walk) : Type 0 where
 
 -- the search went on from s to t: what was visited is still visited
 pub record WentOn (lists : List (List ℕ)) (s t : Walk) : Type 0 where
-  pub walk : IsWalk lists t
+  pub walk : IsWalkSoFar lists t
   pub keeps : (v : ℕ) → IsVisited s v → IsVisited t v

@@ -15,8 +15,8 @@ abbrev pub NextBack : List (List ℕ) → ℕ → ℕ → Type 0
 NextBack lists v w = Next lists w v
 
 -- the heads of each vertex's arcs, vertex by vertex
-abbrev pub heads_of : List (List WaitArc) → List (List ℕ)
-heads_of graph = map (λ arcs. map (λ (a : WaitArc). a.head) arcs) graph
+abbrev pub head_lists : List (List WaitArc) → List (List ℕ)
+head_lists graph = map (λ arcs. map (λ (a : WaitArc). a.head) arcs) graph
 
 -- vertex v was added to the list of each of these heads, and to no other list
 pub record HasTails (old new : List (List ℕ)) (v : ℕ) (heads : List ℕ) : Type 0 where
@@ -24,6 +24,6 @@ pub record HasTails (old new : List (List ℕ)) (v : ℕ) (heads : List ℕ) : T
   pub tails : (u w : ℕ) → w < length old → Next new w u ↔ (Next old w u ⊎ ((u ≡ v) × Contains heads w))
 
 -- the same lists, turned round: vertex u is in the list of w exactly if w is in that of u
-pub record AreTails (heads tails : List (List ℕ)) : Type 0 where
+pub record AreTurned (heads tails : List (List ℕ)) : Type 0 where
   pub one_each : length tails ≡ length heads
   pub turned : (u w : ℕ) → w < length heads → Next tails w u ↔ ((u < length heads) × Next heads u w)

@@ -7,7 +7,7 @@ ghost use Rattle.std.specs.Prelude.{◌≡◌, ◌<◌, length, map, false, [], 
 ghost use Rattle.std.specs.List.{All};
 ghost use Rattle.wq_circles.specs.Lists.{Next};
 ghost use Rattle.wq_circles.specs.Searching.{is_marked};
-ghost use Rattle.wq_circles.specs.Finishing.{IsFinishing, IsVisited, IsWalk, WentOn};
+ghost use Rattle.wq_circles.specs.Finishing.{IsFinishing, IsVisited, IsWalkSoFar, WentOn};
 
 use crate::walk::Walk;
 use std::alloc::{AllocError, Allocator};
@@ -18,7 +18,7 @@ fn walk_from<A: Allocator + Copy>(
     lists: &[Vec<u16, A>],
     root: u16,
 ) -> Result<(), AllocError>
-    requires walk { IsWalk (map (λ l. l.items) lists.now) walk.old }
+    requires walk { IsWalkSoFar (map (λ l. l.items) lists.now) walk.old }
     requires at_rest { walk.old.path ≡ [] }
     requires root { root < length lists.now }
     requires new { is_marked walk.old.visited root ≡ false }

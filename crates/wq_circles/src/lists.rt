@@ -4,7 +4,7 @@
 
 ghost use Rattle.std.specs.Prelude.{◌≡◌, ◌<◌, length, map, replicate, [], IfOk};
 ghost use Rattle.std.specs.List.{All};
-ghost use Rattle.wq_circles.specs.Lists.{AreTails, HasTails, heads_of};
+ghost use Rattle.wq_circles.specs.Lists.{AreTurned, HasTails, head_lists};
 
 use std::alloc::{AllocError, Allocator};
 use wq_graph::{WaitArc, WaitGraph};
@@ -25,7 +25,7 @@ pub(crate) fn heads<A: Allocator + Copy>(
     alloc: A,
     graph: &WaitGraph<A>,
 ) -> Result<Vec<Vec<u16, A>, A>, AllocError>
-    ensures { IfOk result (λ lists. map (λ l. l.items) lists.items ≡ heads_of graph.now) }
+    ensures { IfOk result (λ lists. map (λ l. l.items) lists.items ≡ head_lists graph.now) }
 {
     let vertices = graph.vertices();
     let mut lists = Vec::with_capacity(alloc, usize::from(vertices))?;
@@ -70,7 +70,7 @@ pub(crate) fn tails<A: Allocator + Copy>(
 ) -> Result<Vec<Vec<u16, A>, A>, AllocError>
     requires one_each { length heads.now ≡ vertices }
     requires within { All (λ list. All (λ w. w < vertices) list.items) heads.now }
-    ensures { IfOk result (λ lists. AreTails (map (λ l. l.items) heads.now) (map (λ l. l.items) lists.items)) }
+    ensures { IfOk result (λ lists. AreTurned (map (λ l. l.items) heads.now) (map (λ l. l.items) lists.items)) }
 {
     let mut lists = empty_lists(alloc, vertices)?;
     for v in 0..vertices {

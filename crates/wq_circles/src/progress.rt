@@ -11,12 +11,12 @@ use std::marker::Model;
 
 /// A search in progress.
 #[derive(Drop)]
-pub(crate) struct Progress<A: Allocator> {
+pub(crate) struct FoundVertices<A: Allocator> {
     marks: Vec<bool, A>,
     order: Vec<u16, A>,
 }
 
-impl<A: Allocator> Model for Progress<A> {
+impl<A: Allocator> Model for FoundVertices<A> {
     ghost use Rattle.wq_circles.specs.Searching.{Search};
 
     ghost Value = { Search };
@@ -24,7 +24,7 @@ impl<A: Allocator> Model for Progress<A> {
     ghost view = { λ p. record { marks = p.marks.items; order = p.order.items } };
 }
 
-impl<A: Allocator + Copy> Progress<A> {
+impl<A: Allocator + Copy> FoundVertices<A> {
     /// Nothing found yet, for this many vertices.
     pub(crate) fn none(alloc: A, vertices: usize) -> Result<Self, AllocError>
         ensures marks { IfOk result (λ p. p.marks ≡ replicate vertices false) }
@@ -32,7 +32,7 @@ impl<A: Allocator + Copy> Progress<A> {
     {
         let marks = vec![in alloc; false; vertices]?;
         let order = Vec::new(alloc);
-        Ok(Progress { marks, order })
+        Ok(FoundVertices { marks, order })
     }
 
     /// Whether a vertex was found.

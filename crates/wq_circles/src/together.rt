@@ -15,13 +15,13 @@ ghost use Rattle.wq_circles.specs.Finishing.{IsFinishing};
 
 use crate::finishing::finishing_order;
 use crate::lists::{heads, tails};
-use crate::progress::Progress;
+use crate::progress::FoundVertices;
 use std::alloc::{AllocError, Allocator};
 use wq_graph::WaitGraph;
 
 /// Finds a vertex that wasn't found yet, and all that it leads to, from list to list, over vertices that weren't found.
 fn spread<A: Allocator + Copy>(
-    found: &mut Progress<A>,
+    found: &mut FoundVertices<A>,
     lists: &[Vec<u16, A>],
     root: u16,
 ) -> Result<(), AllocError>
@@ -71,7 +71,7 @@ fn lowest_of_components<A: Allocator + Copy>(
     requires within { All (λ list. All (λ w. w < length tails.now) list.items) tails.now }
     ensures { IfOk result (λ lowest. AreLowest (NextBack (map (λ l. l.items) tails.now)) (length tails.now) lowest.items) }
 {
-    let mut found = Progress::none(alloc, tails.len())?;
+    let mut found = FoundVertices::none(alloc, tails.len())?;
     let mut lowest = vec![in alloc; 0; tails.len()]?;
     for place in (0..finished.len()).rev() {
         let root = finished[place];

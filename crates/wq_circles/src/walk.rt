@@ -6,7 +6,7 @@
 ghost use Rattle.std.specs.Prelude.{◌≡◌, ℕ, ◌+◌, ◌-◌, ◌<◌, ◌≤◌, length, map, replicate, true, false, [], slice_get, slice_index, Some, IfOk};
 ghost use Rattle.std.specs.List.{All};
 ghost use Rattle.wq_circles.specs.Searching.{is_marked};
-ghost use Rattle.wq_circles.specs.Finishing.{Follows, IsWalk, WentOn, steps_to, with_finished, with_followed, with_visited};
+ghost use Rattle.wq_circles.specs.Finishing.{Follows, IsWalkSoFar, WentOn, steps_to, with_vertex_finished, with_followed, with_visited};
 
 use std::alloc::{AllocError, Allocator};
 use std::marker::Model;
@@ -94,7 +94,7 @@ impl<A: Allocator + Copy> Walk<A> {
 
     /// Goes back from the vertex where the search is.
     fn finish(&mut self, vertex: u16) -> Result<(), AllocError>
-        ensures { IfOk result (λ _. self.new ≡ with_finished self.old vertex) }
+        ensures { IfOk result (λ _. self.new ≡ with_vertex_finished self.old vertex) }
     {
         let _ = self.path.pop();
         self.finished.push(vertex)?;
@@ -115,7 +115,7 @@ impl<A: Allocator + Copy> Walk<A> {
 
     /// Comes to the next vertex that wasn't visited, or goes back where there is none.
     pub(crate) fn step(&mut self, lists: &[Vec<u16, A>], vertex: u16) -> Result<(), AllocError>
-        requires walk { IsWalk (map (λ l. l.items) lists.now) self.old }
+        requires walk { IsWalkSoFar (map (λ l. l.items) lists.now) self.old }
         requires top { slice_get self.old.path (length self.old.path - 1) ≡ Some vertex }
         requires within { All (λ list. All (λ w. w < length lists.now) list.items) lists.now }
         ensures goes_on { IfOk result (λ _. WentOn (map (λ l. l.items) lists.now) self.old self.new) }

@@ -11,8 +11,8 @@ use Rattle.wq_checker.specs.Answers.{AnswersCertificate}
 use Rattle.wq_checker.specs.Codes.{no_code}
 use Rattle.wq_commands.specs.Answer.{declared_waits}
 use Rattle.wq_commands.specs.Declaration.{Declared, declaration}
-use Rattle.wq_findings.specs.declared.stage.Kind.{Kind}
-use Rattle.wq_findings.specs.declared.stage.Kind.TheVariants.{Answer, Assignment, Run}
+use Rattle.wq_findings.specs.declared.stage.CertificateKind.{CertificateKind}
+use Rattle.wq_findings.specs.declared.stage.CertificateKind.TheVariants.{Answer, Assignment, Run}
 use Rattle.wq_diagnosis.specs.Diagnosis.{IsDiagnosis, shown_lines}
 
 -- what a text is refused for, if this is what reading it gave
@@ -25,18 +25,18 @@ abbrev pub declaration_refusal : List ℕ → Option Refusal
 declaration_refusal text = refusal_of (λ r. r) (declaration text)
 
 -- what a certificate of a declaration is refused for
-abbrev pub certificate_refusal : Kind → Declared → List ℕ → Option Refusal
+abbrev pub certificate_refusal : CertificateKind → Declared → List ℕ → Option Refusal
 certificate_refusal Answer s text = refusal_of cert_refusal (answer_of s.table.names s.partition text)
 certificate_refusal Assignment s text = refusal_of cert_refusal (assignment_of_text s.table.names s.partition text)
 certificate_refusal Run s text = refusal_of cert_refusal (run_of s.table.names text)
 
 -- what a certificate is refused for, if the declaration isn't refused
-abbrev pub refusal_by : Kind → Result Declared Refusal → List ℕ → Option Refusal
+abbrev pub refusal_by : CertificateKind → Result Declared Refusal → List ℕ → Option Refusal
 refusal_by kind (Ok s) text = certificate_refusal kind s text
 refusal_by kind (Err r) text = None
 
 -- the same for two texts
-abbrev pub refusal_with : Kind → List ℕ → List ℕ → Option Refusal
+abbrev pub refusal_with : CertificateKind → List ℕ → List ℕ → Option Refusal
 refusal_with kind declared text = refusal_by kind (declaration declared) text
 
 -- a fault with this refusal, or out of memory, which says nothing about the text; no fault if there is no refusal

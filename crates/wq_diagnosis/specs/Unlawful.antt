@@ -16,8 +16,6 @@ use Rattle.wq_findings.specs.Shown.{place_text}
 
 -- the workqueue that a step names; 0 for the steps that name none
 abbrev pub workqueue_of : Step → ℕ
-workqueue_of (Queue i) = 0
-workqueue_of (Cancel i) = 0
 workqueue_of (Start q i) = q
 workqueue_of (Wait q b) = q
 workqueue_of (Over q b) = q
@@ -25,6 +23,7 @@ workqueue_of (WaitAll q b) = q
 workqueue_of (OverAll q b) = q
 workqueue_of (Finish q i) = q
 workqueue_of (Help q h deed) = q
+workqueue_of _ = 0
 
 -- the item that a step names
 abbrev pub item_of : Step → ℕ
@@ -39,23 +38,23 @@ item_of (Finish q i) = i
 item_of (Help q h deed) = deed_item deed
 
 -- an entry of item j runs on the workqueue
-abbrev pub RunsItem : State → ℕ → ℕ → Running → Type 0
-RunsItem s q j r = Runs (lane_at s q) r × (r.entry.item ≡ j)
+abbrev pub RunsEntryOf : State → ℕ → ℕ → Running → Type 0
+RunsEntryOf s q j r = Runs (lane_at s q) r × (r.entry.item ≡ j)
 
 -- the reason why a step with this workqueue and this item isn't lawful holds in the state
-abbrev pub Holds : Wiring → State → ℕ → ℕ → Unlawful → Type 0
-Holds w s q i why.NoItem = ¬ (i < items w)
-Holds w s q i why.Pending = HasPending s i
-Holds w s q i why.NotPending = ¬ HasPending s i
-Holds w s q i (why.Runs j) = (r : Running) × RunsItem s q j r
-Holds w s q i why.NothingPending = slice_get (lane_at s q).pending 0 ≡ None
-Holds w s q i (why.First j) = (e : Entry) × (slice_get (lane_at s q).pending 0 ≡ Some e) × (e.item ≡ j)
-Holds w s q i why.NothingRuns = (lane_at s q).running ≡ None
-Holds w s q i (why.Waits j f) = (r : Running) × RunsItem s q j r × (r.waiting ≡ Some f)
-Holds w s q i (why.Undeclared j whole) = (r : Running) × RunsItem s q j r × (¬ ItemWaitsBy w.waits whole j i)
-Holds w s q i (why.AllMade j) = (r : Running) × RunsItem s q j r × (¬ (r.made < length (declared_by w j)))
-Holds w s q i (why.Awake j) = (r : Running) × RunsItem s q j r × (r.waiting ≡ None)
-Holds w s q i (why.Unfinished whole) = (r : Running) × Runs (lane_at s q) r × (f : Waiting) × (r.waiting ≡ Some f) × (f.whole ≡ whole) × IsHeldBack w s whole i f.mark
+abbrev pub ReasonHolds : Wiring → State → ℕ → ℕ → Unlawful → Type 0
+ReasonHolds w s q i why.NoItem = ¬ (i < items w)
+ReasonHolds w s q i why.Pending = HasPending s i
+ReasonHolds w s q i why.NotPending = ¬ HasPending s i
+ReasonHolds w s q i (why.Runs j) = (r : Running) × RunsEntryOf s q j r
+ReasonHolds w s q i why.NothingPending = slice_get (lane_at s q).pending 0 ≡ None
+ReasonHolds w s q i (why.First j) = (e : Entry) × (slice_get (lane_at s q).pending 0 ≡ Some e) × (e.item ≡ j)
+ReasonHolds w s q i why.NothingRuns = (lane_at s q).running ≡ None
+ReasonHolds w s q i (why.Waits j f) = (r : Running) × RunsEntryOf s q j r × (r.waiting ≡ Some f)
+ReasonHolds w s q i (why.Undeclared j whole) = (r : Running) × RunsEntryOf s q j r × (¬ ItemWaitsBy w.waits whole j i)
+ReasonHolds w s q i (why.AllMade j) = (r : Running) × RunsEntryOf s q j r × (¬ (r.made < length (declared_by w j)))
+ReasonHolds w s q i (why.Awake j) = (r : Running) × RunsEntryOf s q j r × (r.waiting ≡ None)
+ReasonHolds w s q i (why.Unfinished whole) = (r : Running) × Runs (lane_at s q) r × (f : Waiting) × (r.waiting ≡ Some f) × (f.whole ≡ whole) × IsHeldBack w s whole i f.mark
 
 -- the first line about step n: the file, the place in it, why the step isn't lawful, and the answer
 abbrev pub unlawful_head : List ℕ → List ℕ → List ℕ → ℕ → List ℕ

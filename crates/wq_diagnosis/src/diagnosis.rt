@@ -15,8 +15,8 @@ use wq_cert::{CertError, read_answer, read_assignment, read_run};
 use wq_checker::{No, check_answer};
 use wq_commands::{Declaration, Stop, read_declaration};
 use wq_findings::{
-    Excerpt, Finding, Kind, Lack, Mark, Marks, What, has_words, in_answer, in_certificate,
-    in_declaration, line_at, put_place, shown,
+    CertificateKind, Excerpt, Finding, Found, Mark, Marks, Refused, What, has_words, in_answer,
+    in_certificate, in_declaration, line_at, put_place, shown,
 };
 use wq_lines::put;
 use wq_text::{Line, Text};
@@ -322,7 +322,7 @@ pub fn of_declaration<A: Allocator + Copy>(
 /// Why a certificate of a declaration is refused; none where it has its form.
 fn fault_of<A: Allocator + Copy>(
     alloc: A,
-    kind: Kind,
+    kind: CertificateKind,
     declared: &Declaration<'_, A>,
     text: &[u8],
 ) -> Option<CertError>
@@ -331,33 +331,39 @@ fn fault_of<A: Allocator + Copy>(
 {
     let Declaration { table, groups } = declared;
     match kind {
-        Kind::Answer => read_answer(alloc, text, table, groups).err(),
-        Kind::Assignment => read_assignment(alloc, text, table, groups).err(),
-        Kind::Run => read_run(alloc, text, table).err(),
+        CertificateKind::Answer => read_answer(alloc, text, table, groups).err(),
+        CertificateKind::Assignment => read_assignment(alloc, text, table, groups).err(),
+        CertificateKind::Run => read_run(alloc, text, table).err(),
     }
 }
 
 /// Finds what is wrong in a certificate that is refused like this, and the line that is meant, if there is one.
 fn find_fault<'a, A: Allocator + Copy>(
     alloc: A,
-    kind: Kind,
+    kind: CertificateKind,
     declared: &Declaration<'a, A>,
     declaration: &'a [u8],
     text: &Text<'a>,
     refusal: Refusal,
-) -> Result<(Option<Line<'a>>, Finding<'a>), AllocError>
+) -> Result<Found<'a>, AllocError>
     requires { length declared.now.groups.group_of ≡ length declared.now.table.names }
 {
     let Declaration { table, groups } = declared;
     let declaration = lines_of(declaration);
-    let Refusal { code, line, .. } = refusal;
-    in_certificate(alloc, kind, &declaration, table, groups, text, code, line)
+    let refused = Refused {
+        kind,
+        declaration: &declaration,
+        table,
+        groups,
+        text,
+    };
+    in_certificate(alloc, &refused, refusal.code, refusal.line)
 }
 
 /// The diagnosis of a certificate that is refused like this.
 fn of_fault<A: Allocator + Copy>(
     alloc: A,
-    kind: Kind,
+    kind: CertificateKind,
     declared: &Declaration<'_, A>,
     declaration: &[u8],
     certificate: Source<'_>,
@@ -367,7 +373,7 @@ fn of_fault<A: Allocator + Copy>(
     ensures { IfOk result (λ said. IsDiagnosis certificate.entry.file.now refusal.word.now refusal.code refusal.line said.items) }
 {
     let text = lines_of(certificate.text);
-    let (line, finding) = find_fault(alloc, kind, declared, declaration, &text, refusal)?;
+    let Found { line, finding } = find_fault(alloc, kind, declared, declaration, &text, refusal)?;
     diagnosis(alloc, certificate.file, line, refusal, finding)
 }
 
@@ -378,7 +384,7 @@ fn of_fault<A: Allocator + Copy>(
 pub fn of_refused_certificate<A: Allocator + Copy>(
     alloc: A,
     seed: u64,
-    kind: Kind,
+    kind: CertificateKind,
     declaration: &[u8],
     certificate: Source<'_>,
     code: u32,
@@ -401,7 +407,7 @@ pub fn of_refused_certificate<A: Allocator + Copy>(
 /// Diagnoses a certificate of this declaration: nothing where it has its form, or else the diagnosis of its refusal.
 fn of_certificate_for<A: Allocator + Copy>(
     alloc: A,
-    kind: Kind,
+    kind: CertificateKind,
     declared: &Declaration<'_, A>,
     declaration: &[u8],
     certificate: Source<'_>,
@@ -429,7 +435,7 @@ fn of_certificate_for<A: Allocator + Copy>(
 pub fn of_certificate<A: Allocator + Copy>(
     alloc: A,
     seed: u64,
-    kind: Kind,
+    kind: CertificateKind,
     declaration: &[u8],
     certificate: Source<'_>,
 ) -> Result<Option<Vec<u8, A>>, AllocError>
@@ -550,7 +556,7 @@ fn of_lack<A: Allocator + Copy>(
     ensures { IfOk result (λ said. (line : ℕ) × IsDiagnosis certificate.entry.file.now (codes "no") (no_code no.now) line said.items) }
 {
     let text = lines_of(certificate.text);
-    let Lack { line, finding } = in_answer(&declared.table, &text, no);
+    let Found { line, finding } = in_answer(&declared.table, &text, no);
     let refusal = Refusal::no(no.code(), number_of(&line));
     diagnosis(alloc, certificate.file, line, refusal, finding)
 }

@@ -21,4 +21,4 @@ pub use replayed::of_unlawful;
 pub use unlawful::{Unlawful, reason_of};
 pub use unread::of_unread;
 pub use voice::Diagnosing;
-pub use wq_findings::Kind;
+pub use wq_findings::CertificateKind;

@@ -7,7 +7,7 @@ ghost use Rattle.std.specs.Prelude.{◌≡◌, ◌∷◌, ◌<◌, None, Some, I
 ghost use Rattle.wq_core.specs.Held.{AreDone, IsRefusal};
 ghost use Rattle.wq_core.specs.declared.step.StepError.{StepError};
 ghost use Rattle.wq_diagnosis.specs.Diagnosis.{shown_lines};
-ghost use Rattle.wq_diagnosis.specs.Unlawful.{Holds, IsUnlawfulText, item_of, unlawful_head, workqueue_of};
+ghost use Rattle.wq_diagnosis.specs.Unlawful.{ReasonHolds, IsUnlawfulText, item_of, unlawful_head, workqueue_of};
 
 use crate::diagnosis::{Source, lines_of, put_line, put_lines};
 use crate::unlawful::{Unlawful, reason_of};
@@ -35,7 +35,7 @@ fn find<A: Allocator>(core: &mut Core<A>, steps: &[Step]) -> Option<Found>
     requires { length steps.now < 4294967295 }
     ensures { IfSome result (λ found. AreDone core.old (take found.at steps.now) core.new × (slice_get steps.now found.at ≡ Some found.step)
         × ((e : StepError) × IsRefusal core.new found.step e)
-        × Holds core.new.wiring core.new.state (workqueue_of found.step) (item_of found.step) found.why) }
+        × ReasonHolds core.new.wiring core.new.state (workqueue_of found.step) (item_of found.step) found.why) }
 {
     let Err(error) = core.run(steps) else {
         return None;

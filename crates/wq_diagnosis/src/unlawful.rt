@@ -3,7 +3,7 @@
 //! The rules are those of "Steps" in docs/FORMAT.md, as `wq_core` has them. A call takes the time of a few questions to the machine.
 
 ghost use Rattle.std.specs.Prelude.{IfSome};
-ghost use Rattle.wq_diagnosis.specs.Unlawful.{Holds, item_of, workqueue_of};
+ghost use Rattle.wq_diagnosis.specs.Unlawful.{ReasonHolds, item_of, workqueue_of};
 
 use std::alloc::Allocator;
 use wq_core::{Core, Step, Waiting};
@@ -41,7 +41,7 @@ pub enum Unlawful {
 
 /// Why the item may not be queued.
 fn queue_reason<A: Allocator>(core: &Core<A>, item: ItemId) -> Option<Unlawful>
-    ensures { IfSome result (Holds core.now.wiring core.now.state 0 item) }
+    ensures { IfSome result (ReasonHolds core.now.wiring core.now.state 0 item) }
 {
     if item.get() as usize >= core.items() {
         return Some(Unlawful::NoItem);
@@ -54,7 +54,7 @@ fn queue_reason<A: Allocator>(core: &Core<A>, item: ItemId) -> Option<Unlawful>
 
 /// Why the item may not be cancelled.
 fn cancel_reason<A: Allocator>(core: &Core<A>, item: ItemId) -> Option<Unlawful>
-    ensures { IfSome result (Holds core.now.wiring core.now.state 0 item) }
+    ensures { IfSome result (ReasonHolds core.now.wiring core.now.state 0 item) }
 {
     if core.is_pending(item) {
         None
@@ -65,7 +65,7 @@ fn cancel_reason<A: Allocator>(core: &Core<A>, item: ItemId) -> Option<Unlawful>
 
 /// Why the workqueue may not start the item.
 fn start_reason<A: Allocator>(core: &Core<A>, q: LaneId, item: ItemId) -> Option<Unlawful>
-    ensures { IfSome result (Holds core.now.wiring core.now.state q item) }
+    ensures { IfSome result (ReasonHolds core.now.wiring core.now.state q item) }
 {
     if let Some(running) = core.running_on(q) {
         return Some(Unlawful::Runs(running.entry.item));
@@ -87,7 +87,7 @@ fn wait_reason<A: Allocator>(
     whole: bool,
     target: ItemId,
 ) -> Option<Unlawful>
-    ensures { IfSome result (Holds core.now.wiring core.now.state q target) }
+    ensures { IfSome result (ReasonHolds core.now.wiring core.now.state q target) }
 {
     let Some(running) = core.running_on(q) else {
         return Some(Unlawful::NothingRuns);
@@ -115,7 +115,7 @@ fn over_reason<A: Allocator>(
     whole: bool,
     target: ItemId,
 ) -> Option<Unlawful>
-    ensures { IfSome result (Holds core.now.wiring core.now.state q target) }
+    ensures { IfSome result (ReasonHolds core.now.wiring core.now.state q target) }
 {
     let Some(running) = core.running_on(q) else {
         return Some(Unlawful::NothingRuns);
@@ -136,7 +136,7 @@ fn over_reason<A: Allocator>(
 
 /// Why the workqueue may not finish the item.
 fn finish_reason<A: Allocator>(core: &Core<A>, q: LaneId, item: ItemId) -> Option<Unlawful>
-    ensures { IfSome result (Holds core.now.wiring core.now.state q item) }
+    ensures { IfSome result (ReasonHolds core.now.wiring core.now.state q item) }
 {
     let Some(running) = core.running_on(q) else {
         return Some(Unlawful::NothingRuns);
@@ -151,7 +151,7 @@ fn finish_reason<A: Allocator>(core: &Core<A>, q: LaneId, item: ItemId) -> Optio
 /// What keeps the step from being lawful; nothing where it is. Of several reasons it is the first one in the order of the rules.
 /// Of a helper's step nothing is said: no text of a run holds one.
 pub fn reason_of<A: Allocator>(core: &Core<A>, step: Step) -> Option<Unlawful>
-    ensures { IfSome result (Holds core.now.wiring core.now.state (workqueue_of step) (item_of step)) }
+    ensures { IfSome result (ReasonHolds core.now.wiring core.now.state (workqueue_of step) (item_of step)) }
 {
     match step {
         Step::Queue(item) => queue_reason(core, item),

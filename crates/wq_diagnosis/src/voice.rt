@@ -14,7 +14,7 @@ use crate::diagnosis::{
 use crate::replayed::of_unlawful;
 use std::alloc::{AllocError, Allocator};
 use wq_commands::{Outcome, Texts, Voice, Which, Why};
-use wq_findings::Kind;
+use wq_findings::CertificateKind;
 
 /// The number of the refusal of a plan that has too many workqueues to run.
 const TOO_MANY: u32 = 69;
@@ -27,7 +27,7 @@ pub struct Diagnosing<'a> {
     /// The name of the file of the declaration.
     pub declaration: &'a str,
     /// What the second text should be.
-    pub kind: Kind,
+    pub kind: CertificateKind,
     /// The name of its file.
     pub certificate: &'a str,
     /// The name of the file of the run.
@@ -42,14 +42,19 @@ impl<'a> Diagnosing<'a> {
         Diagnosing {
             seed,
             declaration,
-            kind: Kind::Assignment,
+            kind: CertificateKind::Assignment,
             certificate: "",
             run: "",
         }
     }
 
     /// For a command that has a second text of this kind, from the file of this name.
-    pub fn two(seed: u64, declaration: &'a str, kind: Kind, certificate: &'a str) -> Diagnosing<'a>
+    pub fn two(
+        seed: u64,
+        declaration: &'a str,
+        kind: CertificateKind,
+        certificate: &'a str,
+    ) -> Diagnosing<'a>
         ensures declaration { result.declaration.now ≡ declaration.entry.now }
         ensures certificate { result.certificate.now ≡ certificate.entry.now }
     {
@@ -116,7 +121,7 @@ fn of_text<A: Allocator + Copy>(
         Which::Run => of_refused_certificate(
             alloc,
             voice.seed,
-            Kind::Run,
+            CertificateKind::Run,
             declaration.text,
             run,
             code,

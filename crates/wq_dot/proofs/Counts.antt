@@ -16,7 +16,8 @@ use Rattle.wq_graph.specs.declared.arc.WaitArc.{WaitArc}
 use Rattle.wq_graph.specs.Graph.{arcs_by_place}
 use Rattle.wq_graph.proofs.Arcs.{ByPlace-arc, ByPlace-arcs_by_place}
 use Rattle.wq_dot.specs.declared.look.FlushLook.{FlushLook}
-use Rattle.wq_dot.specs.Drawing.{name_of, head_lines, single_line, member_line, group_lines, workqueue_lines, groups_on, flush_line, drawing_lines}
+use Rattle.wq_cert.specs.PlanText.{name_of}
+use Rattle.wq_dot.specs.Drawing.{head_lines, single_line, member_line, group_lines, workqueue_box_lines, groups_on, flush_line, drawing_lines}
 use Rattle.wq_dot.specs.Laws.{is_line_of, is_arrow}
 use Rattle.wq_dot.proofs.Sums.{sum_by-map, sum_by-flat_map, sum_by-same, sum_by-zero, sum_by-parts, spot}
 
@@ -91,21 +92,21 @@ module _ (p : List ℕ → Bool) (names : List (List ℕ)) (s : ℕ → Bool) (h
         sum_by-flat_map w (λ k. group_lines names (items_at group_of k)) own
         ∙ sum_by-each (λ k. count_by p (group_lines names (items_at group_of k))) of_group own (λ k. count-group (items_at group_of k))
 
-    count-workqueue : (a : Assignment) (q : ℕ) → count_by p (workqueue_lines names group_of a q) ≡ sum_by of_group (groups_on a q)
+    count-workqueue : (a : Assignment) (q : ℕ) → count_by p (workqueue_box_lines names group_of a q) ≡ sum_by of_group (groups_on a q)
     count-workqueue a q =
         count-box (codes "  subgraph \"cluster wq " ++ decimal q ++ codes "\" {") (codes "    graph [label=\"wq " ++ decimal q ++ codes "\", style=filled, color=gray92];") (codes "  }")
         (flat_map (λ k. group_lines names (items_at group_of k)) (groups_on a q)) (h.first (decimal q)) (h.second (decimal q)) h.last
         ∙ count-groups (groups_on a q)
 
   -- each item is in one group, and each group on one workqueue
-  count-workqueues : (r : Partition) (a : Assignment) → IsPartition r → IsAssignment r.groups a → count_by p (flat_map (workqueue_lines names r.group_of a) (range_with_len 0 a.lanes)) ≡ count_by s (range_with_len 0 (length r.group_of))
+  count-workqueues : (r : Partition) (a : Assignment) → IsPartition r → IsAssignment r.groups a → count_by p (flat_map (workqueue_box_lines names r.group_of a) (range_with_len 0 a.lanes)) ≡ count_by s (range_with_len 0 (length r.group_of))
   count-workqueues r a partition assigned =
       let items : List ℕ = range_with_len 0 (length r.group_of) in
       let groups : List ℕ = range_with_len 0 (length a.lane_of_group) in
       let on_lane : All (λ k. group_lane a k < a.lanes) groups = All-range (λ k. group_lane a k < a.lanes) (length a.lane_of_group) (λ k below. assigned.within k 0 below) in
       let in_group : All (λ i. slice_index r.group_of i < r.groups) items = All-range (λ i. slice_index r.group_of i < r.groups) (length r.group_of) (λ i below. partition.within i 0 below) in
-      sum_by-flat_map w (workqueue_lines names r.group_of a) (range_with_len 0 a.lanes)
-      ∙ sum_by-each (λ q. count_by p (workqueue_lines names r.group_of a q)) (λ q. sum_by (of_group r.group_of) (groups_on a q)) (range_with_len 0 a.lanes) (count-workqueue r.group_of a)
+      sum_by-flat_map w (workqueue_box_lines names r.group_of a) (range_with_len 0 a.lanes)
+      ∙ sum_by-each (λ q. count_by p (workqueue_box_lines names r.group_of a q)) (λ q. sum_by (of_group r.group_of) (groups_on a q)) (range_with_len 0 a.lanes) (count-workqueue r.group_of a)
       ∙ sum_by-parts (of_group r.group_of) (group_lane a) a.lanes groups on_lane
       ∙ ap (λ (n : ℕ). sum_by (of_group r.group_of) (range_with_len 0 n)) assigned.one_each
       ∙ sum_by-parts (λ i. one_if (s i)) (λ i. slice_index r.group_of i) r.groups items in_group
@@ -113,10 +114,10 @@ module _ (p : List ℕ → Bool) (names : List (List ℕ)) (s : ℕ → Bool) (h
 -- the parts of a drawing
 count-drawing : (p : List ℕ → Bool) (t : Table) (r : Partition) (a : Assignment) (title : List ℕ) (looks : List FlushLook) → count_by p (head_lines title) ≡ 0 → p (codes "}") ≡ false
     → count_by p (drawing_lines t r a title looks)
-    ≡ count_by p (flat_map (workqueue_lines t.names r.group_of a) (range_with_len 0 a.lanes)) + count_by p (map (flush_line t.names t.waits looks) (arcs_by_place t.waits r.group_of))
+    ≡ count_by p (flat_map (workqueue_box_lines t.names r.group_of a) (range_with_len 0 a.lanes)) + count_by p (map (flush_line t.names t.waits looks) (arcs_by_place t.waits r.group_of))
 count-drawing p t r a title looks head end =
     let w : List ℕ → ℕ = λ line. one_if (p line) in
-    let workqueues : List (List ℕ) = flat_map (workqueue_lines t.names r.group_of a) (range_with_len 0 a.lanes) in
+    let workqueues : List (List ℕ) = flat_map (workqueue_box_lines t.names r.group_of a) (range_with_len 0 a.lanes) in
     let arrows : List (List ℕ) = map (flush_line t.names t.waits looks) (arcs_by_place t.waits r.group_of) in
     let none : w (codes "}") ≡ 0 = ap one_if end in
     omega (

@@ -11,10 +11,10 @@ use Rattle.wq_plan.proofs.Plans.{IsPlan-no_circle, IsPlan-unique}
 use Rattle.wq_cert.specs.Texts.{assignment_of_text, cert_refusal}
 use Rattle.wq_meter.specs.Shell.{HasOneAnswer}
 use Rattle.wq_commands.specs.declared.end.End.{End}
-use Rattle.wq_commands.specs.Answer.{declared_waits, IsRefused}
+use Rattle.wq_commands.specs.Answer.{declared_waits, PrintsRefusal}
 use Rattle.wq_commands.specs.Declaration.{Declared, declaration}
 use Rattle.wq_commands.proofs.OneOutcome.{SaysAssigned-unique, SaysDeclared-unique, same_outcome}
-use Rattle.wq_commands.proofs.Refusals.{MatchResult-unique, IsRefused-unique}
+use Rattle.wq_commands.proofs.Refusals.{MatchResult-unique, PrintsRefusal-unique}
 use Rattle.wq_circles.proofs.Safe.{AreComponents-unique}
 use Rattle.wq_dot.specs.declared.look.FlushLook.TheVariants.{Red, Bold}
 use Rattle.wq_dot.specs.Dotting.{components_title, drawing_of, plan_title, Draws, DrawsAssigned, DrawsCircles, DrawsDeclared, DrawsGroups, DrawsOwn, DrawsPlan, DrawsTexts, OwnDraws}
@@ -43,18 +43,18 @@ module _ (s : Declared) where
 
   DrawsDeclared-unique : (text : List ℕ) (end other : End) (out printed : List ℕ) → DrawsDeclared s text end out → DrawsDeclared s text other printed → (end ≡ other) × (out ≡ printed)
   DrawsDeclared-unique text end other out printed =
-      MatchResult-unique (assignment_of_text s.table.names s.partition text) (DrawsAssigned s) (λ fault. IsRefused (cert_refusal fault)) end other out printed
-      (λ a is one two. (one.0 ∙ sym two.0, DrawsCircles-unique a out printed one.1 two.1)) (λ fault. IsRefused-unique (cert_refusal fault) end other out printed)
+      MatchResult-unique (assignment_of_text s.table.names s.partition text) (DrawsAssigned s) (λ fault. PrintsRefusal (cert_refusal fault)) end other out printed
+      (λ a is one two. (one.0 ∙ sym two.0, DrawsCircles-unique a out printed one.1 two.1)) (λ fault. PrintsRefusal-unique (cert_refusal fault) end other out printed)
 
 pub Draws-unique : (declared text : List ℕ) (end other : End) (out printed : List ℕ) → Draws declared text end out → Draws declared text other printed → (end ≡ other) × (out ≡ printed)
 Draws-unique declared text end other out printed =
-    MatchResult-unique (declaration declared) (λ s. DrawsDeclared s text) IsRefused end other out printed
-    (λ s is. DrawsDeclared-unique s text end other out printed) (λ r. IsRefused-unique r end other out printed)
+    MatchResult-unique (declaration declared) (λ s. DrawsDeclared s text) PrintsRefusal end other out printed
+    (λ s is. DrawsDeclared-unique s text end other out printed) (λ r. PrintsRefusal-unique r end other out printed)
 
 pub OwnDraws-unique : (declared : List ℕ) (end other : End) (out printed : List ℕ) → OwnDraws declared end out → OwnDraws declared other printed → (end ≡ other) × (out ≡ printed)
 OwnDraws-unique declared end other out printed =
-    MatchResult-unique (declaration declared) DrawsOwn IsRefused end other out printed
-    (λ s is one two. (one.0 ∙ sym two.0, DrawsGroups-unique s out printed one.1 two.1)) (λ r. IsRefused-unique r end other out printed)
+    MatchResult-unique (declaration declared) DrawsOwn PrintsRefusal end other out printed
+    (λ s is one two. (one.0 ∙ sym two.0, DrawsGroups-unique s out printed one.1 two.1)) (λ r. PrintsRefusal-unique r end other out printed)
 
 pub DrawsTexts-unique : (assigned : Bool) → HasOneAnswer (DrawsTexts assigned)
 DrawsTexts-unique true texts one other out printed first second =

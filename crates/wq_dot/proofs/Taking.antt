@@ -11,7 +11,7 @@ use Rattle.wq_cert.specs.Texts.{cert_refusal, max_certificate}
 use Rattle.wq_cert.proofs.LongCertificates.{text_reading-take}
 use Rattle.wq_commands.specs.declared.end.End.{End}
 use Rattle.wq_commands.specs.declared.why.Outcome.{Outcome}
-use Rattle.wq_commands.specs.Answer.{IsRefused}
+use Rattle.wq_commands.specs.Answer.{PrintsRefusal}
 use Rattle.wq_commands.specs.Declaration.{Declared, declaration, max_declaration}
 use Rattle.wq_commands.proofs.AnswerLemmas.{declaration-take}
 use Rattle.wq_commands.proofs.CommandLemmas.{SaysAssigned-take, SaysDeclared-take}
@@ -22,18 +22,18 @@ use Rattle.wq_dot.specs.Dotting.{DrawsAssigned, DrawsDeclared, DrawsOwn, DrawsTe
 module _ (end : End) (out : List ℕ) where
   DrawsDeclared-take : (text : List ℕ) (s : Declared) → DrawsDeclared s (take (max_certificate + 1) text) end out → DrawsDeclared s text end out
   DrawsDeclared-take text s answer =
-      subst (λ (r : Result Assignment CertError). MatchResult r (λ a. DrawsAssigned s a end out) (λ fault. IsRefused (cert_refusal fault) end out))
+      subst (λ (r : Result Assignment CertError). MatchResult r (λ a. DrawsAssigned s a end out) (λ fault. PrintsRefusal (cert_refusal fault) end out))
       (text_reading-take (assignment_reading s.table.names s.partition) text) answer
 
   pub Draws-take : (declared text : List ℕ) → Draws (take (max_declaration + 1) declared) (take (max_certificate + 1) text) end out → Draws declared text end out
   Draws-take declared text answer =
       MatchResult-weaker (declaration declared)
-      (subst (λ (d : Result Declared Refusal). MatchResult d (λ s. DrawsDeclared s (take (max_certificate + 1) text) end out) (λ r. IsRefused r end out)) (declaration-take declared) answer)
+      (subst (λ (d : Result Declared Refusal). MatchResult d (λ s. DrawsDeclared s (take (max_certificate + 1) text) end out) (λ r. PrintsRefusal r end out)) (declaration-take declared) answer)
       (DrawsDeclared-take text) (λ r refused. refused)
 
   pub OwnDraws-take : (declared : List ℕ) → OwnDraws (take (max_declaration + 1) declared) end out → OwnDraws declared end out
   OwnDraws-take declared answer =
-      subst (λ (d : Result Declared Refusal). MatchResult d (λ s. DrawsOwn s end out) (λ r. IsRefused r end out)) (declaration-take declared) answer
+      subst (λ (d : Result Declared Refusal). MatchResult d (λ s. DrawsOwn s end out) (λ r. PrintsRefusal r end out)) (declaration-take declared) answer
 
 -- ---- the command
 

@@ -14,7 +14,7 @@ use Rattle.wq_meter.specs.declared.texts.Limits.{Limits}
 use Rattle.wq_commands.specs.declared.end.End.{End}
 use Rattle.wq_commands.specs.declared.why.Outcome.{Outcome}
 use Rattle.wq_commands.specs.declared.end.End.TheVariants.{Good}
-use Rattle.wq_commands.specs.Answer.{declared_waits, IsRefused}
+use Rattle.wq_commands.specs.Answer.{declared_waits, PrintsRefusal}
 use Rattle.wq_commands.specs.Commands.{one_text, two_texts}
 use Rattle.wq_commands.specs.Declaration.{Declared, declaration}
 use Rattle.wq_commands.specs.Why.{SaysAssigned, SaysDeclared}
@@ -68,11 +68,11 @@ DrawsAssigned s a end out = (end ≡ Good) × DrawsCircles s a out
 -- the answer to the text of an assignment of a declaration, or its refusal
 abbrev pub DrawsDeclared : Declared → List ℕ → End → List ℕ → Type 0
 DrawsDeclared s text end out =
-    MatchResult (assignment_of_text s.table.names s.partition text) (λ a. DrawsAssigned s a end out) (λ fault. IsRefused (cert_refusal fault) end out)
+    MatchResult (assignment_of_text s.table.names s.partition text) (λ a. DrawsAssigned s a end out) (λ fault. PrintsRefusal (cert_refusal fault) end out)
 
 -- the answer to the texts of a declaration and an assignment: a refusal of the declaration comes first
 abbrev pub Draws : List ℕ → List ℕ → End → List ℕ → Type 0
-Draws declared text end out = MatchResult (declaration declared) (λ s. DrawsDeclared s text end out) (λ r. IsRefused r end out)
+Draws declared text end out = MatchResult (declaration declared) (λ s. DrawsDeclared s text end out) (λ r. PrintsRefusal r end out)
 
 -- the answer to the groups of a declaration
 abbrev pub DrawsOwn : Declared → End → List ℕ → Type 0
@@ -80,7 +80,7 @@ DrawsOwn s end out = (end ≡ Good) × DrawsGroups s out
 
 -- the answer to only the text of a declaration
 abbrev pub OwnDraws : List ℕ → End → List ℕ → Type 0
-OwnDraws declared end out = MatchResult (declaration declared) (λ s. DrawsOwn s end out) (λ r. IsRefused r end out)
+OwnDraws declared end out = MatchResult (declaration declared) (λ s. DrawsOwn s end out) (λ r. PrintsRefusal r end out)
 
 -- ---- the command, with an assignment or without one
 

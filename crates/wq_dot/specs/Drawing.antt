@@ -10,10 +10,7 @@ use Rattle.wq_graph.specs.declared.arc.WaitArc.{WaitArc}
 use Rattle.wq_graph.specs.Graph.{arcs_by_place}
 use Rattle.wq_dot.specs.declared.look.FlushLook.{FlushLook}
 use Rattle.wq_dot.specs.declared.look.FlushLook.TheVariants.{Plain, Red, Bold}
-
--- the name of an item
-abbrev pub name_of : List (List ℕ) → ℕ → List ℕ
-name_of names i = slice_index_or names i []
+use Rattle.wq_cert.specs.PlanText.{name_of}
 
 -- ---- the head
 
@@ -37,8 +34,8 @@ abbrev pub member_line : List (List ℕ) → ℕ → List ℕ
 member_line names i = codes "      \"" ++ name_of names i ++ codes "\";"
 
 -- a group of several items, of which this one is the first: a box within the workqueue's box, with a line for each item
-abbrev pub ordered_lines : List (List ℕ) → ℕ → List ℕ → List (List ℕ)
-ordered_lines names first members =
+abbrev pub group_box_lines : List (List ℕ) → ℕ → List ℕ → List (List ℕ)
+group_box_lines names first members =
     (codes "    subgraph \"cluster ordered " ++ name_of names first ++ codes "\" {")
     ∷ codes "      graph [label=\"ordered\", style=dashed, color=black];"
     ∷ (map (member_line names) members ++ (codes "    }" ∷ []))
@@ -47,7 +44,7 @@ ordered_lines names first members =
 abbrev pub group_lines : List (List ℕ) → List ℕ → List (List ℕ)
 group_lines names [] = []
 group_lines names (item ∷ []) = single_line names item ∷ []
-group_lines names (first ∷ second ∷ others) = ordered_lines names first (first ∷ second ∷ others)
+group_lines names (first ∷ second ∷ others) = group_box_lines names first (first ∷ second ∷ others)
 
 -- ---- workqueues
 
@@ -63,8 +60,8 @@ box_lines names group_of q own =
     ∷ (flat_map (λ g. group_lines names (items_at group_of g)) own ++ (codes "  }" ∷ []))
 
 -- the lines of workqueue q with its groups
-abbrev pub workqueue_lines : List (List ℕ) → List ℕ → Assignment → ℕ → List (List ℕ)
-workqueue_lines names group_of a q = box_lines names group_of q (groups_on a q)
+abbrev pub workqueue_box_lines : List (List ℕ) → List ℕ → Assignment → ℕ → List (List ℕ)
+workqueue_box_lines names group_of a q = box_lines names group_of q (groups_on a q)
 
 -- ---- flushes
 
@@ -96,7 +93,7 @@ flush_line names waits looks flush = arrow_line names waits (slice_index_or look
 abbrev pub drawing_lines : Table → Partition → Assignment → List ℕ → List FlushLook → List (List ℕ)
 drawing_lines t p a title looks =
     head_lines title
-    ++ flat_map (workqueue_lines t.names p.group_of a) (range_with_len 0 a.lanes)
+    ++ flat_map (workqueue_box_lines t.names p.group_of a) (range_with_len 0 a.lanes)
     ++ map (flush_line t.names t.waits looks) (arcs_by_place t.waits p.group_of)
     ++ (codes "}" ∷ [])
 

@@ -4,7 +4,7 @@
 
 ghost use Rattle.std.specs.Prelude.{◌≡◌, ◌<◌, ◌++◌, flat_map, length, OnOk};
 ghost use Rattle.std.specs.List.{All};
-ghost use Rattle.wq_dot.specs.Drawing.{ended, group_lines, member_line, ordered_lines, single_line};
+ghost use Rattle.wq_dot.specs.Drawing.{ended, group_lines, member_line, group_box_lines, single_line};
 
 use std::alloc::{AllocError, Allocator};
 use wq_items::{ItemId, ItemTable};
@@ -47,7 +47,7 @@ fn put_ordered<A: Allocator + Copy>(
 ) -> Result<(), AllocError>
     requires first { first < length table.now.names }
     requires members { All (λ i. i < length table.now.names) members.now }
-    ensures { OnOk result (out.new.items ≡ out.old.items ++ flat_map ended (ordered_lines table.now.names first members.now)) }
+    ensures { OnOk result (out.new.items ≡ out.old.items ++ flat_map ended (group_box_lines table.now.names first members.now)) }
 {
     put(out, b"    subgraph \"cluster ordered ")?;
     put(out, table.name(first))?;

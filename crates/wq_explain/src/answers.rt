@@ -1,6 +1,6 @@
 //! The explanations of the words with which the lines of an answer begin.
 //!
-//! docs/FORMAT.md says what each of them means; tests/explain.sh runs each example. The table in `table.rt` has the
+//! docs/FORMAT.md says what each of them means; tests/cli/explain.sh runs each example. The table in `table.rt` has the
 //! numbers and the faults.
 
 use crate::table::Explanation;

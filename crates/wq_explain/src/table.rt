@@ -1,7 +1,7 @@
 //! The explanations: one for each number that the program prints in a refusal or in a `no`, and one for each fault.
 //! Those of the words of answers are in `answers.rt`.
 //!
-//! docs/FORMAT.md has the rules. tests/explain.sh runs each example. A search takes time in the number of rows and the length of
+//! docs/FORMAT.md has the rules. tests/cli/explain.sh runs each example. A search takes time in the number of rows and the length of
 //! the word.
 
 ghost use Rattle.std.specs.Prelude.{◌≡◌, find, option_map};

@@ -3,19 +3,17 @@
 //! The refusals are those of "Refusals of certificates" in docs/FORMAT.md. It takes time in the length of the text and, where a
 //! name is unknown, in the names of the declaration times the length of one.
 
-ghost use Rattle.std.specs.Prelude.{◌≡◌, length};
-
-use crate::finding::Finding;
+use crate::finding::{Finding, Found};
 use crate::guess::{foreign_hint, most_like, text_with};
 use crate::hint::Hint;
 use crate::names::nearest;
 use crate::placed::{find_split, find_twice, find_unplaced};
 use crate::quoted::Quoted;
-use crate::stage::{Kind, Shape, Stage, line_and_stage, stray_line};
+use crate::refused::Refused;
+use crate::stage::{Shape, Stage, line_and_stage, stray_line};
 use crate::token::{Mark, Token, bytes_at, first_mark, word_at};
 use crate::what::{Unplaced, What};
 use std::alloc::{AllocError, Allocator};
-use wq_groups::Groups;
 use wq_items::ItemTable;
 use wq_text::{Line, Text, number};
 
@@ -28,57 +26,38 @@ const MAX_LINE: usize = 524_288;
 /// How many workqueues an assignment may have.
 const MAX_WORKQUEUES: u32 = 4096;
 
-/// What is wrong in a certificate of this declaration that is refused with this number for this line, and that line, if there is
-/// one.
+/// What is wrong in a text that is refused with this number for this line, and that line, if there is one.
 ///
 /// The only error is out of memory (20).
 pub fn in_certificate<'a, A: Allocator + Copy>(
     alloc: A,
-    kind: Kind,
-    declaration: &Text<'a>,
-    table: &ItemTable<'a, A>,
-    groups: &Groups<A>,
-    text: &Text<'a>,
+    refused: &Refused<'_, 'a, A>,
     code: u32,
     no: u32,
-) -> Result<(Option<Line<'a>>, Finding<'a>), AllocError>
-    requires { length groups.now.group_of ≡ length table.now.names }
-{
-    let (line, stage) = line_and_stage(kind, text, no);
+) -> Result<Found<'a>, AllocError> {
+    let (line, stage) = line_and_stage(refused.kind, refused.text, no);
     match line {
         Some(line) => {
-            let finding = on_line(
-                alloc,
-                kind,
-                declaration,
-                table,
-                groups,
-                text,
-                &line,
-                stage,
-                code,
-            )?;
-            Ok((Some(line), finding))
+            let finding = on_line(alloc, refused, &line, stage, code)?;
+            Ok(Found::on(line, finding))
         }
-        None if code == 41 => unplaced(alloc, kind, table, text),
-        None => Ok((None, cut_short(text, stage))),
+        None if code == 41 => unplaced(alloc, refused),
+        None => Ok(Found::whole(cut_short(refused.text, stage))),
     }
 }
 
 /// Which items are on no workqueue, and the line that isn't a `wq` line and so ends these, if there is one.
 fn unplaced<'a, A: Allocator + Copy>(
     alloc: A,
-    kind: Kind,
-    table: &ItemTable<'a, A>,
-    text: &Text<'a>,
-) -> Result<(Option<Line<'a>>, Finding<'a>), AllocError> {
-    let items = find_unplaced(alloc, kind, table, text)?;
-    match stray_line(kind, text) {
+    refused: &Refused<'_, 'a, A>,
+) -> Result<Found<'a>, AllocError> {
+    let items = find_unplaced(alloc, refused)?;
+    match stray_line(refused.kind, refused.text) {
         Some((line, stage)) => {
             let finding = cut_off(alloc, items, &line, stage)?;
-            Ok((Some(line), finding))
+            Ok(Found::on(line, finding))
         }
-        None => Ok((None, Finding::whole(What::OnNoWorkqueue(items)))),
+        None => Ok(Found::whole(What::OnNoWorkqueue(items))),
     }
 }
 
@@ -94,34 +73,28 @@ fn cut_off<'a, A: Allocator + Copy>(
     Ok(Finding::marked(first_mark(line), what, hint))
 }
 
-/// What is wrong on this line of a certificate that is refused with this number for it.
+/// What is wrong on this line of a text that is refused with this number for it.
 fn on_line<'a, A: Allocator + Copy>(
     alloc: A,
-    kind: Kind,
-    declaration: &Text<'a>,
-    table: &ItemTable<'a, A>,
-    groups: &Groups<A>,
-    text: &Text<'a>,
+    refused: &Refused<'_, 'a, A>,
     line: &Line<'a>,
     stage: Stage,
     code: u32,
-) -> Result<Finding<'a>, AllocError>
-    requires { length groups.now.group_of ≡ length table.now.names }
-{
+) -> Result<Finding<'a>, AllocError> {
     match code {
-        41 => find_twice(alloc, kind, table, text, line),
-        42 => find_split(alloc, kind, table, groups, text, line),
+        41 => find_twice(alloc, refused, line),
+        42 => find_split(alloc, refused, line),
         43 => Ok(out_of_range(line, stage)),
-        _ => wrong_line(alloc, declaration, table, line, stage),
+        _ => wrong_line(alloc, refused, line, stage),
     }
 }
 
-/// Finds that a text is too long, or ends too early.
-fn cut_short<'a>(text: &Text<'_>, stage: Stage) -> Finding<'a> {
+/// What is wrong with a text that is too long, or ends too early.
+fn cut_short<'a>(text: &Text<'_>, stage: Stage) -> What<'a> {
     if text.bytes().len() > MAX_TEXT {
-        return Finding::whole(What::Said("the text has more than 8,388,608 bytes"));
+        return What::Said("the text has more than 8,388,608 bytes");
     }
-    Finding::whole(What::EndsAt(stage))
+    What::EndsAt(stage)
 }
 
 /// What is wrong with a `wq` line whose number isn't the next one.
@@ -155,8 +128,7 @@ fn out_of_range<'a>(line: &Line<'a>, stage: Stage) -> Finding<'a> {
 /// A line that isn't the one that should be there.
 fn wrong_line<'a, A: Allocator + Copy>(
     alloc: A,
-    declaration: &Text<'a>,
-    table: &ItemTable<'a, A>,
+    refused: &Refused<'_, 'a, A>,
     line: &Line<'a>,
     stage: Stage,
 ) -> Result<Finding<'a>, AllocError> {
@@ -166,7 +138,7 @@ fn wrong_line<'a, A: Allocator + Copy>(
     } else if !stage.may_begin_with(word) {
         other_line(alloc, line, stage)
     } else {
-        wrong_words(alloc, declaration, table, line, stage, stage.shape(word))
+        wrong_words(alloc, refused, line, stage, stage.shape(word))
     }
 }
 
@@ -288,8 +260,7 @@ fn wrong_form<'a>(line: &Line<'a>, stage: Stage, shape: Shape) -> Option<Finding
 /// A line whose first word is right.
 fn wrong_words<'a, A: Allocator + Copy>(
     alloc: A,
-    declaration: &Text<'a>,
-    table: &ItemTable<'a, A>,
+    refused: &Refused<'_, 'a, A>,
     line: &Line<'a>,
     stage: Stage,
     shape: Shape,
@@ -297,8 +268,8 @@ fn wrong_words<'a, A: Allocator + Copy>(
     if let Some(finding) = wrong_form(line, stage, shape) {
         return Ok(finding);
     }
-    match unknown_name(table, line, shape) {
-        Some(word) => no_item(alloc, declaration, word),
+    match unknown_name(refused.table, line, shape) {
+        Some(word) => no_item(alloc, refused.declaration, word),
         None => Ok(Finding::whole(What::Said("the line is refused"))),
     }
 }

@@ -8,7 +8,7 @@ use crate::guess::{
     ZERO_BYTE, begins_comment, call_hint, directive_like, encoding_hint, text_with,
 };
 use crate::hint::Hint;
-use crate::names::{Names, declared_on, nearest};
+use crate::names::{LineNames, declared_on, nearest};
 use crate::quoted::Quoted;
 use crate::token::{Mark, Token, bytes_at, first_mark, first_word, line_at, stands_before};
 use crate::what::What;
@@ -245,7 +245,7 @@ fn unknown_item<'a, A: Allocator + Copy>(
     text: &Text<'a>,
     line: &Line<'a>,
 ) -> Result<Finding<'a>, AllocError> {
-    let items = Names::above(alloc, text, b"item", line.no())?;
+    let items = LineNames::above(alloc, text, b"item", line.no())?;
     match not_above(&items, line) {
         Some(word) => undeclared(alloc, text, word),
         None => Ok(Finding::whole(What::Said("no line above declares a name of this line"))),
@@ -253,7 +253,10 @@ fn unknown_item<'a, A: Allocator + Copy>(
 }
 
 /// The first name of a line that isn't among the items above.
-fn not_above<'a, A: Allocator + Copy>(items: &Names<'a, A>, line: &Line<'a>) -> Option<Token<'a>> {
+fn not_above<'a, A: Allocator + Copy>(
+    items: &LineNames<'a, A>,
+    line: &Line<'a>,
+) -> Option<Token<'a>> {
     for word in line.words().skip(1) {
         if items.line_of(word.bytes()).is_none() {
             return Some(Token::of(line, &word));
@@ -294,12 +297,15 @@ fn grouped_twice<'a, A: Allocator + Copy>(
     text: &Text<'a>,
     line: &Line<'a>,
 ) -> Result<Finding<'a>, AllocError> {
-    let above = Names::above(alloc, text, b"ordered", line.no())?;
+    let above = LineNames::above(alloc, text, b"ordered", line.no())?;
     Ok(ordered_twice(&above, line))
 }
 
 /// The first name of an `ordered` line that is also on a line above, or earlier on the same line.
-fn ordered_twice<'a, A: Allocator + Copy>(above: &Names<'a, A>, line: &Line<'a>) -> Finding<'a> {
+fn ordered_twice<'a, A: Allocator + Copy>(
+    above: &LineNames<'a, A>,
+    line: &Line<'a>,
+) -> Finding<'a> {
     for word in line.words().skip(1) {
         let word = Token::of(line, &word);
         if let Some(first) = above.line_of(word.bytes) {

@@ -1,4 +1,4 @@
-//! What is found: the bytes that are meant, what is wrong with them, and a hint.
+//! What is found: the line and the bytes that are meant, what is wrong with them, and a hint.
 //!
 //! It takes constant time.
 
@@ -62,5 +62,32 @@ impl<'a> Finding<'a> {
     /// A word that is twice on a line.
     pub(crate) fn twice_on_line(word: Token<'a>) -> Finding<'a> {
         Finding::marked(word.mark, What::TwiceOnLine(word.quoted()), Hint::Nothing)
+    }
+}
+
+/// What is found in a text, and the line that is meant, if there is one.
+#[derive(Drop)]
+pub struct Found<'a> {
+    /// The line; none where the whole text is meant.
+    pub line: Option<Line<'a>>,
+    /// What is found on it, or in the text.
+    pub finding: Finding<'a>,
+}
+
+impl<'a> Found<'a> {
+    /// What is wrong with a whole text.
+    pub(crate) fn whole(what: What<'a>) -> Found<'a> {
+        Found {
+            line: None,
+            finding: Finding::whole(what),
+        }
+    }
+
+    /// What is found on this line.
+    pub(crate) fn on(line: Line<'a>, finding: Finding<'a>) -> Found<'a> {
+        Found {
+            line: Some(line),
+            finding,
+        }
     }
 }

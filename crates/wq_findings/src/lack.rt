@@ -3,10 +3,10 @@
 //! The reasons are those of "The command `check`" in docs/FORMAT.md. It takes time in the length of the text and in the number of
 //! flushes that one item declares.
 
-use crate::finding::Finding;
+use crate::finding::{Finding, Found};
 use crate::hint::Hint;
 use crate::quoted::Quoted;
-use crate::token::{Mark, Token, bytes_at, first_word, word_at};
+use crate::token::{Token, bytes_at, first_word, word_at};
 use crate::what::What;
 use std::alloc::Allocator;
 use wq_checker::No;
@@ -16,39 +16,12 @@ use wq_text::{Line, Text};
 /// What is wrong with an arc whose names aren't known.
 const WRONG_ARC: &str = "an arc isn't a flush, or doesn't begin where the one before it ends";
 
-/// What is found, and the line that is meant, if there is one.
-#[derive(Drop)]
-pub struct Lack<'a> {
-    /// The line.
-    pub line: Option<Line<'a>>,
-    /// What is found on it.
-    pub finding: Finding<'a>,
-}
-
-impl<'a> Lack<'a> {
-    /// What a whole certificate lacks.
-    fn whole(what: What<'a>) -> Lack<'a> {
-        Lack {
-            line: None,
-            finding: Finding::whole(what),
-        }
-    }
-
-    /// What is wrong with these bytes of a line, with a hint.
-    fn marked(line: Line<'a>, mark: Mark, what: What<'a>, hint: Hint<'a>) -> Lack<'a> {
-        Lack {
-            line: Some(line),
-            finding: Finding::marked(mark, what, hint),
-        }
-    }
-}
-
-/// What a certificate of these items lacks, from the answer to it.
+/// What a certificate of these items lacks, from the answer to it, and the line that is meant, if there is one.
 pub fn in_answer<'a, A: Allocator + Copy>(
     table: &ItemTable<'_, A>,
     text: &Text<'a>,
     no: &No,
-) -> Lack<'a> {
+) -> Found<'a> {
     match *no {
         No::NotFalling { item, target } => not_falling(table, text, item, target),
         No::ChainBroken { at: 0 } => counted(
@@ -108,7 +81,7 @@ fn not_falling<'a, A: Allocator + Copy>(
     text: &Text<'a>,
     item: ItemId,
     target: ItemId,
-) -> Lack<'a> {
+) -> Found<'a> {
     let mut low = None;
     let mut flushed = None;
     for line in text.lines() {
@@ -127,9 +100,9 @@ fn not_falling<'a, A: Allocator + Copy>(
             let whole = flushes_whole(table, item, target);
             let what = What::TooLow(word.quoted(), name, whole);
             let hint = Hint::OnWorkqueue(name, workqueue);
-            Lack::marked(line, word.mark, what, hint)
+            Found::on(line, Finding::marked(word.mark, what, hint))
         }
-        _ => Lack::whole(What::Said(
+        _ => Found::whole(What::Said(
             "an item isn't on a higher workqueue than all that it flushes",
         )),
     }
@@ -150,36 +123,39 @@ fn nth_line<'a>(text: &Text<'a>, first: &[u8], number: u32) -> Option<Line<'a>> 
 }
 
 /// What is wrong with the number on the line that begins with this word.
-fn counted<'a>(text: &Text<'a>, first: &[u8], what: &'static str) -> Lack<'a> {
+fn counted<'a>(text: &Text<'a>, first: &[u8], what: &'static str) -> Found<'a> {
     match nth_line(text, first, 1) {
         Some(line) => wrong_number(line, what),
-        None => Lack::whole(What::Said(what)),
+        None => Found::whole(What::Said(what)),
     }
 }
 
 /// What is wrong with the number on a line.
-fn wrong_number<'a>(line: Line<'a>, what: &'static str) -> Lack<'a> {
+fn wrong_number<'a>(line: Line<'a>, what: &'static str) -> Found<'a> {
     match word_at(&line, 1) {
-        Some(word) => Lack::marked(line, word.mark, What::Said(what), Hint::Nothing),
-        None => Lack::whole(What::Said(what)),
+        Some(word) => {
+            let what = What::Said(what);
+            Found::on(line, Finding::marked(word.mark, what, Hint::Nothing))
+        }
+        None => Found::whole(What::Said(what)),
     }
 }
 
 /// An arc that isn't a flush, or doesn't begin where the one before it ends.
-fn broken_arc<'a>(text: &Text<'a>, at: u32, before: &'static str) -> Lack<'a> {
+fn broken_arc<'a>(text: &Text<'a>, at: u32, before: &'static str) -> Found<'a> {
     match nth_line(text, b"arc", at) {
         Some(line) => wrong_arc(line, before),
-        None => Lack::whole(What::Said(WRONG_ARC)),
+        None => Found::whole(What::Said(WRONG_ARC)),
     }
 }
 
 /// The line of such an arc.
-fn wrong_arc<'a>(line: Line<'a>, before: &'static str) -> Lack<'a> {
+fn wrong_arc<'a>(line: Line<'a>, before: &'static str) -> Found<'a> {
     match (word_at(&line, 1), word_at(&line, 2)) {
         (Some(item), Some(target)) => {
             let what = What::WrongArc(item.quoted(), target.quoted(), before);
-            Lack::marked(line, item.mark, what, Hint::Nothing)
+            Found::on(line, Finding::marked(item.mark, what, Hint::Nothing))
         }
-        _ => Lack::whole(What::Said(WRONG_ARC)),
+        _ => Found::whole(What::Said(WRONG_ARC)),
     }
 }

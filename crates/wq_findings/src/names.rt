@@ -10,18 +10,18 @@ use wq_text::{Line, Text};
 
 /// A name on a line.
 #[derive(Clone, Copy)]
-pub(crate) struct Named<'a> {
+pub(crate) struct LineName<'a> {
     pub(crate) name: &'a [u8],
     pub(crate) line: u32,
 }
 
 /// Names, in the order of a text.
 #[derive(Drop)]
-pub(crate) struct Names<'a, A: Allocator> {
-    names: Vec<Named<'a>, A>,
+pub(crate) struct LineNames<'a, A: Allocator> {
+    names: Vec<LineName<'a>, A>,
 }
 
-impl<'a, A: Allocator + Copy> Names<'a, A> {
+impl<'a, A: Allocator + Copy> LineNames<'a, A> {
     /// The names above the line with this number, on those lines of a text that begin with this word.
     pub(crate) fn above(
         alloc: A,
@@ -29,7 +29,7 @@ impl<'a, A: Allocator + Copy> Names<'a, A> {
         directive: &[u8],
         no: u32,
     ) -> Result<Self, AllocError> {
-        let mut names = Names {
+        let mut names = LineNames {
             names: Vec::new(alloc),
         };
         names.add_lines(text, directive, no)?;
@@ -50,7 +50,7 @@ impl<'a, A: Allocator + Copy> Names<'a, A> {
     fn add(&mut self, line: &Line<'a>) -> Result<(), AllocError> {
         let no = line.no();
         for word in line.words().skip(1) {
-            self.names.push(Named {
+            self.names.push(LineName {
                 name: word.bytes(),
                 line: no,
             })?;
@@ -70,9 +70,9 @@ impl<'a, A: Allocator + Copy> Names<'a, A> {
 }
 
 /// The name on a line that declares an item.
-fn item_on<'a>(line: &Line<'a>) -> Option<Named<'a>> {
+fn item_on<'a>(line: &Line<'a>) -> Option<LineName<'a>> {
     if first_word(line) == b"item".as_slice() {
-        Some(Named {
+        Some(LineName {
             name: bytes_at(line, 1),
             line: line.no(),
         })
@@ -98,7 +98,7 @@ pub(crate) fn nearest<'a, A: Allocator + Copy>(
     alloc: A,
     text: &Text<'a>,
     word: &[u8],
-) -> Result<Option<Named<'a>>, AllocError> {
+) -> Result<Option<LineName<'a>>, AllocError> {
     let word = letters(alloc, word)?;
     nearest_to(alloc, text, &word)
 }
@@ -108,7 +108,7 @@ fn nearest_to<'a, A: Allocator + Copy>(
     alloc: A,
     text: &Text<'a>,
     word: &str,
-) -> Result<Option<Named<'a>>, AllocError> {
+) -> Result<Option<LineName<'a>>, AllocError> {
     let mut nearest = None;
     let mut least = usize::MAX;
     for line in text.lines() {

@@ -2,18 +2,18 @@
 //!
 //! It takes time in the length of the text, and, for a group that is split, in the number of items times the names on its line.
 
-ghost use Rattle.std.specs.Prelude.{◌≡◌, ◌<◌, length};
+ghost use Rattle.std.specs.Prelude.{◌<◌, length};
 
 use crate::finding::Finding;
 use crate::hint::Hint;
 use crate::quoted::Quoted;
-use crate::stage::{Kind, Stage};
+use crate::refused::Refused;
+use crate::stage::Stage;
 use crate::token::{Token, first_word, stands_before};
 use crate::what::{Unplaced, What};
 use std::alloc::{AllocError, Allocator};
-use wq_groups::Groups;
 use wq_items::{ItemId, ItemTable};
-use wq_text::{Line, Text};
+use wq_text::Line;
 
 /// For each item, the number of the first `wq` line that it is on; 0 where it is on none.
 #[derive(Drop)]
@@ -22,30 +22,24 @@ struct Places<A: Allocator> {
 }
 
 impl<A: Allocator + Copy> Places<A> {
-    /// The places of this many items on the `wq` lines above a line, or on all where the line is 0.
-    fn above(
-        alloc: A,
-        kind: Kind,
-        table: &ItemTable<'_, A>,
-        text: &Text<'_>,
-        no: u32,
-    ) -> Result<Self, AllocError> {
+    /// The places of the items on the `wq` lines above a line, or on all where the line is 0.
+    fn above(alloc: A, refused: &Refused<'_, '_, A>, no: u32) -> Result<Self, AllocError> {
         let mut places = Places {
-            lines: vec![in alloc; 0; usize::from(table.len())]?,
+            lines: vec![in alloc; 0; usize::from(refused.table.len())]?,
         };
-        places.add_lines(kind, table, text, no);
+        places.add_lines(refused, no);
         Ok(places)
     }
 
     /// Adds the items of such `wq` lines.
-    fn add_lines(&mut self, kind: Kind, table: &ItemTable<'_, A>, text: &Text<'_>, no: u32) {
+    fn add_lines(&mut self, refused: &Refused<'_, '_, A>, no: u32) {
         let mut stage = None;
-        for line in text.lines() {
+        for line in refused.text.lines() {
             let word = first_word(&line);
             if word.is_empty() {
                 continue;
             }
-            let here = stage.unwrap_or(Stage::first(kind, word));
+            let here = stage.unwrap_or(Stage::first(refused.kind, word));
             if line.no() == no {
                 return;
             }
@@ -53,7 +47,7 @@ impl<A: Allocator + Copy> Places<A> {
                 if !here.may_begin_with(word) {
                     return;
                 }
-                self.add(table, &line);
+                self.add(refused.table, &line);
             }
             stage = Some(here.behind(&line));
         }
@@ -83,12 +77,10 @@ impl<A: Allocator + Copy> Places<A> {
 /// The items that are on no workqueue.
 pub(crate) fn find_unplaced<'a, A: Allocator + Copy>(
     alloc: A,
-    kind: Kind,
-    table: &ItemTable<'a, A>,
-    text: &Text<'_>,
+    refused: &Refused<'_, 'a, A>,
 ) -> Result<Unplaced<'a>, AllocError> {
-    let places = Places::above(alloc, kind, table, text, 0)?;
-    Ok(unplaced(table, &places))
+    let places = Places::above(alloc, refused, 0)?;
+    Ok(unplaced(refused.table, &places))
 }
 
 /// The items that have no place.
@@ -106,13 +98,11 @@ fn unplaced<'a, A: Allocator + Copy>(table: &ItemTable<'a, A>, places: &Places<A
 /// An item that is on a second workqueue, or twice on one.
 pub(crate) fn find_twice<'a, A: Allocator + Copy>(
     alloc: A,
-    kind: Kind,
-    table: &ItemTable<'_, A>,
-    text: &Text<'_>,
+    refused: &Refused<'_, '_, A>,
     line: &Line<'a>,
 ) -> Result<Finding<'a>, AllocError> {
-    let places = Places::above(alloc, kind, table, text, line.no())?;
-    Ok(placed_twice(table, &places, line))
+    let places = Places::above(alloc, refused, line.no())?;
+    Ok(placed_twice(refused.table, &places, line))
 }
 
 /// The first item of a line that has a place already, or is also earlier on the line.
@@ -141,20 +131,18 @@ fn placed_twice<'a, A: Allocator + Copy>(
 
 /// A member of an item's group that is on a line above.
 fn placed_member<'a, A: Allocator + Copy>(
-    table: &ItemTable<'a, A>,
-    groups: &Groups<A>,
+    refused: &Refused<'_, 'a, A>,
     places: &Places<A>,
     item: ItemId,
 ) -> Option<(&'a [u8], u32)>
-    requires grouped { length groups.now.group_of ≡ length table.now.names }
-    requires item { item < length table.now.names }
+    requires { item < length refused.now.table.now.names }
 {
-    for i in 0..table.len() {
+    for i in 0..refused.table.len() {
         let other = ItemId::new(i);
-        if groups.of(other) == groups.of(item)
+        if refused.groups.of(other) == refused.groups.of(item)
             && let Some(line) = places.line_of(other)
         {
-            return Some((table.name(other), line));
+            return Some((refused.table.name(other), line));
         }
     }
     None
@@ -163,30 +151,22 @@ fn placed_member<'a, A: Allocator + Copy>(
 /// An item whose group is on another workqueue already.
 pub(crate) fn find_split<'a, A: Allocator + Copy>(
     alloc: A,
-    kind: Kind,
-    table: &ItemTable<'a, A>,
-    groups: &Groups<A>,
-    text: &Text<'_>,
+    refused: &Refused<'_, 'a, A>,
     line: &Line<'a>,
-) -> Result<Finding<'a>, AllocError>
-    requires { length groups.now.group_of ≡ length table.now.names }
-{
-    let places = Places::above(alloc, kind, table, text, line.no())?;
-    Ok(split(table, groups, &places, line))
+) -> Result<Finding<'a>, AllocError> {
+    let places = Places::above(alloc, refused, line.no())?;
+    Ok(split(refused, &places, line))
 }
 
 /// The first item of a line whose group has a place already.
 fn split<'a, A: Allocator + Copy>(
-    table: &ItemTable<'a, A>,
-    groups: &Groups<A>,
+    refused: &Refused<'_, 'a, A>,
     places: &Places<A>,
     line: &Line<'a>,
-) -> Finding<'a>
-    requires { length groups.now.group_of ≡ length table.now.names }
-{
+) -> Finding<'a> {
     for word in line.words().skip(2) {
-        if let Some(item) = table.find(word.bytes())
-            && let Some((other, first)) = placed_member(table, groups, places, item)
+        if let Some(item) = refused.table.find(word.bytes())
+            && let Some((other, first)) = placed_member(refused, places, item)
         {
             let word = Token::of(line, &word);
             let what = What::Split(word.quoted(), Quoted(other));

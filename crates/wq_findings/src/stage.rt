@@ -11,7 +11,7 @@ use wq_text::{Line, Text, number};
 
 /// Which certificate a text should be.
 #[derive(Clone, Copy, Debug, PartialEq, Eq)]
-pub enum Kind {
+pub enum CertificateKind {
     /// A plan or a circle.
     Answer,
     /// `wq` lines alone, or a whole plan.
@@ -50,15 +50,15 @@ fn count_on(line: &Line<'_>) -> u32 {
 
 impl Stage {
     /// What the first line should be, judging by its first word.
-    pub(crate) fn first(kind: Kind, word: &[u8]) -> Stage {
+    pub(crate) fn first(kind: CertificateKind, word: &[u8]) -> Stage {
         match kind {
-            Kind::Run => Stage::Run,
-            Kind::Answer if word == b"circle".as_slice() => Stage::Circle,
-            Kind::Assignment if word != b"plan".as_slice() => Stage::Workqueue {
+            CertificateKind::Run => Stage::Run,
+            CertificateKind::Answer if word == b"circle".as_slice() => Stage::Circle,
+            CertificateKind::Assignment if word != b"plan".as_slice() => Stage::Workqueue {
                 next: 0,
                 left: None,
             },
-            Kind::Answer | Kind::Assignment => Stage::Plan,
+            CertificateKind::Answer | CertificateKind::Assignment => Stage::Plan,
         }
     }
 
@@ -221,7 +221,7 @@ fn is_step(word: &[u8]) -> bool {
 }
 
 /// The first line of an assignment of only `wq` lines that isn't one, if there is such a line, and what should be in its place.
-pub(crate) fn stray_line<'a>(kind: Kind, text: &Text<'a>) -> Option<(Line<'a>, Stage)> {
+pub(crate) fn stray_line<'a>(kind: CertificateKind, text: &Text<'a>) -> Option<(Line<'a>, Stage)> {
     let mut stage = None;
     for line in text.lines() {
         let word = first_word(&line);
@@ -240,7 +240,7 @@ pub(crate) fn stray_line<'a>(kind: Kind, text: &Text<'a>) -> Option<(Line<'a>, S
 /// The line of this number, and what should be on it, judging by the lines above. Where there is no such line, that is what should
 /// come at the end of the text.
 pub(crate) fn line_and_stage<'a>(
-    kind: Kind,
+    kind: CertificateKind,
     text: &Text<'a>,
     no: u32,
 ) -> (Option<Line<'a>>, Stage) {

@@ -3,16 +3,16 @@ use Rattle.std.proofs.Common.{◌≡◌, List, ℕ, Result, Ok, Err, sym, subst}
 use Rattle.std.specs.Prelude.{IfErr, MatchResult}
 use Rattle.wq_text.specs.Refusal.{Refusal}
 use Rattle.wq_commands.specs.declared.end.End.{End}
-use Rattle.wq_commands.specs.Answer.{IsRefused}
+use Rattle.wq_commands.specs.Answer.{PrintsRefusal}
 use Rattle.wq_commands.specs.Declaration.{Declared, declaration}
 use Rattle.wq_run.specs.declared.fault.RunStop.{RunStop}
 use Rattle.wq_run.specs.declared.fault.RunStop.TheVariants.{OutOfMemory, Thread, Tally}
 use Rattle.wq_run.specs.Fault.{Stops}
-use Rattle.wq_run.specs.Running.{HasRuntime, IsRunnable, Runs, RunsDeclared}
+use Rattle.wq_run.specs.Running.{HasRuntime, IsRunnable, RunsPlan, RunsDeclared}
 
-pub Runs-declared : (helpers : ℕ) (text : List ℕ) (s : Declared) (end : End) (out : List ℕ) → declaration text ≡ Ok s → RunsDeclared helpers s end out → Runs helpers text end out
-Runs-declared helpers text s end out is runs =
-    subst (λ (d : Result Declared Refusal). MatchResult d (λ x. RunsDeclared helpers x end out) (λ r. IsRefused r end out)) (sym is) runs
+pub RunsPlan-declared : (helpers : ℕ) (text : List ℕ) (s : Declared) (end : End) (out : List ℕ) → declaration text ≡ Ok s → RunsDeclared helpers s end out → RunsPlan helpers text end out
+RunsPlan-declared helpers text s end out is runs =
+    subst (λ (d : Result Declared Refusal). MatchResult d (λ x. RunsDeclared helpers x end out) (λ r. PrintsRefusal r end out)) (sym is) runs
 
 IsRunnable-declared : (text : List ℕ) (s : Declared) → declaration text ≡ Ok s → HasRuntime s → IsRunnable text
 IsRunnable-declared text s is has = subst (λ (d : Result Declared Refusal). MatchResult d HasRuntime (λ r. ⊥)) (sym is) has

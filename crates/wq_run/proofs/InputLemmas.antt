@@ -13,22 +13,22 @@ use Rattle.wq_commands.specs.declared.end.End.{End}
 use Rattle.wq_commands.specs.declared.why.Outcome.{Outcome}
 use Rattle.wq_commands.specs.declared.why.Which.TheVariants.{Declaration}
 use Rattle.wq_commands.specs.Why.{refused_for}
-use Rattle.wq_commands.specs.Answer.{IsRefused}
+use Rattle.wq_commands.specs.Answer.{PrintsRefusal}
 use Rattle.wq_commands.specs.Declaration.{Declared, declaration, max_declaration}
 use Rattle.wq_commands.proofs.AnswerLemmas.{declaration-take}
 use Rattle.wq_run.specs.declared.fault.RunStop.{RunStop}
 use Rattle.wq_run.specs.declared.fault.RunStop.TheVariants as stop
 use Rattle.wq_run.specs.Fault.{Stops}
 use Rattle.wq_run.specs.Run.{IsRun, IsRunnableInput, only}
-use Rattle.wq_run.specs.Running.{HasRuntime, IsRunnable, Runs, RunsDeclared, RunsTexts, run_why}
+use Rattle.wq_run.specs.Running.{HasRuntime, IsRunnable, RunsPlan, RunsDeclared, RunsTexts, run_why}
 
 module _ (helpers : ℕ) (one other : List ℕ) (declared : declaration one ≡ declaration other) where
-  pub Runs-same : (end : End) (out : List ℕ) → Runs helpers one end out → Runs helpers other end out
-  Runs-same end out runs = subst (λ (d : Result Declared Refusal). MatchResult d (λ s. RunsDeclared helpers s end out) (λ r. IsRefused r end out)) declared runs
+  pub RunsPlan-same : (end : End) (out : List ℕ) → RunsPlan helpers one end out → RunsPlan helpers other end out
+  RunsPlan-same end out runs = subst (λ (d : Result Declared Refusal). MatchResult d (λ s. RunsDeclared helpers s end out) (λ r. PrintsRefusal r end out)) declared runs
 
   RunsTexts-same : (outcome : Outcome) (out : List ℕ) → RunsTexts helpers (only one) outcome out → RunsTexts helpers (only other) outcome out
   RunsTexts-same outcome out h = (
-    Runs-same outcome.end out h.0,
+    RunsPlan-same outcome.end out h.0,
     subst (λ (d : Result Declared Refusal). MatchResult d (λ _. outcome.why ≡ run_why outcome.end) (λ r. outcome.why ≡ refused_for Declaration r)) declared h.1,
   )
 

@@ -4,7 +4,7 @@ use Rattle.std.specs.Prelude.{IfOk}
 use Rattle.std.proofs.lemmas.Result.{IfOk-weaker}
 use Rattle.wq_items.specs.Table.{IsTable}
 use Rattle.wq_groups.specs.Assignment.{Assignment}
-use Rattle.wq_core.specs.Wiring.{Wiring, items, wiring, with_helpers, max_helpers}
+use Rattle.wq_core.specs.Wiring.{Wiring, items, max_helpers}
 use Rattle.wq_core.specs.Deadlock.{IsSafe}
 use Rattle.wq_plan.specs.Plan.{IsPlan}
 use Rattle.wq_plan.proofs.Plans.{IsSafe-plan}
@@ -16,10 +16,10 @@ use Rattle.wq_under_lock.specs.declared.fault.NewError.TheVariants.{TooManyLanes
 use Rattle.wq_held.specs.Locked.{max_runtime_lanes}
 use Rattle.wq_under_lock.specs.Refusals.{RefusesRuntime, new_code}
 use Rattle.wq_held.specs.Closing.{IsClosed, Agrees}
-use Rattle.wq_execution.specs.declared.rescuing.Rescued.{Rescued}
+use Rattle.wq_rescuer.specs.declared.rescuing.Rescued.{Rescued}
 use Rattle.wq_rescuer.specs.Serving.{IsRan}
 use Rattle.wq_commands.specs.declared.end.End.{End}
-use Rattle.wq_commands.specs.Answer.{declared_waits, IsRefused}
+use Rattle.wq_commands.specs.Answer.{declared_waits, PrintsRefusal}
 use Rattle.wq_commands.specs.Declaration.{Declared}
 use Rattle.wq_commands.proofs.AnswerLemmas.{IsSound, IsDeclaration-sound}
 use Rattle.wq_run.specs.Report.{report_text}
@@ -33,7 +33,7 @@ items-wiring helpers w s a table is = ap items is ∙ table.one_list_each
 -- if no runtime is made for a plan, and not because of memory, the plan has too many workqueues: it is safe, and its rows are
 -- few
 RunsDeclared-refused : (helpers : ℕ) (s : Declared) (w : Wiring) (a : Assignment) (rows : ℕ) (e : NewError) (end : End) (out : List ℕ) → IsSound s → IsPlan (declared_waits s) a
-    → w ≡ run_wiring helpers s a → helpers ≤ max_helpers → rows ≡ rows_for s → RefusesRuntime w rows e → (e ≢ OutOfMemory) × IsRefused (record { code = new_code e; line = 0 }) end out → RunsDeclared helpers s end out
+    → w ≡ run_wiring helpers s a → helpers ≤ max_helpers → rows ≡ rows_for s → RefusesRuntime w rows e → (e ≢ OutOfMemory) × PrintsRefusal (record { code = new_code e; line = 0 }) end out → RunsDeclared helpers s end out
 RunsDeclared-refused helpers s w a rows TooManyLanes end out sound plan is few room why refused =
     let many : max_runtime_lanes < a.lanes = subst (λ (x : Wiring). max_runtime_lanes < x.lanes) is why in
     subst (λ (x : End). RunsDeclared helpers s x out) (sym refused.1.0) (record { assignment = a; plan = plan; many = many; text = refused.1.1 })
@@ -47,7 +47,7 @@ RunsDeclared-refused helpers s w a rows OutOfMemory end out sound plan is few ro
 -- the answer if no runtime is made
 pub RunsDeclared-no_runtime : {T : Type 0} {A : Type 0} (helpers : ℕ) (s : Declared) (w : Wiring) (a : Assignment) (rows : ℕ) (e : NewError) (answer : Result (End × Vec ℕ A) T) → IsSound s
     → IsPlan (declared_waits s) a → w ≡ run_wiring helpers s a → helpers ≤ max_helpers → rows ≡ rows_for s → RefusesRuntime w rows e
-    → IfOk answer (λ printed. (e ≢ OutOfMemory) × IsRefused (record { code = new_code e; line = 0 }) printed.0 printed.1.items)
+    → IfOk answer (λ printed. (e ≢ OutOfMemory) × PrintsRefusal (record { code = new_code e; line = 0 }) printed.0 printed.1.items)
     → IfOk answer (λ printed. RunsDeclared helpers s printed.0 printed.1.items)
 RunsDeclared-no_runtime helpers s w a rows e answer sound plan is few room why refused =
     IfOk-weaker answer _ _ (λ printed said. RunsDeclared-refused helpers s w a rows e printed.0 printed.1.items sound plan is few room why said) refused

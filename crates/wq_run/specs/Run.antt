@@ -6,14 +6,14 @@ use Rattle.wq_meter.specs.Shell.{Given}
 use Rattle.wq_commands.specs.declared.end.End.{End}
 use Rattle.wq_commands.specs.declared.why.Outcome.{Outcome}
 use Rattle.wq_commands.specs.Declaration.{max_declaration}
-use Rattle.wq_run.specs.Running.{Runs, RunsTexts, IsRunnable}
+use Rattle.wq_run.specs.Running.{RunsPlan, RunsTexts, IsRunnable}
 
 -- this is the answer, with this many helpers, to the text that a reader had; the reader gave it up to the first byte past the
 -- limit
 pub record RunsInput {R : Type 0} (helpers : ℕ) (remaining : R → Option (List ℕ)) (old new : Meter R) (end : End) (out : List ℕ) : Type 0 where
   pub text : List ℕ
   pub given : Gives remaining old new max_declaration text
-  pub answer : Runs helpers text end out
+  pub answer : RunsPlan helpers text end out
 
 -- the text that a reader had declares items whose plan a runtime can have
 pub record IsRunnableInput {R : Type 0} (remaining : R → Option (List ℕ)) (old new : Meter R) : Type 0 where

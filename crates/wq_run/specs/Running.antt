@@ -10,7 +10,7 @@ use Rattle.wq_history.specs.Book.{BookView}
 use Rattle.wq_held.specs.declared.fault.CallError.{CallError}
 use Rattle.wq_held.specs.Locked.{max_runtime_lanes}
 use Rattle.wq_held.specs.Closing.{IsClosed}
-use Rattle.wq_execution.specs.declared.rescuing.Rescued.{Rescued}
+use Rattle.wq_rescuer.specs.declared.rescuing.Rescued.{Rescued}
 use Rattle.wq_rescuer.specs.Serving.{IsRan}
 use Rattle.wq_commands.specs.declared.end.End.{End}
 use Rattle.wq_commands.specs.declared.end.End.TheVariants.{Good, Bad, Refused}
@@ -19,7 +19,7 @@ use Rattle.wq_commands.specs.declared.why.Outcome.{Outcome}
 use Rattle.wq_commands.specs.declared.why.Which.TheVariants as which
 use Rattle.wq_commands.specs.declared.why.Why.{Why}
 use Rattle.wq_commands.specs.Why.{refused_for}
-use Rattle.wq_commands.specs.Answer.{declared_waits, refusal_text, IsRefused, PrintsCircle}
+use Rattle.wq_commands.specs.Answer.{declared_waits, refusal_text, PrintsRefusal, PrintsCircle}
 use Rattle.wq_commands.specs.Declaration.{Declared, declaration}
 use Rattle.wq_run.specs.Report.{report_text}
 
@@ -70,8 +70,8 @@ RunsDeclared helpers s Bad out = PrintsCircle s out
 RunsDeclared helpers s Refused out = IsTooWide s out
 
 -- the answer to a text, with this many helpers: the answer to what it declares, or its refusal
-abbrev pub Runs : ℕ → List ℕ → End → List ℕ → Type 0
-Runs helpers text end out = MatchResult (declaration text) (λ s. RunsDeclared helpers s end out) (λ r. IsRefused r end out)
+abbrev pub RunsPlan : ℕ → List ℕ → End → List ℕ → Type 0
+RunsPlan helpers text end out = MatchResult (declaration text) (λ s. RunsDeclared helpers s end out) (λ r. PrintsRefusal r end out)
 
 -- the declaration has a plan that a runtime can have
 pub record HasRuntime (s : Declared) : Type 0 where
@@ -87,9 +87,8 @@ IsRunnable text = MatchResult (declaration text) HasRuntime (λ r. ⊥)
 
 -- why what was declared isn't run: the plan has too many workqueues (69)
 abbrev pub run_why : End → Option Why
-run_why Good = None
-run_why Bad = None
 run_why Refused = refused_for which.Declaration (record { code = 69; line = 0 })
+run_why _ = None
 
 -- why a text isn't run: it is refused, or its plan is
 abbrev pub SaysUnrun : List ℕ → End → Option Why → Type 0
@@ -97,4 +96,4 @@ SaysUnrun text end why = MatchResult (declaration text) (λ _. why ≡ run_why e
 
 -- the answer to the first of these texts, with this many helpers, and why
 abbrev pub RunsTexts : ℕ → Given → Outcome → List ℕ → Type 0
-RunsTexts helpers texts outcome out = Runs helpers texts.first outcome.end out × SaysUnrun texts.first outcome.end outcome.why
+RunsTexts helpers texts outcome out = RunsPlan helpers texts.first outcome.end out × SaysUnrun texts.first outcome.end outcome.why

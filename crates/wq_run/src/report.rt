@@ -7,7 +7,7 @@ ghost use Rattle.std.specs.Prelude.{◌≡◌, ◌++◌, ◌<◌, ℕ, length, t
 ghost use Rattle.wq_lines.specs.LineText.{spaced, line_text};
 ghost use Rattle.wq_counts.specs.declared.kind.Kind.{Kind};
 ghost use Rattle.wq_counts.specs.Counting.{made};
-ghost use Rattle.wq_run.specs.Report.{workqueues_line, count_words, item_line, faults_line, report_text};
+ghost use Rattle.wq_run.specs.Report.{workqueues_line, kind_count_words, item_line, faults_line, report_text};
 
 use std::alloc::{AllocError, Allocator};
 use wq_api::{Closed, Naming};
@@ -35,7 +35,7 @@ fn put_counts<A: Allocator + Copy>(
     counts: &Counts<A>,
     item: ItemId,
 ) -> Result<(), AllocError>
-    ensures { OnOk result (out.new.items ≡ out.old.items ++ flat_map spaced (count_words (λ kind. made counts.now item kind true))) }
+    ensures { OnOk result (out.new.items ≡ out.old.items ++ flat_map spaced (kind_count_words (λ kind. made counts.now item kind true))) }
 {
     put_word(out, b"queued")?;
     put_count(out, counts.queued(item))?;

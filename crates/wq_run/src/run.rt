@@ -21,7 +21,7 @@ ghost use Rattle.wq_run.specs.Running.{IsRunnable, RunsTexts};
 
 use crate::fault::{CommandFault, RunStop};
 use crate::outcome::end_of_run;
-use crate::running::answer;
+use crate::running::answer_run;
 use std::alloc::Allocator;
 use std::io::{self, Read, Write};
 use std::sync::Wait;
@@ -50,7 +50,7 @@ fn answer_texts<R: Threads + Wait + Sync, A: Allocator + Copy + Send + Sync>(
     ensures answered { IfOk result (λ answer. RunsTexts helpers texts.now answer.0 answer.1.items) }
     ensures stopped { IfErr result (Stops (IsRunnable texts.now.first)) }
 {
-    let Answered { end, text, why } = answer(rt, alloc, seed, helpers, texts.first())?;
+    let Answered { end, text, why } = answer_run(rt, alloc, seed, helpers, texts.first())?;
     Ok((Outcome { end, why }, text))
 }
 

@@ -12,10 +12,10 @@ ghost use Rattle.wq_items.specs.Table.{flush_count};
 ghost use Rattle.wq_plan.specs.Solve.{IsCircled};
 ghost use Rattle.wq_under_lock.specs.declared.fault.NewError.TheVariants.{OutOfMemory as NoMemory};
 ghost use Rattle.wq_under_lock.specs.Refusals.{new_code};
-ghost use Rattle.wq_commands.specs.Answer.{IsRefused};
+ghost use Rattle.wq_commands.specs.Answer.{PrintsRefusal};
 ghost use Rattle.wq_run.specs.declared.fault.RunStop.TheVariants.{OutOfMemory};
 ghost use Rattle.wq_run.specs.Fault.{Stops};
-ghost use Rattle.wq_run.specs.Running.{Runs, RunsDeclared, HasRuntime, IsRunnable, SaysUnrun, rows_for, run_why};
+ghost use Rattle.wq_run.specs.Running.{RunsPlan, RunsDeclared, HasRuntime, IsRunnable, SaysUnrun, rows_for, run_why};
 
 use crate::fault::RunStop;
 use crate::serving::serve;
@@ -46,7 +46,7 @@ fn refuse_runtime<A: Allocator + Copy>(
     alloc: A,
     error: NewError,
 ) -> Result<(End, Vec<u8, A>), RunStop>
-    ensures refused { IfOk result (λ printed. (error ≢ NoMemory) × IsRefused (record { code = new_code error; line = 0 }) printed.0 printed.1.items) }
+    ensures refused { IfOk result (λ printed. (error ≢ NoMemory) × PrintsRefusal (record { code = new_code error; line = 0 }) printed.0 printed.1.items) }
     ensures stopped { IfErr result (λ stop. stop ≡ OutOfMemory) }
 {
     if error == NewError::OutOfMemory {
@@ -188,7 +188,7 @@ fn run_explained<A: Allocator + Copy + Send + Sync, R: Threads + Wait + Sync>(
 }
 
 /// The answer to the text of a declaration, and why it isn't run, where it isn't.
-pub(crate) fn answer<A: Allocator + Copy + Send + Sync, R: Threads + Wait + Sync>(
+pub(crate) fn answer_run<A: Allocator + Copy + Send + Sync, R: Threads + Wait + Sync>(
     rt: &R,
     alloc: A,
     seed: u64,
@@ -196,7 +196,7 @@ pub(crate) fn answer<A: Allocator + Copy + Send + Sync, R: Threads + Wait + Sync
     text: &[u8],
 ) -> Result<Answered<A>, RunStop>
     requires few_helpers { helpers ≤ max_helpers }
-    ensures ran { IfOk result (λ a. Runs helpers text.now a.end a.text.items) }
+    ensures ran { IfOk result (λ a. RunsPlan helpers text.now a.end a.text.items) }
     ensures why { IfOk result (λ a. SaysUnrun text.now a.end a.why) }
     ensures stopped { IfErr result (Stops (IsRunnable text.now)) }
 {

@@ -12,7 +12,7 @@ ghost use Rattle.wq_counts.specs.Counting.{made};
 ghost use Rattle.wq_history.specs.Book.{BookView};
 ghost use Rattle.wq_held.specs.Locked.{max_runtime_lanes};
 ghost use Rattle.wq_held.specs.Closing.{IsClosed};
-ghost use Rattle.wq_execution.specs.Executing.{NeverRan};
+ghost use Rattle.wq_rescuer.specs.Executing.{NeverRan};
 ghost use Rattle.wq_rescuer.specs.Serving.{IsRan};
 ghost use Rattle.wq_script.specs.Scripts.{runs_of};
 ghost use Rattle.wq_script.specs.Crews.{shared_by_two};

@@ -35,12 +35,12 @@ abbrev pub dot : App
 dot = with_rule (with_rule (new_app (codes "dot")) (needed (codes "DECL"))) (new_rule (codes "ASSIGN"))
 
 -- a positional argument that is a number from 0 to this one
-abbrev pub counted : Text → ℕ → Rule
-counted name most = record (new_rule name) { parser = Some (Signed (pos 0) (pos most)) }
+abbrev pub number_rule : Text → ℕ → Rule
+number_rule name most = record (new_rule name) { parser = Some (Signed (pos 0) (pos most)) }
 
 -- `run DECL [HELPERS]`
 abbrev pub run : App
-run = with_rule (with_rule (new_app (codes "run")) (needed (codes "DECL"))) (counted (codes "HELPERS") 8)
+run = with_rule (with_rule (new_app (codes "run")) (needed (codes "DECL"))) (number_rule (codes "HELPERS") 8)
 
 -- `explain [CODE]`
 abbrev pub explain : App
@@ -126,14 +126,8 @@ AsksFor met wanted = (rows : List Row) × (met ≡ Some (command_name wanted, ro
 
 -- no more than 8 helpers are asked for
 abbrev pub HasFewHelpers : Asked → Type 0
-HasFewHelpers (plans file) = Unit {0}
-HasFewHelpers (checks declaration certificate) = Unit {0}
-HasFewHelpers (judges declaration assignment) = Unit {0}
-HasFewHelpers (replays declaration assignment steps) = Unit {0}
-HasFewHelpers (finds declaration assignment) = Unit {0}
-HasFewHelpers (draws declaration assignment) = Unit {0}
 HasFewHelpers (runs declaration helpers) = helpers ≤ 8
-HasFewHelpers (explains code) = Unit {0}
+HasFewHelpers _ = Unit {0}
 
 -- the words ask for this
 abbrev pub Asks : List Text → Asked → Type 0

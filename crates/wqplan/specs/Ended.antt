@@ -8,12 +8,12 @@ use Rattle.wq_commands.specs.declared.end.End.{End}
 use Rattle.wq_commands.specs.Answer.{Answers}
 use Rattle.wq_commands.specs.Checking.{Checks}
 use Rattle.wq_commands.specs.Deadlocking.{Judges}
-use Rattle.wq_commands.specs.Replaying.{Replays}
+use Rattle.wq_commands.specs.Replaying.{ReplaysRun}
 use Rattle.wq_circles.specs.Circling.{Circles, OwnCircles}
 use Rattle.wq_dot.specs.Dotting.{Draws, OwnDraws}
 use Rattle.wq_run.specs.declared.fault.CommandFault.{CommandFault}
 use Rattle.wq_run.specs.declared.fault.CommandFault.TheVariants.{Common, Tally, Thread}
-use Rattle.wq_run.specs.Running.{Runs}
+use Rattle.wq_run.specs.Running.{RunsPlan}
 use Rattle.wq_explain.specs.Explaining.{explained_end, explained_text}
 use Rattle.wqplan.specs.CommandLine.{Asked, plans, checks, judges, replays, finds, draws, runs, explains}
 use Rattle.wqplan.specs.Status.{explain_end}
@@ -55,11 +55,11 @@ EndsDeadlock Holds declaration assignment end out = (text lanes : List ℕ) × H
 -- `replay`
 abbrev pub EndsReplay : (List ℕ → List ℕ → Type 0) → List ℕ → List ℕ → List ℕ → End → List ℕ → Type 0
 EndsReplay Holds declaration assignment run end out =
-    (text lanes steps : List ℕ) × Holds declaration text × Holds assignment lanes × Holds run steps × Replays text lanes steps end out
+    (text lanes steps : List ℕ) × Holds declaration text × Holds assignment lanes × Holds run steps × ReplaysRun text lanes steps end out
 
 -- `run`, with this many helpers
 abbrev pub EndsRun : (List ℕ → List ℕ → Type 0) → List ℕ → ℕ → End → List ℕ → Type 0
-EndsRun Holds declaration helpers end out = (text : List ℕ) × Holds declaration text × Runs helpers text end out
+EndsRun Holds declaration helpers end out = (text : List ℕ) × Holds declaration text × RunsPlan helpers text end out
 
 -- `explain`, which reads no file
 abbrev pub EndsExplain : Option (List ℕ) → End → List ℕ → Type 0

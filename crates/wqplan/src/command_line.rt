@@ -5,7 +5,7 @@
 ghost use Rattle.std.specs.Prelude.{◌≡◌, ◌≤◌, ℕ, List, Option, Some, codes, false, IfOk, IfSome, IsSome, MatchResult, map};
 ghost use Rattle.clap.specs.Words.{app_of, found_of, kind_of, one_of, rows_of, rule_of, subcommand_rows_of};
 ghost use Rattle.clap.specs.declared.error.kind.ErrorKind.TheVariants.{OutOfMemory};
-ghost use Rattle.wqplan.specs.CommandLine.{bare, check, circles, counted, deadlock, dot, explain, needed, plan, replay, run, spelled, wqplan, Asked, Asks, AsksFor, Calls, GivesArguments, HasFewHelpers, IsHelpers, few_read, helpers_in, checks, draws, finds, judges, replays, runs};
+ghost use Rattle.wqplan.specs.CommandLine.{bare, check, circles, number_rule, deadlock, dot, explain, needed, plan, replay, run, spelled, wqplan, Asked, Asks, AsksFor, Calls, GivesArguments, HasFewHelpers, IsHelpers, few_read, helpers_in, checks, draws, finds, judges, replays, runs};
 
 use crate::help;
 use clap::error::ErrorKind;
@@ -155,7 +155,7 @@ fn dot<'a>(alloc: Global) -> Result<Command<'a>, AllocError>
 
 /// The argument HELPERS of `run`.
 fn helpers<'a>(alloc: Global) -> Arg<'a>
-    ensures rule { rule_of result ≡ counted (codes "HELPERS") 8 }
+    ensures rule { rule_of result ≡ number_rule (codes "HELPERS") 8 }
     ensures own { result.global ≡ false }
 {
     Arg::new(alloc, "HELPERS")

@@ -23,7 +23,7 @@ use std::random::RandomSource;
 use std::rt::Files;
 use std::sync::Wait;
 use std::thread::Threads;
-use world::{Named, Process};
+use world::{NamedReader, Process};
 use wq_commands::{End, Metered};
 use wq_run::CommandFault;
 
@@ -37,7 +37,7 @@ fn perform<
 >(rt: &'a R, request: Request<'a>, error: &mut Metered<E>) -> Result<End, CommandFault>
     requires few_helpers { HasFewHelpers (spelled request) }
 {
-    let mut input = Metered::new(Named::new(rt, STDIN, rt.reader()));
+    let mut input = Metered::new(NamedReader::new(rt, STDIN, rt.reader()));
     let mut writer = Metered::new(io::writer(rt));
     performing::perform(
         &Process { rt },

@@ -27,7 +27,7 @@ use wq_commands::{
     CheckCommand, Command, DeadlockCommand, End, Fault, Metered, Outcome, PlanCommand,
     ReplayCommand, Stopped, Voice, carry_out,
 };
-use wq_diagnosis::{Diagnosing, Kind};
+use wq_diagnosis::{CertificateKind, Diagnosing};
 use wq_dot::DotCommand;
 use wq_explain::{Explained, explain_cmd};
 use wq_run::{CommandFault, RunStop, carry_out_run, end_of_run};
@@ -252,7 +252,7 @@ fn check<'a, O: World<'a>, W: Write, E: Write>(
     let ended = carry_out_on(
         alloc,
         &CheckCommand { seed },
-        &Diagnosing::two(seed, declaration, Kind::Answer, certificate),
+        &Diagnosing::two(seed, declaration, CertificateKind::Answer, certificate),
         declared,
         certified,
         io::empty(),
@@ -282,7 +282,7 @@ fn deadlock<'a, O: World<'a>, W: Write, E: Write>(
     let ended = carry_out_on(
         alloc,
         &DeadlockCommand { seed },
-        &Diagnosing::two(seed, declaration, Kind::Assignment, assignment),
+        &Diagnosing::two(seed, declaration, CertificateKind::Assignment, assignment),
         declared,
         assigned,
         io::empty(),
@@ -318,7 +318,7 @@ fn replay<'a, O: World<'a>, W: Write, E: Write>(
         &Diagnosing {
             seed,
             declaration,
-            kind: Kind::Assignment,
+            kind: CertificateKind::Assignment,
             certificate: assignment,
             run,
         },
@@ -354,7 +354,7 @@ fn assigned_circles<'a, O: World<'a>, W: Write, E: Write>(
             seed,
             assigned: true,
         },
-        &Diagnosing::two(seed, declaration, Kind::Assignment, assignment),
+        &Diagnosing::two(seed, declaration, CertificateKind::Assignment, assignment),
         declared,
         assigned,
         io::empty(),
@@ -440,7 +440,7 @@ fn assigned_dot<'a, O: World<'a>, W: Write, E: Write>(
             seed,
             assigned: true,
         },
-        &Diagnosing::two(seed, declaration, Kind::Assignment, assignment),
+        &Diagnosing::two(seed, declaration, CertificateKind::Assignment, assignment),
         declared,
         assigned,
         io::empty(),

@@ -51,16 +51,16 @@ pub(crate) struct Process<'a, R> {
 }
 
 impl<'a, R: Files + RandomSource + Eprint + AllocGlobal> World<'a> for Process<'a, R> {
-    type File = Named<'a, R, R::File>;
+    type File = NamedReader<'a, R, R::File>;
 
     ghost opens = { λ _ _ _. Unit {0} };
 
     ghost seeds = { λ _ _. Unit {0} };
 
-    fn open(&self, path: &'a str, or_input: bool) -> Option<Named<'a, R, R::File>> {
+    fn open(&self, path: &'a str, or_input: bool) -> Option<NamedReader<'a, R, R::File>> {
         let rt: &'a R = self.rt;
         match fs::open(rt, path) {
-            Ok(file) => Some(Named::new(rt, path, file)),
+            Ok(file) => Some(NamedReader::new(rt, path, file)),
             Err(error) => {
                 say_unread(rt, path, why_unopened(path, error.kind(), or_input));
                 None
@@ -77,20 +77,20 @@ impl<'a, R: Files + RandomSource + Eprint + AllocGlobal> World<'a> for Process<'
 
 /// A reader with a name. Where a read fails, standard error has the name, and why it failed.
 #[derive(Drop)]
-pub(crate) struct Named<'a, R, I> {
+pub(crate) struct NamedReader<'a, R, I> {
     rt: &'a R,
     name: &'a str,
     input: I,
 }
 
-impl<'a, R, I> Named<'a, R, I> {
+impl<'a, R, I> NamedReader<'a, R, I> {
     /// The reader with this name.
-    pub(crate) fn new(rt: &'a R, name: &'a str, input: I) -> Named<'a, R, I> {
-        Named { rt, name, input }
+    pub(crate) fn new(rt: &'a R, name: &'a str, input: I) -> NamedReader<'a, R, I> {
+        NamedReader { rt, name, input }
     }
 }
 
-impl<'a, R: Eprint + AllocGlobal, I: Read> Read for Named<'a, R, I> {
+impl<'a, R: Eprint + AllocGlobal, I: Read> Read for NamedReader<'a, R, I> {
     ghost remaining = { λ named. I.remaining named.input };
 
     fn read(&mut self, buf: &mut [u8]) -> io::Result<usize> {

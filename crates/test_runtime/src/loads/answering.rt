@@ -4,7 +4,7 @@ ghost use Rattle.std.specs.Prelude.{◌≡◌, length};
 
 use crate::loads::load::Load;
 use crate::loads::running::run;
-use crate::testbed::{Bed, SEED, Texts, refuse_text};
+use crate::testbed::{Bed, SEED, SettingTexts, refuse_text};
 use std::alloc::{AllocError, Global};
 use std::sync::Wait;
 use std::thread::Threads;
@@ -53,7 +53,7 @@ pub fn answer<R: Threads + Wait + Clock + Sync>(
     alloc: Global,
     rows: u32,
     helpers: u8,
-    texts: &Texts,
+    texts: &SettingTexts,
     load: Load,
     out: &mut String,
 ) -> Result<u8, AllocError> {

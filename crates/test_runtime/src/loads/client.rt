@@ -1,8 +1,8 @@
 //! A caller. It takes the time of its calls, including what they wait for, and no memory.
 
-use crate::loads::load::{Load, Task};
+use crate::loads::load::{CallerTask, Load};
 use crate::loads::random::Random;
-use crate::loads::tally::{Call, Tally};
+use crate::loads::tally::{TalliedCall, Tally};
 use std::alloc::Allocator;
 use std::sync::Wait;
 use std::sync::atomic::{AtomicU32, Ordering};
@@ -52,7 +52,7 @@ impl<'c> Client<'c> {
     /// The item of its next round.
     fn next_item(&mut self) -> u16 {
         match self.load.task {
-            Task::Storm => self.random.item(self.items).get(),
+            CallerTask::Storm => self.random.item(self.items).get(),
             _ => self.own,
         }
     }
@@ -150,17 +150,20 @@ impl<'c> Client<'c> {
         let (call, answer) = match self.random.below(16) {
             0 => {
                 let q = LaneId::new(self.random.below(usize::from(self.lanes) + 1) as u16);
-                (Call::Queue, runtime.queue_work(rt, seat, q, item))
+                (TalliedCall::Queue, runtime.queue_work(rt, seat, q, item))
             }
-            1..=7 => (Call::Queue, queue(rt, runtime, seat, item)),
-            8..=9 => (Call::Cancel, runtime.cancel_work(rt, seat, item)),
-            10..=11 => (Call::Flush, runtime.flush_work(rt, seat, item)),
+            1..=7 => (TalliedCall::Queue, queue(rt, runtime, seat, item)),
+            8..=9 => (TalliedCall::Cancel, runtime.cancel_work(rt, seat, item)),
+            10..=11 => (TalliedCall::Flush, runtime.flush_work(rt, seat, item)),
             12..=13 => {
                 let q = self.random.any_lane(self.lanes);
                 let flushed = runtime.flush_workqueue(rt, seat, q);
-                (Call::FlushLane, flushed.and(Ok(true)))
+                (TalliedCall::FlushLane, flushed.and(Ok(true)))
             }
-            _ => (Call::CancelSync, runtime.cancel_work_sync(rt, seat, item)),
+            _ => (
+                TalliedCall::CancelSync,
+                runtime.cancel_work_sync(rt, seat, item),
+            ),
         };
         self.tally.note(call, answer);
     }
@@ -174,14 +177,15 @@ impl<'c> Client<'c> {
     ) {
         runtime.destroy(rt);
         let queued = queue(rt, runtime, seat, ItemId::new(0));
-        self.late.note(Call::Queue, queued);
+        self.late.note(TalliedCall::Queue, queued);
         for item in 0..self.items {
             let flushed = runtime.flush_work(rt, seat, ItemId::new(item));
-            self.late.note(Call::Flush, flushed);
+            self.late.note(TalliedCall::Flush, flushed);
         }
         for q in 0..self.lanes {
             let flushed = runtime.flush_workqueue(rt, seat, LaneId::new(q));
-            self.late.note(Call::FlushLane, flushed.and(Ok(true)));
+            self.late
+                .note(TalliedCall::FlushLane, flushed.and(Ok(true)));
         }
     }
 
@@ -228,13 +232,13 @@ impl Caller for Client<'_> {
         seat: &mut Seat<N, A>,
     ) -> Result<(), CallError> {
         match self.load.task {
-            Task::Stress => {
+            CallerTask::Stress => {
                 self.make_calls(rt, runtime, seat);
                 Ok(())
             }
-            Task::Rounds | Task::Storm => self.make_rounds(rt, runtime, seat),
-            Task::Sleep => self.make_waves(rt, runtime, seat),
-            Task::Fill => {
+            CallerTask::Rounds | CallerTask::Storm => self.make_rounds(rt, runtime, seat),
+            CallerTask::Sleep => self.make_waves(rt, runtime, seat),
+            CallerTask::Fill => {
                 until_full(self.make_rounds(rt, runtime, seat))?;
                 until_full(self.fill(rt, runtime, seat))
             }

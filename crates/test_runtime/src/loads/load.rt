@@ -7,7 +7,7 @@ const STRESSING: u16 = 4;
 
 /// What each caller does.
 #[derive(Clone, Copy, PartialEq, Eq)]
-pub(crate) enum Task {
+pub(crate) enum CallerTask {
     /// It makes pseudo-random calls, and the last one to end destroys the runtime. The bodies make pseudo-random calls too.
     Stress,
     /// It queues its own item and flushes it, again and again.
@@ -23,7 +23,7 @@ pub(crate) enum Task {
 /// A load for a runtime.
 #[derive(Clone, Copy)]
 pub struct Load {
-    pub(crate) task: Task,
+    pub(crate) task: CallerTask,
     pub(crate) callers: u16,
     /// How many calls or rounds each caller makes.
     pub(crate) count: u32,
@@ -35,7 +35,7 @@ impl Load {
     /// The load of this seed in which each of four callers makes this many pseudo-random calls, if these words are numbers.
     pub fn stress(seed: &str, calls: &str) -> Option<Load> {
         Some(Load {
-            task: Task::Stress,
+            task: CallerTask::Stress,
             callers: STRESSING,
             count: number(calls.as_bytes())?,
             seed: number(seed.as_bytes())?,
@@ -45,10 +45,10 @@ impl Load {
     /// The measured load that these words ask for.
     pub fn measured(task: &str, callers: &str, count: &str) -> Option<Load> {
         let task = match task {
-            "rounds" => Task::Rounds,
-            "storm" => Task::Storm,
-            "fill" => Task::Fill,
-            "sleep" => Task::Sleep,
+            "rounds" => CallerTask::Rounds,
+            "storm" => CallerTask::Storm,
+            "fill" => CallerTask::Fill,
+            "sleep" => CallerTask::Sleep,
             _ => return None,
         };
         Some(Load {

@@ -1,7 +1,7 @@
 //! What is printed once all threads have ended. It takes time in the number of seats, items and rows.
 
 use crate::loads::client::Client;
-use crate::loads::load::{Load, Task};
+use crate::loads::load::{CallerTask, Load};
 use crate::loads::server::Server;
 use crate::sessions::put_contexts;
 use crate::testbed::{fault, kind_word, put_done, put_item, put_made, put_rows};
@@ -119,7 +119,7 @@ fn put_closed<N: Naming>(
     put_made(out, table, closed.book.lanes(), &closed.counts)?;
     writeln!(out, "idle {}", closed.book.is_idle())?;
     writeln!(out, "free {}", closed.book.free_rows())?;
-    if load.task == Task::Stress {
+    if load.task == CallerTask::Stress {
         put_rows(out, closed.book.packed())?;
     } else {
         writeln!(out, "rows {}", closed.book.packed().len() / 12)?;
@@ -154,7 +154,7 @@ fn put_left<N: Naming>(
     writeln!(out, "nanoseconds {}", took.as_nanos())?;
     put_contexts(out, contexts, &ran.rescued)?;
     put_results(out, &ran.results)?;
-    if load.task == Task::Stress {
+    if load.task == CallerTask::Stress {
         put_answers(out, &ran.bodies, &ran.callers)?;
         put_seats(out, table, lanes, &ran.seats)?;
     }

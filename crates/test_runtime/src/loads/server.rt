@@ -7,9 +7,9 @@
 ghost use Rattle.std.specs.Prelude.{◌≡◌, vec_len, replicate, length, IfOk};
 ghost use Rattle.wq_rescuer.specs.Executing.{SameFinished};
 
-use crate::loads::load::{Load, Task};
+use crate::loads::load::{CallerTask, Load};
 use crate::loads::random::Random;
-use crate::loads::tally::{Call, Tally};
+use crate::loads::tally::{TalliedCall, Tally};
 use std::alloc::{AllocError, Allocator, Global};
 use std::sync::Wait;
 use std::thread::Parker;
@@ -25,7 +25,7 @@ const NAP: u64 = 1;
 #[derive(Drop)]
 pub(crate) struct Server<'t, 'a> {
     table: &'t ItemTable<'a, Global>,
-    task: Task,
+    task: CallerTask,
     random: Random,
     /// What it sleeps on. Nobody wakes it.
     parker: Parker,
@@ -77,11 +77,11 @@ fn call_any<N: Naming, A: Allocator, R: Wait>(
 {
     let (call, answer) = match random.below(16) {
         0..=9 => match random.any_target(targets) {
-            (item, false) => (Call::Wait, work.flush(rt, item)),
-            (item, true) => (Call::WaitAll, work.flush_wq(rt, item)),
+            (item, false) => (TalliedCall::Wait, work.flush(rt, item)),
+            (item, true) => (TalliedCall::WaitAll, work.flush_wq(rt, item)),
         },
-        10 => (Call::Queue, work.queue(rt, random.any_item(items))),
-        11 => (Call::Cancel, work.cancel(rt, random.any_item(items))),
+        10 => (TalliedCall::Queue, work.queue(rt, random.any_item(items))),
+        11 => (TalliedCall::Cancel, work.cancel(rt, random.any_item(items))),
         _ => return,
     };
     tally.note(call, answer);
@@ -119,10 +119,10 @@ impl Body for Server<'_, '_> {
     ) -> Result<(), BodyFault> {
         self.runs[usize::from(item.get())] += 1;
         let table = self.table;
-        if self.task == Task::Sleep {
+        if self.task == CallerTask::Sleep {
             self.parker.park_timeout(rt, Duration::from_millis(NAP));
         }
-        if self.task == Task::Stress && item.get() < table.len() {
+        if self.task == CallerTask::Stress && item.get() < table.len() {
             let targets = table.waits(item);
             call_some(
                 rt,

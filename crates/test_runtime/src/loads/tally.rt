@@ -5,7 +5,7 @@ use wq_api::CallError;
 
 /// The calls that are counted.
 #[derive(Clone, Copy)]
-pub(crate) enum Call {
+pub(crate) enum TalliedCall {
     Queue,
     Cancel,
     Flush,
@@ -36,7 +36,7 @@ impl Tally {
     }
 
     /// Counts an answer, or a refusal.
-    pub(crate) fn note(&mut self, call: Call, answer: Result<bool, CallError>) {
+    pub(crate) fn note(&mut self, call: TalliedCall, answer: Result<bool, CallError>) {
         let column = match answer {
             Ok(true) => 0,
             Ok(false) => 1,

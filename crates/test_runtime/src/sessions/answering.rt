@@ -2,8 +2,8 @@
 
 ghost use Rattle.std.specs.Prelude.{◌≡◌, length};
 
-use crate::sessions::requests::Request;
-use crate::testbed::{Bed, SEED, Texts, refuse_text};
+use crate::sessions::requests::TaskText;
+use crate::testbed::{Bed, SEED, SettingTexts, refuse_text};
 use std::alloc::{AllocError, Global};
 use std::sync::Wait;
 use std::thread::Threads;
@@ -22,7 +22,7 @@ fn answer_declared<R: Threads + Wait + Clock + Sync>(
     table: &ItemTable<'_, Global>,
     groups: &Groups<Global>,
     assigned: &[u8],
-    request: &Request<'_>,
+    request: &TaskText<'_>,
     out: &mut String,
 ) -> Result<u8, AllocError>
     requires { length groups.now.group_of ≡ length table.now.names }
@@ -55,8 +55,8 @@ pub fn answer<R: Threads + Wait + Clock + Sync>(
     alloc: Global,
     rows: u32,
     helpers: u8,
-    texts: &Texts,
-    request: &Request<'_>,
+    texts: &SettingTexts,
+    request: &TaskText<'_>,
     out: &mut String,
 ) -> Result<u8, AllocError> {
     match read_declaration(alloc, SEED, &texts.declared) {

@@ -24,7 +24,7 @@ pub(crate) enum Counted {
 
 /// What a line asks for.
 #[derive(Clone, Copy)]
-pub(crate) enum Call {
+pub(crate) enum RuntimeCall {
     Counted(Counted),
     /// One seat more.
     Seat,
@@ -48,37 +48,37 @@ pub(crate) enum Call {
 }
 
 /// The call that this word alone asks for.
-fn call_alone(word: &[u8]) -> Option<Call> {
+fn call_alone(word: &[u8]) -> Option<RuntimeCall> {
     match word {
-        b"seat" => Some(Call::Seat),
-        b"lanes" => Some(Call::Lanes),
-        b"destroy" => Some(Call::Destroy),
+        b"seat" => Some(RuntimeCall::Seat),
+        b"lanes" => Some(RuntimeCall::Lanes),
+        b"destroy" => Some(RuntimeCall::Destroy),
         _ => None,
     }
 }
 
 /// The call that this word asks for, with one word after it.
-fn call_of(table: &ItemTable<'_, Global>, word: &[u8], what: &[u8]) -> Option<Call> {
+fn call_of(table: &ItemTable<'_, Global>, word: &[u8], what: &[u8]) -> Option<RuntimeCall> {
     let call = match word {
-        b"cancel" => Call::Counted(Counted::Cancel(item_of(table, what))),
-        b"flush" => Call::Counted(Counted::Flush(item_of(table, what))),
-        b"sync" => Call::Counted(Counted::CancelSync(item_of(table, what))),
-        b"lane" => Call::Lane(item_of(table, what)),
-        b"flushwq" => Call::Counted(Counted::FlushLane(lane_of(what)?)),
-        b"counted" => Call::Tell(item_of(table, what)),
-        b"countedlane" => Call::TellLane(lane_of(what)?),
-        b"next" => Call::Next(lane_of(what)?),
-        b"helpers" => Call::Helpers(lane_of(what)?),
-        b"seats" => Call::Seats(number(what)?),
-        b"use" => Call::Use(number(what)?),
-        b"close" => Call::Close(number(what)?),
+        b"cancel" => RuntimeCall::Counted(Counted::Cancel(item_of(table, what))),
+        b"flush" => RuntimeCall::Counted(Counted::Flush(item_of(table, what))),
+        b"sync" => RuntimeCall::Counted(Counted::CancelSync(item_of(table, what))),
+        b"lane" => RuntimeCall::Lane(item_of(table, what)),
+        b"flushwq" => RuntimeCall::Counted(Counted::FlushLane(lane_of(what)?)),
+        b"counted" => RuntimeCall::Tell(item_of(table, what)),
+        b"countedlane" => RuntimeCall::TellLane(lane_of(what)?),
+        b"next" => RuntimeCall::Next(lane_of(what)?),
+        b"helpers" => RuntimeCall::Helpers(lane_of(what)?),
+        b"seats" => RuntimeCall::Seats(number(what)?),
+        b"use" => RuntimeCall::Use(number(what)?),
+        b"close" => RuntimeCall::Close(number(what)?),
         _ => return None,
     };
     Some(call)
 }
 
 /// The call that this word asks for, of an item on a lane.
-fn call_on_lane(word: &[u8], q: LaneId, item: ItemId) -> Option<Call> {
+fn call_on_lane(word: &[u8], q: LaneId, item: ItemId) -> Option<RuntimeCall> {
     let call = match word {
         b"queue" => Counted::Queue(q, item),
         b"wait" => Counted::Wait(q, item),
@@ -86,27 +86,27 @@ fn call_on_lane(word: &[u8], q: LaneId, item: ItemId) -> Option<Call> {
         b"finish" => Counted::Finish(q, item),
         _ => return None,
     };
-    Some(Call::Counted(call))
+    Some(RuntimeCall::Counted(call))
 }
 
 /// The call of a helper that this word asks for, of an item.
-fn help_on_lane(word: &[u8], q: LaneId, h: u8, item: ItemId) -> Option<Call> {
+fn help_on_lane(word: &[u8], q: LaneId, h: u8, item: ItemId) -> Option<RuntimeCall> {
     let call = match word {
         b"wait" => Counted::HelpWait(q, h, item),
         b"waitall" => Counted::HelpWaitAll(q, h, item),
         b"finish" => Counted::HelpFinish(q, h, item),
         _ => return None,
     };
-    Some(Call::Counted(call))
+    Some(RuntimeCall::Counted(call))
 }
 
 /// The call of a helper that the words after `help` ask for; none where they have the form of no call.
-fn read_help(table: &ItemTable<'_, Global>, mut words: Words<'_>) -> Option<Call> {
+fn read_help(table: &ItemTable<'_, Global>, mut words: Words<'_>) -> Option<RuntimeCall> {
     let word = words.next()?;
     let q = lane_of(words.next()?.bytes())?;
     let h = helper_of(words.next()?.bytes())?;
     match (words.next(), words.next()) {
-        (None, _) if word.bytes() == b"next".as_slice() => Some(Call::HelpNext(q, h)),
+        (None, _) if word.bytes() == b"next".as_slice() => Some(RuntimeCall::HelpNext(q, h)),
         (Some(name), None) => help_on_lane(word.bytes(), q, h, item_of(table, name.bytes())),
         _ => None,
     }
@@ -117,7 +117,7 @@ pub(crate) fn read_call(
     table: &ItemTable<'_, Global>,
     word: &[u8],
     mut words: Words<'_>,
-) -> Option<Call> {
+) -> Option<RuntimeCall> {
     if word == b"help".as_slice() {
         return read_help(table, words);
     }

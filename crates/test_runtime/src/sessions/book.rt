@@ -17,7 +17,7 @@ use wq_text::{Words, number};
 
 /// What a line asks for.
 #[derive(Clone, Copy)]
-enum Call {
+enum BookCall {
     Queue(ItemId),
     Cancel(ItemId),
     Ask(ItemId),
@@ -40,52 +40,52 @@ enum Call {
 }
 
 /// The call that this word asks for, with one word after it.
-fn call_of(table: &ItemTable<'_, Global>, word: &[u8], what: &[u8]) -> Option<Call> {
+fn call_of(table: &ItemTable<'_, Global>, word: &[u8], what: &[u8]) -> Option<BookCall> {
     let call = match word {
-        b"queue" => Call::Queue(item_of(table, what)),
-        b"cancel" => Call::Cancel(item_of(table, what)),
-        b"ask" => Call::Ask(item_of(table, what)),
-        b"told" => Call::Tell(number(what)?),
-        b"asklane" => Call::AskLane(lane_of(what)?),
-        b"toldlane" => Call::TellLane(number(what)?),
-        b"start" => Call::Start(lane_of(what)?),
-        b"over" => Call::Over(lane_of(what)?),
-        b"finish" => Call::Finish(lane_of(what)?),
+        b"queue" => BookCall::Queue(item_of(table, what)),
+        b"cancel" => BookCall::Cancel(item_of(table, what)),
+        b"ask" => BookCall::Ask(item_of(table, what)),
+        b"told" => BookCall::Tell(number(what)?),
+        b"asklane" => BookCall::AskLane(lane_of(what)?),
+        b"toldlane" => BookCall::TellLane(number(what)?),
+        b"start" => BookCall::Start(lane_of(what)?),
+        b"over" => BookCall::Over(lane_of(what)?),
+        b"finish" => BookCall::Finish(lane_of(what)?),
         _ => return None,
     };
     Some(call)
 }
 
 /// The wait that this word asks for, of what runs on a lane, for an item.
-fn wait_on(word: &[u8], q: LaneId, item: ItemId) -> Option<Call> {
+fn wait_on(word: &[u8], q: LaneId, item: ItemId) -> Option<BookCall> {
     match word {
-        b"wait" => Some(Call::Wait(q, item)),
-        b"waitall" => Some(Call::WaitAll(q, item)),
+        b"wait" => Some(BookCall::Wait(q, item)),
+        b"waitall" => Some(BookCall::WaitAll(q, item)),
         _ => None,
     }
 }
 
 /// The call of a helper that this word asks for.
-fn help_alone(word: &[u8], q: LaneId, h: u8) -> Option<Call> {
+fn help_alone(word: &[u8], q: LaneId, h: u8) -> Option<BookCall> {
     match word {
-        b"start" => Some(Call::HelpStart(q, h)),
-        b"over" => Some(Call::HelpOver(q, h)),
-        b"finish" => Some(Call::HelpFinish(q, h)),
+        b"start" => Some(BookCall::HelpStart(q, h)),
+        b"over" => Some(BookCall::HelpOver(q, h)),
+        b"finish" => Some(BookCall::HelpFinish(q, h)),
         _ => None,
     }
 }
 
 /// The wait that this word asks for, of what a helper of a lane runs, for an item.
-fn help_wait(word: &[u8], q: LaneId, h: u8, item: ItemId) -> Option<Call> {
+fn help_wait(word: &[u8], q: LaneId, h: u8, item: ItemId) -> Option<BookCall> {
     match word {
-        b"wait" => Some(Call::HelpWait(q, h, item)),
-        b"waitall" => Some(Call::HelpWaitAll(q, h, item)),
+        b"wait" => Some(BookCall::HelpWait(q, h, item)),
+        b"waitall" => Some(BookCall::HelpWaitAll(q, h, item)),
         _ => None,
     }
 }
 
 /// The call of a helper that the words after `help` ask for; none where they have the form of no call.
-fn read_help(table: &ItemTable<'_, Global>, mut words: Words<'_>) -> Option<Call> {
+fn read_help(table: &ItemTable<'_, Global>, mut words: Words<'_>) -> Option<BookCall> {
     let word = words.next()?;
     let q = lane_of(words.next()?.bytes())?;
     let h = helper_of(words.next()?.bytes())?;
@@ -97,12 +97,12 @@ fn read_help(table: &ItemTable<'_, Global>, mut words: Words<'_>) -> Option<Call
 }
 
 /// The call that a line asks for by its first word and the words after it; none where it has the form of no call.
-fn read_call(table: &ItemTable<'_, Global>, word: &[u8], mut words: Words<'_>) -> Option<Call> {
+fn read_call(table: &ItemTable<'_, Global>, word: &[u8], mut words: Words<'_>) -> Option<BookCall> {
     if word == b"help".as_slice() {
         return read_help(table, words);
     }
     match (words.next(), words.next(), words.next()) {
-        (None, _, _) if word == b"close".as_slice() => Some(Call::Close),
+        (None, _, _) if word == b"close".as_slice() => Some(BookCall::Close),
         (Some(what), None, _) => call_of(table, word, what.bytes()),
         (Some(q), Some(name), None) => {
             wait_on(word, lane_of(q.bytes())?, item_of(table, name.bytes()))
@@ -196,30 +196,30 @@ impl Desk {
     fn make(
         &mut self,
         table: &ItemTable<'_, Global>,
-        call: Call,
+        call: BookCall,
         out: &mut String,
     ) -> Result<bool, AllocError> {
         let book = &mut self.book;
         let put = match call {
-            Call::Queue(item) => put_said(out, book.queue(item)),
-            Call::Cancel(item) => put_said(out, book.cancel(item)),
-            Call::Ask(item) => ask(book, &mut self.asks, item, out),
-            Call::Tell(number) => return tell(book, &mut self.asks, number, out),
-            Call::AskLane(q) => lane_asks::ask(book, &mut self.lane_asks, q, out),
-            Call::TellLane(number) => {
+            BookCall::Queue(item) => put_said(out, book.queue(item)),
+            BookCall::Cancel(item) => put_said(out, book.cancel(item)),
+            BookCall::Ask(item) => ask(book, &mut self.asks, item, out),
+            BookCall::Tell(number) => return tell(book, &mut self.asks, number, out),
+            BookCall::AskLane(q) => lane_asks::ask(book, &mut self.lane_asks, q, out),
+            BookCall::TellLane(number) => {
                 return lane_asks::tell(book, &mut self.lane_asks, number, out);
             }
-            Call::Start(q) => put_started(out, table, book.start(q)),
-            Call::Wait(q, item) => put_said(out, book.wait(q, item)),
-            Call::WaitAll(q, item) => put_said(out, book.wait_all(q, item)),
-            Call::Over(q) => put_said(out, book.over(q)),
-            Call::Finish(q) => put_finished(out, book.finish(q)),
-            Call::HelpStart(q, h) => put_started(out, table, book.help_start(q, h)),
-            Call::HelpWait(q, h, item) => put_said(out, book.help_wait(q, h, item)),
-            Call::HelpWaitAll(q, h, item) => put_said(out, book.help_wait_all(q, h, item)),
-            Call::HelpOver(q, h) => put_said(out, book.help_over(q, h)),
-            Call::HelpFinish(q, h) => put_finished(out, book.help_finish(q, h)),
-            Call::Close => {
+            BookCall::Start(q) => put_started(out, table, book.start(q)),
+            BookCall::Wait(q, item) => put_said(out, book.wait(q, item)),
+            BookCall::WaitAll(q, item) => put_said(out, book.wait_all(q, item)),
+            BookCall::Over(q) => put_said(out, book.over(q)),
+            BookCall::Finish(q) => put_finished(out, book.finish(q)),
+            BookCall::HelpStart(q, h) => put_started(out, table, book.help_start(q, h)),
+            BookCall::HelpWait(q, h, item) => put_said(out, book.help_wait(q, h, item)),
+            BookCall::HelpWaitAll(q, h, item) => put_said(out, book.help_wait_all(q, h, item)),
+            BookCall::HelpOver(q, h) => put_said(out, book.help_over(q, h)),
+            BookCall::HelpFinish(q, h) => put_finished(out, book.help_finish(q, h)),
+            BookCall::Close => {
                 book.close();
                 out.push_str("ok")
             }

@@ -44,7 +44,7 @@ fn make_doers<'a>(
 
 /// What a text has bodies and callers do, and their flags.
 #[derive(Drop)]
-pub(crate) struct Crew {
+pub(crate) struct PlottedCrew {
     plot: Plot,
     flags: Flags,
 }
@@ -55,7 +55,7 @@ type CrewRan<'a, N> = Result<
     RunFault<N, Global, Doer<'a>, Doer<'a>>,
 >;
 
-impl Crew {
+impl PlottedCrew {
     /// Reads what a text says, or the number of its first line that is a mistake.
     pub(crate) fn read(
         alloc: Global,
@@ -68,7 +68,7 @@ impl Crew {
             return Ok(Err(line));
         }
         let flags = Flags::new(alloc, plot.count(), table.len())?;
-        Ok(Ok(Crew { plot, flags }))
+        Ok(Ok(PlottedCrew { plot, flags }))
     }
 
     /// Has rescuers, helpers and callers do what the text says.

@@ -39,7 +39,7 @@ pub(crate) enum Deed {
 
 /// What a line says.
 #[derive(Clone, Copy)]
-enum Entry {
+enum DeedLine {
     /// A body begins, that of the next rescuer or helper.
     Body,
     /// A caller begins.
@@ -49,15 +49,15 @@ enum Entry {
 }
 
 /// What this word says alone.
-fn entry_alone(word: &[u8]) -> Option<Entry> {
+fn entry_alone(word: &[u8]) -> Option<DeedLine> {
     match word {
-        b"body" => Some(Entry::Body),
-        b"caller" => Some(Entry::Caller),
-        b"meet" => Some(Entry::Deed(Deed::Meet)),
-        b"linger" => Some(Entry::Deed(Deed::Linger)),
-        b"dawdle" => Some(Entry::Deed(Deed::Dawdle)),
-        b"alone" => Some(Entry::Deed(Deed::Alone)),
-        b"destroy" => Some(Entry::Deed(Deed::Destroy)),
+        b"body" => Some(DeedLine::Body),
+        b"caller" => Some(DeedLine::Caller),
+        b"meet" => Some(DeedLine::Deed(Deed::Meet)),
+        b"linger" => Some(DeedLine::Deed(Deed::Linger)),
+        b"dawdle" => Some(DeedLine::Deed(Deed::Dawdle)),
+        b"alone" => Some(DeedLine::Deed(Deed::Alone)),
+        b"destroy" => Some(DeedLine::Deed(Deed::Destroy)),
         _ => None,
     }
 }
@@ -79,10 +79,14 @@ fn deed_of(table: &ItemTable<'_, Global>, word: &[u8], what: &[u8]) -> Option<De
 }
 
 /// What a line says by its first word and the words after it; none where it doesn't have the form of any.
-fn read_entry(table: &ItemTable<'_, Global>, word: &[u8], mut words: Words<'_>) -> Option<Entry> {
+fn read_entry(
+    table: &ItemTable<'_, Global>,
+    word: &[u8],
+    mut words: Words<'_>,
+) -> Option<DeedLine> {
     match (words.next(), words.next()) {
         (None, _) => entry_alone(word),
-        (Some(what), None) => Some(Entry::Deed(deed_of(table, word, what.bytes())?)),
+        (Some(what), None) => Some(DeedLine::Deed(deed_of(table, word, what.bytes())?)),
         (Some(_), Some(_)) => None,
     }
 }
@@ -151,15 +155,15 @@ impl Listener for Plot {
         _out: &mut String,
     ) -> Result<bool, AllocError> {
         match read_entry(table, word, words) {
-            Some(Entry::Body) => {
+            Some(DeedLine::Body) => {
                 self.begin(true)?;
                 Ok(true)
             }
-            Some(Entry::Caller) => {
+            Some(DeedLine::Caller) => {
                 self.begin(false)?;
                 Ok(true)
             }
-            Some(Entry::Deed(deed)) => self.add(deed),
+            Some(DeedLine::Deed(deed)) => self.add(deed),
             None => Ok(false),
         }
     }
@@ -181,7 +185,7 @@ fn act_of(deed: Deed) -> Option<Act> {
 /// The call that a line asks for; none where it has the form of no call.
 fn read_act(table: &ItemTable<'_, Global>, word: &[u8], words: Words<'_>) -> Option<Act> {
     match read_entry(table, word, words) {
-        Some(Entry::Deed(deed)) => act_of(deed),
+        Some(DeedLine::Deed(deed)) => act_of(deed),
         _ => None,
     }
 }

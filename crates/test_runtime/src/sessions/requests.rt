@@ -5,7 +5,7 @@ ghost use Rattle.wq_groups.specs.Declaration.{declaration_of};
 ghost use Rattle.wq_core.specs.Wiring.{wiring, with_helpers};
 
 use crate::sessions::book::keep_book;
-use crate::sessions::crew::Crew;
+use crate::sessions::crew::PlottedCrew;
 use crate::sessions::judging::judge;
 use crate::sessions::ran::Account;
 use crate::sessions::scripted::Script;
@@ -40,7 +40,7 @@ pub enum Task {
 
 /// A task and its text.
 #[derive(Clone, Copy)]
-pub struct Request<'a> {
+pub struct TaskText<'a> {
     pub task: Task,
     pub text: &'a [u8],
 }
@@ -49,7 +49,7 @@ pub struct Request<'a> {
 #[derive(Drop)]
 enum Play<'a> {
     Calls(&'a [u8]),
-    Crew(Crew, Account),
+    Crew(PlottedCrew, Account),
     Script(Script),
     /// Nothing: this line of the text is the first mistake.
     Mistake(u32),
@@ -63,7 +63,7 @@ impl Play<'_> {
         text: &[u8],
         account: Account,
     ) -> Result<Self, AllocError> {
-        match Crew::read(alloc, bed.table, text)? {
+        match PlottedCrew::read(alloc, bed.table, text)? {
             Ok(crew) => Ok(Play::Crew(crew, account)),
             Err(line) => Ok(Play::Mistake(line)),
         }
@@ -125,7 +125,7 @@ fn play_new<R: Threads + Wait + Clock + Sync>(
     play_named::<Brand, R>(rt, alloc, blank, bed, play, out)
 }
 
-impl Request<'_> {
+impl TaskText<'_> {
     /// Does what is asked with items that have lanes, and adds what came of it. Returns the status.
     pub(crate) fn perform<R: Threads + Wait + Clock + Sync>(
         &self,

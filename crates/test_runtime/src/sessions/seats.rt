@@ -2,7 +2,7 @@
 //!
 //! Each takes the time of its call, and that of printing the answer.
 
-use crate::sessions::asking::{Call, Counted};
+use crate::sessions::asking::{Counted, RuntimeCall};
 use crate::testbed::{put_code, put_done, put_item};
 use std::alloc::{AllocError, Global};
 use std::sync::Wait;
@@ -174,33 +174,33 @@ impl<N: Naming> Seats<N> {
         alloc: Global,
         runtime: &WqRuntime<N, Global>,
         table: &ItemTable<'_, Global>,
-        call: Call,
+        call: RuntimeCall,
         out: &mut String,
     ) -> Result<(), AllocError> {
         match call {
-            Call::Counted(call) => self.count(rt, runtime, call, out),
-            Call::Seat => {
+            RuntimeCall::Counted(call) => self.count(rt, runtime, call, out),
+            RuntimeCall::Seat => {
                 let number = self.made.len();
                 let is_made = self.add(rt, alloc, runtime, 1)?;
                 put_seats(out, is_made, number)
             }
-            Call::Seats(count) => {
+            RuntimeCall::Seats(count) => {
                 let are_made = self.add(rt, alloc, runtime, count)?;
                 put_seats(out, are_made, self.made.len())
             }
-            Call::Use(seat) => self.choose(seat, out),
-            Call::Tell(item) => self.tell(item, out),
-            Call::TellLane(q) => self.tell_lane(q, out),
-            Call::Next(q) => put_next(out, table, runtime.next(rt, q)),
-            Call::HelpNext(q, h) => put_next(out, table, runtime.help_next(rt, q, h)),
-            Call::Helpers(q) => write!(out, "{}", runtime.helpers_of(rt, q)),
-            Call::Lanes => write!(out, "{}", runtime.lanes(rt)),
-            Call::Lane(item) => put_lane(out, runtime.lane_of(rt, item)),
-            Call::Destroy => {
+            RuntimeCall::Use(seat) => self.choose(seat, out),
+            RuntimeCall::Tell(item) => self.tell(item, out),
+            RuntimeCall::TellLane(q) => self.tell_lane(q, out),
+            RuntimeCall::Next(q) => put_next(out, table, runtime.next(rt, q)),
+            RuntimeCall::HelpNext(q, h) => put_next(out, table, runtime.help_next(rt, q, h)),
+            RuntimeCall::Helpers(q) => write!(out, "{}", runtime.helpers_of(rt, q)),
+            RuntimeCall::Lanes => write!(out, "{}", runtime.lanes(rt)),
+            RuntimeCall::Lane(item) => put_lane(out, runtime.lane_of(rt, item)),
+            RuntimeCall::Destroy => {
                 runtime.destroy(rt);
                 out.push_str("ok")
             }
-            Call::Close(_) => Ok(()),
+            RuntimeCall::Close(_) => Ok(()),
         }
     }
 }

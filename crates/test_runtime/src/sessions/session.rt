@@ -3,7 +3,7 @@
 //!
 //! It takes the time of the calls. A call that would wait for another thread never ends, unless it is one of those that sleep.
 
-use crate::sessions::asking::{Call, read_call};
+use crate::sessions::asking::{RuntimeCall, read_call};
 use crate::sessions::seats::Seats;
 use crate::sessions::sleeping::{Sleeper, wake};
 use crate::testbed::{MAX_LINE, MAX_TEXT, mistake, put_closed};
@@ -101,10 +101,10 @@ impl<N: Naming, R: Wait> Session<'_, N, R> {
     fn make(
         &mut self,
         table: &ItemTable<'_, Global>,
-        call: Call,
+        call: RuntimeCall,
         out: &mut String,
     ) -> Result<(), AllocError> {
-        if let Call::Close(count) = call {
+        if let RuntimeCall::Close(count) = call {
             return self.close(table, count, out);
         }
         if let Some(runtime) = &self.runtime {
@@ -126,7 +126,7 @@ impl<N: Naming + Send + Sync, R: Threads + Wait + Clock + Sync> Session<'_, N, R
             return Ok(false);
         };
         let call = match read_call(table, word.bytes(), words.again()) {
-            None | Some(Call::Close(_)) => return Ok(false),
+            None | Some(RuntimeCall::Close(_)) => return Ok(false),
             Some(call) => call,
         };
         let mut seats = Seats::new(self.alloc);
@@ -145,7 +145,7 @@ impl<N: Naming + Send + Sync, R: Threads + Wait + Clock + Sync> Session<'_, N, R
     fn wake(
         &mut self,
         table: &ItemTable<'_, Global>,
-        call: Call,
+        call: RuntimeCall,
         out: &mut String,
     ) -> Result<(), AllocError> {
         let sleepers = mem::replace(&mut self.sleepers, Vec::new(self.alloc));
@@ -183,7 +183,7 @@ impl<N: Naming + Send + Sync, R: Threads + Wait + Clock + Sync> Session<'_, N, R
             return Ok(false);
         };
         let is_waking = !self.sleepers.is_empty();
-        if is_waking && matches!(call, Call::Close(_)) {
+        if is_waking && matches!(call, RuntimeCall::Close(_)) {
             return Ok(false);
         }
         put_words(out, word, words)?;

@@ -2,7 +2,7 @@
 //!
 //! It takes a tenth of a second, in which they fall asleep, and the time of the calls. Where nobody wakes them, it never ends.
 
-use crate::sessions::asking::Call;
+use crate::sessions::asking::RuntimeCall;
 use crate::sessions::seats::Seats;
 use std::alloc::{AllocError, Global};
 use std::sync::Wait;
@@ -20,7 +20,7 @@ const NAP: u64 = 100;
 pub(crate) struct Sleeper<N: Naming> {
     /// The seat in which it counts, if there was one more.
     pub(crate) seats: Seats<N>,
-    pub(crate) call: Call,
+    pub(crate) call: RuntimeCall,
     /// The words of its line, and then its answer.
     pub(crate) said: String,
 }
@@ -60,7 +60,7 @@ pub(crate) fn wake<N: Naming + Send + Sync, R: Threads + Wait + Clock + Sync>(
     table: &ItemTable<'_, Global>,
     sleepers: Vec<Sleeper<N>>,
     seats: &mut Seats<N>,
-    call: Call,
+    call: RuntimeCall,
     out: &mut String,
 ) -> Result<Vec<Sleeper<N>>, AllocError> {
     thread::scope(

@@ -16,7 +16,7 @@ pub const SEED: u64 = 0;
 
 /// The bytes of a declaration and of an assignment.
 #[derive(Drop)]
-pub struct Texts {
+pub struct SettingTexts {
     pub declared: Vec<u8>,
     pub assigned: Vec<u8>,
 }
@@ -28,8 +28,11 @@ pub fn read_file<R: Files + AllocGlobal>(rt: &R, path: &str, limit: u32) -> Resu
 }
 
 /// Reads the texts in the files of a setting.
-pub fn read_texts<R: Files + AllocGlobal>(rt: &R, setting: &Setting<'_>) -> Result<Texts, Fault> {
+pub fn read_texts<R: Files + AllocGlobal>(
+    rt: &R,
+    setting: &Setting<'_>,
+) -> Result<SettingTexts, Fault> {
     let declared = read_file(rt, setting.declaration, MAX_DECLARATION)?;
     let assigned = read_file(rt, setting.assignment, MAX_TEXT)?;
-    Ok(Texts { declared, assigned })
+    Ok(SettingTexts { declared, assigned })
 }

@@ -1,7 +1,7 @@
 use Rattle.std.proofs.Common.{◌≡◌, ◌<◌, [], ℕ, List, length, map, slice_index_or, sym, subst, ap, ◌∙◌, arith}
 use Rattle.std.proofs.lemmas.List.{length-map, get_or-map}
 use Rattle.wq_circles.specs.Lists.{HasTails, listed_at}
-use Rattle.wq_circles.proofs.Turned.{AreTailsUpTo, AreTailsUpTo-more, AreTails-all}
+use Rattle.wq_circles.proofs.Turned.{AreTailsUpTo, AreTailsUpTo-more, AreTurned-all}
 use Rattle.wq_circles.proofs.lists.tails.Goals as goal
 
 pub loop-v-preserved : goal.loop-v-preserved
@@ -21,4 +21,4 @@ returns g c =
     let heads : List (List ℕ) = map (λ list. list.items) c.args.heads.now in
     let tails : List (List ℕ) = map (λ list. list.items) c.loop-v.lists.items in
     let all : c.loop-v.v ≡ length heads = omega (arith, c.loop-v-test.false, c.loop-v.auto.v-end, c.requires.one_each, length-map c.args.heads.now (λ list. list.items)) in
-    AreTails-all heads tails (subst (AreTailsUpTo heads tails) all c.loop-v.invariant)
+    AreTurned-all heads tails (subst (AreTailsUpTo heads tails) all c.loop-v.invariant)

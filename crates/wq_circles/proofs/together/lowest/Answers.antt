@@ -3,9 +3,9 @@ use Rattle.std.proofs.lemmas.List.{length-map}
 use Rattle.std.proofs.lemmas.Result.{IfOk-weaker}
 use Rattle.wq_graph.specs.Graph.{HasArc}
 use Rattle.wq_circles.specs.Leading.{AreLowest}
-use Rattle.wq_circles.specs.Lists.{Next, NextBack, heads_of, listed_at, AreTails}
+use Rattle.wq_circles.specs.Lists.{Next, NextBack, head_lists, listed_at, AreTurned}
 use Rattle.wq_circles.specs.Finishing.{IsFinishing}
-use Rattle.wq_circles.proofs.Turned.{HasArc-heads, HasArc-tails, Next-heads, Next-tails, heads_of-below, tails-below, lists-below}
+use Rattle.wq_circles.proofs.Turned.{HasArc-heads, HasArc-tails, Next-heads, Next-tails, head_lists-below, tails-below, lists-below}
 use Rattle.wq_circles.proofs.Completed.{IsFinishing-arcs, AreLowest-arcs}
 use Rattle.wq_circles.proofs.together.lowest.Goals as goal
 
@@ -13,28 +13,28 @@ pub finishing_order-requires-clause-within : goal.finishing_order-requires-claus
 finishing_order-requires-clause-within g c =
     let graph = c.args.graph.now in
     let lists = c.deref.result.now in
-    let shown : map (λ list. list.items) lists ≡ heads_of graph = ap (map (λ list. list.items)) c.deref.ensures.value ∙ c.in_ok-heads.ensures in
+    let shown : map (λ list. list.items) lists ≡ head_lists graph = ap (map (λ list. list.items)) c.deref.ensures.value ∙ c.in_ok-heads.ensures in
     let long : length graph ≡ length lists = omega (arith, ap length shown, length-map lists (λ list. list.items), length-map graph (map (λ a. a.head))) in
-    lists-below lists (heads_of graph) (length lists) shown
-    (λ v. subst (λ (n : ℕ). All (λ w. w < n) (listed_at (heads_of graph) v)) long (heads_of-below graph c.vertices-vertices.ensures.graph v))
+    lists-below lists (head_lists graph) (length lists) shown
+    (λ v. subst (λ (n : ℕ). All (λ w. w < n) (listed_at (head_lists graph) v)) long (head_lists-below graph c.vertices-vertices.ensures.graph v))
 
 pub tails-requires-clause-within : goal.tails-requires-clause-within
 tails-requires-clause-within g c =
     let graph = c.args.graph.now in
     let shown = ap (map (λ list. list.items)) c.deref-2.ensures.value ∙ c.in_ok-heads.ensures in
-    lists-below c.deref-2.result.now (heads_of graph) c.vertices-vertices.result shown
-    (λ v. subst (λ (n : ℕ). All (λ w. w < n) (listed_at (heads_of graph) v)) (sym c.vertices-vertices.ensures.vertices) (heads_of-below graph c.vertices-vertices.ensures.graph v))
+    lists-below c.deref-2.result.now (head_lists graph) c.vertices-vertices.result shown
+    (λ v. subst (λ (n : ℕ). All (λ w. w < n) (listed_at (head_lists graph) v)) (sym c.vertices-vertices.ensures.vertices) (head_lists-below graph c.vertices-vertices.ensures.graph v))
 
 pub lowest_of_components-requires-clause-finished : goal.lowest_of_components-requires-clause-finished
 lowest_of_components-requires-clause-finished g c =
     let graph = c.args.graph.now in
-    let heads : List (List ℕ) = heads_of graph in
+    let heads : List (List ℕ) = head_lists graph in
     let tails : List (List ℕ) = map (λ list. list.items) c.deref-3.result.now in
     let heads_shown : map (λ list. list.items) c.deref.result.now ≡ heads = ap (map (λ list. list.items)) c.deref.ensures.value ∙ c.in_ok-heads.ensures in
     let heads_shown_2 : map (λ list. list.items) c.deref-2.result.now ≡ heads = ap (map (λ list. list.items)) c.deref-2.ensures.value ∙ c.in_ok-heads.ensures in
-    let turned : AreTails heads tails =
-    subst (AreTails heads) (sym (ap (map (λ list. list.items)) c.deref-3.ensures.value))
-    (subst (λ (h : List (List ℕ)). AreTails h (map (λ list. list.items) c.in_ok-tails.tails.items)) heads_shown_2 c.in_ok-tails.ensures) in
+    let turned : AreTurned heads tails =
+    subst (AreTurned heads) (sym (ap (map (λ list. list.items)) c.deref-3.ensures.value))
+    (subst (λ (h : List (List ℕ)). AreTurned h (map (λ list. list.items) c.in_ok-tails.tails.items)) heads_shown_2 c.in_ok-tails.ensures) in
     let same = turned.one_each in
     let long : c.vertices-vertices.result ≡ length c.deref-3.result.now =
     omega (arith, same, length-map c.deref-3.result.now (λ list. list.items), length-map graph (map (λ a. a.head)), c.vertices-vertices.ensures.vertices) in
@@ -51,12 +51,12 @@ lowest_of_components-requires-clause-finished g c =
 pub lowest_of_components-requires-clause-within : goal.lowest_of_components-requires-clause-within
 lowest_of_components-requires-clause-within g c =
     let graph = c.args.graph.now in
-    let heads : List (List ℕ) = heads_of graph in
+    let heads : List (List ℕ) = head_lists graph in
     let lists = c.deref-3.result.now in
     let tails : List (List ℕ) = map (λ list. list.items) c.in_ok-tails.tails.items in
     let shown : map (λ list. list.items) lists ≡ tails = ap (map (λ list. list.items)) c.deref-3.ensures.value in
     let heads_shown : map (λ list. list.items) c.deref-2.result.now ≡ heads = ap (map (λ list. list.items)) c.deref-2.ensures.value ∙ c.in_ok-heads.ensures in
-    let turned : AreTails heads tails = subst (λ (h : List (List ℕ)). AreTails h tails) heads_shown c.in_ok-tails.ensures in
+    let turned : AreTurned heads tails = subst (λ (h : List (List ℕ)). AreTurned h tails) heads_shown c.in_ok-tails.ensures in
     let long : length tails ≡ length lists = omega (arith, ap length shown, length-map lists (λ list. list.items)) in
     lists-below lists tails (length lists) shown
     (λ v. subst (λ (n : ℕ). All (λ w. w < n) (listed_at tails v)) long (tails-below graph tails turned v))
@@ -64,13 +64,13 @@ lowest_of_components-requires-clause-within g c =
 pub returns-clause-lowest : goal.returns-clause-lowest
 returns-clause-lowest g c =
     let graph = c.args.graph.now in
-    let heads : List (List ℕ) = heads_of graph in
+    let heads : List (List ℕ) = head_lists graph in
     let lists = c.deref-3.result.now in
     let tails : List (List ℕ) = map (λ list. list.items) lists in
     let heads_shown : map (λ list. list.items) c.deref-2.result.now ≡ heads = ap (map (λ list. list.items)) c.deref-2.ensures.value ∙ c.in_ok-heads.ensures in
-    let turned : AreTails heads tails =
-    subst (AreTails heads) (sym (ap (map (λ list. list.items)) c.deref-3.ensures.value))
-    (subst (λ (h : List (List ℕ)). AreTails h (map (λ list. list.items) c.in_ok-tails.tails.items)) heads_shown c.in_ok-tails.ensures) in
+    let turned : AreTurned heads tails =
+    subst (AreTurned heads) (sym (ap (map (λ list. list.items)) c.deref-3.ensures.value))
+    (subst (λ (h : List (List ℕ)). AreTurned h (map (λ list. list.items) c.in_ok-tails.tails.items)) heads_shown c.in_ok-tails.ensures) in
     let same = turned.one_each in
     let long : length lists ≡ length graph = omega (arith, same, length-map lists (λ list. list.items), length-map graph (map (λ a. a.head))) in
     IfOk-weaker c.lowest_of_components.result (λ l. AreLowest (NextBack tails) (length lists) l.items) (λ l. AreLowest (HasArc graph) (length graph) l.items)

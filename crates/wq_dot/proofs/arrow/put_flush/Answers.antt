@@ -2,7 +2,8 @@ use Rattle.std.proofs.Common.{◌≡◌, ◌++◌, [], sym, refl, ap, ◌∙◌}
 use Rattle.std.specs.Prelude.{codes}
 use Rattle.std.proofs.lemmas.Option.{get_or_from_slice_get}
 use Rattle.std.proofs.lemmas.Result.{on_ok_weaker}
-use Rattle.wq_dot.specs.Drawing.{name_of, is_whole_at, mark_text}
+use Rattle.wq_cert.specs.PlanText.{name_of}
+use Rattle.wq_dot.specs.Drawing.{is_whole_at, mark_text}
 use Rattle.wq_dot.proofs.Pieces.{put_more, put_end}
 use Rattle.wq_dot.proofs.arrow.put_flush.Goals as goal
 

@@ -1,7 +1,7 @@
 use Rattle.std.proofs.Common.{◌≡◌}
 use Rattle.std.proofs.lemmas.Result.{IfOk-weaker}
 use Rattle.wq_cert.specs.Texts.{assignment_of_text}
-use Rattle.wq_commands.specs.Answer.{IsRefused}
+use Rattle.wq_commands.specs.Answer.{PrintsRefusal}
 use Rattle.wq_commands.specs.Declaration.{declaration}
 use Rattle.wq_commands.specs.declared.why.Which.TheVariants.{Declaration, Certificate}
 use Rattle.wq_commands.specs.Why.{refused_for, SaysFault}
@@ -12,7 +12,7 @@ use Rattle.wq_dot.proofs.dotting.draw_both.Goals as goal
 pub returns-in-Ok-clause-answer : goal.returns-in-Ok-clause-answer
 returns-in-Ok-clause-answer g c =
     IfOk-weaker c.draw_declared-answer.result _ _
-    (λ a answers. MatchResult-ok (declaration c.args.text.now) _ (λ s. DrawsDeclared s c.args.assigned.now a.end a.text.items) (λ r. IsRefused r a.end a.text.items) c.in-Ok.ensures.declaration answers)
+    (λ a answers. MatchResult-ok (declaration c.args.text.now) _ (λ s. DrawsDeclared s c.args.assigned.now a.end a.text.items) (λ r. PrintsRefusal r a.end a.text.items) c.in-Ok.ensures.declaration answers)
     c.draw_declared-answer.ensures.answer
 
 pub returns-in-Ok-clause-why : goal.returns-in-Ok-clause-why

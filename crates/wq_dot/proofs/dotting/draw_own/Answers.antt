@@ -1,6 +1,6 @@
 use Rattle.std.proofs.Common.{◌≡◌, None}
 use Rattle.std.proofs.lemmas.Result.{IfOk-weaker}
-use Rattle.wq_commands.specs.Answer.{IsRefused}
+use Rattle.wq_commands.specs.Answer.{PrintsRefusal}
 use Rattle.wq_commands.specs.Declaration.{Declared, declaration}
 use Rattle.wq_commands.specs.declared.why.Which.TheVariants.{Declaration}
 use Rattle.wq_commands.specs.Why.{refused_for}
@@ -11,7 +11,7 @@ use Rattle.wq_dot.proofs.dotting.draw_own.Goals as goal
 pub returns-in-Ok-clause-answer : goal.returns-in-Ok-clause-answer
 returns-in-Ok-clause-answer g c =
     IfOk-weaker c.draw_unassigned-answer.result _ _
-    (λ a answers. MatchResult-ok (declaration c.args.text.now) _ (λ (s : Declared). DrawsOwn s a.end a.text.items) (λ r. IsRefused r a.end a.text.items) c.in-Ok.ensures.declaration answers)
+    (λ a answers. MatchResult-ok (declaration c.args.text.now) _ (λ (s : Declared). DrawsOwn s a.end a.text.items) (λ r. PrintsRefusal r a.end a.text.items) c.in-Ok.ensures.declaration answers)
     c.draw_unassigned-answer.ensures.answer
 
 pub returns-in-Ok-clause-why : goal.returns-in-Ok-clause-why

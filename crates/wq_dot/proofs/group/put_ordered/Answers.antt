@@ -3,7 +3,8 @@ use Rattle.std.specs.Prelude.{codes}
 use Rattle.std.proofs.lemmas.List.{take_all}
 use Rattle.std.proofs.lemmas.Option.{get_or_from_slice_get}
 use Rattle.std.proofs.lemmas.Result.{on_ok_weaker}
-use Rattle.wq_dot.specs.Drawing.{name_of, member_line, ended}
+use Rattle.wq_cert.specs.PlanText.{name_of}
+use Rattle.wq_dot.specs.Drawing.{member_line, ended}
 use Rattle.wq_dot.proofs.Lines.{text_of, box_closed}
 use Rattle.wq_dot.proofs.Pieces.{put_more, put_end, put_line}
 use Rattle.wq_dot.proofs.group.put_ordered.Goals as goal

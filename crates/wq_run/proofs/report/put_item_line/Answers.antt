@@ -7,7 +7,7 @@ use Rattle.wq_lines.specs.LineText.{spaced}
 use Rattle.wq_cert.specs.PlanText.{name_of}
 use Rattle.wq_counts.specs.declared.kind.Kind.{Kind}
 use Rattle.wq_counts.specs.Counting.{made}
-use Rattle.wq_run.specs.Report.{count_words}
+use Rattle.wq_run.specs.Report.{kind_count_words}
 use Rattle.wq_run.proofs.ReportLemmas.{line_text-more}
 use Rattle.wq_run.proofs.report.put_item_line.Goals as goal
 
@@ -19,7 +19,7 @@ returns g c =
     let i = c.args.item in
     let name = name_of c.args.table.now.names i in
     let lane = decimal (item_lane a group_of i) in
-    let words = count_words (λ (kind : Kind). made c.args.counts.now i kind true) in
+    let words = kind_count_words (λ (kind : Kind). made c.args.counts.now i kind true) in
     let group : get_or group_of i 0 ≡ c.of.result = get_or_from_slice_get group_of i c.of.result 0 c.of.ensures.group in
     let served : item_lane a group_of i ≡ c.lane-lane.result =
     ap (group_lane a) group ∙ get_or_from_slice_get a.lane_of_group c.of.result c.lane-lane.result 0 c.lane-lane.ensures in

@@ -1,8 +1,7 @@
-use Rattle.std.proofs.Common.{rules, codes, Some, ap, refl, sym, ◌≡◌, ◌∙◌}
+use Rattle.std.proofs.Common.{rules, codes, Some, ap, ◌≡◌, ◌∙◌}
 use Rattle.std.specs.Prelude.{pos}
 use Rattle.clap.specs.Words.{Rule, new_rule, rule_of}
 use Rattle.clap.specs.declared.builder.value_parser.ValueParser.TheVariants as vp
-use Rattle.wqplan.specs.CommandLine.{counted}
 use Rattle.wqplan.proofs.command_line.helpers.Goals as goal
 
 pub returns-clause-rule : goal.returns-clause-rule

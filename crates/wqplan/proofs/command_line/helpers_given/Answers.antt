@@ -3,7 +3,7 @@ use Rattle.std.specs.Str.Parse.{ParsesUnsigned, ExplainsUnsignedError, HasUnsign
 use Rattle.std.specs.declared.num.ParseIntError.{ParseIntError}
 use Rattle.clap.specs.Words.{found_of, one_of, rows_of}
 use Rattle.clap.proofs.WalkLemmas.{one_text-rows}
-use Rattle.wqplan.proofs.HelperLemmas.{Reads, number_given, reads, some_given}
+use Rattle.wqplan.proofs.HelperLemmas.{number_given, reads, some_given}
 use Rattle.wqplan.proofs.command_line.helpers_given.Goals as goal
 
 pub returns-clause-number : goal.returns-clause-number

@@ -2,7 +2,7 @@ use Rattle.std.proofs.Common.{◌≡◌, ◌<◌, ℕ, Some, None, List, length,
 use Rattle.std.proofs.lemmas.List.{length-map}
 use Rattle.std.proofs.lemmas.Result.{IfOk-weaker}
 use Rattle.wq_circles.specs.Lists.{listed_at}
-use Rattle.wq_circles.specs.Finishing.{Follows, Walk, WentOn, with_finished, with_visited}
+use Rattle.wq_circles.specs.Finishing.{Follows, Walk, WentOn, with_vertex_finished, with_visited}
 use Rattle.wq_circles.proofs.Turned.{listed_at-read, listed_at-below}
 use Rattle.wq_circles.proofs.Walked.{IsTop, IsTop-from_get, IsTop-below, Follows-inside, WentOn-some, WentOn-none}
 use Rattle.wq_circles.proofs.walk.Walk.step.Goals as goal
@@ -46,5 +46,5 @@ returns-in-None-clause-goes_on g c =
     c.deref.ensures.value ∙ listed_at-read c.args.lists.now v c.from.result c.index-lists-from.result c.from.ensures c.index-lists-from.is inside_lists in
     let follows : Follows s (listed_at shown v) v None c.follow.new.self =
     subst (λ (l : List ℕ). Follows s l v None c.follow.new.self) listed c.in-None.ensures in
-    IfOk-weaker c.finish.result (λ _. c.finish.new.self ≡ with_finished c.follow.new.self v) (λ _. WentOn shown s c.finish.new.self)
+    IfOk-weaker c.finish.result (λ _. c.finish.new.self ≡ with_vertex_finished c.follow.new.self v) (λ _. WentOn shown s c.finish.new.self)
     (λ _ same. subst (WentOn shown s) (sym same) (WentOn-none shown s v c.follow.new.self c.requires.walk top follows)) c.finish.ensures

@@ -5,12 +5,12 @@ use Rattle.wq_commands.specs.declared.why.Which.TheVariants.{Declaration}
 use Rattle.wq_commands.specs.Why.{refused_for}
 use Rattle.wq_commands.proofs.CheckLemmas.{MatchResult-ok}
 use Rattle.wq_run.specs.Running.{run_why}
-use Rattle.wq_run.proofs.AnswerLemmas.{Runs-declared, Stops-declared}
-use Rattle.wq_run.proofs.running.answer.Goals as goal
+use Rattle.wq_run.proofs.AnswerLemmas.{RunsPlan-declared, Stops-declared}
+use Rattle.wq_run.proofs.running.answer_run.Goals as goal
 
 pub returns-in-Ok-clause-ran : goal.returns-in-Ok-clause-ran
 returns-in-Ok-clause-ran g c =
-    IfOk-weaker c.run_explained-answer.result _ _ (λ a runs. Runs-declared c.args.helpers c.args.text.now _ a.end a.text.items c.in-Ok.ensures.declaration runs) c.run_explained-answer.ensures.ran
+    IfOk-weaker c.run_explained-answer.result _ _ (λ a runs. RunsPlan-declared c.args.helpers c.args.text.now _ a.end a.text.items c.in-Ok.ensures.declaration runs) c.run_explained-answer.ensures.ran
 
 pub returns-in-Ok-clause-why : goal.returns-in-Ok-clause-why
 returns-in-Ok-clause-why g c =

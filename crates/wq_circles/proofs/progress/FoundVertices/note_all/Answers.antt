@@ -1,7 +1,7 @@
 use Rattle.std.proofs.Common.{length, take, ap, arith}
 use Rattle.wq_circles.proofs.Searched.{marks-with_all_found}
 use Rattle.wq_circles.specs.Searching.{Search}
-use Rattle.wq_circles.proofs.progress.Progress.note_all.Goals as goal
+use Rattle.wq_circles.proofs.progress.FoundVertices.note_all.Goals as goal
 
 pub note-requires : goal.note-requires
 note-requires g c =
