@@ -1,46 +1,121 @@
 #!/usr/bin/env bash
-# All tests.
+# All tests, or some of them.
 #
-#     bash tests/run.sh                      the gate
-#     bash tests/run.sh edits                the gate, with all wrong bodies of tests/edits in place of the known ones
-#     bash tests/run.sh program [PROGRAM]    the scripts that need no program but wqplan; takes minutes
+#     bash tests/run.sh                the gate
+#     bash tests/run.sh --all-edits    the gate, with all wrong bodies of tests/edits in place of the known ones
+#     bash tests/run.sh PART ..        these parts alone, or scripts by their names, over programs that are built
 #
-# The gate is the toolchain's (proofs, must-fail edits, tests, the stored run), then the known wrong bodies (tests/edits/NAME/known), and
-# then the scripts that test what no proof covers. They use what it leaves at crates/NAME/out. `program` takes the wqplan that install.sh built in ~/.cache/wqplan or
-# $XDG_CACHE_HOME/wqplan, unless another one is named.
+# The gate is the toolchain's (proofs, must-fail edits, tests, the stored run), then the known wrong bodies of
+# tests/edits/NAME/known, and then the scripts that test what no proof covers. They use what it leaves at crates/NAME/out.
 #
-# What the toolchain says of a crate has the seconds since the start beside it. At the end come when each crate was proved, and the
-# seconds and the processor seconds of each part. The last line counts what the toolchain counts, crates and edits, and each script
-# as one. The status is that of the first part that failed.
+# A PART is one of these, or the name of a script in the list below:
+#
+#     lib        how tests start programs and read drawings: without a program
+#     docs       pages, manual pages, completion: without a program, but for `guide`, the commands of the pages
+#     cli        what the program prints, its diagnoses, the examples, install.sh: with wqplan
+#     model      the program against a model that was written from docs/FORMAT.md alone: with wqplan
+#     runtime    books, runtimes and rescuers: with test_runtime
+#     edits      all wrong bodies of tests/edits, which takes hours, and the script that tries them
+#
+# wqplan is the one at crates/wqplan/out or, where there is none, the one that install.sh built in ~/.cache/wqplan or
+# $XDG_CACHE_HOME/wqplan; test_runtime and example_rdisk are at crates/NAME/out. The variables WQPLAN, TEST_RUNTIME and
+# EXAMPLE_RDISK name others, as in `WQPLAN=/tmp/wqplan bash tests/run.sh cli model`. The gate doesn't heed them.
+#
+# What the toolchain says of a crate has the seconds since the start beside it. At the end come when each crate was proved,
+# and the seconds and the processor seconds of each script. The last line counts what the toolchain counts, crates and edits,
+# and each script as one. The status is that of the first that failed. It is 2 where a PART is unknown.
 set -uo pipefail
 
-# The scripts that need no program, those that need wqplan, whose first argument may name it, and those that need others.
-alone='time_limit definitions pages manual completion install dot outlives edits_test'
-of_wqplan='program rows forged examples explain diagnoses worst model'
-of_others='book runtime guide books'
+# The scripts: part, name, and the files of tests/ that are run in turn, each with its words. The name of a program stands for
+# its path. The order is that of the gate, which has its own words for `edits`, and leaves out `stress`: long loads in many
+# threads, which are in no part.
+scripts='
+lib      time_limit   lib/time_limit.sh
+docs     definitions  docs/definitions.py | docs/headline_lines.py
+docs     pages        docs/pages.py | docs/made.py --check
+docs     manual       docs/manual.py
+docs     completion   docs/completion.py
+cli      install      cli/install.sh
+lib      dot          lib/dot_texts.py | lib/dot_drawn.py
+cli      outlives     cli/outlives.sh
+edits    edits_test   edits/edits_test.sh
+cli      program      cli/program.sh WQPLAN
+cli      rows         cli/rows/main.py WQPLAN
+cli      forged       cli/forged/main.py WQPLAN
+cli      examples     cli/examples.sh WQPLAN
+cli      explain      cli/explain.sh WQPLAN
+cli      diagnoses    cli/diagnoses/main.py WQPLAN
+cli      worst        cli/worst.py WQPLAN
+model    model        model/properties.py | model/compare.py WQPLAN | model/search.py WQPLAN
+runtime  book         runtime/book/main.py TEST_RUNTIME
+runtime  runtime      runtime/main.py TEST_RUNTIME | runtime/wakes.py TEST_RUNTIME | runtime/loads.py TEST_RUNTIME \
+                      | runtime/interleavings.py
+docs     guide        docs/guide.sh WQPLAN EXAMPLE_RDISK
+runtime  book_model   model/book_properties.py | model/drive_books.py TEST_RUNTIME
+edits    edits        edits/edits.py
+-        stress       runtime/loads.py TEST_RUNTIME 20 100000
+'
 
-case "${1-gate} $#" in
-    'gate 0' | 'edits 1') program= ;;
-    'program 1') program=${XDG_CACHE_HOME:-${HOME-}/.cache}/wqplan/crates/wqplan/out/wqplan ;;
-    'program 2') program=$(realpath -m -- "$2") ;;
-    *)
-        sed -n '2,/^set/{/^set/d;s/^# \{0,1\}//;p}' "$0" >&2
-        exit 2
+# The names, and of each its part and its files; and the names that are asked for.
+names=()
+asked=()
+declare -A part_of files_of
+# (a line that ends with a backslash goes on)
+while read part name files; do
+    [ -n "$part" ] || continue
+    names+=("$name")
+    part_of[$name]=$part
+    files_of[$name]=$files
+done <<<"$scripts"
+all_edits=
+case $*, in
+    --help, | -h,)
+        sed -n '2,/^set/{/^set/d;s/^# \{0,1\}//;p}' "$0"
+        exit 0
+        ;;
+    --all-edits,)
+        all_edits=yes
+        shift
         ;;
 esac
+for word; do
+    found=()
+    for name in "${names[@]}"; do
+        if [ "$word" = "$name" ] || [ "$word" = "${part_of[$name]}" ] && [ "$word" != - ]; then
+            found+=("$name")
+        fi
+    done
+    if [ ${#found[@]} -eq 0 ]; then
+        echo "run: there is no part or script $word; the parts are lib docs cli model runtime edits, the scripts ${names[*]}" >&2
+        exit 2
+    fi
+    asked+=("${found[@]}")
+done
+
+# The programs that are named for the parts, before the folder changes.
+declare -A programs=()
+for name in WQPLAN TEST_RUNTIME EXAMPLE_RDISK; do
+    [ ${#asked[@]} -eq 0 ] || [ -z "${!name-}" ] || programs[$name]=$(realpath -m -- "${!name}")
+done
 cd -- "$(dirname -- "$0")/.." || exit 1
-if [ -n "$program" ] && [ ! -x "$program" ]; then
-    echo "run: there is nothing to run at $program (bash install.sh builds it there; another one can be named)" >&2
-    exit 1
-fi
-# As many checks at a time as there are processors, each with one job: a check with several jobs reads the libraries that it stands
-# on in each of them.
+
+# As many checks at a time as there are processors, each with one job: a check with several jobs reads the libraries that it
+# stands on in each of them.
 export RT_JOBS="${RT_JOBS:-$(nproc)}"
 work=$(mktemp -d)
 trap 'rm -rf -- "$work"' EXIT
 passed=0
 failed=0
 status=0
+
+# The other programs: the gate's, or for the parts the wqplan that is installed.
+installed=${XDG_CACHE_HOME:-${HOME-}/.cache}/wqplan/crates/wqplan/out/wqplan
+if [ ${#asked[@]} -gt 0 ] && [ ! -x crates/wqplan/out/wqplan ] && [ -x "$installed" ]; then
+    : "${programs[WQPLAN]:=$installed}"
+fi
+for name in wqplan test_runtime example_rdisk; do
+    : "${programs[${name^^}]:=crates/$name/out/$name}"
+done
 
 # part NAME COMMAND..: runs the command, and notes its times. Its status is returned, and the first one but 0 is kept.
 part() {
@@ -54,13 +129,38 @@ part() {
     return "$ended"
 }
 
-# script NAME ARGS..: runs tests/NAME.sh, which counts as one.
-script() {
-    if part "tests/$1.sh" bash "tests/$1.sh" "${@:2}"; then
+# counted NAME COMMAND..: the same, and counts it as one that passed or failed.
+counted() {
+    if part "$@"; then
         passed=$((passed + 1))
     else
         failed=$((failed + 1))
     fi
+}
+
+# start FILE [WORD..]: runs a file of tests/.
+start() {
+    case $1 in
+        *.py) python3 -B "tests/$1" "${@:2}" ;;
+        *) bash "tests/$1" "${@:2}" ;;
+    esac
+}
+
+# script NAME: runs the files of a script, all of them. The status is the first one but 0.
+script() {
+    local file word words ended first=0
+    local -a files
+    IFS='|' read -ra files <<<"${files_of[$1]}"
+    for file in "${files[@]}"; do
+        words=()
+        for word in $file; do
+            words+=("${programs[$word]-$word}")
+        done
+        start "${words[@]}"
+        ended=$?
+        [ "$first" -ne 0 ] || first=$ended
+    done
+    return "$first"
 }
 
 # toolchain: the toolchain's gate.
@@ -87,27 +187,30 @@ ends() {
     exit "$status"
 }
 
-if [ -n "$program" ]; then
-    for name in $of_wqplan; do
-        script "$name" "$program"
+if [ ${#asked[@]} -gt 0 ]; then
+    for name in $(printf '%s\n' "${asked[@]}" | awk '!seen[$0]++'); do
+        counted "$name" script "$name"
     done
     ends
 fi
 
 # Edits that no longer apply are named now, and not after hours. What follows needs what the toolchain's gate builds.
-if ! part 'tests/edits.sh --look' bash tests/edits.sh --look; then
+if ! part 'edits --look' start edits/edits.py --look; then
     failed=1
     ends
 fi
 part 'rt ci' toolchain
 read -r passed _ failed _ < <(grep -xE '[0-9]+ passed, [0-9]+ failed' "$work/said" | tail -n 1) || { passed=0 && failed=1; }
 [ "$status" -eq 0 ] || ends
-if [ "${1-}" = edits ]; then
-    script edits --built
+if [ -n "$all_edits" ]; then
+    counted edits start edits/edits.py --built
 else
-    script edits --built --known
+    counted 'edits --known' start edits/edits.py --built --known
 fi
-for name in $alone $of_wqplan $of_others; do
-    script "$name"
+for name in "${names[@]}"; do
+    case $name in
+        edits | stress) ;;
+        *) counted "$name" script "$name" ;;
+    esac
 done
 ends

@@ -27,6 +27,7 @@ import make_books  # noqa: E402
 from book import EVENTS, OF_LANE, WITH_ITEM, WITH_LANE, Row, packed, unpacked  # noqa: E402
 from command_line import seed_and_counts  # noqa: E402
 from deadlock import circle_of  # noqa: E402
+from declaration import FLUSHES_WHOLE  # noqa: E402
 from steps import RESCUER  # noqa: E402
 
 DEFAULT_SEED = "1"
@@ -54,7 +55,7 @@ class Ways:
         number = {name: place for place, name in enumerate(declared.items)}
         self.targets = [[] for _ in declared.items]
         for (item, target), directive in zip(declared.flushes, declared.directive_of):
-            self.targets[number[item]].append((directive == b"flushwq", number[target]))
+            self.targets[number[item]].append((directive in FLUSHES_WHOLE, number[target]))
         self.lane_of = [assignment.workqueue_of[name] for name in declared.items]
         self.lanes = range(assignment.count)
         self.next_number = next_number

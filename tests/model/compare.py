@@ -6,7 +6,7 @@
 # It makes up declarations, answers, assignments and runs, gives them to `PROGRAM plan` on standard
 # input, and as files to `PROGRAM check`, `PROGRAM replay`, `PROGRAM deadlock`, `PROGRAM circles`,
 # `PROGRAM dot` and `PROGRAM run`, and compares the bytes that are printed and the exit status with the
-# model's. Standard error must have what belongs to the answer (standard_error.py, in the folder above). Of
+# model's. Standard error must have what belongs to the answer (tests/lib/standard_error.py). Of
 # each command there are the cases at the limits of docs/FORMAT.md and at each place of small texts, once
 # each, and then CASES random ones; of `run`, which makes threads, RUNS, or a fifth as many. The same SEED makes the
 # same cases. It fails where an answer differs, and where some kind of answer never came, as may be with
@@ -32,7 +32,7 @@ import tempfile
 import traceback
 
 sys.dont_write_bytecode = True
-sys.path.append(str(pathlib.Path(__file__).resolve().parent.parent))
+sys.path.append(str(pathlib.Path(__file__).resolve().parents[1] / "lib"))
 import check  # noqa: E402  (beside this file)
 import circles  # noqa: E402
 import deadlock  # noqa: E402
@@ -44,25 +44,32 @@ import make_circles  # noqa: E402
 import make_declarations  # noqa: E402
 import plan  # noqa: E402
 import replay  # noqa: E402
+import programs  # noqa: E402  (in tests/lib)
 import run  # noqa: E402
-import time_limit  # noqa: E402  (in the folder above)
 from command_line import seed_and_counts  # noqa: E402
-from declaration import read_declaration  # noqa: E402
-from standard_error import STDIN, belongs, meant  # noqa: E402
+from declaration import read_declaration, records  # noqa: E402
+from standard_error import fits  # noqa: E402  (in tests/lib)
 
 DEFAULT_SEED = "1"
 DEFAULT_CASES = 2_000
 WORKERS = 2
 DIFFERENCES_SHOWN = 3
 
+
+def refused_by(table):
+    """The numbers of the refusals in this table of docs/FORMAT.md."""
+    return sorted(int(row[b"number"]) for row in records("numbers.txt") if row.get(b"table") == table and b"number" in row)
+
+
 # Of each command: the model, the cases at the limits, the random cases, the names of the texts, and
 # the kinds of answer, each with its exit status and its form. In a form N is a number, Z one or
 # more names, A is an `arc` line, and S is a step of a run that is printed.
+OF_DECLARATIONS = refused_by(b"Refusals")
 DECLARATION_REFUSALS = [
-    (f"refusals {code}", 2, rf"refused {code} line N\n") for code in range(1, 13)
+    (f"refusals {code}", 2, rf"refused {code} line N\n") for code in OF_DECLARATIONS
 ]
-CERTIFICATE_REFUSALS = [("refusals of the declaration", 2, r"refused ([1-9]|1[0-2]) line N\n")] + [
-    (f"refusals {code}", 2, rf"refused {code} line N\n") for code in (40, 41, 42, 43)
+CERTIFICATE_REFUSALS = [("refusals of the declaration", 2, rf"refused ({'|'.join(map(str, OF_DECLARATIONS))}) line N\n")] + [
+    (f"refusals {code}", 2, rf"refused {code} line N\n") for code in refused_by(b"Refusals of certificates")
 ]
 DRAWING = (
     r'digraph wqplan \{\n  graph \[label="(TITLE)", labelloc=t, labeljust=l, rankdir=LR,'
@@ -184,25 +191,15 @@ def words_behind(command, number):
 
 def ask(program, command, texts, folder, number):
     """The program's answer, what it prints to standard error, and whether that belongs to the answer."""
-    places, given = [], None
+    named, given = {}, None
     if command == "plan":
         given = texts[0]
     else:
-        for name, text in zip(COMMANDS[command][3], texts):
-            places.append(os.path.join(folder, f"{number}.{name}"))
-            with open(places[-1], "wb") as file:
-                file.write(text)
-    try:
-        words = [*places, *words_behind(command, number)]
-        ended = time_limit.run([program, command, *words], input=given, capture_output=True)
-        files = meant(ended.stdout, [os.fsencode(place) for place in places] or [STDIN])
-        is_right = belongs(ended.stdout, ended.stderr, files)
-        return (ended.stdout, ended.returncode), ended.stderr, is_right
-    except time_limit.TookTooLong:
-        return (b"", None), b"(ended: it took too long)", False
-    finally:
-        for place in places:
-            os.remove(place)
+        named = {f"{number}.{name}": text for name, text in zip(COMMANDS[command][3], texts)}
+    with programs.files(folder, named) as places:
+        found = programs.ask([program, command, *places, *words_behind(command, number)], input=given)
+    is_right = not found.is_late() and fits(found.printed, found.errors, places)
+    return (found.printed, found.status), found.errors, is_right
 
 
 def questions(command, texts, printed):
@@ -364,8 +361,7 @@ def main(arguments):
     if run_count is None:
         run_count = random_count // CASES_FOR_A_RUN
     program = os.path.realpath(program)
-    if asked and (not os.access(program, os.X_OK) or os.path.isdir(program)):
-        print(f"model: there is nothing to run at {program}")
+    if asked and not programs.is_there("model", program):
         return 1
 
     failed = examples.failures()

@@ -3,7 +3,10 @@
 
 import dataclasses
 import functools
+import pathlib
 import re
+
+TOP = pathlib.Path(__file__).resolve().parent.parent.parent
 
 # Limits
 TEXT_LIMIT = 1_048_576
@@ -17,9 +20,26 @@ NAME_BYTES = LETTERS + b"0123456789_-."
 LINE_BYTES = b"\t" + bytes(range(0x20, 0x7F))
 WORD = re.compile(rb"[^ \t]+")
 
-# Directives: how many further words a line needs at least, and how many it has at most where that is limited.
-FEWEST_WORDS = {b"item": 1, b"flush": 2, b"flushwq": 2, b"ordered": 1}
-MOST_WORDS = {b"item": 1, b"flushwq": 2}
+
+def records(name):
+    """The records of a data file of docs/tables, without the texts of several lines."""
+    texts = re.sub(rb"(?m)^#.*\n", b"", (TOP / "docs" / "tables" / name).read_bytes()).split(b"\n\n")
+    return [dict(re.findall(rb"(?m)^(\w+): (.+)$", text)) for text in texts]
+
+
+# Directives, by docs/tables/directives.txt, from which the table of docs/FORMAT.md is made: how many further words a line needs
+# at least, how many it has at most where that is limited, and which directives name declared items, declare flushes, or groups.
+DIRECTIVES = {row[b"directive"]: row for row in records("directives.txt")}
+FEWEST_WORDS = {word: int(row[b"least"]) for word, row in DIRECTIVES.items()}
+MOST_WORDS = {word: int(row[b"most"]) for word, row in DIRECTIVES.items() if b"most" in row}
+USERS = [word for word, row in DIRECTIVES.items() if row[b"declares"] != b"item"]
+FLUSHES = [word for word, row in DIRECTIVES.items() if row[b"declares"] == b"flushes"]
+GROUPS = [word for word, row in DIRECTIVES.items() if row[b"declares"] == b"group"]
+# The step that makes a flush, by the directive that declares it, and the directives of those of whole workqueues.
+WAIT = {word: DIRECTIVES[word][b"step"] for word in FLUSHES}
+FLUSHES_WHOLE = [word for word in FLUSHES if WAIT[word] == b"waitwq"]
+LISTED = b", ".join(b"`%s`" % word for word in DIRECTIVES)
+LISTED = b" or ".join(LISTED.rsplit(b", ", 1))
 
 
 class Refused(Exception):
@@ -121,7 +141,7 @@ def items_pass(directives):
         else:
             if not all(name in declared for name in names):
                 raise Refused(8, number)
-            if first in (b"flush", b"flushwq"):
+            if first in FLUSHES:
                 flushes += [(names[0], target) for target in names[1:]]
                 directive_of += [first] * len(names[1:])
                 if len(flushes) > FLUSH_LIMIT:
@@ -139,7 +159,7 @@ def groups_pass(directives, items):
     groups = []
     grouped = set()
     for number, first, names in directives:
-        if first == b"ordered":
+        if first in GROUPS:
             for name in names:
                 if name in grouped:
                     raise Refused(11, number)
@@ -158,7 +178,7 @@ class Declaration:
     flushes: list  # by place, each as the names of its item and of its target
     groups: list  # by number, each as the names of its members
     group_of: dict  # by the name of an item, the number of its group
-    directive_of: list  # by the place of a flush, the directive that declares it: `flush` or `flushwq`
+    directive_of: list  # by the place of a flush, the directive that declares it
 
     def flush_line(self, place):
         """A line that declares the flush of this place alone."""

@@ -3,7 +3,7 @@
 #     diagnoses.py PROGRAM [SEED] [CASES]
 #
 # The model is a second reading of tests/DIAGNOSES.md and of docs/FORMAT.md, "Diagnoses", over the readers beside it.
-# See plan.py for what the model is. tests/diagnoses has rows that were written by hand from the same section, and the
+# See plan.py for what the model is. tests/cli/diagnoses has rows that were written by hand from the same section, and the
 # model must give them.
 #
 # The comparison changes texts that the other tests have: bytes are replaced, words swapped, misspelt or moved, lines
@@ -32,24 +32,23 @@ import sys
 import tempfile
 
 sys.dont_write_bytecode = True
-sys.path.append(str(pathlib.Path(__file__).resolve().parent.parent))
+ROOT = pathlib.Path(__file__).resolve().parents[2]
+sys.path.append(str(ROOT / "tests" / "lib"))
 import certificate  # noqa: E402  (beside this file)
 import check  # noqa: E402
 import circles  # noqa: E402
 import deadlock  # noqa: E402
 import dot  # noqa: E402
 import plan  # noqa: E402
+import programs  # noqa: E402  (in tests/lib)
 import replay  # noqa: E402
 import run  # noqa: E402
-import time_limit  # noqa: E402  (in the folder above)
 import unlawful  # noqa: E402
 from command_line import seed_and_counts  # noqa: E402
 from declaration import (  # noqa: E402
-    FEWEST_WORDS, LINE_BYTES, LINE_LIMIT, NAME_LIMIT, Refused, before_comment, is_name, read_declaration, split_lines,
-    split_words,
+    DIRECTIVES, FEWEST_WORDS, FLUSHES_WHOLE, LINE_BYTES, LINE_LIMIT, LISTED, NAME_LIMIT, Refused, before_comment, is_name,
+    read_declaration, split_lines, split_words,
 )
-
-ROOT = pathlib.Path(__file__).resolve().parent.parent.parent
 
 # The commands: the model of each, the kinds of its texts behind the declaration, and how they are read. The assignment of
 # `circles` and `dot` may be missing.
@@ -74,9 +73,7 @@ CUT = 94
 BEFORE = 40
 
 # The lines of declarations, and the first words of the other texts.
-DIRECTIVE_FORMS = {
-    b"item": b"`item NAME`", b"ordered": b"`ordered NAME..`", b"flush": b"`flush NAME TARGET..`", b"flushwq": b"`flushwq NAME ITEM`",
-}
+DIRECTIVE_FORMS = {word: b"`%s %s`" % (word, row[b"names"]) for word, row in DIRECTIVES.items()}
 STEP = b"a step"
 COMMENTS = (b"//", b"/*", b"*", b";", b"%", b"--")
 CALLS = {
@@ -241,7 +238,7 @@ def directive_hint(word, is_among_directives):
     """(b)"""
     alike = near(word, list(FEWEST_WORDS))
     return (comment_hint(word) or call_hint(word, is_among_directives) or kind_hint(word) or (alike and b"did you mean `%s`?" % alike)
-            or b"a line begins with `item`, `flush`, `flushwq` or `ordered`")
+            or b"a line begins with " + LISTED)
 
 
 def name_hint(word):
@@ -537,7 +534,7 @@ def of_no(declared, text, printed):
         item, target = rest
         served = {name.word: (number, words[1].word, name) for number, words in beginning(b"wq") for name in words[2:]}
         number, _, name = served[item]
-        whole = declared.directive_of[declared.flushes.index((item, target))] == b"flushwq"
+        whole = declared.directive_of[declared.flushes.index((item, target))] in FLUSHES_WHOLE
         what = b"`%s` flushes %s`%s`, so it should be on a higher workqueue" % (item, b"the workqueue of " if whole else b"", target)
         return number, about(name, what, b"`%s` is on workqueue %s" % (target, served[target][1]))
     if code in (b"51", b"53") and rest != [b"0"]:
@@ -652,12 +649,12 @@ DEFAULT_SEED = "1"
 DEFAULT_CASES = 400
 DIFFERENCES_SHOWN = 5
 
-# The numbers that must come. The other ones are those of large texts, of which tests/diagnoses has rows.
+# The numbers that must come. The other ones are those of large texts, of which tests/cli/diagnoses has rows.
 MUST_COME = [3, 4, 5, 6, 7, 8, 11, 12, 40, 41, 42, 43]
 
 BYTES = b"\t\r\n\0 #,;.-_/!aZ09\x01\x7f\x80\xc3\xa4\xef\xff"
 OTHER_WORDS = [
-    b"item", b"flush", b"flushwq", b"ordered", b"plan", b"wq", b"chain", b"arc", b"circle", b"run", b"queue", b"cancel", b"start",
+    *DIRECTIVES, b"plan", b"wq", b"chain", b"arc", b"circle", b"run", b"queue", b"cancel", b"start",
     b"wait", b"waitwq", b"over", b"overwq", b"finish", b"refused", b"Item", b"depends", b"waits", b"flush_work", b"queue_work", b"cancels",
     b"WQ", b"Plan", b"WQ_UNBOUND", b"md", b"_", b"\xef\xbb\xbfwq", b"\xff\xfe", b"w\0q",
     b"//", b"/*", b"*", b";", b"%", b"--", b"a,", b"a;", b"-",
@@ -668,9 +665,8 @@ FILE_NAMES = [b"d.wq", b"two words", b"gr\xc3\xb6\xc3\x9fe", b"a\tb", b"\x1b", b
 
 
 def seeds():
-    """Commands and texts that are changed: those of the examples and of tests/rows, and a text of tests/samples."""
-    sys.path.append(str(ROOT / "tests"))
-    sys.path.append(str(ROOT / "tests" / "rows"))
+    """Commands and texts that are changed: those of the examples and of tests/cli/rows, and a text that is none of wqplan's."""
+    sys.path.append(str(ROOT / "tests" / "cli" / "rows"))
     import checks
     import circlings
     import deadlocks
@@ -688,8 +684,7 @@ def seeds():
             assignment = other.read_bytes()
             found += [(command, [text, assignment]) for command in ("deadlock", "circles", "dot")]
             found.append(("replay", [text, assignment, deadlock.answer(text, assignment)[0]]))
-    for path in sorted((ROOT / "tests" / "samples").iterdir()):
-        found.append(("plan", [path.read_bytes()]))
+    found.append(("plan", [(ROOT / "tests" / "cli" / "outlives.rt.txt").read_bytes()]))
     for text, _ in plans.BYTES + plans.PLANS + plans.REFUSALS:
         found.append(("plan", [text_of(text)]))
     for text, circle, steps in plans.CIRCLES:
@@ -841,16 +836,11 @@ def ask(program, words, texts, streams=""):
     with tempfile.TemporaryDirectory(prefix="diagnoses_") as folder:
         texts = {os.fsencode(file): text for file, text in texts.items()}
         given = texts.pop(b"<stdin>", b"")
-        places = {os.path.join(os.fsencode(folder), file): text for file, text in texts.items()}
-        for place, text in places.items():
-            pathlib.Path(os.fsdecode(place)).write_bytes(text)
         command = ["bash", "-c", f'exec "$0" "$@" {streams}', program, *words] if streams else [program, *words]
-        try:
-            ended = time_limit.run(command, cwd=folder, input=given, capture_output=True)
-        except time_limit.TookTooLong:
-            return (b"(ended: it took too long)", None, b""), True
-        same = all(pathlib.Path(os.fsdecode(place)).read_bytes() == text for place, text in places.items())
-    return (ended.stdout, ended.returncode, ended.stderr), same
+        with programs.files(os.fsencode(folder), texts) as places:
+            found = programs.ask(command, cwd=folder, input=given)
+            same = all(pathlib.Path(os.fsdecode(place)).read_bytes() == text for place, text in zip(places, texts.values()))
+    return found, same
 
 
 def short(text):
@@ -900,12 +890,9 @@ def main(arguments):
         print("usage: diagnoses.py PROGRAM [SEED] [CASES]", file=sys.stderr)
         return 2
     program = os.path.realpath(arguments[0])
-    if not os.access(program, os.X_OK) or os.path.isdir(program):
-        print(f"diagnoses: there is nothing to run at {program}")
+    if not programs.is_there("diagnoses", program):
         return 1
-    passed, failed = compare(program, *found)
-    print(f"diagnoses: {passed} passed, {failed} failed")
-    return 1 if failed else 0
+    return programs.counts_of("diagnoses", *compare(program, *found))
 
 
 if __name__ == "__main__":

@@ -75,7 +75,7 @@ def dot_text(declared, assignment, title, red, bold):
     for members in declared.groups:
         groups[assignment.workqueue_of[members[0]]].append(members)
     looks = {**dict.fromkeys(red, b"color=red"), **dict.fromkeys(bold, b"style=bold")}
-    heads = {b"flushwq": b"arrowhead=odiamond"}
+    heads = dict.fromkeys(declaration.FLUSHES_WHOLE, b"arrowhead=odiamond")
     lines = [HEAD[0], HEAD[1] % title, *HEAD[2:]]
     for number in range(assignment.count):
         lines += workqueue_lines(number, groups[number])

@@ -22,11 +22,11 @@ import tempfile
 import traceback
 
 sys.dont_write_bytecode = True
-sys.path.append(str(pathlib.Path(__file__).resolve().parent.parent))
+sys.path.append(str(pathlib.Path(__file__).resolve().parents[1] / "lib"))
 import book  # noqa: E402  (beside this file)
 import book_examples  # noqa: E402
 import make_books  # noqa: E402
-import time_limit  # noqa: E402  (in the folder above)
+import programs  # noqa: E402  (in tests/lib)
 from command_line import seed_and_counts  # noqa: E402
 from make_books import kind_of  # noqa: E402
 from steps import RESCUER  # noqa: E402
@@ -310,15 +310,6 @@ def write_files(case, folder):
     return words
 
 
-def run(program, words):
-    """What the program prints, its status, and its standard error."""
-    try:
-        ended = time_limit.run([program, *words], capture_output=True)
-        return ended.stdout, ended.returncode, ended.stderr
-    except time_limit.TookTooLong as late:
-        return late.stdout or b"", None, b"(ended: it took too long)"
-
-
 def agrees(case, found):
     printed, status, errors = found
     if (printed, status) != (case.printed, case.status):
@@ -330,7 +321,7 @@ def agrees(case, found):
 
 def compare(program, case, folder):
     """What the program prints, its status and its standard error, where they differ, or None."""
-    found = run(program, write_files(case, folder))
+    found = programs.ask([program, *write_files(case, folder)])
     return None if agrees(case, found) else found
 
 
@@ -484,8 +475,7 @@ def main(arguments):
         return 2
     program = None if arguments[0] == "none" else os.path.realpath(arguments[0])
     seed, sequences, histories = found
-    if program and (not os.access(program, os.X_OK) or os.path.isdir(program)):
-        print(f"books: there is nothing to run at {program}")
+    if program and not programs.is_there("books", program):
         return 1
     if only is not None:
         return 0 if show_only(program, seed, int(only), sequences) else 1

@@ -1,14 +1,14 @@
-# The worked examples of tests/rows/worked.py, each of which the model must answer as it stands there:
+# The worked examples of tests/cli/rows/worked.py, each of which the model must answer as it stands there:
 #
 #     examples.py
 #
-# compare.py goes through them before it compares anything. tests/rows gives them to the program.
+# compare.py goes through them before it compares anything. tests/cli/rows gives them to the program.
 
 import pathlib
 import sys
 
 sys.dont_write_bytecode = True
-sys.path.append(str(pathlib.Path(__file__).resolve().parent.parent / "rows"))
+sys.path.append(str(pathlib.Path(__file__).resolve().parents[1] / "cli" / "rows"))
 import check  # noqa: E402  (beside this file)
 import circles  # noqa: E402
 import deadlock  # noqa: E402
@@ -16,15 +16,12 @@ import dot  # noqa: E402
 import plan  # noqa: E402
 import replay  # noqa: E402
 import run  # noqa: E402
-from worked import CHECKS, CIRCLES, DEADLOCKS, DOTS, PLANS, REPLAYS, RUNS, text  # noqa: E402  (in tests/rows)
-
-STATUSES = {"plan": 0, "yes": 0, "open": 0, "safe": 0, "circle": 1, "no": 1, "not": 1,
-            "deadlock": 1, "stuck": 1, "run": 1, "workqueues": 0, "components": 1, "digraph": 0,
-            "refused": 2}
+from statuses import STATUS  # noqa: E402  (in tests/cli/rows)
+from worked import CHECKS, CIRCLES, DEADLOCKS, DOTS, PLANS, REPLAYS, RUNS, text  # noqa: E402  (there, too)
 
 
 def wanted(answer):
-    return text(answer), STATUSES[answer.split()[0]]
+    return text(answer), STATUS[answer.split()[0]]
 
 
 def failures():

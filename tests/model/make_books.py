@@ -11,7 +11,7 @@ from book import (
     WITH_LANE, Ask, LaneAsk, Row, packed, with_helpers,
 )
 from certificate import LINE_LIMIT, TEXT_LIMIT
-from declaration import read_declaration
+from declaration import FLUSHES, read_declaration
 from make_assignments import safe_assignment
 from make_certificates import (
     any_assignment, assignment_of, own_assignment, plan_lines, wq_lines,
@@ -38,7 +38,7 @@ def make_declaration(choose):
     lines = make_lines(choose, count)
     names = [line.words[1] for line in lines if line.words[0] == b"item"]
     if names and choose.random() < 0.2:
-        lines = [line for line in lines if line.words[0] not in (b"flush", b"flushwq")]
+        lines = [line for line in lines if line.words[0] not in FLUSHES]
     if names and choose.random() < 0.6:
         # Any flushes of both kinds: of the item itself, and of one target again and again.
         for _ in range(choose.randint(1, 4)):

@@ -7,13 +7,14 @@ import functools
 import random
 import string
 
-from declaration import FLUSH_LIMIT, ITEM_LIMIT, LINE_LIMIT, NAME_LIMIT, TEXT_LIMIT
+from declaration import DIRECTIVES, FEWEST_WORDS, FLUSH_LIMIT, ITEM_LIMIT, LINE_LIMIT, MOST_WORDS, NAME_LIMIT, TEXT_LIMIT, USERS
 
 NAME_LETTERS = (string.ascii_letters + string.digits + "_-.").encode()
 OTHER_LETTERS = bytes(byte for byte in range(0x21, 0x7F) if byte not in NAME_LETTERS + b"#")
 BAD_BYTES = bytes(byte for byte in range(256) if byte not in b"\t\n" + bytes(range(0x20, 0x7F)))
+FORM = [b"declares", b"step", b"least", b"most"]
 COMMENT_BYTES = bytes(byte for byte in range(256) if byte != 0x0A)
-TAKEN_WORDS = [b"item", b"flush", b"flushwq", b"ordered", b"7", b"-", b".", b"_", b"0", b"plan", b"Item"]
+TAKEN_WORDS = [*FEWEST_WORDS, b"7", b"-", b".", b"_", b"0", b"plan", b"Item"]
 WRONG_FIRST_WORDS = [
     b"Item", b"ITEM", b"items", b"ite", b"item:", b".item", b"flus", b"Flush", b"flushed",
     b"flush,", b"flushw", b"flushwqs", b"flush_wq", b"Flushwq", b"flushWQ", b"flushqw", b"order", b"Ordered", b"ordereds", b"orderec", b"a", b"7", b"-", b"itemflush", b"!",
@@ -220,6 +221,7 @@ def make_lines(choose, item_count, shape=None):
     # Each of these lines comes anywhere behind the `item` lines that it needs.
     others = [(b"flush", line) for line in flush_lines] + [(b"flushwq", line) for line in whole_lines]
     others += [(b"ordered", line) for line in ordered]
+    others = [(alike(choose, first), line) for first, line in others]
     choose.shuffle(others)
     early = choose.random() < 0.5
     behind = collections.defaultdict(list)
@@ -259,9 +261,15 @@ def fault_bad_byte(choose, lines):
     choose.choice(lines).bad_byte = choose.choice(near + [bad])
 
 
+def alike(choose, word):
+    """A directive that declares the same as this one, in the same form."""
+    same = [other for other, row in DIRECTIVES.items() if all(row.get(key) == DIRECTIVES[word].get(key) for key in FORM)]
+    return choose.choice(same) if len(same) > 1 else word
+
+
 def fault_unknown_word(choose, lines):
     wrong = choose.choice(WRONG_FIRST_WORDS)
-    known = lines_of(lines, b"item", b"flush", b"flushwq", b"ordered")
+    known = lines_of(lines, *FEWEST_WORDS)
     if known and choose.random() < 0.7:
         choose.choice(known).words[0] = wrong
     else:
@@ -269,24 +277,23 @@ def fault_unknown_word(choose, lines):
 
 
 def fault_missing_name(choose, lines):
-    known = lines_of(lines, b"item", b"flush", b"flushwq", b"ordered")
+    known = lines_of(lines, *FEWEST_WORDS)
     if known and choose.random() < 0.7:
         line = choose.choice(known)
-        most = 2 if line.words[0] in (b"flush", b"flushwq") else 1
-        del line.words[choose.randint(1, most):]
+        del line.words[choose.randint(1, FEWEST_WORDS[line.words[0]]):]
     else:
-        short = [[b"item"], [b"flush"], [b"flush", b"a"], [b"flushwq"], [b"flushwq", b"a"], [b"ordered"]]
+        short = [[word] + [b"a"] * count for word, least in FEWEST_WORDS.items() for count in range(least)]
         insert(choose, lines, choose.choice(short))
 
 
 def fault_extra_word(choose, lines):
-    known = lines_of(lines, b"item", b"flushwq")
+    known = lines_of(lines, *MOST_WORDS)
     words = choose.choices([b"a", b"b!", b"item", b"x" * 64, b"/"], k=choose.randint(1, 3))
     if known:
         line = choose.choice(known)
         line.words[choose.randint(1, len(line.words)):0] = words
     else:
-        insert(choose, lines, choose.choice([[b"item", b"a"], [b"flushwq", b"a", b"a"]]) + words)
+        insert(choose, lines, choose.choice([[word] + [b"a"] * most for word, most in MOST_WORDS.items()]) + words)
 
 
 def fault_bad_name(choose, lines):
@@ -310,7 +317,7 @@ def fault_item_twice(choose, lines):
 
 
 def fault_unknown_item(choose, lines):
-    users = [line for line in lines_of(lines, b"flush", b"flushwq", b"ordered") if len(line.words) > 1]
+    users = [line for line in lines_of(lines, *USERS) if len(line.words) > 1]
     items = lines_of(lines, b"item")
     way = choose.random()
     if users and way < 0.5:
@@ -325,7 +332,7 @@ def fault_unknown_item(choose, lines):
         if way < 0.75:
             lines.append(line)
     else:
-        insert(choose, lines, choose.choice([[b"flush", b"a", b"a"], [b"flushwq", b"a", b"a"], [b"ordered", b"a"]]))
+        insert(choose, lines, choose.choice([[word] + [b"a"] * FEWEST_WORDS[word] for word in USERS]))
 
 
 def fault_grouped_twice(choose, lines):

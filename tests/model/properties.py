@@ -32,7 +32,7 @@ import replay  # noqa: E402
 import run  # noqa: E402
 import search  # noqa: E402
 from command_line import seed_and_counts  # noqa: E402
-from declaration import Refused, read_declaration  # noqa: E402
+from declaration import FLUSHES_WHOLE, Refused, read_declaration  # noqa: E402
 from steps import State  # noqa: E402
 
 DEFAULT_SEED = "1"
@@ -654,8 +654,8 @@ def look_at_circles(*texts):
 
 
 def load_reader():
-    """The reader of drawings, tests/dot.py. The model's dot.py has the same name."""
-    place = pathlib.Path(__file__).resolve().parent.parent / "dot.py"
+    """The reader of drawings, tests/lib/dot.py. The model's dot.py has the same name."""
+    place = pathlib.Path(__file__).resolve().parents[1] / "lib" / "dot.py"
     spec = importlib.util.spec_from_file_location("dot_reader", place)
     reader = importlib.util.module_from_spec(spec)
     sys.modules[spec.name] = reader
@@ -695,7 +695,7 @@ def look_at_dot(*texts):
     demand(names_of(arrow[:2] for arrow in drawing.arrows) == declared.flushes, "an arrow for each flush, in order")
     demand(sorted(names_of(drawing.coloured("red"))) == sorted(printed_arcs(circled)), "circles are red")
     demand(sorted(names_of(drawing.coloured("bold"))) == sorted(bold), "the chain is bold")
-    demand([arrow[3] for arrow in drawing.arrows] == [kind == b"flushwq" for kind in declared.directive_of],
+    demand([arrow[3] for arrow in drawing.arrows] == [kind in FLUSHES_WHOLE for kind in declared.directive_of],
            "waits for a whole workqueue have their own heads")
     first = {}
     for at, (item, target, colour, _) in enumerate(drawing.arrows):

@@ -427,8 +427,7 @@ def main(arguments):
         return 2
     seed, count = found
     program = os.path.realpath(arguments[0])
-    if arguments[0] != "-" and (not os.access(program, os.X_OK) or os.path.isdir(program)):
-        print(f"search: there is nothing to run at {program}")
+    if arguments[0] != "-" and not compare.programs.is_there("search", program):
         return 1
 
     looked = helped = 0

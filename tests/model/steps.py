@@ -4,8 +4,9 @@
 import collections
 import dataclasses
 
-# The step that makes a wait, by the directive that declares it, and the step by which it is over.
-WAIT = {b"flush": b"wait", b"flushwq": b"waitwq"}
+from declaration import WAIT
+
+# The step by which a wait is over, by the one that makes it.
 OVER = {b"wait": b"over", b"waitwq": b"overwq"}
 
 

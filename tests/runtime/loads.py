@@ -15,20 +15,20 @@ import itertools
 import os
 import pathlib
 import re
-import subprocess
 import sys
 import tempfile
 import time
 
 sys.dont_write_bytecode = True
-HERE = pathlib.Path(__file__).resolve().parent
-sys.path += [str(HERE.parent), str(HERE.parent / "model"), str(HERE.parent.parent / "bench")]
+ROOT = pathlib.Path(__file__).resolve().parents[2]
+sys.path += [str(ROOT / folder) for folder in ("tests/model", "tests/lib", "bench")]
 import book  # noqa: E402  (in tests/model)
 import calls  # noqa: E402  (beside this file)
 import certificate  # noqa: E402  (in tests/model)
 import declaration  # noqa: E402  (in tests/model)
 import measured  # noqa: E402  (in bench)
-from tables import Case, run_cases, text_of  # noqa: E402  (in tests)
+from programs import ask, counts_of, files, is_there  # noqa: E402  (in tests/lib)
+from tables import Case, run_cases, text_of  # noqa: E402  (there, too)
 
 # How long a program may take, in seconds, and how many calls of a caller give it one more. Where so
 # many loads didn't end, the rest aren't run.
@@ -349,21 +349,21 @@ class Load:
             yield "60 was never met" if must_be_full else "60 was met"
 
     def run(self, program, must_be_full=None):
-        """Runs it. Returns whether all is as it must be, and what is said of it; it raises TimeoutExpired."""
+        """Runs it. Returns whether all is as it must be, or None where it didn't end in time, and what is said of it."""
         seconds = SECONDS + self.calls // CALLS_OF_A_SECOND
         begun = time.monotonic()
-        with tempfile.TemporaryDirectory(prefix="loads_") as folder:
-            for name, text in ("declaration", self.declared), ("assignment", self.assigned):
-                pathlib.Path(folder, name).write_bytes(text_of(text))
-            words = ["helpers", str(self.helpers)] if self.helpers else []
-            words += ["stress", "declaration", "assignment", *map(str, (self.rows, self.seed, self.calls))]
-            run = subprocess.run([program, *words], cwd=folder, stdin=subprocess.DEVNULL, capture_output=True,
-                                 timeout=seconds)
+        texts = {"declaration": text_of(self.declared), "assignment": text_of(self.assigned)}
+        words = ["helpers", str(self.helpers)] if self.helpers else []
+        words += ["stress", *texts, *map(str, (self.rows, self.seed, self.calls))]
+        with tempfile.TemporaryDirectory(prefix="loads_") as folder, files(folder, texts):
+            found = ask([program, *words], cwd=folder, timeout=seconds)
+        if found.is_late():
+            return None, f"it didn't end within {seconds} s"
         took = f"{time.monotonic() - begun:.2f} s"
-        if run.returncode or run.stderr:
-            return False, f"{took}: status {run.returncode}, {run.stdout[-400:]!r}, standard error {run.stderr!r}"
+        if found.status or found.errors:
+            return False, f"{took}: status {found.status}, {found.printed[-400:]!r}, standard error {found.errors!r}"
         try:
-            printed = Printed.read(run.stdout)
+            printed = Printed.read(found.printed)
         except Odd as odd:
             return False, f"{took}: {odd}"
         faults = list(self.faults(printed, must_be_full))
@@ -395,24 +395,21 @@ def short_loads():
 
 
 def run_loads(program, loads):
-    """Runs loads, and prints a line of each. Returns how many failed."""
+    """Runs loads, and prints a line of each. Returns the exit status."""
     passed = failed = slow = 0
     for name, load, must_be_full in loads:
-        try:
-            is_good, said = load.run(program, must_be_full)
-        except subprocess.TimeoutExpired as late:
-            is_good, said, slow = False, f"it didn't end within {late.timeout} s", slow + 1
-        passed, failed = passed + is_good, failed + (not is_good)
+        is_good, said = load.run(program, must_be_full)
+        slow += is_good is None
+        passed, failed = passed + bool(is_good), failed + (not is_good)
         print(f"{'ok     ' if is_good else 'FAILED '} {name}, {said}", flush=True)
         if slow == MOST_SLOW:
             print("the other loads aren't run, since these didn't end")
             break
-    print(f"loads: {passed} passed, {failed} failed", flush=True)
-    return failed
+    return counts_of("loads", passed, failed)
 
 
 def run_measured(program):
-    """Runs the loads that are measured, up to one that fails. Returns how many failed."""
+    """Runs the loads that are measured, up to one that fails. Returns the exit status."""
     with measured.Texts() as texts:
         for passed, words in enumerate(MEASURED):
             load = measured.Load(*words)
@@ -423,10 +420,8 @@ def run_measured(program):
                 said, is_good = str(fault), False
             print(f"{'ok     ' if is_good else 'FAILED '} {said}")
             if not is_good:
-                print(f"measured loads: {passed} passed, 1 failed", flush=True)
-                return 1
-    print(f"measured loads: {len(MEASURED)} passed, 0 failed", flush=True)
-    return 0
+                return counts_of("measured loads", passed, 1)
+    return counts_of("measured loads", len(MEASURED), 0)
 
 
 def cases():
@@ -454,15 +449,15 @@ def cases():
 
 
 def main(arguments):
-    if len(arguments) not in (1, 3) or not os.access(arguments[0], os.X_OK):
-        print("usage: loads.py PROGRAM [SEEDS CALLS], with a program that is built")
+    if len(arguments) not in (1, 3):
+        print("usage: loads.py PROGRAM [SEEDS CALLS]", file=sys.stderr)
+        return 2
+    if not is_there("loads", arguments[0]):
         return 1
     program = os.path.realpath(arguments[0])
     if len(arguments) == 3:
-        return 1 if run_loads(program, long_loads(*map(int, arguments[1:]))) else 0
-    status = run_cases("loads", [program], list(cases()))
-    failed = run_measured(program)
-    return 1 if run_loads(program, short_loads()) or failed or status else 0
+        return run_loads(program, long_loads(*map(int, arguments[1:])))
+    return max(run_cases("loads", [program], list(cases())), run_measured(program), run_loads(program, short_loads()))
 
 
 if __name__ == "__main__":

@@ -10,11 +10,11 @@ import pathlib
 import sys
 
 sys.dont_write_bytecode = True
-sys.path.append(str(pathlib.Path(__file__).resolve().parent.parent))
+sys.path.append(str(pathlib.Path(__file__).resolve().parents[1] / "lib"))
 import calls  # noqa: E402  (beside this file)
 import crews  # noqa: E402
 import helpers  # noqa: E402
-from tables import Case, run_cases, text_of  # noqa: E402  (in the folder above)
+from tables import Case, run_cases, text_of  # noqa: E402  (in tests/lib)
 
 # A chain of as many items as a runtime may have lanes.
 ITEMS = [f"item i{k}" for k in range(256)]

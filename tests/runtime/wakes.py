@@ -18,9 +18,9 @@ import sys
 import tempfile
 
 sys.dont_write_bytecode = True
-sys.path.append(str(pathlib.Path(__file__).resolve().parent.parent))
-import time_limit  # noqa: E402  (in the folder above)
-from tables import is_program, short, text_of  # noqa: E402  (there, too)
+sys.path.append(str(pathlib.Path(__file__).resolve().parents[1] / "lib"))
+from programs import ask, counts_of, is_there  # noqa: E402  (in tests/lib)
+from tables import short, text_of  # noqa: E402  (there, too)
 
 # How often each is tried, how long a program may take, in seconds, and how many run at a time: they sleep nearly all the time.
 ROUNDS = 20
@@ -55,6 +55,7 @@ class Wake:
     after: str
     counted: str = ""
     helpers: int = 0  # how many each workqueue has
+    shared: bool = False  # whether the answers of those that sleep are shared out among them in any way
 
     def name(self):
         return f"{self.call} wakes {self.sleepers}"
@@ -76,16 +77,22 @@ class Wake:
     def printed(self):
         """What is printed, as a regular expression. The answers of those that slept have groups, and so has what is counted."""
         before, asleep, waking, after = self.parts()
+        any_of_them = "|".join(answer for _, answer in asleep)
         lines = [f"{line} {answer}" for line, answer in [*before, *waking]]
-        lines += [f"asleep {line} ({answer})" for line, answer in asleep]
+        lines += [f"asleep {line} ({any_of_them if self.shared else answer})" for line, answer in asleep]
         lines += [f"{line} {answer}" for line, answer in after]
         return "".join(f"{line}\n" for line in [*lines, "close 9 ok", "agree true"]).encode() + b"((?s:.*))"
+
+    def is_shared_out(self, answers):
+        """Whether each answer that is to be shared out was given once."""
+        _, asleep, _, _ = self.parts()
+        return not self.shared or sorted(answer.decode() for answer in answers[:-1]) == sorted(wanted for _, wanted in asleep)
 
     def is_late(self, answers):
         """Whether one of those that were to sleep had nothing left to wait for."""
         _, asleep, _, _ = self.parts()
         *answers, counts = (answer.decode() for answer in answers)
-        return any(answer != wanted.split("|")[0] for answer, (_, wanted) in zip(answers, asleep)) \
+        return not self.shared and any(answer != wanted.split("|")[0] for answer, (_, wanted) in zip(answers, asleep)) \
             or bool(self.counted) and self.counted not in counts.splitlines()
 
 
@@ -122,6 +129,11 @@ WAKES = [
          "waitall 2 a: true|false", "cancel b: true", "finish 2 d: ok / destroy: ok"),
     Wake("cancel_work_sync", "a body that waits for the whole workqueue", f"queue 0 b: true / {D_RUNS}",
          "waitall 2 a: true|false", "sync b: true", "finish 2 d: ok / destroy: ok"),
+    # Two threads that sleep in one context, and a queueing beside them: its entry goes to one of them. The next queueing wakes the other,
+    # which is refused, since that entry still runs.
+    Wake("queue_work", "a thread that sleeps in a context where another thread has started an entry", "",
+         "next 0: b / next 0: refused 64 / queue 0 b: true", "queue 0 a: true",
+         "finish 0 b: ok / next 0: a / finish 0 a: ok / destroy: ok", shared=True),
     # With a helper on each workqueue. Who is idle sleeps while the item of what is pending runs elsewhere.
     Wake("queue_work", "a helper", "", "help next 0 1: a", "queue 0 a: true", HELPED_A_ENDS, helpers=1),
     Wake("help_finish_work", "a rescuer, for whom the item's next entry is pending", f"{HELPED_A} / queue 0 a: true",
@@ -152,19 +164,17 @@ LOST = f"it didn't end within {SECONDS} s, so a wake-up is lost"
 
 def tried(program, files, wake):
     """What comes of a round: None where it is as it should be, `late` where it also shows nothing, or what is wrong."""
-    try:
-        run = time_limit.run([program, *wake.words(), *files], capture_output=True, timeout=SECONDS)
-    except time_limit.TookTooLong:
+    found = ask([program, *wake.words(), *files], timeout=SECONDS)
+    if found.is_late():
         return LOST
-    match = re.fullmatch(wake.printed(), run.stdout)
-    if match is None or run.returncode or run.stderr:
-        return f"status {run.returncode}, {short(run.stdout)}, standard error {short(run.stderr)}"
+    match = re.fullmatch(wake.printed(), found.printed)
+    if match is None or found.status or found.errors or not wake.is_shared_out(match.groups()):
+        return f"status {found.status}, {short(found.printed)}, standard error {short(found.errors)}"
     return "late" if wake.is_late(match.groups()) else None
 
 
 def main(arguments):
-    if len(arguments) != 1 or not is_program(arguments[0]):
-        print(f"wakes: there is nothing to run at {' '.join(arguments)}")
+    if not is_there("wakes", *arguments):
         return 1
     program = os.path.realpath(arguments[0])
     passed = 0
@@ -190,8 +200,7 @@ def main(arguments):
             if not came:
                 passed += 1
                 print(f"ok      {wake.name()}: {good} rounds" + (f", and {late} too late to sleep" if late else ""), flush=True)
-    print(f"wakes: {passed} passed, {len(WAKES) - passed} failed")
-    return 1 if passed < len(WAKES) else 0
+    return counts_of("wakes", passed, len(WAKES) - passed)
 
 
 if __name__ == "__main__":

@@ -1,0 +1,268 @@
+#!/usr/bin/env bash
+# Runs `plan`, `check`, `deadlock`, `replay`, `run`, `circles` and `dot` over the subsystems of Linux 6.1 in examples/. What is
+# expected of each (how many workqueues, which circle, whether the kernel's assignment is safe, how long the run is) was worked
+# out by hand from the kernel's sources, and stands in this script. Of all else that the program prints the program's own checkers
+# are asked: `check` says yes to each plan and circle, `replay` says deadlock of each run. `run` has each item on the workqueue
+# that `plan` gives it, queued once and finished once. tests/lib/dot.py reads each drawing, and what is drawn is what `plan` and
+# `circles` print.
+# Run it once the gate or `rt run` has built the program. The argument, if there is one, names another program.
+set -u
+. "$(dirname "$0")/../lib/script.bash"
+root=$(realpath -- "$(dirname "$0")/../..")
+program=$(realpath -m -- "${1:-$root/crates/wqplan/out/wqplan}")
+built examples wqplan "$program"
+examples=$root/examples
+reader=$root/tests/lib/dot.py
+work=$(mktemp -d)
+trap 'rm -rf -- "$work"' EXIT
+cp -- "$examples"/*.wq "$examples"/*.assign "$work"
+cd -- "$work" || exit 1
+
+# ends NAME STATUS TEXT: counts whether the last run ended so, with just this text.
+ends() {
+    is "$1" "$2: $3" "$status: $(cat out err)"
+}
+
+# begins NAME STATUS LINE: counts whether the last run ended so, and wrote this line first.
+begins() {
+    is "$1" "$2: $3" "$status: $(head -n 1 out)"
+}
+
+# hangs NAME DECL ASSIGN [STEPS]: counts whether `deadlock` prints a run (of so many steps), and `replay` says that it
+# deadlocks, and that without its last step it doesn't.
+hangs() {
+    run deadlock "$2" "$3"
+    cp out hangs.run
+    local steps=${4:-$(($(wc -l <out) - 1))}
+    begins "$1: deadlock" 1 "run $steps"
+    run replay "$2" "$3" hangs.run
+    ends "$1: its run, replayed" 1 deadlock
+    sed "1s/.*/run $((steps - 1))/; \$d" hangs.run >shorter.run
+    run replay "$2" "$3" shorter.run
+    ends "$1: its run without the last step" 0 open
+}
+
+# answers NAME ANSWER ITEM..: counts whether `plan` answers so, with arcs from each ITEM to the next one, and
+# whether `check` says yes to it. ANSWER is `plan K` or `circle N`; the answer stays in the file NAME.answer.
+answers() {
+    local name=$1 answer=$2 wanted yes chain=${2/plan/chain}
+    shift 2
+    case $answer in
+        plan*) wanted=0 yes="yes ${answer#plan }" ;;
+        *) wanted=1 yes="yes $answer" ;;
+    esac
+    run plan "$name.wq"
+    cp out "$name.answer"
+    begins "$name: plan" "$wanted" "$answer"
+    local arcs=
+    while [ $# -gt 1 ]; do
+        arcs+="arc $1 $2 "
+        shift
+    done
+    is "$name: the arcs" "$chain $arcs" "$(grep -E '^(chain|circle|arc) ' "$name.answer" | tr '\n' ' ')"
+    run check "$name.wq" "$name.answer"
+    ends "$name: what plan prints, checked" 0 "$yes"
+    run run "$name.wq"
+    if [ "$wanted" -eq 0 ]; then
+        ends "$name: run" 0 "$(ran "$name")"
+    else
+        ends "$name: run" 1 "$(cat "$name.answer")"
+    fi
+}
+
+# ran NAME: what must be printed of a plan that was run, by the declaration and the `wq` lines of the file NAME.answer.
+ran() {
+    awk '
+        { sub(/#.*/, "") }
+        FILENAME ~ /answer$/ && $1 == "wq" { lanes++; for (at = 3; at <= NF; at++) lane[$at] = $2; next }
+        FILENAME ~ /wq$/ && $1 == "item" { items[count++] = $2 }
+        END {
+            print "workqueues", lanes
+            for (at = 0; at < count; at++)
+                print "item", items[at], "wq", lane[items[at]], "queued 1 cancelled 0 finished 1"
+            print "faults 0"
+        }' "$1.answer" "$1.wq"
+}
+
+# counts NAME ITEMS FLUSHES GROUPS WORKQUEUES: counts whether the files declare so many, and the kernel uses so many.
+counts() {
+    is "$1: items, flushes, groups, workqueues in 6.1" "$2 $3 $4 $5" "$(awk '
+        { sub(/#.*/, "") }
+        FILENAME ~ /assign$/ { lanes += $1 == "wq"; next }
+        $1 == "item" { items++; groups++ }
+        $1 == "flush" || $1 == "flushwq" { flushes += NF - 2 }
+        $1 == "ordered" { groups -= NF - 2 }
+        END { print items + 0, flushes + 0, groups + 0, lanes + 0 }' "$1.wq" "$1.assign")"
+}
+
+# without_cancel NAME K: counts whether there are K workqueues without the waits of cancel_work_sync.
+without_cancel() {
+    grep -v '# cancel' "$1.wq" >"$1.nocancel.wq"
+    run plan "$1.nocancel.wq"
+    begins "$1: plan, without cancel" 0 "plan $2"
+}
+
+# plan_is_least NAME: counts whether the printed plan is safe, and hangs as soon as any two of its workqueues become one.
+plan_is_least() {
+    local name=$1 lanes first second
+    lanes=$(grep -c '^wq ' "$name.answer")
+    run deadlock "$name.wq" "$name.answer"
+    ends "$name: the printed plan" 0 safe
+    for ((first = 0; first < lanes; first++)); do
+        for ((second = first + 1; second < lanes; second++)); do
+            awk -v first="$first" -v second="$second" '
+                $1 == "wq" { sub(/^wq [0-9]+ /, ""); names[NR - 2] = $0 }
+                END {
+                    names[first] = names[first] " " names[second]
+                    for (lane = 0; lane in names; lane++)
+                        if (lane != second) print "wq", next_lane++, names[lane]
+                }' "$name.answer" >joined.assign
+            hangs "$name: the printed plan with $first and $second as one" "$name.wq" joined.assign
+        done
+    done
+}
+
+# arrows LOOK: those of the file `out` that look so, whatever their heads, as `arc` lines, sorted.
+arrows() {
+    sed -nE "s/^  \"([^\"]*)\" -> \"([^\"]*)\" \[$1(, arrowhead=odiamond)?\];$/arc \1 \2/p" out | LC_ALL=C sort
+}
+
+# boxes FILE: the items on each workqueue of a drawing, or of a file with `wq` lines, sorted.
+boxes() {
+    tr -d '";' <"$1" | awk '
+        /^wq / { for (at = 3; at <= NF; at++) print $2, $at }
+        /^  subgraph / { lane = $4 }
+        /^ +[^ ]+$/ && $1 != "}" { print lane, $1 }' | LC_ALL=C sort
+}
+
+# draws NAME COUNTS DECL [ASSIGN]: counts whether the reader of drawings finds these counts in what `dot` prints. The red arrows
+# must be the flushes that `circles` prints; and where a plan is drawn, its workqueues and the bold arrows must be those of `plan`.
+draws() {
+    local name=$1 counts=$2 wanted
+    shift 2
+    run circles "$@"
+    wanted=$(grep '^arc ' out | LC_ALL=C sort)
+    run dot "$@"
+    is "$name: dot" 0 "$status"
+    is "$name: what is drawn" "$counts" "$(python3 -B "$reader" out | sed 's/^out: //')"
+    is "$name: the red arrows" "$wanted" "$(arrows color=red)"
+    cp out drawing
+    if [ $# -eq 1 ] && [ "${counts%% *}" = plan ]; then
+        run plan "$1"
+        cp out drawn.plan
+        is "$name: the boxes" "$(boxes drawn.plan)" "$(boxes drawing)"
+        cp drawing out
+        is "$name: the bold arrows" "$(grep '^arc ' drawn.plan | LC_ALL=C sort)" "$(arrows style=bold)"
+    elif [ $# -eq 2 ]; then
+        sed 's/#.*//' "$2" >drawn.assign
+        is "$name: the boxes" "$(boxes drawn.assign)" "$(boxes drawing)"
+    fi
+}
+
+# Each wait names its kind and its place in the kernel's sources.
+for file in *.wq; do
+    is "$file: each flush has a kind, a file, a line and a function" '' \
+        "$(grep '^flush' "$file" | grep -vE '# (flush|flushwq|done|cancel) [a-z0-9/_-]+\.c:[0-9].* [a-z_]+')"
+    is "$file: the waits for whole workqueues are the \`flushwq\` lines" \
+        "$(grep -n '^flushwq ' "$file")" "$(grep -n '# flushwq ' "$file")"
+done
+
+# dm-snapshot: six workqueues, safe; with one kcopyd for all it hangs.
+counts dm-snapshot 6 3 6 6
+answers dm-snapshot 'plan 3' do_work.merging do_work.other do_metadata.other
+without_cancel dm-snapshot 3
+plan_is_least dm-snapshot
+run deadlock dm-snapshot.wq dm-snapshot.assign
+ends 'dm-snapshot: the kernel' 0 safe
+hangs 'dm-snapshot: one kcopyd' dm-snapshot.wq dm-snapshot.merged.assign 14
+draws dm-snapshot 'plan 3: items 6, workqueues 3, arrows 3, red 0, bold 2' dm-snapshot.wq
+draws 'dm-snapshot: the kernel' 'safe: items 6, workqueues 6, arrows 3, red 0, bold 0' dm-snapshot.wq dm-snapshot.assign
+draws 'dm-snapshot: one kcopyd' 'components 1: items 6, workqueues 3, arrows 3, red 1, bold 0' \
+    dm-snapshot.wq dm-snapshot.merged.assign
+
+# dm-integrity: six workqueues, safe; without dm-integrity-offload it hangs.
+counts dm-integrity 8 13 8 6
+answers dm-integrity 'plan 3' integrity_bio_wait.offload integrity_writer integrity_metadata
+without_cancel dm-integrity 3
+plan_is_least dm-integrity
+run deadlock dm-integrity.wq dm-integrity.assign
+ends 'dm-integrity: the kernel' 0 safe
+hangs 'dm-integrity: without dm-integrity-offload' dm-integrity.wq dm-integrity.merged.assign 20
+draws dm-integrity 'plan 3: items 8, workqueues 3, arrows 13, red 0, bold 2' dm-integrity.wq
+
+# nvmet-tcp: a circle, so that every assignment hangs: the kernel's, one workqueue for all, and one for each item. The
+# last is the one whose run stands behind the circle.
+counts nvmet-tcp 10 9 10 4
+answers nvmet-tcp 'circle 2' nvmet_tcp_io_work nvmet_tcp_release_queue_work nvmet_tcp_io_work
+without_cancel nvmet-tcp 3
+hangs 'nvmet-tcp: the kernel' nvmet-tcp.wq nvmet-tcp.assign
+hangs 'nvmet-tcp: the kernel, without cancel' nvmet-tcp.nocancel.wq nvmet-tcp.assign
+awk '$1 == "item" { all = all " " $2 } END { print "wq 0" all }' nvmet-tcp.wq >one.assign
+hangs 'nvmet-tcp: one workqueue' nvmet-tcp.wq one.assign
+awk '$1 == "item" { print "wq", lanes++, $2 }' nvmet-tcp.wq >own.assign
+hangs 'nvmet-tcp: a workqueue for each item' nvmet-tcp.wq own.assign
+is 'nvmet-tcp: the run behind the circle' "$(cat hangs.run)" "$(sed -n '/^run/,$p' nvmet-tcp.answer)"
+draws nvmet-tcp 'components 1: items 10, workqueues 10, arrows 9, red 2, bold 0' nvmet-tcp.wq
+
+# nvme-auth: two workqueues, of which one hangs; three are enough, and a later kernel has them.
+counts nvme-auth 4 4 4 2
+answers nvme-auth 'plan 3' dhchap_auth_work auth_work io_work
+without_cancel nvme-auth 3
+plan_is_least nvme-auth
+hangs 'nvme-auth: the kernel' nvme-auth.wq nvme-auth.assign 8
+run deadlock nvme-auth.wq nvme-auth.later.assign
+ends 'nvme-auth: a later kernel' 0 safe
+draws nvme-auth 'plan 3: items 4, workqueues 3, arrows 4, red 0, bold 2' nvme-auth.wq
+draws 'nvme-auth: the kernel' 'components 1: items 4, workqueues 2, arrows 4, red 2, bold 0' nvme-auth.wq nvme-auth.assign
+draws 'nvme-auth: a later kernel' 'safe: items 4, workqueues 3, arrows 4, red 0, bold 0' nvme-auth.wq nvme-auth.later.assign
+
+# md: one workqueue for all arrays, which hangs where an array has arrays for disks; one for each array doesn't. The kernel's own
+# order of the first hang is a run too, and stuck as soon as the upper array waits.
+counts md 4 4 4 1
+answers md 'plan 2' submit.upper submit.lower
+without_cancel md 2
+plan_is_least md
+hangs 'md: the kernel' md.wq md.assign 6
+printf '%s\n' 'run 7' 'queue submit.lower' 'queue submit.upper' 'start 0 submit.lower' 'finish 0 submit.lower' \
+    'start 0 submit.upper' 'queue data.lower' 'wait 0 data.lower' >md.run
+run replay md.wq md.assign md.run
+ends "md: the kernel's order" 1 stuck
+sed '1s/.*/run 6/; $d' md.run >shorter.run
+run replay md.wq md.assign shorter.run
+ends "md: the kernel's order, before the upper array waits" 0 open
+run deadlock md.wq md.perarray.assign
+ends 'md: a workqueue for each array' 0 safe
+draws md 'plan 2: items 4, workqueues 2, arrows 4, red 0, bold 1' md.wq
+draws 'md: the kernel' 'components 1: items 4, workqueues 1, arrows 4, red 4, bold 0' md.wq md.assign
+
+# rbd: two ordered groups, five workqueues, safe.
+counts rbd 11 19 6 5
+answers rbd 'plan 3' rbd_acquire_lock do_watch_notify ceph_con_workfn
+without_cancel rbd 3
+plan_is_least rbd
+run deadlock rbd.wq rbd.assign
+ends 'rbd: the kernel' 0 safe
+draws rbd 'plan 3: items 11, workqueues 3, arrows 19, red 0, bold 2' rbd.wq
+draws 'rbd: the kernel' 'safe: items 11, workqueues 5, arrows 19, red 0, bold 0' rbd.wq rbd.assign
+
+# xfs: eleven workqueues, safe; five are enough, and four without the two that have no rescuer.
+counts xfs 12 18 12 11
+answers xfs 'plan 5' xfs_flush_inodes_worker wb_workfn xfs_btree_split_worker xlog_cil_push_work xlog_ioend_work
+without_cancel xfs 5
+plan_is_least xfs
+run deadlock xfs.wq xfs.assign
+ends 'xfs: the kernel' 0 safe
+draws xfs 'plan 5: items 12, workqueues 5, arrows 18, red 0, bold 4' xfs.wq
+grep -vE '^[^#]*(xfs_flush_inodes_worker|xfs_log_worker|xlog_discard_endio_work)' xfs.wq >xfs.rescuers.wq
+run plan xfs.rescuers.wq
+begins 'xfs: plan, without xfs-sync and xfsdiscard' 0 'plan 4'
+
+# The tests of want of memory have the largest declaration and its workqueues, byte for byte.
+cases=$(<"$root/crates/test_cases/src/largest.rt")
+largest=$(basename -- "$(ls -S -- "$examples"/*.wq | head -n 1)" .wq)
+for file in "$largest.wq" "$largest.assign"; do
+    [[ $cases == *"$(<"$examples/$file")"* ]] && found=yes || found=no
+    is "$file in test_cases" yes "$found"
+done
+
+counts_of examples

@@ -1,0 +1,652 @@
+#!/usr/bin/env bash
+# Runs the program as a user would, and compares what it writes and its exit status with docs/FORMAT.md.
+# Run it once the gate or `rt run` has built the program. The argument, if there is one, names another program.
+set -u
+. "$(dirname "$0")/../lib/script.bash"
+root=$(realpath -- "$(dirname "$0")/../..")
+program=$(realpath -m -- "${1:-$root/crates/wqplan/out/wqplan}")
+built program wqplan "$program"
+stored=$root/crates/wqplan
+rule=$root/tests/lib/standard_error.py
+typed=$root/tests/lib/typed.py
+
+work=$(mktemp -d)
+trap 'rm -rf -- "$work"' EXIT
+cd -- "$work" || exit 1
+
+# run ARGS..: runs the program on the standard input that it is given, and keeps its words, what it writes and its status.
+run() {
+    given=("$@")
+    limited "$program" "$@" >out 2>err
+    status=$?
+}
+
+# holds FILE TEXT: whether the file has just this text, as printf spells it. `some` stands for any text but none.
+holds() {
+    if [ "$2" = some ]; then
+        [ -s "$1" ]
+    else
+        printf "$2" | cmp -s - "$1"
+    fi
+}
+
+# says ERR: whether standard error has this text. `of N` is the diagnosis that belongs to standard output, of the file that is
+# the Nth word behind the command, or of standard input where N is 0.
+says() {
+    local files=('<stdin>' "${given[@]:1}")
+    case $1 in
+        'of '*) python3 -B "$rule" out err "${files[${1#of }]}" ;;
+        *) holds err "$1" ;;
+    esac
+}
+
+# unread ARG..: what standard error has where one of these files can't be read: the first that is missing, or else the first folder. All
+# are opened before one is read. A folder can be opened.
+unread() {
+    local file
+    for file in missing ''; do
+        for arg in "$@"; do
+            [ "$arg" = "$file" ] && printf '%s' "wqplan: $file: no such file\\nfault read\\n" && return
+        done
+    done
+    printf '%s' 'wqplan: folder: is a directory\nfault read\n'
+}
+
+# check NAME STATUS OUT ERR: counts whether the last run ended so.
+check() {
+    if [ "$status" -eq "$2" ] && holds out "$3" && says "$4"; then
+        ok "$1"
+    else
+        fail "$1: status $status, standard output '$(head -c 200 out)', standard error '$(head -c 200 err)'"
+    fi
+}
+
+# The largest texts that are read, and texts of one byte more.
+yes '' | head -c 1048576 >largest
+yes '' | head -c 1048577 >too_large
+yes '' | head -c 8388608 >largest_certificate
+yes '' | head -c 8388609 >too_large_certificate
+
+# What is said of a declaration without an item, behind the name of its file.
+no_item=': note: no item is declared: is this the right file?\n'
+
+plan='plan 2\nwq 0 b\nwq 1 a\nchain 2\narc a b\n'
+printf 'item a\nitem b\nflush a b\n' >declaration
+printf 'item a # x\r\n\titem\tb\r\n\r\n# \377\r\nflush a b' >carriage_returns
+printf 'item a\nitem b\nitem c\nitem d\nordered b c\nflush a b\nflush c d\n' >ordered
+printf 'item a\nitem b\nitem c\nflushwq a b\nflush c a\n' >whole
+printf 'item a\nflush a a\n' >circle
+printf 'item a\nitem b\nordered a b\nflush a b\n' >ordered_circle
+printf 'item a\nflush a b\nitem b\n' >refused
+printf 'item a\nitem b\nordered a b\nordered b\n' >grouped_twice
+mkdir folder
+
+# Answers.
+run plan <"$stored/stdin"
+check 'the stored run: a plan' 0 "$(cat "$stored/stdout")\n" ''
+run plan <declaration
+check 'a plan, from standard input' 0 "$plan" ''
+run plan declaration </dev/null
+check 'a plan, from FILE' 0 "$plan" ''
+run plan -- declaration </dev/null
+check 'a plan, from FILE behind --' 0 "$plan" ''
+run plan < <(cat declaration)
+check 'a plan, from a pipe' 0 "$plan" ''
+run plan < <(printf 'item a\nit'; sleep 0.2; printf 'em b\nflush a b\n')
+check 'a plan, from a pipe that pauses' 0 "$plan" ''
+run plan </dev/null
+check 'no byte at all' 0 'plan 0\nchain 0\n' "<stdin>$no_item"
+run plan carriage_returns </dev/null
+check 'a plan of lines that end with CR LF, with comments' 0 "$plan" ''
+run plan ordered </dev/null
+check 'a plan with an ordered group' 0 'plan 3\nwq 0 d\nwq 1 b c\nwq 2 a\nchain 3\narc a b\narc c d\n' ''
+run plan whole </dev/null
+check 'a plan with a wait for a whole workqueue' 0 \
+    'plan 3\nwq 0 b\nwq 1 a\nwq 2 c\nchain 3\narc c a\narc a b\n' ''
+run plan circle </dev/null
+check 'a circle and its run' 1 'circle 1\narc a a\nrun 3\nqueue a\nstart 0 a\nwait 0 a\n' ''
+run plan ordered_circle </dev/null
+check 'a circle within an ordered group' 1 'circle 1\narc a b\nrun 4\nqueue a\nqueue b\nstart 0 a\nwait 0 b\n' ''
+run plan refused </dev/null
+check 'a refusal' 2 'refused 8 line 2\n' 'of 1'
+run plan grouped_twice </dev/null
+check 'a refusal of an item on two ordered lines' 2 'refused 11 line 4\n' 'of 1'
+
+# The checker.
+printf 'item a\nitem b\nitem c\nitem d\nflush a b\nflush b c\n' >three
+: >empty
+printf "$plan" >plan_of_two
+printf 'plan 3\nwq 0 b\nwq 1\nwq 2 a\nchain 2\narc a b\n' >not_least
+printf 'plan 1\nwq 0 a b\nchain 1\n' >one_workqueue
+printf 'plan 2\nwq 0 b\nwq 1 a\nchain 2\n' >cut_off
+printf 'circle 1\narc a b\n' >no_circle
+printf 'plan 3\nwq 0 c d\nwq 1 b\nwq 2 a\nchain 3\narc a b\narc a b\n' >broken_chain
+printf 'plan 1\nwq 0\nchain 1\n' >chain_of_nothing
+printf 'circle 1\narc a a\nrun 3\nqueue a\nstart 0 a\nwait 0 a\n' >circle_with_run
+printf 'circle 1\narc a a\nrun 2\nqueue a\nstart 0 a\n' >circle_with_open_run
+run check declaration plan_of_two </dev/null
+check 'check: the plan that is printed' 0 'yes 2\n' ''
+run check -- declaration plan_of_two </dev/null
+check 'check: two files behind --' 0 'yes 2\n' ''
+run check <(cat declaration) <(cat plan_of_two) </dev/null
+check 'check: two pipes' 0 'yes 2\n' ''
+run check declaration not_least </dev/null
+check 'check: a plan with a workqueue too many' 1 'no 52\n' 'of 2'
+run check declaration one_workqueue </dev/null
+check 'check: a flush within a workqueue' 1 'no 50 a b\n' 'of 2'
+run check declaration cut_off </dev/null
+check 'check: a plan without its last line' 2 'refused 40 line 0\n' 'of 2'
+run check declaration no_circle </dev/null
+check 'check: a circle that is none' 1 'no 53 1\n' 'of 2'
+run check three broken_chain </dev/null
+check 'check: a chain that breaks at its second arc' 1 'no 51 2\n' 'of 2'
+run check empty chain_of_nothing </dev/null
+check 'check: a chain of one group where there is none' 1 'no 51 0\n' 'of 2'
+run check circle circle_with_run </dev/null
+check 'check: a circle with its run' 0 'yes circle 1\n' ''
+run check circle circle_with_open_run </dev/null
+check 'check: a circle with a run that is not stuck' 1 'no 54\n' 'of 2'
+
+# Assignments.
+hangs='run 7\nqueue a\nqueue b\nqueue c\nstart 0 a\nwait 0 b\nstart 1 b\nwait 1 c\n'
+printf 'item a\nitem b\nitem c\nflush a b\nflush b c\n' >chain
+printf 'wq 0 a c\nwq 1 b\n' >lanes
+printf 'plan 2\nwq 0 a c\nwq 1 b\nchain 0\n' >lanes_of_a_plan
+printf 'wq 0 c\nwq 1 b\nwq 2 a\n' >safe_lanes
+run deadlock chain lanes </dev/null
+check 'deadlock: a run that deadlocks' 1 "$hangs" ''
+printf 'wq 0 a\nwq 1 b c\n' >whole_lanes
+run deadlock whole whole_lanes </dev/null
+check 'deadlock: a wait for a whole workqueue' 1 \
+    'run 7\nqueue a\nqueue c\nqueue b\nstart 0 a\nwaitwq 0 b\nstart 1 c\nwait 1 a\n' ''
+run deadlock chain safe_lanes </dev/null
+check 'deadlock: a safe assignment' 0 'safe\n' ''
+run deadlock declaration plan_of_two </dev/null
+check 'deadlock: the plan that is printed' 0 'safe\n' ''
+run deadlock chain lanes_of_a_plan </dev/null
+check 'deadlock: a plan text as an assignment' 1 "$hangs" ''
+run deadlock -- chain lanes </dev/null
+check 'deadlock: two files behind --' 1 "$hangs" ''
+run deadlock <(cat chain) <(cat lanes) </dev/null
+check 'deadlock: two pipes' 1 "$hangs" ''
+
+# All flushes on circles at once.
+components='components 1\ncomponent 2\narc a b\narc b c\n'
+run circles chain lanes </dev/null
+check 'circles: the flushes on circles' 1 "$components" ''
+run circles chain safe_lanes </dev/null
+check 'circles: a safe assignment' 0 'safe\n' ''
+run circles chain lanes_of_a_plan </dev/null
+check 'circles: a plan text as an assignment' 1 "$components" ''
+run circles chain </dev/null
+check 'circles: a declaration that has a plan' 0 'safe\n' ''
+run circles circle </dev/null
+check 'circles: a declaration that has none' 1 'components 1\ncomponent 1\narc a a\n' ''
+run circles empty </dev/null
+check 'circles: no byte at all' 0 'safe\n' "empty$no_item"
+run circles -- chain lanes </dev/null
+check 'circles: two files behind --' 1 "$components" ''
+run circles <(cat chain) <(cat lanes) </dev/null
+check 'circles: two pipes' 1 "$components" ''
+run circles <(cat circle) </dev/null
+check 'circles: a pipe' 1 'components 1\ncomponent 1\narc a a\n' ''
+
+# Drawings. What is drawn has status 0, also where it is a circle.
+
+# drawing TITLE LINE..: a drawing with these lines between its head and its end.
+drawing() {
+    local title=$1
+    shift
+    echo 'digraph wqplan {'
+    echo "  graph [label=\"$title\", labelloc=t, labeljust=l, rankdir=LR, nodesep=0.15, ranksep=1, fontname=\"sans-serif\"];"
+    echo '  node [shape=box, style=filled, fillcolor=white, height=0.3, fontname="sans-serif", fontsize=12];'
+    echo '  edge [arrowsize=0.7];'
+    [ $# -eq 0 ] || printf '  %s\n' "$@"
+    echo '}'
+}
+
+# box NUMBER ITEM..: the lines of a workqueue with these items, to be put behind two spaces.
+box() {
+    echo "subgraph \"cluster wq $1\" {"
+    echo "    graph [label=\"wq $1\", style=filled, color=gray92];"
+    printf '    "%s";\n' "${@:2}"
+    echo '  }'
+}
+
+drawn_plan="$(drawing 'plan 3' "$(box 0 c)" "$(box 1 b)" "$(box 2 a)" '"a" -> "b" [style=bold];' '"b" -> "c" [style=bold];')\n"
+drawn_safe="$(drawing safe "$(box 0 c)" "$(box 1 b)" "$(box 2 a)" '"a" -> "b";' '"b" -> "c";')\n"
+drawn_circle="$(drawing 'components 1' "$(box 0 a c)" "$(box 1 b)" '"a" -> "b" [color=red];' '"b" -> "c" [color=red];')\n"
+drawn_loop="$(drawing 'components 1' "$(box 0 a)" '"a" -> "a" [color=red];')\n"
+run dot chain </dev/null
+check 'dot: a plan' 0 "$drawn_plan" ''
+run dot circle </dev/null
+check 'dot: a declaration that has no plan' 0 "$drawn_loop" ''
+run dot empty </dev/null
+check 'dot: no byte at all' 0 "$(drawing 'plan 0')\n" "empty$no_item"
+run dot chain lanes </dev/null
+check 'dot: the flushes on circles' 0 "$drawn_circle" ''
+run dot chain safe_lanes </dev/null
+check 'dot: a safe assignment' 0 "$drawn_safe" ''
+run dot chain lanes_of_a_plan </dev/null
+check 'dot: a plan text as an assignment' 0 "$drawn_circle" ''
+run dot -- chain lanes </dev/null
+check 'dot: two files behind --' 0 "$drawn_circle" ''
+run dot <(cat chain) <(cat lanes) </dev/null
+check 'dot: two pipes' 0 "$drawn_circle" ''
+run dot <(cat chain) </dev/null
+check 'dot: a pipe' 0 "$drawn_plan" ''
+
+# Replays.
+printf "$hangs" >deadlock
+printf 'run 6\nqueue a\nqueue b\nqueue c\nstart 0 a\nwait 0 b\nstart 1 b\n' >open
+printf 'run 1\nstart 0 a\n' >unlawful
+printf 'run 7\nqueue a\ncancel a\nqueue a\nqueue b\nqueue c\nstart 0 a\nwait 0 b\n' >unstuck
+printf 'run 9\nqueue a\ncancel a\nqueue a\nqueue b\nqueue c\nstart 0 a\nwait 0 b\nstart 1 b\nwait 1 c\n' >stuck
+run replay chain lanes deadlock </dev/null
+check 'replay: a deadlock' 1 'deadlock\n' ''
+run replay chain lanes open </dev/null
+check 'replay: a run that can go on' 0 'open\n' ''
+run deadlock chain lanes </dev/null
+mv out printed
+run replay chain lanes printed </dev/null
+check 'replay: the run that is printed' 1 'deadlock\n' ''
+run replay chain lanes unlawful </dev/null
+check 'replay: a step that is not lawful' 1 'not lawful 1\n' 'of 3'
+run replay chain lanes unstuck </dev/null
+check 'replay: a run with a cancelled item that can go on' 0 'open\n' ''
+run replay chain lanes stuck </dev/null
+check 'replay: a run with a cancelled item that is stuck' 1 'stuck\n' ''
+run replay <(cat chain) <(cat lanes) <(cat deadlock) </dev/null
+check 'replay: three pipes' 1 'deadlock\n' ''
+
+# Plans that are run.
+ran='workqueues 2\nitem a wq 1 queued 1 cancelled 0 finished 1\nitem b wq 0 queued 1 cancelled 0 finished 1\nfaults 0\n'
+ran_whole=$(
+    echo workqueues 3
+    printf 'item %s queued 1 cancelled 0 finished 1\n' 'a wq 1' 'b wq 0' 'c wq 2'
+    echo faults 0
+)
+
+# chain_of COUNT: so many items, each of which flushes the next one.
+chain_of() {
+    seq -f 'item i%g' "$1"
+    seq "$(($1 - 1))" | awk '{ print "flush i" $1, "i" $1 + 1 }'
+}
+
+chain_of 256 >chain256
+chain_of 257 >chain257
+ran256=$(
+    echo workqueues 256
+    seq 256 | awk '{ print "item i" $1, "wq", 256 - $1, "queued 1 cancelled 0 finished 1" }'
+    echo faults 0
+)
+run run declaration </dev/null
+check 'run: two workqueues' 0 "$ran" ''
+run run -- declaration </dev/null
+check 'run: a file behind --' 0 "$ran" ''
+run run <(cat declaration) </dev/null
+check 'run: a pipe' 0 "$ran" ''
+run run empty </dev/null
+check 'run: no item' 0 'workqueues 0\nfaults 0\n' "empty$no_item"
+run run chain256 </dev/null
+check 'run: 256 workqueues' 0 "$ran256\n" ''
+run run chain257 </dev/null
+check 'run: 257 workqueues' 2 'refused 69 line 0\n' 'of 1'
+run run whole </dev/null
+check 'run: a wait for a whole workqueue' 0 "$ran_whole\n" ''
+for helpers in {0..8} 00 +3; do
+    run run declaration "$helpers" </dev/null
+    check "run: two workqueues, helpers $helpers" 0 "$ran" ''
+done
+run run -- declaration -0 </dev/null
+check 'run: helpers -0 behind --' 0 "$ran" ''
+run run chain256 8 </dev/null
+check 'run: 256 workqueues, helpers 8' 0 "$ran256\n" ''
+run run chain257 8 </dev/null
+check 'run: 257 workqueues, helpers 8' 2 'refused 69 line 0\n' 'of 1'
+run run circle 8 </dev/null
+check 'run: a circle, helpers 8' 1 'circle 1\narc a a\nrun 3\nqueue a\nstart 0 a\nwait 0 a\n' ''
+run run circle </dev/null
+check 'run: a circle and its run' 1 'circle 1\narc a a\nrun 3\nqueue a\nstart 0 a\nwait 0 a\n' ''
+run run refused </dev/null
+check 'run: a refusal' 2 'refused 8 line 2\n' 'of 1'
+run run too_large </dev/null
+check 'run: a text of 1,048,577 bytes' 2 'refused 1 line 0\n' 'of 1'
+run run largest </dev/null
+check 'run: a text of 1,048,576 bytes' 0 'workqueues 0\nfaults 0\n' "largest$no_item"
+run run <(yes 'item a' 2>/dev/null) </dev/null
+check 'run: a text without end' 2 'refused 1 line 0\n' 'of 1'
+
+# leaves ARG..: counts whether the command leaves standard input to whoever reads it next.
+leaves() {
+    { limited "$program" "$@" >/dev/null 2>&1; cat; } <<<'the rest' >out
+    status=$?
+    : >err
+    check "standard input is left: $*" 0 'the rest\n' ''
+}
+leaves plan declaration
+leaves check declaration plan_of_two
+leaves deadlock chain lanes
+leaves replay chain lanes open
+leaves circles chain
+leaves circles chain lanes
+leaves dot chain
+leaves dot chain lanes
+leaves run declaration
+leaves explain safe
+leaves explain
+leaves plan missing
+
+# bounded LIMIT ARG..: counts whether the command takes one byte more than LIMIT of the text that it has as /dev/stdin, or, where no file
+# is named, as standard input, and leaves what follows.
+bounded() {
+    local limit=$1
+    shift
+    { yes '' | head -c "$((limit + 1))"; echo 'the rest'; } | { limited "$program" "$@" >/dev/null 2>&1; cat; } >out
+    status=$?
+    : >err
+    check "no more than a byte past the limit is read: $*" 0 'the rest\n' ''
+}
+bounded 1048576 plan
+bounded 1048576 plan /dev/stdin
+bounded 1048576 check /dev/stdin plan_of_two
+bounded 8388608 check declaration /dev/stdin
+bounded 1048576 deadlock /dev/stdin lanes
+bounded 8388608 deadlock chain /dev/stdin
+bounded 1048576 replay /dev/stdin lanes open
+bounded 8388608 replay chain /dev/stdin open
+bounded 8388608 replay chain lanes /dev/stdin
+bounded 1048576 circles /dev/stdin
+bounded 1048576 circles /dev/stdin lanes
+bounded 8388608 circles chain /dev/stdin
+bounded 1048576 dot /dev/stdin
+bounded 1048576 dot /dev/stdin lanes
+bounded 8388608 dot chain /dev/stdin
+bounded 1048576 run /dev/stdin
+
+# ends TEXT OUT ARG..: counts whether the command answers where TEXT is typed at its standard input, and then one end of the input.
+ends() {
+    local text=$1 wanted=$2
+    shift 2
+    limited python3 -B "$typed" "$text" "$program" "$@" >out 2>err
+    status=$?
+    check "one end of the input is enough: $*" 0 "$wanted" ''
+}
+ends 'item a\nitem b\nflush a b\n' "$plan" plan
+ends 'item a\nitem b\nflush a b\n' "$plan" plan /dev/stdin
+ends "$plan" 'yes 2\n' check declaration /dev/stdin
+ends "$plan" 'safe\n' deadlock declaration /dev/stdin
+ends 'run 1\nqueue a\n' 'open\n' replay chain lanes /dev/stdin
+ends 'item a\n' 'safe\n' circles /dev/stdin
+ends 'item a\n' 'workqueues 1\nitem a wq 0 queued 1 cancelled 0 finished 1\nfaults 0\n' run /dev/stdin
+
+# The same each time, whatever the threads do: the first run that differs is looked at, or the last one.
+ran3=$(printf 'item %s queued 1 cancelled 0 finished 1\\n' 'a wq 2' 'b wq 1' 'c wq 0')
+for _ in $(seq 50); do
+    run run chain </dev/null
+    [ "$status" -eq 0 ] && holds out "workqueues 3\n${ran3}faults 0\n" || break
+done
+check 'run: a chain of three, 50 times' 0 "workqueues 3\n${ran3}faults 0\n" ''
+
+# Threads that can't be made: there is room for some of them. Those that were made end, and so does the program.
+(ulimit -v 131072 && limited "$program" run chain256) </dev/null >out 2>err
+status=$?
+check 'run: not as many threads as workqueues' 3 '' 'fault thread\n'
+
+# Files are opened in the order of the arguments, all of them before one is read, and none behind one that can't be
+# opened. A pipe with a name is open only once both its ends are, so in any other order each side waits for the other.
+mkfifo first second third
+
+# feed FILE..: opens as many of the pipes in turn, and then writes these files to them.
+feed() {
+    exec 3>first 4>second
+    [ $# -lt 3 ] || exec 5>third
+    cat -- "$1" >&3
+    cat -- "$2" >&4
+    [ $# -lt 3 ] || cat -- "$3" >&5
+}
+
+# run_fed COMMAND FILE..: runs a command over the pipes, which are fed with these files.
+run_fed() {
+    local pipes=(first second third)
+    feed "${@:2}" &
+    run "$1" "${pipes[@]:0:$#-1}" </dev/null
+    kill "$!" 2>/dev/null
+    wait "$!" 2>/dev/null
+}
+
+usual=$seconds seconds=20
+run_fed check declaration plan_of_two
+check 'check: two pipes that are opened in turn' 0 'yes 2\n' ''
+run_fed deadlock chain lanes
+check 'deadlock: two pipes that are opened in turn' 1 "$hangs" ''
+run_fed circles chain lanes
+check 'circles: two pipes that are opened in turn' 1 "$components" ''
+run_fed dot chain lanes
+check 'dot: two pipes that are opened in turn' 0 "$drawn_circle" ''
+run_fed replay chain lanes deadlock
+check 'replay: three pipes that are opened in turn' 1 'deadlock\n' ''
+for words in 'check missing second' 'deadlock missing second' 'circles missing second' 'dot missing second' \
+    'replay missing second third' 'replay chain missing third'; do
+    # Each word is an argument of its own.
+    run $words </dev/null
+    check "$words: a pipe behind a FILE that is missing" 3 '' 'wqplan: missing: no such file\nfault read\n'
+done
+seconds=$usual
+
+# Refusals come in the order of the arguments, each text as a whole before the next one.
+printf 'wq 0 a b\nwq 1\n' >without_c
+run check refused too_large_certificate </dev/null
+check 'check: a wrong declaration beside a certificate that is too long' 2 'refused 8 line 2\n' 'of 1'
+run check too_large too_large_certificate </dev/null
+check 'check: two texts that are too long' 2 'refused 1 line 0\n' 'of 1'
+run check declaration too_large_certificate </dev/null
+check 'check: a certificate of 8,388,609 bytes' 2 'refused 40 line 0\n' 'of 2'
+run check declaration <(cat plan_of_two largest_certificate | head -c 8388608) </dev/null
+check 'check: a certificate of 8,388,608 bytes' 0 'yes 2\n' ''
+run check declaration <(yes '' 2>/dev/null) </dev/null
+check 'check: a certificate without end' 2 'refused 40 line 0\n' 'of 2'
+run deadlock refused too_large_certificate </dev/null
+check 'deadlock: a wrong declaration beside an assignment that is too long' 2 'refused 8 line 2\n' 'of 1'
+run deadlock too_large too_large_certificate </dev/null
+check 'deadlock: two texts that are too long' 2 'refused 1 line 0\n' 'of 1'
+run deadlock chain too_large_certificate </dev/null
+check 'deadlock: an assignment of 8,388,609 bytes' 2 'refused 40 line 0\n' 'of 2'
+run deadlock chain <(cat safe_lanes largest_certificate | head -c 8388608) </dev/null
+check 'deadlock: an assignment of 8,388,608 bytes' 0 'safe\n' ''
+run deadlock chain <(yes '' 2>/dev/null) </dev/null
+check 'deadlock: an assignment without end' 2 'refused 40 line 0\n' 'of 2'
+run deadlock chain without_c </dev/null
+check 'deadlock: an assignment without an item' 2 'refused 41 line 0\n' 'of 2'
+run circles refused too_large_certificate </dev/null
+check 'circles: a wrong declaration beside an assignment that is too long' 2 'refused 8 line 2\n' 'of 1'
+run circles chain too_large_certificate </dev/null
+check 'circles: an assignment of 8,388,609 bytes' 2 'refused 40 line 0\n' 'of 2'
+run circles chain <(cat safe_lanes largest_certificate | head -c 8388608) </dev/null
+check 'circles: an assignment of 8,388,608 bytes' 0 'safe\n' ''
+run circles chain without_c </dev/null
+check 'circles: an assignment without an item' 2 'refused 41 line 0\n' 'of 2'
+run circles refused </dev/null
+check 'circles: a refusal, without ASSIGN' 2 'refused 8 line 2\n' 'of 1'
+run circles too_large </dev/null
+check 'circles: a text of 1,048,577 bytes' 2 'refused 1 line 0\n' 'of 1'
+run dot refused too_large_certificate </dev/null
+check 'dot: a wrong declaration beside an assignment that is too long' 2 'refused 8 line 2\n' 'of 1'
+run dot chain too_large_certificate </dev/null
+check 'dot: an assignment of 8,388,609 bytes' 2 'refused 40 line 0\n' 'of 2'
+run dot chain <(cat safe_lanes largest_certificate | head -c 8388608) </dev/null
+check 'dot: an assignment of 8,388,608 bytes' 0 "$drawn_safe" ''
+run dot chain without_c </dev/null
+check 'dot: an assignment without an item' 2 'refused 41 line 0\n' 'of 2'
+run dot refused </dev/null
+check 'dot: a refusal, without ASSIGN' 2 'refused 8 line 2\n' 'of 1'
+run dot too_large </dev/null
+check 'dot: a text of 1,048,577 bytes' 2 'refused 1 line 0\n' 'of 1'
+run dot largest </dev/null
+check 'dot: a text of 1,048,576 bytes' 0 "$(drawing 'plan 0')\n" "largest$no_item"
+run replay refused without_c unlawful </dev/null
+check 'replay: a wrong declaration before a wrong assignment' 2 'refused 8 line 2\n' 'of 1'
+run replay chain without_c too_large_certificate </dev/null
+check 'replay: a wrong assignment before a run that is too long' 2 'refused 41 line 0\n' 'of 2'
+run replay chain too_large_certificate unlawful </dev/null
+check 'replay: an assignment that is too long' 2 'refused 40 line 0\n' 'of 2'
+run replay chain lanes too_large_certificate </dev/null
+check 'replay: a run that is too long' 2 'refused 40 line 0\n' 'of 3'
+run replay chain lanes <(printf 'run 1\n\nstart 4096 a\n') </dev/null
+check 'replay: a run with a workqueue that none can be' 2 'refused 43 line 3\n' 'of 3'
+
+# Limits: 1,048,576 bytes are read as a declaration, and one byte more is refused.
+run plan largest </dev/null
+check 'a text of 1,048,576 bytes' 0 'plan 0\nchain 0\n' "largest$no_item"
+run plan too_large </dev/null
+check 'a text of 1,048,577 bytes' 2 'refused 1 line 0\n' 'of 1'
+run plan < <(yes 'item a' 2>/dev/null)
+check 'a text without end' 2 'refused 1 line 0\n' 'of 0'
+
+# Faults of the system.
+run plan missing </dev/null
+check 'a FILE that is missing' 3 '' 'wqplan: missing: no such file\nfault read\n'
+run plan $'mis\tsi\ang\303\251' </dev/null
+check 'a FILE that is missing, with bytes that are not printable' 3 '' 'wqplan: mis si?ng??: no such file\nfault read\n'
+run plan declaration/missing </dev/null
+check 'a FILE in a file' 3 '' "wqplan: declaration/missing: a part of the path isn't a directory\nfault read\n"
+run plan "$(head -c 300 /dev/zero | tr '\0' x)" </dev/null
+check 'a FILE with a name of 300 bytes' 3 '' "wqplan: $(head -c 300 /dev/zero | tr '\0' x): the name is too long\nfault read\n"
+run plan - </dev/null
+check 'plan -' 3 '' 'wqplan: -: no such file (leave FILE out to read standard input)\nfault read\n'
+for words in 'check - plan_of_two' 'check declaration -' 'deadlock - lanes' 'replay chain lanes -' 'circles -' 'dot -' 'run -'; do
+    # Each word is an argument of its own.
+    run $words </dev/null
+    check "$words" 3 '' 'wqplan: -: no such file (only `plan` reads standard input; /dev/stdin names it)\nfault read\n'
+done
+run plan folder </dev/null
+check 'a FILE that is a folder' 3 '' 'wqplan: folder: is a directory\nfault read\n'
+run plan '' </dev/null
+check 'a FILE with an empty name' 3 '' 'wqplan: : no such file\nfault read\n'
+run plan <folder
+check 'standard input that is a folder' 3 '' 'wqplan: <stdin>: is a directory\nfault read\n'
+run plan <&-
+check 'standard input that is closed' 3 '' "wqplan: <stdin>: can't be read\nfault read\n"
+limited "$program" plan declaration </dev/null >/dev/full 2>err
+status=$?
+: >out
+check 'standard output that is full' 3 '' 'fault write\n'
+limited "$program" plan declaration </dev/null >&- 2>err
+status=$?
+check 'standard output that is closed' 3 '' 'fault write\n'
+for files in 'missing plan_of_two' 'declaration missing' 'folder plan_of_two' 'declaration folder' 'refused missing'; do
+    # Each word is an argument of its own.
+    run check $files </dev/null
+    check "check $files" 3 '' "$(unread $files)"
+done
+for files in 'missing lanes' 'chain missing' 'folder lanes' 'chain folder' 'refused missing'; do
+    run deadlock $files </dev/null
+    check "deadlock $files" 3 '' "$(unread $files)"
+    run circles $files </dev/null
+    check "circles $files" 3 '' "$(unread $files)"
+    run dot $files </dev/null
+    check "dot $files" 3 '' "$(unread $files)"
+done
+for files in 'missing lanes deadlock' 'chain missing deadlock' 'chain lanes missing' 'refused lanes folder'; do
+    run replay $files </dev/null
+    check "replay $files" 3 '' "$(unread $files)"
+done
+for files in missing folder ''; do
+    run run "$files" </dev/null
+    check "run '$files'" 3 '' "$(unread "$files")"
+    run circles "$files" </dev/null
+    check "circles '$files'" 3 '' "$(unread "$files")"
+    run dot "$files" </dev/null
+    check "dot '$files'" 3 '' "$(unread "$files")"
+done
+# Of a refusal or a `no` that can't be written there is no diagnosis.
+for words in 'plan circle' 'check declaration plan_of_two' 'deadlock chain lanes' 'replay chain lanes deadlock' \
+    'circles chain lanes' 'circles chain' 'circles circle' 'dot chain lanes' 'dot chain' 'dot circle' 'run declaration' \
+    'run circle' 'plan refused' 'check declaration no_circle' 'deadlock chain without_c' 'replay chain without_c unlawful' \
+    'circles refused' 'circles chain without_c' 'dot refused' 'dot chain without_c' 'run refused'; do
+    limited "$program" $words </dev/null >/dev/full 2>err
+    status=$?
+    : >out
+    check "$words, standard output that is full" 3 '' 'fault write\n'
+    limited "$program" $words </dev/null >&- 2>err
+    status=$?
+    check "$words, standard output that is closed" 3 '' 'fault write\n'
+done
+limited "$program" --help </dev/null >/dev/full 2>err
+status=$?
+check 'help on a standard output that is full' 3 '' 'fault write\n'
+
+# Command lines.
+run </dev/null
+check 'no subcommand' 2 '' some
+run plant </dev/null
+check 'an unknown subcommand' 2 '' some
+run plan declaration circle </dev/null
+check 'two FILEs' 2 '' some
+for words in 'check' 'check declaration' 'check declaration plan_of_two lanes' 'deadlock' 'deadlock chain' \
+    'deadlock chain lanes open' 'replay' 'replay chain' 'replay chain lanes' 'replay chain lanes deadlock open' \
+    'check --fast declaration plan_of_two' 'deadlock --fast chain lanes' 'circles' 'circles chain lanes open' \
+    'circles --fast chain' 'dot' 'dot chain lanes open' 'dot --fast chain' 'run' 'run declaration circle' \
+    'run --fast declaration' 'run declaration 9' 'run declaration -1' 'run declaration x' 'run declaration 2x' 'run declaration 256' \
+    'run declaration 2 3' 'run declaration 1.0' 'run -- declaration -1'; do
+    run $words </dev/null
+    check "$words" 2 '' some
+done
+run plan --fast </dev/null
+check 'an unknown option' 2 '' some
+run help plant </dev/null
+check 'help for an unknown subcommand' 2 '' some
+run plan $'\xff' </dev/null
+check 'an argument that is not UTF-8' 2 '' some
+for words in --help -h help 'help plan' 'plan --help' 'plan -h' 'help check' 'check --help' 'help deadlock' \
+    'deadlock --help' 'deadlock -h' 'help circles' 'circles -h' 'help dot' 'dot --help' 'dot -h' 'help replay' 'replay -h' \
+    'help run' 'run --help' 'run -h'; do
+    # Each word is an argument of its own.
+    run $words </dev/null
+    check "$words" 0 some ''
+done
+
+# Help fits within 80 columns, that of each command too, in each form. It is written in ASCII, so a byte is a column.
+for words in --help -h help 'help '{plan,check,deadlock,replay,circles,dot,run,explain} \
+    {plan,check,deadlock,replay,circles,dot,run,explain}' '{--help,-h}; do
+    run $words </dev/null
+    mv out help
+    LC_ALL=C grep -E '.{81}|[^ -~]' help >out
+    check "$words: 80 columns" 0 '' ''
+done
+
+# shows COMMAND ARGUMENT SUBJECTS: counts whether each form of the command's help has a line for the argument that speaks
+# of these subjects and of no other one. So it tells the argument from all others, however it is worded.
+shows() {
+    local words found
+    for words in "help $1" "$1 --help" "$1 -h"; do
+        run $words </dev/null
+        found=$(grep -E "^ +[[<]$2[]>] " out | grep -oE 'declaration|standard input|circle|workqueue|step|number' |
+            sort -u | paste -sd, -)
+        if [ "$found" = "$3" ]; then
+            ok "$words: $2"
+        else
+            fail "$words: wanted a line on $2 that speaks of $3, found '$(grep -F -- "$2" out)'"
+        fi
+    done
+}
+
+shows plan FILE 'declaration,standard input'
+shows check DECL declaration
+shows check CERT circle
+shows deadlock DECL declaration
+shows deadlock ASSIGN workqueue
+shows circles DECL declaration
+shows circles ASSIGN workqueue
+shows dot DECL declaration
+shows dot ASSIGN workqueue
+shows replay DECL declaration
+shows replay ASSIGN workqueue
+shows replay RUN step
+shows run DECL declaration
+shows run HELPERS workqueue
+shows explain CODE number
+run --version </dev/null
+check '--version' 0 'wqplan 0.2.0-dev\n' ''
+
+counts_of program

@@ -1,0 +1,187 @@
+#!/usr/bin/env bash
+# Runs every command in the fenced blocks of README.md, of docs/GUIDE.md, docs/WAITS.md and docs/RUNTIME.md, and of
+# the pages in examples/, and compares what it shows with what stands below it on the page; looks for each excerpt of
+# code on a page in crates/example_rdisk; compares the files that docs/GUIDE.md and docs/WAITS.md show with those in
+# examples/rdisk; and gives the `grep` lines of docs/GUIDE.md each name that the page says they find. Run it once the
+# gate or `rt run` has built the program and the example's program, crates/example_rdisk. The arguments, if there are
+# any, name others in their place.
+#
+# A fenced block of a page is one of these:
+# - a file: its first line is a comment that holds its name alone, as `# NAME` or `/* NAME */`. It is written as it stands.
+#   One of docs/GUIDE.md or docs/WAITS.md stands in examples/rdisk as well, just so;
+# - commands: its first line begins with `$ `. Each line that does is a command for bash, with `wqplan` and `example_rdisk` on its
+#   path and nothing to read, and the lines below it are what it writes to both streams. `$?` is the status of the command
+#   before it;
+# - an excerpt: the word behind the backticks is `rust` or `antt`. Its lines stand in a file of the guide's program
+#   (crates/example_rdisk), in src/ or proofs/, one below the other and just so;
+# - something to read, which is skipped: the word behind the backticks is `c` or `text`.
+# A page is played in a folder of its own, from top to bottom. Those in examples/ find the files of examples/ there, and README.md
+# finds the folder.
+set -u
+. "$(dirname "$0")/../lib/script.bash"
+root=$(realpath -- "$(dirname "$0")/../..")
+program=$(realpath -m -- "${1:-$root/crates/wqplan/out/wqplan}")
+driver=$(realpath -m -- "${2:-$root/crates/example_rdisk/out/example_rdisk}")
+cd -- "$root" || exit 1
+built guide wqplan "$program"
+built guide example_rdisk "$driver"
+
+work=$(mktemp -d)
+trap 'rm -rf -- "$work"' EXIT
+mkdir "$work/bin"
+ln -s -- "$program" "$work/bin/wqplan"
+ln -s -- "$driver" "$work/bin/example_rdisk"
+export PATH="$work/bin:$PATH"
+shown=()
+
+# play COMMAND WANTED: runs the command, and counts whether it shows just this. It keeps the status for the next command.
+play() {
+    limited bash -c "(exit $status)"$'\n'"$1" >"$work/shown" 2>&1 </dev/null
+    status=$?
+    if printf '%s' "$2" | cmp -s - "$work/shown"; then
+        ok "$page: $1"
+    else
+        fail "$page: $1"
+        printf '%s' "$2" | diff - "$work/shown" | head -n 20
+    fi
+}
+
+# commands LINE..: plays the commands of a block, each with the lines below it.
+commands() {
+    local line command='' wanted=''
+    for line; do
+        if [ "${line:0:2}" != '$ ' ]; then
+            wanted+=$line$'\n'
+            continue
+        fi
+        [ -z "$command" ] || play "$command" "$wanted"
+        command=${line:2} wanted=
+    done
+    play "$command" "$wanted"
+}
+
+# excerpt AT KIND LINE..: counts whether these lines stand in a file of the guide's program whose name ends in KIND.
+excerpt() {
+    local at=$1 kind=$2 file wanted
+    shift 2
+    wanted=$(printf '%s\n' "$@")
+    for file in $(find "$root"/crates/example_rdisk/{src,proofs} -name "*.$kind" | sort); do
+        if [[ $'\n'$(<"$file")$'\n' == *$'\n'"$wanted"$'\n'* ]]; then
+            ok "$page: the excerpt at line $at stands in ${file#"$root/"}"
+            return
+        fi
+    done
+    fail "$page: the excerpt at line $at stands in no .$kind file of crates/example_rdisk"
+}
+
+# kept NAME: counts whether the file that the page shows stands in examples/rdisk, just so.
+kept() {
+    shown+=("$1")
+    if cmp -s -- "$1" "$root/examples/rdisk/$1"; then
+        ok "$page: examples/rdisk/$1"
+    else
+        fail "$page: examples/rdisk/$1 isn't what the page shows"
+        diff -- "$1" "$root/examples/rdisk/$1" | head -n 20
+    fi
+}
+
+# block AT WORD LINE..: does what a block asks for, by its first line and the word behind its backticks. It begins at
+# line AT of the page.
+block() {
+    local at=$1 word=$2
+    shift 2
+    local first=${1-}
+    if [ "$word" = rust ]; then
+        excerpt "$at" rt "$@"
+    elif [ "$word" = antt ]; then
+        excerpt "$at" antt "$@"
+    elif [ "${first:0:2}" = '$ ' ]; then
+        commands "$@"
+    elif [[ $first =~ ^(#|/\*)\ ([A-Za-z0-9._-]+)(\ \*/)?$ ]]; then
+        printf '%s\n' "$@" >"${BASH_REMATCH[2]}"
+        case $page in docs/GUIDE.md | docs/WAITS.md) kept "${BASH_REMATCH[2]}" ;; esac
+    elif [ "$word" != c ] && [ "$word" != text ]; then
+        fail "$page: the block at line $at is no file, no command and nothing to read"
+    fi
+}
+
+# pages NAME..: plays the pages, each in a folder of its own.
+pages() {
+    local line number at word inside before
+    local -a lines
+    for page; do
+        mkdir -p -- "$work/$page"
+        if [ "${page%/*}" = examples ]; then
+            cp -- "$root"/examples/*.wq "$root"/examples/*.assign "$work/$page"
+        elif [ "$page" = README.md ]; then
+            cp -R -- "$root/examples" "$work/$page"
+        fi
+        cd -- "$work/$page" || exit 1
+        status=0 number=0 inside=no before=$((passed + failed))
+        while IFS= read -r line; do
+            number=$((number + 1))
+            if [ "$inside" = yes ]; then
+                if [ "$line" = '```' ]; then
+                    inside=no
+                    block "$at" "$word" ${lines[@]+"${lines[@]}"}
+                else
+                    lines+=("$line")
+                fi
+            elif [ "${line:0:3}" = '```' ]; then
+                inside=yes at=$number word=${line:3} lines=()
+            fi
+        done <"$root/$page"
+        [ "$inside" = no ] || fail "$page: the block at line $at has no end"
+        [ $((passed + failed)) -gt "$before" ] || fail "$page: there is no command"
+    done
+}
+
+# others: counts whether each other file of examples/rdisk is the plan of a declaration there.
+others() {
+    local file name plan
+    page=examples/rdisk
+    cd -- "$root/examples/rdisk" || exit 1
+    for file in *; do
+        name=${file%.plan}
+        if [[ " ${shown[*]} " == *" $file "* ]]; then
+            continue
+        elif [ "$name" != "$file" ]; then
+            plan=$(<"$file")
+            play "wqplan plan $name.wq" "$plan"$'\n'
+        else
+            fail "$page/$file: neither docs/GUIDE.md nor docs/WAITS.md shows it"
+        fi
+    done
+}
+
+# finds AT NAME..: counts whether the grep line AT of docs/GUIDE.md, counted from 1, finds a line with each of these names.
+finds() {
+    local at=$1 pattern name
+    shift
+    pattern=$(sed -n "s/^\$ grep -nE '\(.*\)' rdisk.c$/\1/p" "$root/docs/GUIDE.md" | sed -n "${at}p")
+    if [ -z "$pattern" ] || [ $# -eq 0 ]; then
+        fail "$page: there is no grep line $at, or no name for it"
+        return
+    fi
+    for name; do
+        if printf '\t%s(x);\n' "$name" | grep -qE -- "$pattern"; then
+            ok "$page: grep line $at finds $name"
+        else
+            fail "$page: grep line $at doesn't find $name"
+        fi
+    done
+}
+
+# names FIRST FIELD: the names in backticks that stand in docs/GUIDE.md from the line that begins with FIRST to the next empty
+# one. Of a table only this FIELD counts, each cell up to its `, where`.
+names() {
+    sed -n "/^$1/,/^\$/p" "$root/docs/GUIDE.md" | cut -d'|' -f"$2" | sed 's/, where.*//' |
+        grep -oE '`[A-Za-z]+_[A-Za-z_]*' | tr -d '`'
+}
+
+pages README.md docs/GUIDE.md docs/WAITS.md docs/RUNTIME.md examples/*.md
+others
+page=docs/GUIDE.md
+finds 1 $(names 'The line also finds' 1) $(names '| File | Lines' 4)
+finds 2 $(names '| Call in a work function | Line' 2)
+counts_of guide

@@ -1,0 +1,135 @@
+#!/usr/bin/env python3
+"""Looks for each name on the pages that speak of the code, and names those that are nowhere; and measures pages.
+
+What stands in backticks is a name where it looks like one of the code's: `snake_case`, `CamelCase`, `path::to`, a field
+`Record.field` of a record of crates/*/specs, a file by the end of its path (`src/lib.rt`), or a folder of the repository.
+
+A page of MOST_LINES has at most so many lines, if there is a number. Outside code blocks no line of it has more than LINE_WIDTH
+columns, or, in a table, ROW_WIDTH.
+"""
+
+import pathlib
+import re
+import sys
+
+ROOT = pathlib.Path(__file__).resolve().parents[2]
+PAGES = ["README.md", "CONTRIBUTING.md", "bench/README.md", "tests/DIAGNOSES.md", "tests/FORMATS.md"]
+PAGES += [f"docs/{name}.md" for name in ("ARCHITECTURE", "DECISIONS", "DEFINITIONS", "FORMAT", "LOCKDEP", "PROMISES", "RUNTIME")]
+# The pages that are measured.
+MOST_LINES = {
+    "README.md": 120, "docs/GUIDE.md": 900, "docs/FORMAT.md": 800, "docs/PROMISES.md": 250, "docs/DECISIONS.md": 300,
+    "docs/ARCHITECTURE.md": 120, "CONTRIBUTING.md": 150, "bench/README.md": 150,
+    "CHANGELOG.md": None, "docs/DEFINITIONS.md": None, "docs/LOCKDEP.md": None, "docs/RUNTIME.md": None,
+    "docs/WAITS.md": None, "docs/pictures/README.md": None, "tests/DIAGNOSES.md": None, "tests/FORMATS.md": None,
+    **{f"examples/{page.name}": None for page in sorted((ROOT / "examples").glob("*.md"))},
+}
+LINE_WIDTH = 100
+ROW_WIDTH = 160
+
+# Where the names of the code are found, and names of Linux and of the toolchain's library.
+FOLDERS = ["crates", "tests", "bench", "man"]
+OF_OTHERS = """
+    check_flush_dependency connect_work create_workqueue destroy_workqueue disable_work drain_workqueue enable_work
+    find_worker_executing_work worker_thread
+    flush_workqueue max_active nvme_tcp_wq start_flush_work work_busy CONFIG_PROVE_LOCKING FitsInMemory SmallVec
+""".split()
+# What stands for any name.
+ANY = re.compile(r"NAME|MISTAKE|SUBJECT|FUNCTION|METHOD|FILE")
+
+WORD = re.compile(r"[A-Za-z_]\w*")
+NAME = re.compile(r"(?:\w+::)*[A-Za-z_]\w*_\w+|(?:\w+::)*(?:[A-Z]+[a-z]+)+|\w+(?:::\w+)+")
+FIELD = re.compile(r"(\w+)\.(\w+)")
+FILE = re.compile(r"[\w./-]*\w\.(?:antt|rt|py|sh|edit|md|bash|[15])")
+FOLDER = re.compile(r"(?:crates|tests|docs|bench|man|examples)/[\w./-]*\w")
+
+RECORD = re.compile(r"(?:pub )?record (\w+)")
+FIELD_OF_RECORD = re.compile(r"  (?:pub )?(\w+) :")
+
+
+def files():
+    """The files of the repository, without what a check makes: of each its path, and the same with a slash before it."""
+    for path in ROOT.rglob("*"):
+        parts = path.relative_to(ROOT).parts
+        if path.is_file() and parts[0] != ".git" and "out" not in parts:
+            yield path, "/" + "/".join(parts)
+
+
+def fields_of(text, fields):
+    """Adds the fields of the records in a file of specs."""
+    name = None
+    for line in text.splitlines():
+        record, field = RECORD.match(line), FIELD_OF_RECORD.match(line)
+        if record:
+            name = record[1]
+            fields.setdefault(name, set())
+        elif field and name:
+            fields[name].add(field[1])
+        elif line and not line.startswith(" "):
+            name = None
+
+
+class Code:
+    """What can be named: words, fields of records, files."""
+
+    def __init__(self):
+        self.words = set(OF_OTHERS)
+        self.fields = {}
+        self.files = []
+        for path, name in files():
+            self.files.append(name)
+            if name.split("/")[1] in FOLDERS:
+                text = path.read_text(errors="ignore")
+                self.words.update(WORD.findall(text), WORD.findall(name))
+                if "/specs/" in name:
+                    fields_of(text, self.fields)
+
+    def has(self, quoted):
+        """Whether what is quoted is there; None where it isn't a name."""
+        field = FIELD.fullmatch(quoted)
+        if ANY.search(quoted) or "/out" in quoted:
+            return None
+        if FILE.fullmatch(quoted):
+            return any(name.endswith("/" + quoted) for name in self.files)
+        if field and field[1] in self.fields:
+            return field[2] in self.fields[field[1]]
+        if FOLDER.fullmatch(quoted):
+            return (ROOT / quoted).exists()
+        if NAME.fullmatch(quoted):
+            return all(word in self.words for word in quoted.split("::"))
+        return None
+
+
+def too_large(page, most):
+    """What is too large of a page: of each line or row its number, or all of the page."""
+    lines = (ROOT / page).read_text().splitlines()
+    is_code = False
+    for number, line in enumerate(lines, 1):
+        is_code ^= line.startswith("```")
+        if not is_code and len(line) > (ROW_WIDTH if line.startswith("|") else LINE_WIDTH):
+            yield f"{page}:{number}: {len(line)} columns"
+    if most and len(lines) > most:
+        yield f"{page}: {len(lines)} lines, and not {most} at most"
+
+
+def main():
+    code = Code()
+    passed = failed = 0
+    for page, most in MOST_LINES.items():
+        found = list(too_large(page, most))
+        passed += not found
+        failed += len(found)
+        for what in found:
+            print(f"FAILED  {what}")
+    for page in PAGES:
+        for number, line in enumerate((ROOT / page).read_text().splitlines(), 1):
+            for quoted in re.findall(r"`([^`]+)`", line):
+                found = code.has(quoted)
+                passed += found is True
+                if found is False:
+                    failed += 1
+                    print(f"FAILED  {page}:{number}: there is no {quoted}")
+    print(f"pages: {passed} passed, {failed} failed")
+    sys.exit(1 if failed else 0)
+
+
+main()

@@ -1,0 +1,117 @@
+#!/usr/bin/env python3
+"""Says whether standard error has what belongs to an answer of wqplan, by docs/FORMAT.md, "Diagnoses".
+
+    standard_error.py OUT ERR FILE
+
+ends with 0 where it has, and with 1 where it hasn't. OUT and ERR are files with what the program wrote to standard output and to
+standard error. Where OUT is a refusal, or a `no` of `check`, ERR must be its diagnosis: it names FILE, the line and the number, and
+shows the line and its marks where a line is meant. Where OUT is the answer to a declaration without an item, ERR must be the note
+that says so, with FILE; where it may be one, as `safe`, this note or nothing. Where OUT is `not lawful N` of `replay`, ERR must say so of FILE, too,
+and show the step. Where OUT is any other answer, ERR must be empty. The words and the hints of a diagnosis may be any: they aren't
+compared here. `belongs`, `meant` and `fits` do this for other scripts.
+"""
+
+import functools
+import os
+import pathlib
+import re
+import sys
+
+# The name of standard input in a diagnosis.
+STDIN = b"<stdin>"
+
+REFUSED = re.compile(rb"(refused) ([0-9]+) line ([0-9]+)\n")
+UNLAWFUL = re.compile(rb"not lawful ([0-9]+)\n")
+NO = re.compile(rb"(no) ([0-9]+)(?: [^\n]*)?\n")
+
+NUMBER = rb"[1-9][0-9]*"
+# Answers that only a declaration without an item has, and answers that others have, too.
+NO_ITEM = re.compile(rb"plan 0\nchain 0\n|yes 0\n|workqueues 0\nfaults 0\n")
+MAY_BE_NO_ITEM = re.compile(rb"safe\n|open\n|digraph [^\0]*")
+# The line that is meant, and below it the marks, with the hint if there is one.
+MARKED = rb"    [ -~]+\n {4,}\^+(?: [ -~]+)?\n"
+
+
+def shown(file):
+    """A path as a diagnosis shows it."""
+    return re.sub(rb"[^ -~]", b"?", file.replace(b"\t", b" "))
+
+
+@functools.cache
+def diagnosis(word, code, line):
+    """The form of a diagnosis, behind the file.
+
+    Where a line is meant, so is a byte of it. With 41 a byte may be meant where no line is.
+    """
+    place = b"" if line == b"0" else b":%s:%s" % (line, NUMBER)
+    head = rb"%s: [ -~]+ \[%s %s, `wqplan explain %s`\]\n" % (place, word, code, code)
+    return re.compile(head + (MARKED if place else b"(?:%s)?" % MARKED if code == b"41" else b""))
+
+
+def note(file):
+    """What is said beside the answer to a declaration without an item."""
+    return shown(file) + b": note: no item is declared: is this the right file?\n"
+
+
+def answer(printed):
+    """The first word of a refusal or of a `no`, its number and its line; of any other answer None.
+
+    The line of a `no` is any: it is that of the word that is meant.
+    """
+    refused, no = REFUSED.fullmatch(printed), NO.fullmatch(printed)
+    if refused:
+        return refused.groups()
+    return (*no.groups(), NUMBER) if no else None
+
+
+def meant(printed, files):
+    """Those of a command's files, in the order of its arguments, that a refusal or a `no` may be of."""
+    found = answer(printed)
+    if not found:
+        return files
+    word, code = found[0], int(found[1])
+    if word == b"no" or code in (41, 42):
+        return files[1:2]
+    return files[1:] if 40 <= code < 50 else files[:1]
+
+
+@functools.cache
+def unlawful(number):
+    """The form of what is said of a step that may not be made, behind the file."""
+    return re.compile(rb":%s:%s: [ -~]+ \[not lawful %s\]\n%s" % (NUMBER, NUMBER, number, MARKED))
+
+
+def is_of(file, form, errors):
+    """Whether this names the file first, and has the form behind it."""
+    front = shown(file)
+    return errors.startswith(front) and form.fullmatch(errors, len(front)) is not None
+
+
+def belongs(printed, errors, files):
+    """Whether this belongs on standard error beside the answer: the diagnosis of one of these files, a note on the first, or nothing."""
+    refused_step = UNLAWFUL.fullmatch(printed)
+    if refused_step:
+        return is_of(files[-1], unlawful(refused_step[1]), errors)
+    found = answer(printed)
+    if NO_ITEM.fullmatch(printed):
+        return errors == note(files[0])
+    if not found:
+        return errors == b"" or (MAY_BE_NO_ITEM.fullmatch(printed) is not None and errors == note(files[0]))
+    return any(is_of(file, diagnosis(*found), errors) for file in files)
+
+
+def fits(printed, errors, places):
+    """Whether this belongs on standard error beside the answer to the files at these places, or without one to standard input."""
+    return belongs(printed, errors, meant(printed, [os.fsencode(place) for place in places] or [STDIN]))
+
+
+def main(arguments):
+    if len(arguments) != 3:
+        print("usage: standard_error.py OUT ERR FILE", file=sys.stderr)
+        return 2
+    printed, errors = (pathlib.Path(place).read_bytes() for place in arguments[:2])
+    return 0 if belongs(printed, errors, [arguments[2].encode(errors="surrogateescape")]) else 1
+
+
+if __name__ == "__main__":
+    sys.exit(main(sys.argv[1:]))
