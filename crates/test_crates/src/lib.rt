@@ -21,6 +21,8 @@ mod groups;
 #[cfg(test)]
 mod heaps;
 #[cfg(test)]
+mod keywords;
+#[cfg(test)]
 mod machine;
 #[cfg(test)]
 mod rounds;

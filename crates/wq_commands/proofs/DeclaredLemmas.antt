@@ -5,7 +5,7 @@ use Rattle.std.specs.Option.{option_or}
 use Rattle.std.specs.Result.{result_ok}
 use Rattle.std.specs.List.{list_all, list_any, range_with_len, cons_option}
 use Rattle.std.specs.Str.Lines.{lines}
-use Rattle.std.proofs.lemmas.Bool.{cases_Bool, cases_lt, cond_both, lt-ltb, le-ltb, le-leb, lt-leb, ne_eqb}
+use Rattle.std.proofs.lemmas.Bool.{cases_Bool, cases_lt, cond_both, false_from_ne_true, lt-ltb, le-ltb, le-leb, lt-leb, ne_eqb}
 use Rattle.std.proofs.lemmas.List.Folds.{list_all-map}
 use Rattle.std.proofs.lemmas.List.Elements.{filter_agree}
 use Rattle.wq_text.specs.declared.text.TextError.{TextError}
@@ -18,8 +18,12 @@ use Rattle.wq_decl.specs.declared.directive.Directive.{Directive}
 use Rattle.wq_decl.specs.declared.directive.Directive.TheVariants.{Item, Flush, FlushWq, Ordered}
 use Rattle.wq_decl.specs.declared.fault.DeclError.{DeclError}
 use Rattle.wq_decl.specs.declared.fault.DeclError.TheVariants.{BadByte, BadName}
+use Rattle.wq_decl.specs.declared.keyword.Keyword.{Keyword}
+use Rattle.wq_decl.specs.declared.keyword.Keyword.TheVariants as keyword
 use Rattle.wq_decl.specs.Names.{is_name, are_names}
-use Rattle.wq_decl.specs.Reading.{is_text_byte, item_reading, flush_reading, flushwq_reading, ordered_reading, words_reading, reading, fault_in, first_fault, directive_in, directives, decl_refusal}
+use Rattle.wq_decl.specs.Keywords.{keyword_of}
+use Rattle.wq_decl.specs.Reading.{is_text_byte, item_reading, flush_reading, flushwq_reading, ordered_reading, reading_after, words_reading, reading, fault_in, first_fault, directive_in, directives, decl_refusal}
+use Rattle.wq_decl.proofs.KeywordLemmas.{word_of, IsWordOf, IsWordOf-keyword_of}
 use Rattle.wq_items.specs.declared.fault.ItemError.{ItemError}
 use Rattle.wq_items.specs.declared.fault.ItemError.TheVariants.{ItemTwice, TooManyItems, TooManyFlushes}
 use Rattle.wq_items.specs.Table.{Table, item_named, max_items, max_flushes, flush_count}
@@ -113,18 +117,25 @@ ordered_says n (name ∷ rest) =
     let is : is_directive (codes "ordered" ∷ bytes_of ws) ≡ are_names ws = ap₂ (λ (a b : Bool). a && b) enough (all_names ws) in
     cond_both (are_names ws) (Ok (Some (Ordered ws))) (Err (BadName n)) (λ r. Says r (codes "ordered" ∷ bytes_of ws)) (λ yes. (refl, is ∙ yes)) (λ no. is ∙ no)
 
--- the first word is this keyword
-under : (keyword : List ℕ) (first : WordView) (ws : List WordView) (r : Result (Option Directive) DeclError) → Says r (keyword ∷ bytes_of ws) → bytes_eq first.bytes keyword ≡ true → Says r (bytes_of (first ∷ ws))
-under keyword first ws r says same = subst (λ (k : List ℕ). Says r (k ∷ bytes_of ws)) (sym (same_name first.bytes keyword same)) says
+-- the first word is that of this keyword, or of none
+after_says : (k : Option Keyword) (word : List ℕ) (n : ℕ) (ws : List WordView) → IsWordOf word k → Says (reading_after k n ws) (word ∷ bytes_of ws)
+after_says None word n ws none =
+    let no_item : bytes_eq word (codes "item") ≡ false = other keyword.Item in
+    let no_flush : bytes_eq word (codes "flush") ≡ false = other keyword.Flush in
+    let no_flushwq : bytes_eq word (codes "flushwq") ≡ false = other keyword.FlushWq in
+    let no_ordered : bytes_eq word (codes "ordered") ≡ false = other keyword.Ordered in
+    rw (no_item, no_flush, no_flushwq, no_ordered) refl
+  where
+    other : (k : Keyword) → bytes_eq word (word_of k) ≡ false
+    other k = false_from_ne_true (bytes_eq word (word_of k)) (λ e. none k (same_name word (word_of k) e))
+after_says (Some keyword.Item) word n ws is = subst (λ (w : List ℕ). Says (item_reading n ws) (w ∷ bytes_of ws)) (sym is) (item_says n ws)
+after_says (Some keyword.Flush) word n ws is = subst (λ (w : List ℕ). Says (flush_reading n ws) (w ∷ bytes_of ws)) (sym is) (flush_says n ws)
+after_says (Some keyword.FlushWq) word n ws is = subst (λ (w : List ℕ). Says (flushwq_reading n ws) (w ∷ bytes_of ws)) (sym is) (flushwq_says n ws)
+after_says (Some keyword.Ordered) word n ws is = subst (λ (w : List ℕ). Says (ordered_reading n ws) (w ∷ bytes_of ws)) (sym is) (ordered_says n ws)
 
 Says-words : (n : ℕ) (ws : List WordView) → Says (words_reading n ws) (bytes_of ws)
 Says-words n [] = refl
-Says-words n (first ∷ ws) =
-    cond_both (bytes_eq first.bytes (codes "item")) _ _ (λ r. Says r (bytes_of (first ∷ ws))) (under (codes "item") first ws (item_reading n ws) (item_says n ws)) (λ no_item.
-    cond_both (bytes_eq first.bytes (codes "flush")) _ _ (λ r. Says r (bytes_of (first ∷ ws))) (under (codes "flush") first ws (flush_reading n ws) (flush_says n ws)) (λ no_flush.
-    cond_both (bytes_eq first.bytes (codes "flushwq")) _ _ (λ r. Says r (bytes_of (first ∷ ws))) (under (codes "flushwq") first ws (flushwq_reading n ws) (flushwq_says n ws)) (λ no_flushwq.
-    cond_both (bytes_eq first.bytes (codes "ordered")) _ _ (λ r. Says r (bytes_of (first ∷ ws))) (under (codes "ordered") first ws (ordered_reading n ws) (ordered_says n ws)) (λ no_ordered.
-    rw (no_item, no_flush, no_flushwq, no_ordered) refl))))
+Says-words n (first ∷ ws) = after_says (keyword_of first.bytes) first.bytes n ws (IsWordOf-keyword_of first.bytes)
 
 -- a line is read where it has no fault, and then it says these words
 record IsSaid (l : LineView) (r : Result (Option Directive) DeclError) : Type 0 where

@@ -1,3 +1,4 @@
+pub mod KeywordLemmas
 pub mod NameLemmas
 pub mod FaultLemmas
 pub mod OrderedLemmas

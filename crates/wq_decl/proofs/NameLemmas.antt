@@ -1,6 +1,6 @@
 -- The names in directives are names.
 use Rattle.std.proofs.Common.{◌≡◌, ℕ, Bool, true, false, cond, ◌&&◌, List, [], ◌∷◌, Option, Some, None, Result, Ok, Err, refl}
-use Rattle.std.specs.Prelude.{IsTrue, codes, bytes_eq}
+use Rattle.std.specs.Prelude.{IsTrue}
 use Rattle.std.specs.List.{AllByRecursion, list_all, cons_option}
 use Rattle.wq_text.specs.Lines.{LineView}
 use Rattle.wq_text.specs.Comments.{before_comment}
@@ -9,8 +9,11 @@ use Rattle.wq_decl.specs.declared.directive.Directive.{Directive}
 use Rattle.wq_decl.specs.declared.directive.Directive.TheVariants.{Item, Flush, FlushWq, Ordered}
 use Rattle.wq_decl.specs.declared.fault.DeclError.{DeclError}
 use Rattle.wq_decl.specs.declared.fault.DeclError.TheVariants.{BadName}
+use Rattle.wq_decl.specs.declared.keyword.Keyword.{Keyword}
+use Rattle.wq_decl.specs.declared.keyword.Keyword.TheVariants as keyword
 use Rattle.wq_decl.specs.Names.{is_name, are_names}
-use Rattle.wq_decl.specs.Reading.{is_text_byte, item_reading, flush_reading, flushwq_reading, ordered_reading, words_reading, reading, directive_in, directives, HasNames}
+use Rattle.wq_decl.specs.Keywords.{keyword_of}
+use Rattle.wq_decl.specs.Reading.{is_text_byte, item_reading, flush_reading, flushwq_reading, ordered_reading, reading_after, words_reading, reading, directive_in, directives, HasNames}
 
 -- a directive, if the reading found one, has names
 abbrev pub NamesIn : Result (Option Directive) DeclError → Type 0
@@ -62,16 +65,20 @@ ordered_names n (name ∷ others) = chosen (are_names (name ∷ others)) refl
     chosen true e = each_name (name ∷ others) e
     chosen false e = tt
 
+after_names : (k : Option Keyword) (n : ℕ) (ws : List WordView) → NamesIn (reading_after k n ws)
+after_names None n ws = tt
+after_names (Some keyword.Item) n ws = item_names n ws
+after_names (Some keyword.Flush) n ws = flush_names n ws
+after_names (Some keyword.FlushWq) n ws = flushwq_names n ws
+after_names (Some keyword.Ordered) n ws = ordered_names n ws
+
 cond_names : (b : Bool) (x y : Result (Option Directive) DeclError) → NamesIn x → NamesIn y → NamesIn (cond b x y)
 cond_names true x y p q = p
 cond_names false x y p q = q
 
 words_names : (n : ℕ) (ws : List WordView) → NamesIn (words_reading n ws)
 words_names n [] = tt
-words_names n (first ∷ others) =
-    cond_names (bytes_eq first.bytes (codes "item")) _ _ (item_names n others) (cond_names (bytes_eq first.bytes (codes "flush")) _ _ (flush_names n others)
-    (cond_names (bytes_eq first.bytes (codes "flushwq")) _ _ (flushwq_names n others)
-    (cond_names (bytes_eq first.bytes (codes "ordered")) _ _ (ordered_names n others) tt)))
+words_names n (first ∷ others) = after_names (keyword_of first.bytes) n others
 
 -- what a line says has names
 pub NamesIn-reading : (line : LineView) → NamesIn (reading line)

@@ -1,6 +1,5 @@
 -- The words of directives are words of the lines.
 use Rattle.std.proofs.Common.{◌≡◌, ℕ, Bool, true, false, cond, List, [], ◌∷◌, Option, Some, None, Result, Ok, Err, refl, arith}
-use Rattle.std.specs.Prelude.{codes, bytes_eq}
 use Rattle.std.specs.List.{All, Any, list_all, cons_option}
 use Rattle.std.proofs.lemmas.List.Elements.{All-nil, All-cons, All-weaker}
 use Rattle.wq_text.specs.Lines.{LineView}
@@ -11,8 +10,11 @@ use Rattle.wq_decl.specs.declared.directive.Directive.{Directive}
 use Rattle.wq_decl.specs.declared.directive.Directive.TheVariants.{Item, Flush, FlushWq, Ordered}
 use Rattle.wq_decl.specs.declared.fault.DeclError.{DeclError}
 use Rattle.wq_decl.specs.declared.fault.DeclError.TheVariants.{BadName}
+use Rattle.wq_decl.specs.declared.keyword.Keyword.{Keyword}
+use Rattle.wq_decl.specs.declared.keyword.Keyword.TheVariants as keyword
 use Rattle.wq_decl.specs.Names.{is_name, are_names}
-use Rattle.wq_decl.specs.Reading.{is_text_byte, item_reading, flush_reading, flushwq_reading, ordered_reading, words_reading, reading, directive_in, directives}
+use Rattle.wq_decl.specs.Keywords.{keyword_of}
+use Rattle.wq_decl.specs.Reading.{is_text_byte, item_reading, flush_reading, flushwq_reading, ordered_reading, reading_after, words_reading, reading, directive_in, directives}
 use Rattle.wq_decl.specs.Origins.{directive_words, IsFrom}
 
 -- a directive, if the reading found one, has the words after the first
@@ -61,17 +63,20 @@ ordered_words n first (name ∷ others) = chosen (are_names (name ∷ others))
     chosen true = record { first = first; words = refl }
     chosen false = tt
 
+after_words : (k : Option Keyword) (n : ℕ) (first : WordView) (ws : List WordView) → WordsAmong (first ∷ ws) (reading_after k n ws)
+after_words None n first ws = tt
+after_words (Some keyword.Item) n first ws = item_words n first ws
+after_words (Some keyword.Flush) n first ws = flush_words n first ws
+after_words (Some keyword.FlushWq) n first ws = flushwq_words n first ws
+after_words (Some keyword.Ordered) n first ws = ordered_words n first ws
+
 cond_words : (ws : List WordView) (b : Bool) (x y : Result (Option Directive) DeclError) → WordsAmong ws x → WordsAmong ws y → WordsAmong ws (cond b x y)
 cond_words ws true x y p q = p
 cond_words ws false x y p q = q
 
 all_words : (n : ℕ) (ws : List WordView) → WordsAmong ws (words_reading n ws)
 all_words n [] = tt
-all_words n (first ∷ others) =
-    cond_words (first ∷ others) (bytes_eq first.bytes (codes "item")) _ _ (item_words n first others)
-    (cond_words (first ∷ others) (bytes_eq first.bytes (codes "flush")) _ _ (flush_words n first others)
-    (cond_words (first ∷ others) (bytes_eq first.bytes (codes "flushwq")) _ _ (flushwq_words n first others)
-    (cond_words (first ∷ others) (bytes_eq first.bytes (codes "ordered")) _ _ (ordered_words n first others) tt)))
+all_words n (first ∷ others) = after_words (keyword_of first.bytes) n first others
 
 line_words : (line : LineView) → WordsAmong (words_of line) (reading line)
 line_words line = cond_words (words_of line) (list_all is_text_byte (before_comment line.bytes)) _ _ (all_words line.no (words_of line)) tt

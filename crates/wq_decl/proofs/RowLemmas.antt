@@ -1,5 +1,5 @@
 -- Which row of the table a line breaks first.
-use Rattle.std.proofs.Common.{◌≡◌, ◌≢◌, ◌↔◌, ℕ, ◌≤◌, inl, inr, Bool, true, false, cond, ◌&&◌, List, [], ◌∷◌, Option, Some, Result, Ok, Err, IsOk, refl, sym, ap, subst, ◌∙◌, arith}
+use Rattle.std.proofs.Common.{◌≡◌, ◌↔◌, ℕ, ◌≤◌, inl, inr, Bool, true, false, cond, ◌&&◌, List, [], ◌∷◌, Option, Some, None, Result, Ok, Err, IsOk, refl, sym, ap, subst, ◌∙◌, arith}
 use Rattle.std.specs.Prelude.{IsTrue, codes, bytes_eq}
 use Rattle.std.specs.List.{Any, list_all}
 use Rattle.std.proofs.lemmas.Bool.{false≢true, both_ways, false_from_ne_true}
@@ -13,9 +13,13 @@ use Rattle.wq_decl.specs.declared.directive.Directive.{Directive}
 use Rattle.wq_decl.specs.declared.directive.Directive.TheVariants.{Item, Flush, FlushWq, Ordered}
 use Rattle.wq_decl.specs.declared.fault.DeclError.{DeclError}
 use Rattle.wq_decl.specs.declared.fault.DeclError.TheVariants.{BadByte, UnknownWord, MissingName, ExtraWord, BadName}
+use Rattle.wq_decl.specs.declared.keyword.Keyword.{Keyword}
+use Rattle.wq_decl.specs.declared.keyword.Keyword.TheVariants as keyword
 use Rattle.wq_decl.specs.Names.{is_name, are_names}
-use Rattle.wq_decl.specs.Reading.{is_text_byte, item_reading, flush_reading, flushwq_reading, ordered_reading, words_reading, reading}
+use Rattle.wq_decl.specs.Keywords.{keyword_of}
+use Rattle.wq_decl.specs.Reading.{is_text_byte, item_reading, flush_reading, flushwq_reading, ordered_reading, reading_after, words_reading, reading}
 use Rattle.wq_decl.specs.Rows.{HasBadByte, IsUnknown, LacksName, HasExtraWord, HasBadName, OfWords, BreaksRow, rows_above, BreaksFirst}
+use Rattle.wq_decl.proofs.KeywordLemmas.{IsWordOf, IsWordOf-keyword_of}
 
 -- ---- a test that some element fails
 
@@ -177,8 +181,12 @@ module _ (n : ℕ) (bytes : List ℕ) (clean : HasBadByte bytes → ⊥) where
       few (inl h) = apart (codes "ordered") (codes "item") first.bytes refl is h.0
       few (inr h) = apart (codes "ordered") (codes "flushwq") first.bytes refl is h.0
 
-  differs : (a b : List ℕ) → bytes_eq a b ≡ false → a ≢ b
-  differs a b e same = both_ways (bytes_eq a b) e ((bytes_eq-Decides a b).1 same)
+  after_says : (k : Option Keyword) (first : WordView) (others : List WordView) → IsWordOf first.bytes k → Says (first ∷ others) (reading_after k n others)
+  after_says None first others none = unknown first others (none keyword.Item, none keyword.Flush, none keyword.FlushWq, none keyword.Ordered)
+  after_says (Some keyword.Item) first others is = item first others is
+  after_says (Some keyword.Flush) first others is = flush first others is
+  after_says (Some keyword.FlushWq) first others is = flushwq first others is
+  after_says (Some keyword.Ordered) first others is = ordered first others is
 
   words_say : (words : List WordView) → Says words (words_reading n words)
   words_say [] = none
@@ -189,12 +197,7 @@ module _ (n : ℕ) (bytes : List ℕ) (clean : HasBadByte bytes → ⊥) where
       none (MissingName m) b = b.1
       none (ExtraWord m) b = b.1
       none (BadName m) b = b.1
-  words_say (first ∷ others) =
-      follows_test (Breaks n bytes (first ∷ others)) (bytes_eq first.bytes (codes "item")) _ _ (λ e. item first others ((bytes_eq-Decides first.bytes (codes "item")).0 e)) (λ no_item.
-      follows_test (Breaks n bytes (first ∷ others)) (bytes_eq first.bytes (codes "flush")) _ _ (λ e. flush first others ((bytes_eq-Decides first.bytes (codes "flush")).0 e)) (λ no_flush.
-      follows_test (Breaks n bytes (first ∷ others)) (bytes_eq first.bytes (codes "flushwq")) _ _ (λ e. flushwq first others ((bytes_eq-Decides first.bytes (codes "flushwq")).0 e)) (λ no_flushwq.
-      follows_test (Breaks n bytes (first ∷ others)) (bytes_eq first.bytes (codes "ordered")) _ _ (λ e. ordered first others ((bytes_eq-Decides first.bytes (codes "ordered")).0 e)) (λ no_ordered.
-      unknown first others (differs first.bytes (codes "item") no_item, differs first.bytes (codes "flush") no_flush, differs first.bytes (codes "flushwq") no_flushwq, differs first.bytes (codes "ordered") no_ordered)))))
+  words_say (first ∷ others) = after_says (keyword_of first.bytes) first others (IsWordOf-keyword_of first.bytes)
 
 -- ---- whole lines
 

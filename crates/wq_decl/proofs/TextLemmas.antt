@@ -1,11 +1,10 @@
 -- A line whose words have no fault holds only bytes that a line may have.
-use Rattle.std.proofs.Common.{◌≡◌, ℕ, ◌+◌, Bool, true, false, cond, List, [], ◌∷◌, ◌++◌, Option, Some, Result, Ok, Err, IsOk, refl, ap, ◌∙◌, arith, length}
-use Rattle.std.specs.Prelude.{codes, bytes_eq}
+use Rattle.std.proofs.Common.{◌≡◌, ℕ, ◌+◌, Bool, true, false, cond, List, [], ◌∷◌, ◌++◌, Option, Some, None, Result, Ok, Err, IsOk, refl, ap, ◌∙◌, arith, length}
+use Rattle.std.specs.Prelude.{codes}
 use Rattle.std.specs.List.{list_all}
 use Rattle.std.proofs.lemmas.Bool.{and_parts, and_from}
 use Rattle.std.proofs.lemmas.Bool.Decides.{nat_tests}
 use Rattle.std.proofs.lemmas.List.Folds.{list_all-append}
-use Rattle.std.proofs.lemmas.Slice.Eq.{bytes_eq-Decides}
 use Rattle.wq_text.specs.Lines.{LineView}
 use Rattle.wq_text.specs.Comments.{before_comment}
 use Rattle.wq_text.specs.Words.{WordView, words_of, is_blank, AllBlank, AreTheWords}
@@ -13,9 +12,13 @@ use Rattle.wq_text.proofs.WordLaws.{AreTheWords-words_from}
 use Rattle.wq_decl.specs.declared.directive.Directive.{Directive}
 use Rattle.wq_decl.specs.declared.directive.Directive.TheVariants.{Item, Flush, FlushWq, Ordered}
 use Rattle.wq_decl.specs.declared.fault.DeclError.{DeclError}
-use Rattle.wq_decl.specs.declared.fault.DeclError.TheVariants.{BadByte, BadName}
+use Rattle.wq_decl.specs.declared.fault.DeclError.TheVariants.{BadName}
+use Rattle.wq_decl.specs.declared.keyword.Keyword.{Keyword}
+use Rattle.wq_decl.specs.declared.keyword.Keyword.TheVariants as keyword
 use Rattle.wq_decl.specs.Names.{is_name_byte, is_name, are_names}
-use Rattle.wq_decl.specs.Reading.{is_text_byte, item_reading, flush_reading, flushwq_reading, ordered_reading, words_reading, reading}
+use Rattle.wq_decl.specs.Keywords.{keyword_of}
+use Rattle.wq_decl.specs.Reading.{is_text_byte, item_reading, flush_reading, flushwq_reading, ordered_reading, reading_after, words_reading, reading}
+use Rattle.wq_decl.proofs.KeywordLemmas.{IsWordOf, IsWordOf-keyword_of}
 
 -- ---- bytes
 
@@ -99,23 +102,22 @@ clean_ordered n [] = tt
 clean_ordered n (name ∷ others) = clean_names n (Ordered (name ∷ others)) (name ∷ others) (are_names (name ∷ others)) refl
 
 -- a word of the grammar holds such bytes, too
-with_word : (first : WordView) (others : List WordView) (word : List ℕ) (r : Result (Option Directive) DeclError) → list_all is_text_byte word ≡ true → bytes_eq first.bytes word ≡ true → Clean others r → Clean (first ∷ others) r
+with_word : (first : WordView) (others : List WordView) (word : List ℕ) (r : Result (Option Directive) DeclError) → list_all is_text_byte word ≡ true → first.bytes ≡ word → Clean others r → Clean (first ∷ others) r
 with_word first others word (Ok found) text same clean =
     and_from (list_all is_text_byte first.bytes) (list_all (λ (v : WordView). list_all is_text_byte v.bytes) others)
-    (ap (λ (l : List ℕ). list_all is_text_byte l) ((bytes_eq-Decides first.bytes word).0 same) ∙ text) clean
+    (ap (λ (l : List ℕ). list_all is_text_byte l) same ∙ text) clean
 with_word first others word (Err e) text same clean = tt
 
-clean_test : (ws : List WordView) (b : Bool) (x y : Result (Option Directive) DeclError) → (b ≡ true → Clean ws x) → (b ≡ false → Clean ws y) → Clean ws (cond b x y)
-clean_test ws true x y p q = p refl
-clean_test ws false x y p q = q refl
+clean_after : (k : Option Keyword) (n : ℕ) (first : WordView) (others : List WordView) → IsWordOf first.bytes k → Clean (first ∷ others) (reading_after k n others)
+clean_after None n first others none = tt
+clean_after (Some keyword.Item) n first others is = with_word first others (codes "item") _ refl is (clean_item n others)
+clean_after (Some keyword.Flush) n first others is = with_word first others (codes "flush") _ refl is (clean_flush n others)
+clean_after (Some keyword.FlushWq) n first others is = with_word first others (codes "flushwq") _ refl is (clean_flushwq n others)
+clean_after (Some keyword.Ordered) n first others is = with_word first others (codes "ordered") _ refl is (clean_ordered n others)
 
 clean_words : (n : ℕ) (ws : List WordView) → Clean ws (words_reading n ws)
 clean_words n [] = refl
-clean_words n (first ∷ others) =
-    clean_test (first ∷ others) (bytes_eq first.bytes (codes "item")) _ _ (λ e. with_word first others (codes "item") _ refl e (clean_item n others)) (λ _.
-    clean_test (first ∷ others) (bytes_eq first.bytes (codes "flush")) _ _ (λ e. with_word first others (codes "flush") _ refl e (clean_flush n others)) (λ _.
-    clean_test (first ∷ others) (bytes_eq first.bytes (codes "flushwq")) _ _ (λ e. with_word first others (codes "flushwq") _ refl e (clean_flushwq n others)) (λ _.
-    clean_test (first ∷ others) (bytes_eq first.bytes (codes "ordered")) _ _ (λ e. with_word first others (codes "ordered") _ refl e (clean_ordered n others)) (λ _. tt))))
+clean_words n (first ∷ others) = clean_after (keyword_of first.bytes) n first others (IsWordOf-keyword_of first.bytes)
 
 -- ---- lines
 
@@ -130,11 +132,3 @@ reading-text line h = rw h refl
 -- also if its words have no fault
 pub reading-words : (line : LineView) → IsOk (words_reading line.no (words_of line)) → words_reading line.no (words_of line) ≡ reading line
 reading-words line ok = reading-text line (text_from_clean line (words_reading line.no (words_of line)) (clean_words line.no (words_of line)) ok)
-
--- what the words of a line say that has no fault is what it says
-pub reading-known : (line : LineView) (o : Option Directive) → ((n : ℕ) → IsOk (words_reading n (words_of line)) → words_reading n (words_of line) ≡ Ok o) → IsOk (reading line) → reading line ≡ Ok o
-reading-known line o known ok = by (list_all is_text_byte (before_comment line.bytes)) ok
-  where
-    by : (b : Bool) → IsOk (cond b (words_reading line.no (words_of line)) (Err (BadByte line.no))) → cond b (words_reading line.no (words_of line)) (Err (BadByte line.no)) ≡ Ok o
-    by true ok = known line.no ok
-    by false ok = absurd cc

@@ -1,5 +1,5 @@
 -- Directives: what a line of a declaration says, or its first fault by the rows of the format's table.
-use Rattle.std.specs.Prelude.{ℕ, ◌==◌, ◌||◌, ◌&&◌, Bool, true, false, nat_le, if◌then◌else◌, List, [], ◌∷◌, Option, Some, None, Result, Ok, Err, bytes_eq, codes, IsTrue}
+use Rattle.std.specs.Prelude.{ℕ, ◌==◌, ◌||◌, ◌&&◌, Bool, true, false, nat_le, if◌then◌else◌, List, [], ◌∷◌, Option, Some, None, Result, Ok, Err, IsTrue}
 use Rattle.std.specs.Option.{option_or}
 use Rattle.std.specs.List.{list_all, list_any, filter_map, AllByRecursion}
 use Rattle.wq_text.specs.Lines.{LineView}
@@ -10,7 +10,10 @@ use Rattle.wq_decl.specs.declared.directive.Directive.{Directive}
 use Rattle.wq_decl.specs.declared.directive.Directive.TheVariants.{Item, Flush, FlushWq, Ordered}
 use Rattle.wq_decl.specs.declared.fault.DeclError.{DeclError}
 use Rattle.wq_decl.specs.declared.fault.DeclError.TheVariants.{BadByte, UnknownWord, MissingName, ExtraWord, BadName}
+use Rattle.wq_decl.specs.declared.keyword.Keyword.{Keyword}
+use Rattle.wq_decl.specs.declared.keyword.Keyword.TheVariants as keyword
 use Rattle.wq_decl.specs.Names.{is_name, are_names}
+use Rattle.wq_decl.specs.Keywords.{keyword_of}
 
 -- a TAB, or a printable ASCII character
 abbrev pub is_text_byte : ℕ → Bool
@@ -40,14 +43,18 @@ abbrev pub ordered_reading : ℕ → List WordView → Result (Option Directive)
 ordered_reading n [] = Err (MissingName n)
 ordered_reading n (name ∷ rest) = if are_names (name ∷ rest) then Ok (Some (Ordered (name ∷ rest))) else Err (BadName n)
 
--- the words of line n: none on a blank line, else a directive
+-- what the words after the keyword say on line n
+abbrev pub reading_after : Option Keyword → ℕ → List WordView → Result (Option Directive) DeclError
+reading_after None n words = Err (UnknownWord n)
+reading_after (Some keyword.Item) n words = item_reading n words
+reading_after (Some keyword.Flush) n words = flush_reading n words
+reading_after (Some keyword.FlushWq) n words = flushwq_reading n words
+reading_after (Some keyword.Ordered) n words = ordered_reading n words
+
+-- the words of line n: none on a blank line, else what follows its keyword says
 abbrev pub words_reading : ℕ → List WordView → Result (Option Directive) DeclError
 words_reading n [] = Ok None
-words_reading n (first ∷ others) =
-    if bytes_eq first.bytes (codes "item") then item_reading n others
-    else (if bytes_eq first.bytes (codes "flush") then flush_reading n others
-    else (if bytes_eq first.bytes (codes "flushwq") then flushwq_reading n others
-    else (if bytes_eq first.bytes (codes "ordered") then ordered_reading n others else Err (UnknownWord n))))
+words_reading n (first ∷ others) = reading_after (keyword_of first.bytes) n others
 
 -- what a line says, or its first fault; its comment may hold any bytes
 abbrev pub reading : LineView → Result (Option Directive) DeclError

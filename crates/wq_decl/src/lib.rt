@@ -7,6 +7,7 @@
 
 mod directive;
 mod fault;
+mod keyword;
 mod known;
 pub mod laws;
 mod ordered_lines;
@@ -15,6 +16,7 @@ mod view;
 
 pub use directive::Directive;
 pub use fault::DeclError;
+pub use keyword::{Keyword, cut_keyword};
 pub use ordered_lines::OrderedLines;
 pub use reading::is_name;
 pub use view::{DeclView, Directives};

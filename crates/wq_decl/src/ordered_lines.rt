@@ -1,42 +1,28 @@
 //! The `ordered` lines of a declaration, without its other lines.
 //!
-//! The directives are those of "Directives" in docs/FORMAT.md. The lines have no fault, so nothing is judged again. Most lines begin
-//! with `item`, `flush` or `flushwq`, without a blank before it, and are passed over by their first byte. Of another line the first
-//! word is cut, and the names on an `ordered` line are left to the caller. Going over them takes time in the length of the text.
+//! The directives are those of "Directives" in docs/FORMAT.md. The lines have no fault, so nothing is judged again: the keyword of a
+//! line tells whether it is one of them, and the names on it are left to the caller. Going over them takes time in the length of the
+//! text.
 
-ghost use Rattle.std.specs.Prelude.{◌≡◌, ◌∷◌, ℕ, List, None, Some, IsOk, IsTrue, length};
+ghost use Rattle.std.specs.Prelude.{◌≡◌, ◌∷◌, ℕ, List, None, Some, IsOk, length};
 ghost use Rattle.std.specs.List.{cons_option};
 ghost use Rattle.std.specs.Iterator.{YieldsFirst, item_count};
 ghost use Rattle.wq_text.specs.Lines.{LineView};
 ghost use Rattle.wq_decl.specs.Reading.{reading, directives, first_fault, ordered_lines};
 
+use crate::keyword::{Keyword, cut_keyword};
 use std::marker::Model;
 use wq_text::{Line, Lines, Words};
-
-/// Whether bytes begin as `item`, `flush` or `flushwq` does: a line of these bytes is no `ordered` line, and that is told without a cut.
-fn begins_otherwise(bytes: &[u8]) -> bool
-    ensures { IsTrue result → (line : LineView) (rest : List LineView) → line.bytes ≡ bytes.now → ordered_lines (directives (line ∷ rest)) ≡ ordered_lines (directives rest) }
-{
-    match bytes.split_first() {
-        Some((first, _)) => *first == b'i' || *first == b'f',
-        None => false,
-    }
-}
 
 /// The number of a line without a fault and the names on it, if it is an `ordered` line.
 fn read_ordered_line<'a>(line: &Line<'a>) -> Option<(u32, Words<'a>)>
     requires { IsOk (reading line.now) }
     ensures { (rest : List LineView) → ordered_lines (directives (line.now ∷ rest)) ≡ cons_option result (ordered_lines (directives rest)) }
 {
-    if begins_otherwise(line.bytes()) {
-        return None;
-    }
-    let mut words = line.words();
-    let first = words.next()?;
-    if first.bytes() == b"ordered".as_slice() {
-        Some((line.no(), words))
-    } else {
-        None
+    let (keyword, names) = cut_keyword(line)?;
+    match keyword? {
+        Keyword::Item | Keyword::Flush | Keyword::FlushWq => None,
+        Keyword::Ordered => Some((line.no(), names)),
     }
 }
 

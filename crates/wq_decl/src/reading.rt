@@ -4,11 +4,13 @@
 
 ghost use Rattle.std.specs.Prelude.{◌≡◌};
 ghost use Rattle.std.specs.List.{list_all};
+ghost use Rattle.wq_text.specs.Words.{words_of};
 ghost use Rattle.wq_decl.specs.Names.{is_name_byte, is_name, are_names};
-ghost use Rattle.wq_decl.specs.Reading.{is_text_byte, item_reading, flush_reading, flushwq_reading, ordered_reading, words_reading, reading};
+ghost use Rattle.wq_decl.specs.Reading.{is_text_byte, item_reading, flush_reading, flushwq_reading, ordered_reading, reading_after, words_reading, reading};
 
 use crate::directive::Directive;
 use crate::fault::DeclError;
+use crate::keyword::{Keyword, cut_keyword};
 use wq_text::{Line, Words};
 
 /// Each byte that a name may have stands at its own place, and a comma at every other place.
@@ -142,23 +144,30 @@ fn read_ordered<'a>(line: u32, mut words: Words<'a>) -> Result<Option<Directive<
     }
 }
 
-/// What the words of this line say: nothing where there are none, or else a directive or their first fault.
-fn read_words<'a>(line: u32, mut words: Words<'a>) -> Result<Option<Directive<'a>>, DeclError>
-    ensures { result ≡ words_reading line words.entry }
+/// What the words after the keyword say on this line.
+fn read_after<'a>(
+    line: u32,
+    keyword: Option<Keyword>,
+    words: Words<'a>,
+) -> Result<Option<Directive<'a>>, DeclError>
+    ensures { result ≡ reading_after keyword line words.entry }
 {
-    let Some(first) = words.next() else {
-        return Ok(None);
-    };
-    if first.bytes() == b"item".as_slice() {
-        read_item(line, words)
-    } else if first.bytes() == b"flush".as_slice() {
-        read_flush(line, words)
-    } else if first.bytes() == b"flushwq".as_slice() {
-        read_flushwq(line, words)
-    } else if first.bytes() == b"ordered".as_slice() {
-        read_ordered(line, words)
-    } else {
-        Err(DeclError::UnknownWord { line })
+    match keyword {
+        Some(Keyword::Item) => read_item(line, words),
+        Some(Keyword::Flush) => read_flush(line, words),
+        Some(Keyword::FlushWq) => read_flushwq(line, words),
+        Some(Keyword::Ordered) => read_ordered(line, words),
+        None => Err(DeclError::UnknownWord { line }),
+    }
+}
+
+/// What the words of a line say: nothing where there are none, or else a directive or their first fault.
+fn read_words<'a>(line: &Line<'a>) -> Result<Option<Directive<'a>>, DeclError>
+    ensures { result ≡ words_reading line.now.no (words_of line.now) }
+{
+    match cut_keyword(line) {
+        Some((keyword, words)) => read_after(line.no(), keyword, words),
+        None => Ok(None),
     }
 }
 
@@ -168,7 +177,7 @@ fn read_words<'a>(line: u32, mut words: Words<'a>) -> Result<Option<Directive<'a
 pub(crate) fn read_line<'a>(line: &Line<'a>) -> Result<Option<Directive<'a>>, DeclError>
     ensures { result ≡ reading line.now }
 {
-    let found = read_words(line.no(), line.words());
+    let found = read_words(line);
     if found.is_err() && !are_text_bytes(line.content()) {
         return Err(DeclError::BadByte { line: line.no() });
     }

@@ -1,6 +1,6 @@
 -- Reading a text at once: what a line seems to say compared with what it says, and what the lines so far have made.
 use Rattle.std.proofs.Common.{◌≡◌, ◌≢◌, ℕ, ◌+◌, ◌-◌, ◌<◌, Bool, true, false, cond, ◌||◌, List, [], ◌∷◌, ◌++◌, length, Option, Some, None, Result, Ok, Err, IsOk, refl, sym, ap, subst, ◌∙◌, arith}
-use Rattle.std.specs.Prelude.{IsTrue, IfSome, IfNone, codes, bytes_eq, option_map}
+use Rattle.std.specs.Prelude.{IsTrue, IfSome, IfNone, option_map}
 use Rattle.std.specs.List.{AllByRecursion, list_all, cons_option}
 use Rattle.std.specs.Option.{option_or}
 use Rattle.std.proofs.lemmas.Bool.{and_from, or_right}
@@ -11,8 +11,11 @@ use Rattle.wq_decl.specs.declared.directive.Directive.{Directive}
 use Rattle.wq_decl.specs.declared.directive.Directive.TheVariants.{Item, Flush, FlushWq, Ordered}
 use Rattle.wq_decl.specs.declared.fault.DeclError.{DeclError}
 use Rattle.wq_decl.specs.declared.fault.DeclError.TheVariants.{BadByte, BadName}
+use Rattle.wq_decl.specs.declared.keyword.Keyword.{Keyword}
+use Rattle.wq_decl.specs.declared.keyword.Keyword.TheVariants as keyword
 use Rattle.wq_decl.specs.Names.{is_name, are_names}
-use Rattle.wq_decl.specs.Reading.{is_text_byte, item_reading, flush_reading, flushwq_reading, ordered_reading, words_reading, reading, directives, first_fault, fault_in, directive_in, is_ordered, has_ordered, ordered_lines, HasNames}
+use Rattle.wq_decl.specs.Keywords.{keyword_of}
+use Rattle.wq_decl.specs.Reading.{is_text_byte, item_reading, flush_reading, flushwq_reading, ordered_reading, reading_after, words_reading, reading, directives, first_fault, fault_in, directive_in, is_ordered, has_ordered, ordered_lines, HasNames}
 use Rattle.wq_decl.proofs.NameLemmas.{HasNames-directives}
 use Rattle.wq_decl.proofs.TextLemmas.{reading-text, reading-words}
 use Rattle.wq_items.specs.declared.fault.ItemError.{ItemError}
@@ -20,7 +23,7 @@ use Rattle.wq_items.specs.Table.{Table, IsTable, item_named}
 use Rattle.wq_items.specs.declared.target.Target.{Target}
 use Rattle.wq_items.specs.Building.{AddsWhole, empty_table, items_named, declared, and_then, table_after, table_of}
 use Rattle.wq_items.specs.FirstFault.{RanOut, DeclaresMore}
-use Rattle.wq_items.specs.AtOnce.{item_unjudged, flush_unjudged, flushwq_unjudged, unjudged, is_whole, Foretells}
+use Rattle.wq_items.specs.AtOnce.{item_unjudged, flush_unjudged, flushwq_unjudged, unjudged_after, unjudged, is_whole, Foretells}
 use Rattle.wq_items.proofs.TableLemmas.{parts, item_named-below}
 use Rattle.wq_items.proofs.BuildingLemmas.{IsTable-table_of}
 use Rattle.wq_items.proofs.GrownTables.{known_next}
@@ -28,10 +31,6 @@ use Rattle.wq_items.proofs.FlushLemmas.{item_named-is}
 use Rattle.wq_items.proofs.ReadLemmas.{Made, Made-none, Made-more, Made-ran_out, Made-out_at_end}
 
 -- ---- what a line seems to say
-
-Foretells-cond : (b : Bool) (x y : Option (Option Directive)) (r s : Result (Option Directive) DeclError) → Foretells x r → Foretells y s → Foretells (cond b x y) (cond b r s)
-Foretells-cond true x y r s p q = p
-Foretells-cond false x y r s p q = q
 
 -- if only the test decides whether a directive is read
 by_test : (d : Directive) (b : Bool) (e : DeclError) → is_whole d ≡ b → Foretells (Some (Some d)) (cond b (Ok (Some d)) (Err e))
@@ -58,13 +57,16 @@ foretells_ordered : (n : ℕ) (ws : List WordView) → Foretells (Some (Some (Or
 foretells_ordered n [] = (λ whole. absurd cc, λ ok. absurd cc)
 foretells_ordered n (name ∷ others) = by_test (Ordered (name ∷ others)) (are_names (name ∷ others)) (BadName n) refl
 
+foretells_after : (k : Option Keyword) (n : ℕ) (ws : List WordView) → Foretells (unjudged_after k ws) (reading_after k n ws)
+foretells_after None n ws = λ ok. cc
+foretells_after (Some keyword.Item) n ws = foretells_item n ws
+foretells_after (Some keyword.Flush) n ws = foretells_flush n ws
+foretells_after (Some keyword.FlushWq) n ws = foretells_flushwq n ws
+foretells_after (Some keyword.Ordered) n ws = foretells_ordered n ws
+
 foretells_words : (n : ℕ) (ws : List WordView) → Foretells (unjudged ws) (words_reading n ws)
 foretells_words n [] = refl
-foretells_words n (first ∷ others) =
-    Foretells-cond (bytes_eq first.bytes (codes "item")) _ _ _ _ (foretells_item n others) (
-    Foretells-cond (bytes_eq first.bytes (codes "flush")) _ _ _ _ (foretells_flush n others) (
-    Foretells-cond (bytes_eq first.bytes (codes "flushwq")) _ _ _ _ (foretells_flushwq n others) (
-    Foretells-cond (bytes_eq first.bytes (codes "ordered")) _ _ _ _ (foretells_ordered n others) (λ ok. cc))))
+foretells_words n (first ∷ others) = foretells_after (keyword_of first.bytes) n others
 
 -- a line that has no fault holds only bytes that it may hold
 text_of_read : (line : LineView) → IsOk (reading line) → list_all is_text_byte (before_comment line.bytes) ≡ true

@@ -1,10 +1,13 @@
 -- At once: what a line says before it is known whether its words are names.
-use Rattle.std.specs.Prelude.{◌≡◌, Bool, false, if◌then◌else◌, List, [], ◌∷◌, Option, Some, None, Result, Ok, IsOk, bytes_eq, codes, IsTrue}
+use Rattle.std.specs.Prelude.{◌≡◌, Bool, false, List, [], ◌∷◌, Option, Some, None, Result, Ok, IsOk, IsTrue}
 use Rattle.wq_text.specs.Words.{WordView}
 use Rattle.wq_decl.specs.declared.directive.Directive.{Directive}
 use Rattle.wq_decl.specs.declared.directive.Directive.TheVariants.{Item, Flush, FlushWq, Ordered}
 use Rattle.wq_decl.specs.declared.fault.DeclError.{DeclError}
+use Rattle.wq_decl.specs.declared.keyword.Keyword.{Keyword}
+use Rattle.wq_decl.specs.declared.keyword.Keyword.TheVariants as keyword
 use Rattle.wq_decl.specs.Names.{is_name, are_names}
+use Rattle.wq_decl.specs.Keywords.{keyword_of}
 
 -- the words after `item` as a directive, if there is exactly one
 abbrev pub item_unjudged : List WordView → Option (Option Directive)
@@ -24,15 +27,19 @@ flushwq_unjudged (name ∷ []) = None
 flushwq_unjudged (name ∷ target ∷ []) = Some (Some (FlushWq name target))
 flushwq_unjudged (name ∷ target ∷ extra ∷ others) = None
 
--- the words of a line as a directive, whatever they are and even if there are too few: nothing on a blank line, and no answer
--- if they can't be those of a directive
+-- the words after the keyword as a directive, whatever they are and even if there are too few; no answer if they can't be those
+-- of a directive
+abbrev pub unjudged_after : Option Keyword → List WordView → Option (Option Directive)
+unjudged_after None words = None
+unjudged_after (Some keyword.Item) words = item_unjudged words
+unjudged_after (Some keyword.Flush) words = flush_unjudged words
+unjudged_after (Some keyword.FlushWq) words = flushwq_unjudged words
+unjudged_after (Some keyword.Ordered) words = Some (Some (Ordered words))
+
+-- the words of a line as a directive: nothing on a blank line, else what follows its keyword
 abbrev pub unjudged : List WordView → Option (Option Directive)
 unjudged [] = Some None
-unjudged (first ∷ others) =
-    if bytes_eq first.bytes (codes "item") then item_unjudged others
-    else (if bytes_eq first.bytes (codes "flush") then flush_unjudged others
-    else (if bytes_eq first.bytes (codes "flushwq") then flushwq_unjudged others
-    else (if bytes_eq first.bytes (codes "ordered") then Some (Some (Ordered others)) else None)))
+unjudged (first ∷ others) = unjudged_after (keyword_of first.bytes) others
 
 -- the directive has as many words as it needs, and each of them is a name
 abbrev pub is_whole : Directive → Bool

@@ -15,7 +15,7 @@ ghost use Rattle.wq_text.specs.Lines.{lines_of};
 ghost use Rattle.wq_text.specs.Words.{words_of};
 ghost use Rattle.wq_decl.specs.declared.directive.Directive.TheVariants.{Item, Flush, FlushWq, Ordered};
 ghost use Rattle.wq_decl.specs.Reading.{reading, directives, first_fault};
-ghost use Rattle.wq_items.specs.AtOnce.{unjudged, item_unjudged, flush_unjudged, flushwq_unjudged, is_whole, Foretells};
+ghost use Rattle.wq_items.specs.AtOnce.{item_unjudged, flush_unjudged, flushwq_unjudged, unjudged_after, unjudged, is_whole, Foretells};
 ghost use Rattle.wq_items.specs.Table.{IsTable};
 ghost use Rattle.wq_items.specs.Building.{empty_table, table_of, declared, item_declared, flushes_declared, items_ordered, items_named};
 ghost use Rattle.wq_items.specs.FirstFault.{RanOut, DeclaresMore};
@@ -26,7 +26,7 @@ use crate::table::{Building, ItemTable, MAX_ITEMS, push_targets, push_whole};
 use crate::target::ItemId;
 use std::alloc::Allocator;
 use std::marker::Model;
-use wq_decl::{DeclView, Directive, OrderedLines, is_name};
+use wq_decl::{DeclView, Directive, Keyword, OrderedLines, cut_keyword, is_name};
 use wq_text::{Line, Lines, Span, Text, Word, Words};
 
 /// The words after `item` as a directive, if there is exactly one.
@@ -62,44 +62,27 @@ fn flushwq_unjudged<'a>(mut words: Words<'a>) -> Option<Option<Directive<'a>>>
     }
 }
 
+/// The words after the keyword as a directive, whatever they are.
+#[inline(always)]
+fn unjudged_after<'a>(keyword: Option<Keyword>, words: Words<'a>) -> Option<Option<Directive<'a>>>
+    ensures { result ≡ unjudged_after keyword words.entry }
+{
+    match keyword? {
+        Keyword::Item => item_unjudged(words),
+        Keyword::Flush => flush_unjudged(words),
+        Keyword::FlushWq => flushwq_unjudged(words),
+        Keyword::Ordered => Some(Some(Directive::Ordered(words))),
+    }
+}
+
 /// The words of a line as a directive, whatever they are.
-fn words_unjudged<'a>(mut words: Words<'a>) -> Option<Option<Directive<'a>>>
-    ensures { result ≡ unjudged words.entry }
-{
-    let Some(first) = words.next() else {
-        return Some(None);
-    };
-    let first = first.bytes();
-    if first == b"item".as_slice() {
-        item_unjudged(words)
-    } else if first == b"flush".as_slice() {
-        flush_unjudged(words)
-    } else if first == b"flushwq".as_slice() {
-        flushwq_unjudged(words)
-    } else if first == b"ordered".as_slice() {
-        Some(Some(Directive::Ordered(words)))
-    } else {
-        None
-    }
-}
-
-/// The words of a line that is no `flush` line as a directive, whatever they are. Most such lines are `item` lines.
-fn other_unjudged<'a>(line: &Line<'a>) -> Option<Option<Directive<'a>>>
+#[inline(always)]
+fn words_unjudged<'a>(line: &Line<'a>) -> Option<Option<Directive<'a>>>
     ensures { result ≡ unjudged (words_of line.now) }
 {
-    match line.words_after(b"item") {
-        Some(words) => item_unjudged(words),
-        None => words_unjudged(line.words()),
-    }
-}
-
-/// The words of a line as a directive, whatever they are. Most lines are `flush` lines.
-fn any_unjudged<'a>(line: &Line<'a>) -> Option<Option<Directive<'a>>>
-    ensures { result ≡ unjudged (words_of line.now) }
-{
-    match line.words_after(b"flush") {
-        Some(words) => flush_unjudged(words),
-        None => other_unjudged(line),
+    match cut_keyword(line) {
+        Some((keyword, words)) => unjudged_after(keyword, words),
+        None => Some(None),
     }
 }
 
@@ -108,7 +91,7 @@ fn any_unjudged<'a>(line: &Line<'a>) -> Option<Option<Directive<'a>>>
 fn line_unjudged<'a>(line: &Line<'a>) -> Option<Option<Directive<'a>>>
     ensures { Foretells result (reading line.now) }
 {
-    any_unjudged(line)
+    words_unjudged(line)
 }
 
 /// The parts of a table while its lines are read. Contracts see what they see of a table, but the parts needn't make one:

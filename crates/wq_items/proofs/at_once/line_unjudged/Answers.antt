@@ -8,4 +8,4 @@ use Rattle.wq_items.proofs.at_once.line_unjudged.Goals as goal
 pub returns : goal.returns
 returns c =
     let line = c.args.line.now in
-    subst (λ (o : Option (Option Directive)). Foretells o (reading line)) (sym c.any_unjudged.ensures) (Foretells-reading line)
+    subst (λ (o : Option (Option Directive)). Foretells o (reading line)) (sym c.words_unjudged.ensures) (Foretells-reading line)
