@@ -15,13 +15,16 @@ WAKES = {
     "queue": "a context by a queueing",
     "start": "the other contexts by the start of the last entry in a closed runtime",
     "finish": "a context by a finish, where the item's next entry is pending",
-    "finish waiters": "those who wait for an item or a workqueue, by a finish",
+    "finish item": "those who wait for an item, by a finish",
+    "finish lane": "those who wait for a workqueue, by a finish",
     "finish destroy": "those in destroy, by a finish",
     "cancel": "the contexts by a cancellation of the last entry in a closed runtime",
-    "cancel waiters": "those who wait for an item or a workqueue, by a cancellation",
+    "cancel item": "those who wait for an item, by a cancellation",
+    "cancel lane": "those who wait for a workqueue, by a cancellation",
     "cancel destroy": "those in destroy, by a cancellation",
     "close": "the contexts by destroy",
-    "all waiters": "all but one of those who wait for an item or a workqueue, by a finish",
+    "all item": "all but one of those who wait for an item",
+    "all lane": "all but one of those who wait for a workqueue",
 }
 # More states than any of these has.
 MOST = 200_000
@@ -33,14 +36,16 @@ def put(row, place, value):
 
 
 class World:
-    """Items on workqueues, what their bodies do, how many helpers each workqueue has, and what callers do.
+    """Items on workqueues, what their bodies do, how many helpers each workqueue has, what callers do, and how many condition variables
+    there are for those who wait for items: as many as items, unless fewer are given, and then items share them in turn.
 
     A state is (the number of the next entry, whether it is closed, the entries that are pending on each workqueue, what each context runs,
     the threads), where an entry is (number, item). A thread is (where it is, the notifications that it is to make first, whether it was woken
     and hasn't looked yet). The contexts come first."""
 
-    def __init__(self, name, items, bodies, helpers, callers):
+    def __init__(self, name, items, bodies, helpers, callers, variables=None):
         self.name, self.items, self.bodies, self.callers = name, items, bodies, callers
+        self.variable = {item: place % (variables or len(items)) for place, item in enumerate(items)}
         self.lanes = max(items.values()) + 1
         self.contexts = [q for q in range(self.lanes) for _ in range(helpers + 1)]
         self.without = ""
@@ -82,8 +87,10 @@ class World:
         """Of notifications, each with its name and whether it is due, those that are made."""
         return tuple((how, group) for name, is_due, how, group in wanted if is_due and name != self.without)
 
-    def of_waiters(self, name, q):
-        return f"{name} waiters", True, "one" if self.without == "all waiters" else "all", ("waiters", q)
+    def of_waiters(self, name, item):
+        """Those of who waits for an item of which an entry has ended, or for its workqueue."""
+        groups = {"item": self.variable[item], "lane": self.items[item]}
+        return [(f"{name} {kind}", True, "one" if self.without == f"all {kind}" else "all", (kind, which)) for kind, which in groups.items()]
 
     def queue(self, state, item):
         q = self.items[item]
@@ -97,7 +104,7 @@ class World:
         if not self.is_pending(state, item):
             return state[:4], ()
         new = state[0], state[1], put(state[2], q, tuple(entry for entry in state[2][q] if entry[1] != item)), state[3]
-        return new, self.wakes(("cancel", self.has_ended(new, q), "all", ("contexts", q)), self.of_waiters("cancel", q),
+        return new, self.wakes(("cancel", self.has_ended(new, q), "all", ("contexts", q)), *self.of_waiters("cancel", item),
                                ("cancel destroy", self.all_done(new), "all", ("destroy",)))
 
     def start(self, state, context, entry):
@@ -107,8 +114,9 @@ class World:
 
     def finish(self, state, context):
         q = self.contexts[context]
+        item = state[3][context][1]
         new = state[0], state[1], state[2], put(state[3], context, None)
-        return new, self.wakes(("finish", self.is_pending(new, state[3][context][1]), "one", ("contexts", q)), self.of_waiters("finish", q),
+        return new, self.wakes(("finish", self.is_pending(new, item), "one", ("contexts", q)), *self.of_waiters("finish", item),
                                ("finish destroy", self.all_done(new), "all", ("destroy",)))
 
     def close(self, state):
@@ -127,16 +135,17 @@ class World:
         return self.item_done(state, what, mark)
 
     def group(self, state, thread):
-        """The group in which a thread sleeps."""
+        """On which variable a thread sleeps."""
         place = state[4][thread][0]
         if place[0] == "sleep":
             return "contexts", self.contexts[thread]
         if place[0] == "wait sleep":
-            return "waiters", self.items[place[2][0]]
+            target, whole = place[2]
+            return ("lane", self.items[target]) if whole else ("item", self.variable[target])
         if place[0] == "told sleep":
-            return "waiters", self.items[place[2]]
+            return "item", self.variable[place[2]]
         if place[0] == "told wq sleep":
-            return "waiters", place[2]
+            return "lane", place[2]
         return ("destroy",) if place[0] == "idle sleep" else None
 
     def woken(self, threads, thread):
@@ -235,7 +244,7 @@ class World:
             place = state[4][thread][0]
             if group == ("destroy",) and self.all_done(state):
                 return "destroy, although all is done"
-            if group[0] == "waiters" and self.is_over(state, place):
+            if group[0] in ("item", "lane") and self.is_over(state, place):
                 return "a wait that is over"
             if group[0] == "contexts":
                 q = group[1]
@@ -268,6 +277,8 @@ TOGETHER, APART = {"a": 0, "b": 0}, {"a": 0, "b": 1}
 WORLDS = [
     World("a rescuer", TOGETHER, {}, 0, [[A, ("flush", "a")], [B, ("flushwq", 0), LAST]]),
     World("a rescuer, two flushes", TOGETHER, {}, 0, [[A, ("flush", "a")], [B, ("flush", "b"), LAST]]),
+    World("two items that share a variable", TOGETHER, {}, 0, [[A, ("flush", "a")], [B, ("flush", "b"), LAST]], variables=1),
+    World("two flushes of a workqueue", TOGETHER, {}, 0, [[A, ("flushwq", 0)], [B, ("flushwq", 0), LAST]]),
     World("a helper", TOGETHER, {}, 1, [[A, B, LAST], [A, ("flush", "a")]]),
     World("two helpers, one item", {"a": 0}, {}, 2, [[A, A, LAST], [A]]),
     World("an item that queues itself, a helper", {"a": 0}, {"a": [A, ("cancel", "a")]}, 1, [[A, ("flush", "a"), LAST]]),

@@ -27,14 +27,17 @@ ROUNDS = 20
 SECONDS = 10
 WORKERS = 40
 
-# Items on three workqueues. An entry of `b` stays pending behind one of `a` that runs; `c` waits for either, and `d` for their whole
-# workqueue.
-DECLARED = "item a / item b / item c / item d / flush c a b / flushwq d a"
-ASSIGNED = "wq 0 a b / wq 1 c / wq 2 d"
+# Items on four workqueues. An entry of `b` stays pending behind one of `a` that runs; `c` waits for either, and `d` for their whole
+# workqueue. There are 256 condition variables for those who wait for items (docs/DECISIONS.md, "Runtimes"), which `z`, item 256, and
+# `a`, item 0, share. The others are never queued.
+OTHERS = [f"x{number}" for number in range(4, 256)]
+DECLARED = " / ".join([*(f"item {name}" for name in [*"abcd", *OTHERS, "z"]), "flush c a b", "flushwq d a"])
+ASSIGNED = f"wq 0 a b / wq 1 c / wq 2 d / wq 3 z {' '.join(OTHERS)}"
 A_RUNS = "queue 0 a: true / next 0: a"
 B_IS_BEHIND = f"{A_RUNS} / queue 0 b: true"
 C_RUNS = "queue 1 c: true / next 1: c"
 D_RUNS = "queue 2 d: true / next 2: d"
+Z_RUNS = "queue 3 z: true / next 3: z"
 A_ENDS = "finish 0 a: ok / destroy: ok"
 HELPED_A = "queue 0 a: true / help next 0 1: a"
 HELPED_A_ENDS = "help finish 0 1 a: ok / destroy: ok"
@@ -129,6 +132,9 @@ WAKES = [
          "waitall 2 a: true|false", "cancel b: true", "finish 2 d: ok / destroy: ok"),
     Wake("cancel_work_sync", "a body that waits for the whole workqueue", f"queue 0 b: true / {D_RUNS}",
          "waitall 2 a: true|false", "sync b: true", "finish 2 d: ok / destroy: ok"),
+    # A finish of `a` wakes them first, and they sleep again.
+    Wake("finish_work", "two callers that flush an item which shares its variable with another that has ended", f"{A_RUNS} / {Z_RUNS}",
+         "flush z: true|false / flush z: true|false / finish 0 a: ok", "finish 3 z: ok", "destroy: ok"),
     # Two threads that sleep in one context, and a queueing beside them: its entry goes to one of them. The next queueing wakes the other,
     # which is refused, since that entry still runs.
     Wake("queue_work", "a thread that sleeps in a context where another thread has started an entry", "",

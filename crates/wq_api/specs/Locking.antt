@@ -1,8 +1,9 @@
 -- Locking: what a lock asks of the calls that it hands what it protects, and what is known of them afterwards.
-use Rattle.std.specs.Prelude.{◌≡◌, ◌⊎◌, ℕ, Option, Bool, true, Result, Err}
+use Rattle.std.specs.Prelude.{◌≡◌, ◌<◌, ◌⊎◌, ℕ, Option, Bool, true, Result, Err}
 use denote.Ref.{MutBor}
 use Rattle.wq_core.specs.Wiring.{Wiring}
 use Rattle.wq_history.specs.declared.sleepers.Sleepers.{Sleepers}
+use Rattle.wq_history.specs.declared.sleepers.Sleepers.TheVariants.{Contexts, ItemWaiters, LaneWaiters, Destroyers}
 use Rattle.wq_history.specs.declared.sleepers.Wake.{Wake}
 use Rattle.wq_history.specs.Events.{wait_event, over_event, finish_event}
 use Rattle.wq_history.specs.Book.{BookView, AppendsOne, HasNothingToStart, IsWrongToStart, RefusesWait}
@@ -15,11 +16,22 @@ use Rattle.wq_under_lock.specs.declared.turn.Turn.{Turn}
 use Rattle.wq_under_lock.specs.declared.turn.Turn.TheVariants.{Answers, Sleeps}
 use Rattle.wq_under_lock.specs.Turns.{Wakes, HasEnded}
 
+-- the most condition variables for those who wait for items
+abbrev pub max_item_condvars : ℕ
+max_item_condvars = 256
+
+-- there is a condition variable for these sleepers, if there are variables for so many lanes, and so many for items
+abbrev pub HasCondvar : ℕ → ℕ → Sleepers → Type 0
+HasCondvar lanes for_items (Contexts q) = q < lanes
+HasCondvar lanes for_items (ItemWaiters i) = 0 < for_items
+HasCondvar lanes for_items (LaneWaiters q) = q < lanes
+HasCondvar lanes for_items Destroyers = Unit {0}
+
 -- whatever the call finds: enough are woken by what it does, which `enough` says; and if its caller is to sleep, nothing has
--- changed, and there is such a group of sleepers, if there are so many lanes
-abbrev pub AlwaysWakes : {H S W T : Type 0} → ℕ → (H → H → Wake → Type 0) → (MutBor H → MutBor S → W → Turn T W → MutBor H → MutBor S → Type 0) → Type 0
-AlwaysWakes {H} {S} {W} {T} lanes enough call = (held held' : MutBor H) (own own' : MutBor S) (waits : W) (turn : Turn T W)
-    → call held own waits turn held' own' → Wakes lanes enough held.now held'.now turn
+-- changed, and there is such a group of sleepers, if there are so many lanes and so many items
+abbrev pub AlwaysWakes : {H S W T : Type 0} → ℕ → ℕ → (H → H → Wake → Type 0) → (MutBor H → MutBor S → W → Turn T W → MutBor H → MutBor S → Type 0) → Type 0
+AlwaysWakes {H} {S} {W} {T} lanes items enough call = (held held' : MutBor H) (own own' : MutBor S) (waits : W) (turn : Turn T W)
+    → call held own waits turn held' own' → Wakes lanes items enough held.now held'.now turn
 
 -- if the caller of such a call is to sleep, what is the caller's own is as it was, and so is what it keeps
 abbrev pub SleepsUnchanged : {H S W T : Type 0} → (MutBor H → MutBor S → W → Turn T W → MutBor H → MutBor S → Type 0) → Type 0

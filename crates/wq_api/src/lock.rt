@@ -4,8 +4,8 @@
 //! names; where the call has no answer yet, its caller sleeps among those whom it names. `Lock` knows nothing else of what it protects,
 //! and does nothing else to it. No caller sleeps with the lock held.
 
-ghost use Rattle.std.specs.Prelude.{◌≡◌, vec_len, IfOk, IfErr};
-ghost use Rattle.wq_api.specs.Locking.{AlwaysWakes, SleepsUnchanged, HasAnswered, GivesBack};
+ghost use Rattle.std.specs.Prelude.{◌≡◌, min, vec_len, IfOk, IfErr};
+ghost use Rattle.wq_api.specs.Locking.{max_item_condvars, AlwaysWakes, SleepsUnchanged, HasAnswered, GivesBack};
 
 use crate::condvars::Condvars;
 use std::alloc::Allocator;
@@ -33,7 +33,7 @@ impl<H: Watched, A: Allocator> Lock<H, A> {
 
     /// Takes the lock, makes the call, releases the lock, and wakes whom the call names. Where the call has no answer yet, its caller
     /// sleeps among those whom the call names, and the call is made again when one of them is woken. There is a condition variable for
-    /// each group of sleepers.
+    /// each group of sleepers, which groups that wait for items may share.
     ///
     /// The call is lent what the lock protects, and what is its caller's own; it is given what its caller keeps while it sleeps.
     pub(crate) fn call<R: Wait, S, W, T, F: for<'a> Fn(&'a mut H, &'a mut S, W) -> Turn<T, W>>(
@@ -44,8 +44,9 @@ impl<H: Watched, A: Allocator> Lock<H, A> {
         call: F,
     ) -> T
         requires lanes { vec_len self.now.condvars.lanes ≡ H.lanes }
+        requires items { vec_len self.now.condvars.items ≡ min H.items max_item_condvars }
         requires callable { F.IsAlwaysCallable call }
-        requires wakes { AlwaysWakes H.lanes H.wakes_enough (F.post call) }
+        requires wakes { AlwaysWakes H.lanes H.items H.wakes_enough (F.post call) }
         requires sleeps { SleepsUnchanged (F.post call) }
         ensures { HasAnswered (F.post call) own.old waits result own.new }
     {

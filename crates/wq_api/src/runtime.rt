@@ -8,7 +8,7 @@
 //! of workqueues, whichever is larger, and `new` also the time of the wait graph of the workqueues and of its ranks, and room for the
 //! rows, 12 bytes for each.
 
-ghost use Rattle.std.specs.Prelude.{◌≡◌, ◌<◌, ◌≤◌, ◌↔◌, ◌*◌, length, vec_len, replicate, Bool, true, IsTrue, IfOk, IfErr, OnOk, IfSome, IfNone};
+ghost use Rattle.std.specs.Prelude.{◌≡◌, ◌<◌, ◌≤◌, ◌↔◌, ◌*◌, min, length, vec_len, replicate, Bool, true, IsTrue, IfOk, IfErr, OnOk, IfSome, IfNone};
 ghost use Rattle.wq_groups.specs.Declaration.{declaration_of};
 ghost use Rattle.wq_core.specs.Wiring.{wiring, with_helpers, lane_of, helpers_of, HasContext, items};
 ghost use Rattle.wq_counts.specs.declared.kind.Kind.TheVariants.{Queue, Cancel, Told as ToldKind};
@@ -20,7 +20,7 @@ ghost use Rattle.wq_history.specs.Answers.{AnswersAsk, AnswersAskLane};
 ghost use Rattle.wq_held.specs.Locked.{max_runtime_lanes, slots, IsOnLane, SeatHasRoom, CountsAsk, CountsAskLane, AsksAndCancels, CountsAskAndCancel};
 ghost use Rattle.wq_under_lock.specs.Refusals.{RefusesRuntime, MakesRuntime, RefusesQueueWork, RefusesCancelWork, RefusesFlushLane};
 ghost use Rattle.wq_api.specs.WaitingCalls.{RefusesFlushWork, flushed, flush_refused, CountsCancelSync, RefusedCancelSync, RefusesFlushWorkqueue, lane_flushed, lane_flush_refused};
-ghost use Rattle.wq_api.specs.Locking.{UnderLock};
+ghost use Rattle.wq_api.specs.Locking.{max_item_condvars, UnderLock};
 
 use crate::condvars::Condvars;
 use crate::lock::Lock;
@@ -37,7 +37,8 @@ use wq_under_lock::{NewError, new_held};
 #[derive(Drop)]
 pub struct WqRuntime<N: Naming, A: Allocator> {
     pub(crate) lock: Lock<Held<N, A>, A>,
-    ghost one_each: { vec_len lock.condvars.lanes ≡ N.wiring.lanes },
+    ghost one_for_each_lane: { vec_len lock.condvars.lanes ≡ N.wiring.lanes },
+    ghost enough_for_items: { vec_len lock.condvars.items ≡ min (items N.wiring) max_item_condvars },
 }
 
 impl<N: Naming, A: Allocator + Copy> WqRuntime<N, A> {
@@ -95,7 +96,8 @@ impl<N: Naming, A: Allocator + Copy> WqRuntime<N, A> {
         ensures refused { IfErr result (RefusesRuntime N.wiring rows) }
     {
         let held = new_held(alloc, blank, table, groups, assignment, rows, helpers)?;
-        let condvars = Condvars::new(alloc, assignment.lanes())?;
+        held.holds();
+        let condvars = Condvars::new(alloc, assignment.lanes(), table.len())?;
         Ok(WqRuntime {
             lock: Lock::new(held, condvars),
         })

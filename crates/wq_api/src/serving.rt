@@ -38,7 +38,7 @@ fn next_turn<N: Naming, A: Allocator>(
     ensures ended { IfAnswers result (λ r wake. IfOk r (λ next. IfNone next (WasDoneIn N.wiring N.rows q helper))) }
     ensures made { IfAnswers result (λ r wake. IfOk r (λ next. WasStartedIn N.wiring N.rows q helper next)) }
     ensures cause { IfAnswers result (λ r wake. OnErr r (WasWrongToStartIn N.wiring N.rows q helper)) }
-    ensures wakes { Wakes N.wiring.lanes WakesEnoughOf held.old held.new result }
+    ensures wakes { Wakes N.wiring.lanes (items N.wiring) WakesEnoughOf held.old held.new result }
 {
     wq_under_lock::next(held, q, helper)
 }
@@ -57,7 +57,7 @@ fn wait_turn<N: Naming, A: Allocator>(
     ensures waiter { AnswersWith result (λ r wake. HasContext N.wiring q helper → SeatHasRoom seat.old → HasWaiter N.wiring q whole target r) }
     ensures began { AnswersWith result (λ r wake. IfOk r (λ unfinished. WasBegunIn N.wiring N.rows q helper whole target unfinished)) }
     ensures cause { AnswersWith result (λ r wake. HasContext N.wiring q helper → SeatHasRoom seat.old → IfErr r (λ e. WasRefusedWaitIn N.wiring N.rows q helper whole target e)) }
-    ensures wakes { Wakes N.wiring.lanes WakesEnoughOf held.old held.new result }
+    ensures wakes { Wakes N.wiring.lanes (items N.wiring) WakesEnoughOf held.old held.new result }
 {
     wq_under_lock::begin_wait(held, seat, q, helper, whole, target)
 }

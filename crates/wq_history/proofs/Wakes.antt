@@ -1,7 +1,8 @@
 -- By whatever happens, enough of those who sleep are woken.
-use Rattle.std.proofs.Common.{◌≡◌, ◌≢◌, ℕ, zero, suc, ◌+◌, ◌≤◌, ◌⊎◌, inl, inr, Bool, true, false, List, [], ◌∷◌, ◌++◌, length, Option, Some, None, refl, sym, ap, subst, ◌∙◌, arith}
+use Rattle.std.proofs.Common.{◌≡◌, ◌≢◌, ℕ, zero, suc, ◌+◌, ◌≤◌, ◌⊎◌, inl, inr, Bool, true, false, not, eqb, List, [], ◌∷◌, ◌++◌, length, Option, Some, None, refl, sym, ap, subst, ◌∙◌, arith}
 use Rattle.std.specs.Prelude.{Contains, option_map, IsTrue, ◌↔◌}
-use Rattle.std.proofs.lemmas.Bool.{cases_eq}
+use Rattle.std.proofs.lemmas.Bool.{cases_eq, ne_eqb}
+use Rattle.wq_items.proofs.Lists.{Contains-filtered}
 use Rattle.wq_core.specs.declared.entry.Entry.{Entry}
 use Rattle.wq_core.specs.declared.entry.Running.{Running}
 use Rattle.wq_core.specs.declared.step.Step.{Step}
@@ -9,13 +10,12 @@ use Rattle.wq_core.specs.declared.step.Step.TheVariants.{Queue as QueueStep, Can
 use Rattle.wq_core.specs.declared.step.HelpStep.{HelpStep}
 use Rattle.wq_core.specs.declared.step.HelpStep.TheVariants.{Start as DoStart, Wait as DoWait, WaitAll as DoWaitAll, Over as DoOver, OverAll as DoOverAll, Finish as DoFinish}
 use Rattle.wq_core.specs.Wiring.{Wiring, max_helpers, HasHelper, lane_of}
-use Rattle.wq_core.specs.State.{Lane, State, lane_at, with_lane, run_by, with_run_by, next_of, IsUnfinishedOn, HasPending, HasUnfinished, HasUnfinishedBelow, IsBusyBelow}
+use Rattle.wq_core.specs.State.{Lane, State, lane_at, with_lane, run_by, with_run_by, RunsIn, next_of, IsUnfinishedOn, HasPending, HasUnfinished, HasUnfinishedBelow, IsBusyBelow}
 use Rattle.wq_core.specs.Rules.{MayDo, with_queued, with_cancelled, with_started, with_wait, with_over, with_finished, waiting_for, going_on, done_by, effect}
 use Rattle.wq_core.specs.Held.{IsSoundState}
-use Rattle.wq_core.proofs.Contexts.{helpers_of-few, MayStart-first, pending_kept}
+use Rattle.wq_core.proofs.Contexts.{helpers_of-few, MayStart-first, cases_run_by, pending_kept}
 use Rattle.wq_core.proofs.Knots.{unfinished-started, unfinished-going_on}
-use Rattle.wq_core.proofs.LaneLemmas.{cases_with_lane, lane_at-with_lane_other}
-use Rattle.wq_core.proofs.Machines.{unfinished-own_lane}
+use Rattle.wq_core.proofs.LaneLemmas.{cases_with_lane, lane_at-with_lane_other, same_running}
 use Rattle.wq_rows.specs.declared.event.Event.{Event}
 use Rattle.wq_rows.specs.declared.event.Event.TheVariants.{Queue, Cancel, Start, Wait, Over, Finish, Ask, Told, WaitAll, OverAll, AskLane, ToldLane, Help}
 use Rattle.wq_history.specs.declared.sleepers.Sleepers.TheVariants.{Contexts}
@@ -31,9 +31,13 @@ use Rattle.wq_history.proofs.LegalRows.{IsSoundState-legal}
 use Rattle.wq_history.proofs.Startable.{startable-queued, startable-cancelled, startable-started, startable-going_on, startable-finished, startable-finished_none, startable-some, startable-none}
 
 -- enough are woken by what makes state t of state s, if these say whether the book is closed before and after
-pub record Suffices (w : Wiring) (s t : State) (k l : Bool) (wake : Wake) : Type 0 where
-  pub all : (c : Condition) → LetsAllGo c → (¬ IsMetIn s k c) → IsMetIn t l c → WakesAll wake (sleepers_for w c)
+pub record Suffices (s t : State) (k l : Bool) (wake : Wake) : Type 0 where
+  pub all : (c : Condition) → LetsAllGo c → (¬ IsMetIn s k c) → IsMetIn t l c → WakesAll wake (sleepers_for c)
   pub one_each : (q : ℕ) → (startable (lane_at t q) ≤ startable (lane_at s q)) ⊎ ((startable (lane_at t q) ≤ startable (lane_at s q) + 1) × WakesOne wake (Contexts q))
+
+-- those are woken who wait for item i, and for lane q; and those who wait for all, if all is done in this state
+abbrev pub WakesWaitersIn : State → ℕ → ℕ → Wake → Type 0
+WakesWaitersIn t q i wake = (wake.item_waiters ≡ Some i) × (wake.lane_waiters ≡ Some q) × (IsTrue wake.destroyers ↔ (¬ HasUnfinished t))
 
 -- what was unfinished is unfinished still
 abbrev Keeps : State → State → Type 0
@@ -51,11 +55,11 @@ module _ (s t : State) (keeps : Keeps s t) where
   kept-all done h = done (record { lane = h.lane; entry = h.entry; unfinished = keeps h.lane h.entry h.unfinished })
 
   -- only contexts can have to be woken
-  pub keeps-contexts : (w : Wiring) (k l : Bool) (wake : Wake) → ((q : ℕ) → (¬ IsMetIn s k (EndOf q)) → IsMetIn t l (EndOf q) → WakesContexts wake.contexts q)
+  pub keeps-contexts : (k l : Bool) (wake : Wake) → ((q : ℕ) → (¬ IsMetIn s k (EndOf q)) → IsMetIn t l (EndOf q) → WakesContexts wake.contexts q)
       → ((q : ℕ) → (startable (lane_at t q) ≤ startable (lane_at s q)) ⊎ ((startable (lane_at t q) ≤ startable (lane_at s q) + 1) × WakesOne wake (Contexts q)))
-      → Suffices w s t k l wake
-  keeps-contexts w k l wake ends one = record { all = all; one_each = one } where
-    all : (c : Condition) → LetsAllGo c → (¬ IsMetIn s k c) → IsMetIn t l c → WakesAll wake (sleepers_for w c)
+      → Suffices s t k l wake
+  keeps-contexts k l wake ends one = record { all = all; one_each = one } where
+    all : (c : Condition) → LetsAllGo c → (¬ IsMetIn s k c) → IsMetIn t l c → WakesAll wake (sleepers_for c)
     all (WorkOn q) lets before now = absurd lets
     all (EndOf q) lets before now = ends q before now
     all (ItemDone i mark) lets before now = absurd (before (kept-item i mark now))
@@ -64,7 +68,7 @@ module _ (s t : State) (keeps : Keeps s t) where
 
 -- ---- one lane changes
 
-module _ (w : Wiring) (s : State) (sound : IsSoundState w s) (q : ℕ) (new : Lane) (next : ℕ) where
+module _ (s : State) (q : ℕ) (new : Lane) (next : ℕ) where
   abbrev later : State
   later = record (with_lane s q new) { next = next }
 
@@ -81,8 +85,11 @@ module _ (w : Wiring) (s : State) (sound : IsSoundState w s) (q : ℕ) (new : La
     | inr there ↦ subst (λ (l : Lane). P (lane_at s p) l) (sym there.1) (subst (λ (x : ℕ). P (lane_at s x) new) (sym there.0) holds)
   ]
 
+  keeps_entry : (e : Entry) → (IsUnfinishedOn (lane_at s q) e → IsUnfinishedOn new e) → (p : ℕ) → IsUnfinishedOn (lane_at s p) e → IsUnfinishedOn (lane_at later p) e
+  keeps_entry e keeps p = each_lane (λ a b. IsUnfinishedOn a e → IsUnfinishedOn b e) (λ l h. h) keeps p
+
   keeps_later : ((e : Entry) → IsUnfinishedOn (lane_at s q) e → IsUnfinishedOn new e) → Keeps s later
-  keeps_later keeps p e = each_lane (λ a b. IsUnfinishedOn a e → IsUnfinishedOn b e) (λ l h. h) (keeps e) p
+  keeps_later keeps p e = keeps_entry e (keeps e) p
 
   fewer_later : startable new ≤ startable (lane_at s q) → (p : ℕ) → startable (lane_at later p) ≤ startable (lane_at s p)
   fewer_later fewer p = each_lane (λ a b. startable b ≤ startable a) (λ l. omega arith) fewer p
@@ -110,28 +117,27 @@ module _ (w : Wiring) (s : State) (sound : IsSoundState w s) (q : ℕ) (new : La
       let is : (lane_at later p).pending ≡ (lane_at s p).pending = each_lane (λ a b. b.pending ≡ a.pending) (λ l. refl) same p in
       before (now.0, sym is ∙ now.1)
 
-  -- what has ended on this lane wakes those who wait for its ends
-  module _ (k : Bool) (wake : Wake) (waiters : wake.waiters ≡ Some q) (destroyers : IsTrue wake.destroyers ↔ IsMetIn later k AllDone) where
+  -- entries of item i alone have ended on this lane: those are woken who wait for either
+  module _ (k : Bool) (wake : Wake) (i : ℕ) (others : (e : Entry) → e.item ≢ i → IsUnfinishedOn (lane_at s q) e → IsUnfinishedOn new e) (woken : WakesWaitersIn later q i wake) where
     ends-wake : ((p : ℕ) → (¬ IsMetIn s k (EndOf p)) → IsMetIn later k (EndOf p) → WakesContexts wake.contexts p)
         → ((p : ℕ) → (startable (lane_at later p) ≤ startable (lane_at s p)) ⊎ ((startable (lane_at later p) ≤ startable (lane_at s p) + 1) × WakesOne wake (Contexts p)))
-        → Suffices w s later k k wake
+        → Suffices s later k k wake
     ends-wake contexts one = record { all = all; one_each = one } where
-      all : (c : Condition) → LetsAllGo c → (¬ IsMetIn s k c) → IsMetIn later k c → WakesAll wake (sleepers_for w c)
+      all : (c : Condition) → LetsAllGo c → (¬ IsMetIn s k c) → IsMetIn later k c → WakesAll wake (sleepers_for c)
       all (WorkOn p) lets before now = absurd lets
       all (EndOf p) lets before now = contexts p before now
-      all (ItemDone i mark) lets before now = elim (cases_eq (lane_of w i) q) [
-        | inl same ↦ waiters ∙ ap Some (sym same)
+      all (ItemDone j mark) lets before now = elim (cases_eq j i) [
+        | inl same ↦ woken.0 ∙ ap Some (sym same)
         | inr other ↦ absurd (before (λ h.
-            let own = (unfinished-own_lane w s i mark sound h).1 in
-            let is : lane_at later h.lane ≡ lane_at s h.lane = other_lane h.lane (λ same. other (sym own ∙ same)) in
-            now (record { lane = h.lane; entry = h.entry; unfinished = subst (λ (l : Lane). IsUnfinishedOn l h.entry) (sym is) h.unfinished; of_item = h.of_item; below = h.below })
+            let stays = keeps_entry h.entry (others h.entry (λ is. other (sym h.of_item ∙ is))) h.lane h.unfinished in
+            now (record { lane = h.lane; entry = h.entry; unfinished = stays; of_item = h.of_item; below = h.below })
             ))
       ]
       all (LaneDone p mark) lets before now = elim (cases_eq p q) [
-        | inl same ↦ waiters ∙ ap Some (sym same)
+        | inl same ↦ woken.1 ∙ ap Some (sym same)
         | inr other ↦ absurd (before (subst (λ (l : Lane). ¬ IsBusyBelow l mark) (other_lane p other) now))
       ]
-      all AllDone lets before now = destroyers.1 now
+      all AllDone lets before now = woken.2.1 now
 
 -- ---- steps
 
@@ -146,24 +152,42 @@ unfinished-queued lane y e (inl pending) = inl (Contains-before lane.pending y e
 unfinished-queued lane y e (inr (zero, r, runs, same)) = inr (zero, r, runs, same)
 unfinished-queued lane y e (inr (suc h, r, runs, same)) = inr (suc h, r, runs, same)
 
+-- entries of other items stay
+unfinished-cancelled : (lane : Lane) (i : ℕ) (e : Entry) → e.item ≢ i → IsUnfinishedOn lane e → IsUnfinishedOn (with_cancelled i lane) e
+unfinished-cancelled lane i e other (inl pending) =
+    let passes : not (eqb e.item i) ≡ true = ap not (ne_eqb e.item i other) in
+    inl (Contains-filtered (λ (f : Entry). not (eqb f.item i)) lane.pending e passes pending)
+unfinished-cancelled lane i e other (inr (zero, r, runs, same)) = inr (zero, r, runs, same)
+unfinished-cancelled lane i e other (inr (suc h, r, runs, same)) = inr (suc h, r, runs, same)
+
+unfinished-finished : (lane : Lane) (c : ℕ) (r : Running) (e : Entry) → RunsIn lane c r → e.item ≢ r.entry.item → IsUnfinishedOn lane e → IsUnfinishedOn (with_finished c lane) e
+unfinished-finished lane c r e runs other (inl pending) = inl (subst (λ (ps : List Entry). Contains ps e) (sym (pending_kept lane c None)) pending)
+unfinished-finished lane c r e runs other (inr (k, x, runs', same)) = elim (cases_run_by lane c None k) [
+  | inl as_before ↦ inr (k, x, as_before ∙ runs', same)
+  | inr there ↦ absurd (
+      let one : x ≡ r = same_running lane c x r (subst (λ (d : ℕ). RunsIn lane d x) there.0 runs') runs in
+      other (ap (λ (f : Entry). f.item) (sym same) ∙ ap (λ (y : Running). y.entry.item) one)
+      )
+]
+
 not_empty : {X : Type 0} (xs : List X) (x : X) → (xs ++ (x ∷ [])) ≢ []
 not_empty [] x is = cc
 not_empty (y ∷ ys) x is = cc
 
 module _ (w : Wiring) (s : State) (sound : IsSoundState w s) (k : Bool) where
-  pub queued-suffices : (i : ℕ) → Suffices w s (effect w s (QueueStep i)) k k (one_context (lane_of w i))
+  pub queued-suffices : (i : ℕ) → Suffices s (effect w s (QueueStep i)) k k (one_context (lane_of w i))
   queued-suffices i =
       let q : ℕ = lane_of w i in
       let y : Entry = record { number = s.next; item = i } in
       let new : Lane = with_queued y (lane_at s q) in
-      keeps-contexts s (later w s sound q new (s.next + 1)) (keeps_later w s sound q new (s.next + 1) (λ e h. unfinished-queued (lane_at s q) y e h)) w k k (one_context q)
+      keeps-contexts s (later s q new (s.next + 1)) (keeps_later s q new (s.next + 1) (λ e h. unfinished-queued (lane_at s q) y e h)) k k (one_context q)
       (λ p before now.
-      let here : p ≡ q = ended_here w s sound q new (s.next + 1) k p before now in
-      absurd (elim (cases_later w s sound q new (s.next + 1) p) [
+      let here : p ≡ q = ended_here s q new (s.next + 1) k p before now in
+      absurd (elim (cases_later s q new (s.next + 1) p) [
         | inl is ↦ before (now.0, ap (λ (l : Lane). l.pending) (sym is) ∙ now.1)
         | inr there ↦ not_empty (lane_at s q).pending y (ap (λ (l : Lane). l.pending) (sym there.1) ∙ now.1)
       ]))
-      (more_later w s sound q new (s.next + 1) (one_context q) (startable-queued y (lane_at s q)) refl)
+      (more_later s q new (s.next + 1) (one_context q) (startable-queued y (lane_at s q)) refl)
 
   -- a lane ends: all its contexts are woken, and else none
   abbrev IfEnded : State → ℕ → WokenContexts → Type 0
@@ -173,75 +197,75 @@ module _ (w : Wiring) (s : State) (sound : IsSoundState w s) (k : Bool) where
   ended-contexts t q p woken (inl (met, is)) here now = subst (λ (x : WokenContexts). WakesContexts x p) (sym is) (sym here)
   ended-contexts t q p woken (inr (never, is)) here now = absurd (never (subst (λ (x : ℕ). IsMetIn t k (EndOf x)) here now))
 
-  pub cancelled-suffices : (i : ℕ) (wake : Wake) → IfEnded (effect w s (CancelStep i)) (lane_of w i) wake.contexts → wake.waiters ≡ Some (lane_of w i)
-      → IsTrue wake.destroyers ↔ IsMetIn (effect w s (CancelStep i)) k AllDone → Suffices w s (effect w s (CancelStep i)) k k wake
-  cancelled-suffices i wake ended waiters destroyers =
+  pub cancelled-suffices : (i : ℕ) (wake : Wake) → IfEnded (effect w s (CancelStep i)) (lane_of w i) wake.contexts
+      → WakesWaitersIn (effect w s (CancelStep i)) (lane_of w i) i wake → Suffices s (effect w s (CancelStep i)) k k wake
+  cancelled-suffices i wake ended woken =
       let q : ℕ = lane_of w i in
       let new : Lane = with_cancelled i (lane_at s q) in
-      ends-wake w s sound q new s.next k wake waiters destroyers
-      (λ p before now. ended-contexts (effect w s (CancelStep i)) q p wake.contexts ended (ended_here w s sound q new s.next k p before now) now)
-      (λ p. inl (fewer_later w s sound q new s.next (startable-cancelled i (lane_at s q)) p))
+      ends-wake s q new s.next k wake i (λ e other h. unfinished-cancelled (lane_at s q) i e other h) woken
+      (λ p before now. ended-contexts (effect w s (CancelStep i)) q p wake.contexts ended (ended_here s q new s.next k p before now) now)
+      (λ p. inl (fewer_later s q new s.next (startable-cancelled i (lane_at s q)) p))
 
   module _ (q c : ℕ) (place : c ≤ length (lane_at s q).helping) where
     abbrev own : Lane
     own = lane_at s q
 
-    pub started-suffices : (i : ℕ) (wake : Wake) → MayDo w s q c (DoStart i) → IfEnded (done_by s q c (DoStart i)) q wake.contexts → Suffices w s (done_by s q c (DoStart i)) k k wake
+    pub started-suffices : (i : ℕ) (wake : Wake) → MayDo w s q c (DoStart i) → IfEnded (done_by s q c (DoStart i)) q wake.contexts → Suffices s (done_by s q c (DoStart i)) k k wake
     started-suffices i wake may ended =
         let new : Lane = with_started c i own in
-        keeps-contexts s (done_by s q c (DoStart i)) (keeps_later w s sound q new s.next (λ e h. unfinished-started own c i e (sound.once q) place may.idle h)) w k k wake
-        (λ p before now. ended-contexts (done_by s q c (DoStart i)) q p wake.contexts ended (ended_here w s sound q new s.next k p before now) now)
-        (λ p. inl (fewer_later w s sound q new s.next (startable-started c i own may.idle) p))
+        keeps-contexts s (done_by s q c (DoStart i)) (keeps_later s q new s.next (λ e h. unfinished-started own c i e (sound.once q) place may.idle h)) k k wake
+        (λ p before now. ended-contexts (done_by s q c (DoStart i)) q p wake.contexts ended (ended_here s q new s.next k p before now) now)
+        (λ p. inl (fewer_later s q new s.next (startable-started c i own may.idle) p))
 
     -- what runs begins to wait, or goes on
     going_on-suffices : (f : Running → Running) → ((r : Running) → (f r).entry ≡ r.entry)
-        → Suffices w s (with_lane s q (with_run_by own c (option_map f (run_by own c)))) k k nobody
+        → Suffices s (with_lane s q (with_run_by own c (option_map f (run_by own c)))) k k nobody
     going_on-suffices f keeps =
         let new : Lane = with_run_by own c (option_map f (run_by own c)) in
-        keeps-contexts s (with_lane s q new) (keeps_later w s sound q new s.next (λ e h. unfinished-going_on own c f e keeps h)) w k k nobody
-        (λ p before now. absurd (same_pending w s sound q new s.next (pending_kept own c (option_map f (run_by own c))) k p before now))
-        (λ p. inl (fewer_later w s sound q new s.next (startable-going_on c f own keeps) p))
+        keeps-contexts s (with_lane s q new) (keeps_later s q new s.next (λ e h. unfinished-going_on own c f e keeps h)) k k nobody
+        (λ p before now. absurd (same_pending s q new s.next (pending_kept own c (option_map f (run_by own c))) k p before now))
+        (λ p. inl (fewer_later s q new s.next (startable-going_on c f own keeps) p))
 
-    pub wait-suffices : (whole : Bool) (b : ℕ) → Suffices w s (with_lane s q (with_wait c whole b s.next own)) k k nobody
+    pub wait-suffices : (whole : Bool) (b : ℕ) → Suffices s (with_lane s q (with_wait c whole b s.next own)) k k nobody
     wait-suffices whole b = going_on-suffices (waiting_for whole b s.next) (λ r. refl)
 
-    pub over-suffices : Suffices w s (with_lane s q (with_over c own)) k k nobody
+    pub over-suffices : Suffices s (with_lane s q (with_over c own)) k k nobody
     over-suffices = going_on-suffices going_on (λ r. refl)
 
     -- one context, if an entry of item i is pending, and else none
     abbrev IfPending : State → ℕ → WokenContexts → Type 0
     IfPending t i woken = (HasPending t i × (woken ≡ One q)) ⊎ ((¬ HasPending t i) × (woken ≡ Nobody))
 
-    pub finished-suffices : (i : ℕ) (wake : Wake) → MayDo w s q c (DoFinish i) → IfPending (done_by s q c (DoFinish i)) i wake.contexts → wake.waiters ≡ Some q
-        → IsTrue wake.destroyers ↔ IsMetIn (done_by s q c (DoFinish i)) k AllDone → Suffices w s (done_by s q c (DoFinish i)) k k wake
-    finished-suffices i wake (r, runs, may) pending waiters destroyers =
-        ends-wake w s sound q new s.next k wake waiters destroyers
-        (λ p before now. absurd (same_pending w s sound q new s.next (pending_kept own c None) k p before now))
+    pub finished-suffices : (i : ℕ) (wake : Wake) → MayDo w s q c (DoFinish i) → IfPending (done_by s q c (DoFinish i)) i wake.contexts
+        → WakesWaitersIn (done_by s q c (DoFinish i)) q i wake → Suffices s (done_by s q c (DoFinish i)) k k wake
+    finished-suffices i wake (r, runs, may) pending woken =
+        ends-wake s q new s.next k wake i (λ e other h. unfinished-finished own c r e runs (λ is. other (is ∙ may.entry)) h) woken
+        (λ p before now. absurd (same_pending s q new s.next (pending_kept own c None) k p before now))
         (one pending)
       where
         new : Lane
         new = with_finished c own
 
         here : (p : ℕ) → (lane_at (done_by s q c (DoFinish i)) p).pending ≡ (lane_at s p).pending
-        here p = each_lane w s sound q new s.next (λ a b. b.pending ≡ a.pending) (λ l. refl) (pending_kept own c None) p
+        here p = each_lane s q new s.next (λ a b. b.pending ≡ a.pending) (λ l. refl) (pending_kept own c None) p
 
         one : IfPending (done_by s q c (DoFinish i)) i wake.contexts
             → (p : ℕ) → (startable (lane_at (done_by s q c (DoFinish i)) p) ≤ startable (lane_at s p)) ⊎ ((startable (lane_at (done_by s q c (DoFinish i)) p) ≤ startable (lane_at s p) + 1) × WakesOne wake (Contexts p))
         one (inl (there, is)) =
-            more_later w s sound q new s.next wake (startable-finished c r own runs (sound.once q))
+            more_later s q new s.next wake (startable-finished c r own runs (sound.once q))
             (subst (λ (x : WokenContexts). WakesOne (record wake { contexts = x }) (Contexts q)) (sym is) refl)
         one (inr (none, is)) = λ p.
-            inl (fewer_later w s sound q new s.next (startable-finished_none c r own runs (λ e there of_item.
+            inl (fewer_later s q new s.next (startable-finished_none c r own runs (λ e there of_item.
             none (record { lane = q; entry = e; pending = subst (λ (ps : List Entry). Contains ps e) (sym (here q)) there; of_item = of_item ∙ may.entry }))) p)
 
 -- ---- closing
 
-pub closed-suffices : (w : Wiring) (s : State) (k l : Bool) → Suffices w s s k l every_context
-closed-suffices w s k l = keeps-contexts s s (λ p e h. h) w k l every_context (λ q before now. tt) (λ q. inl (omega arith))
+pub closed-suffices : (s : State) (k l : Bool) → Suffices s s k l every_context
+closed-suffices s k l = keeps-contexts s s (λ p e h. h) k l every_context (λ q before now. tt) (λ q. inl (omega arith))
 
 -- nothing changes
-pub same-suffices : (w : Wiring) (s : State) (k : Bool) (wake : Wake) → Suffices w s s k k wake
-same-suffices w s k wake = keeps-contexts s s (λ p e h. h) w k k wake (λ q before now. absurd (before now)) (λ q. inl (omega arith))
+pub same-suffices : (s : State) (k : Bool) (wake : Wake) → Suffices s s k k wake
+same-suffices s k wake = keeps-contexts s s (λ p e h. h) k k wake (λ q before now. absurd (before now)) (λ q. inl (omega arith))
 
 -- ---- events
 
@@ -256,18 +280,18 @@ module _ (old : BookView) (event : Event) (said : Bool) (n : ℕ) (sound : IsSou
   abbrev before : State
   before = state old
 
-  by_state : (t : State) → state book ≡ t → Suffices old.wiring before t old.closed old.closed wake → WakesEnough old book wake
+  by_state : (t : State) → state book ≡ t → Suffices before t old.closed old.closed wake → WakesEnough old book wake
   by_state t is suffices = record {
     all = λ c lets becomes. suffices.all c lets becomes.before (subst (λ (s : State). IsMetIn s old.closed c) is becomes.now);
     one_each = λ q. subst (λ (s : State). (startable (lane_at s q) ≤ startable (lane_at before q)) ⊎ ((startable (lane_at s q) ≤ startable (lane_at before q) + 1) × WakesOne wake (Contexts q))) (sym is) (suffices.one_each q);
   }
 
-  by_nobody : (t : State) → state book ≡ t → Suffices old.wiring before t old.closed old.closed nobody → wake ≡ nobody → WakesEnough old book wake
-  by_nobody t is suffices wakes = by_state t is (subst (Suffices old.wiring before t old.closed old.closed) (sym wakes) suffices)
+  by_nobody : (t : State) → state book ≡ t → Suffices before t old.closed old.closed nobody → wake ≡ nobody → WakesEnough old book wake
+  by_nobody t is suffices wakes = by_state t is (subst (Suffices before t old.closed old.closed) (sym wakes) suffices)
 
   -- no step
   by_none : step_of event said ≡ None → WakesEnough old book wake
-  by_none none = by_state before (state_after-none old.wiring old.rows (record { event = event; yes = said; number = n }) none) (same-suffices old.wiring before old.closed wake)
+  by_none none = by_state before (state_after-none old.wiring old.rows (record { event = event; yes = said; number = n }) none) (same-suffices before old.closed wake)
 
   -- the state after the step of the event
   by_step : (step : Step) → step_of event said ≡ Some step → state book ≡ effect old.wiring before step
@@ -284,14 +308,14 @@ module _ (old : BookView) (event : Event) (said : Bool) (n : ℕ) (sound : IsSou
   by_deed q c (DoOverAll b) place may is wakes = by_nobody (done_by before q c (DoOverAll b)) is (over-suffices old.wiring before sound old.closed q c place) wakes
   by_deed q c (DoFinish i) place may is wakes =
       by_state (done_by before q c (DoFinish i)) is (finished-suffices old.wiring before sound old.closed q c place i wake may
-      (subst (λ (t : State). IfPending old.wiring before sound old.closed q c place t i wake.contexts) is wakes.0) wakes.1.0
-      (subst (λ (t : State). IsTrue wake.destroyers ↔ IsMetIn t old.closed AllDone) is wakes.1.1))
+      (subst (λ (t : State). IfPending old.wiring before sound old.closed q c place t i wake.contexts) is wakes.0)
+      (subst (λ (t : State). WakesWaitersIn t q i wake) is wakes.1))
 
-  by_cancel : (i : ℕ) → state book ≡ effect old.wiring before (CancelStep i) → WakesByCancel book (lane_of old.wiring i) wake → WakesEnough old book wake
+  by_cancel : (i : ℕ) → state book ≡ effect old.wiring before (CancelStep i) → WakesByCancel book (lane_of old.wiring i) i wake → WakesEnough old book wake
   by_cancel i is wakes =
       by_state (effect old.wiring before (CancelStep i)) is (cancelled-suffices old.wiring before sound old.closed i wake
-      (subst (λ (t : State). IfEnded old.wiring before sound old.closed t (lane_of old.wiring i) wake.contexts) is wakes.0) wakes.1.0
-      (subst (λ (t : State). IsTrue wake.destroyers ↔ IsMetIn t old.closed AllDone) is wakes.1.1))
+      (subst (λ (t : State). IfEnded old.wiring before sound old.closed t (lane_of old.wiring i) wake.contexts) is wakes.0)
+      (subst (λ (t : State). WakesWaitersIn t (lane_of old.wiring i) i wake) is wakes.1))
 
 module _ (old : BookView) (sound : IsSoundState old.wiring (state old)) (few : old.wiring.helpers ≤ max_helpers) (wake : Wake) where
   -- there is a place for each helper
@@ -301,7 +325,7 @@ module _ (old : BookView) (sound : IsSoundState old.wiring (state old)) (few : o
   by_event : (event : Event) (said : Bool) (n : ℕ) → MayCome old.wiring old.rows event said n → WakesBy (appended old event said n) event said wake → WakesEnough old (appended old event said n) wake
   by_event (Queue i) true n may wakes =
       by_state old (Queue i) true n sound wake (effect old.wiring (state old) (QueueStep i)) (by_step old (Queue i) true n sound wake (QueueStep i) refl)
-      (subst (Suffices old.wiring (state old) (effect old.wiring (state old) (QueueStep i)) old.closed old.closed) (sym wakes) (queued-suffices old.wiring (state old) sound old.closed i))
+      (subst (Suffices (state old) (effect old.wiring (state old) (QueueStep i)) old.closed old.closed) (sym wakes) (queued-suffices old.wiring (state old) sound old.closed i))
   by_event (Queue i) false n may wakes = by_none old (Queue i) false n sound wake refl
   by_event (Cancel i) true n may wakes = by_cancel old (Cancel i) true n sound wake i (by_step old (Cancel i) true n sound wake (CancelStep i) refl) wakes
   by_event (Cancel i) false n may wakes = by_none old (Cancel i) false n sound wake refl
@@ -332,12 +356,12 @@ event-enough old new event said n wake book few appends wakes =
 
 pub closing-enough : (old : BookView) → WakesEnough old (record old { closed = true }) every_context
 closing-enough old =
-    let suffices = closed-suffices old.wiring (state old) old.closed true in
+    let suffices = closed-suffices (state old) old.closed true in
     record { all = λ c lets becomes. suffices.all c lets becomes.before becomes.now; one_each = suffices.one_each }
 
 pub unchanged-enough : (b : BookView) (wake : Wake) → WakesEnough b b wake
 unchanged-enough b wake =
-    let suffices = same-suffices b.wiring (state b) b.closed wake in
+    let suffices = same-suffices (state b) b.closed wake in
     record { all = λ c lets becomes. suffices.all c lets becomes.before becomes.now; one_each = suffices.one_each }
 
 -- ---- so somebody is woken for each condition that is met now
@@ -350,7 +374,7 @@ some-woken wake c q all = by wake.contexts all where
   by (AllOf p) h = h
   by Everybody h = tt
 
-pub enough-one : (old new : BookView) (wake : Wake) → WakesEnough old new wake → (c : Condition) → BecomesMet old new c → WakesOne wake (sleepers_for old.wiring c)
+pub enough-one : (old new : BookView) (wake : Wake) → WakesEnough old new wake → (c : Condition) → BecomesMet old new c → WakesOne wake (sleepers_for c)
 enough-one old new wake enough (WorkOn q) becomes = by_next (next_of (lane_at (state old) q)) refl where
   by_count : 1 ≤ startable (lane_at (state new) q) → startable (lane_at (state old) q) ≡ 0 → WakesOne wake (Contexts q)
   by_count some none = elim (enough.one_each q) [

@@ -9,7 +9,7 @@ use Rattle.wq_core.specs.State.{Lane, State, lane_at, is_running, next_of, HasPe
 use Rattle.wq_rows.specs.declared.event.Event.{Event}
 use Rattle.wq_rows.specs.declared.event.Event.TheVariants.{Queue, Cancel, Start, Wait, Over, Finish, Ask, Told, WaitAll, OverAll, AskLane, ToldLane, Help}
 use Rattle.wq_history.specs.declared.sleepers.Sleepers.{Sleepers}
-use Rattle.wq_history.specs.declared.sleepers.Sleepers.TheVariants.{Contexts, Waiters, Destroyers}
+use Rattle.wq_history.specs.declared.sleepers.Sleepers.TheVariants.{Contexts, ItemWaiters, LaneWaiters, Destroyers}
 use Rattle.wq_history.specs.declared.sleepers.WokenContexts.{WokenContexts}
 use Rattle.wq_history.specs.declared.sleepers.WokenContexts.TheVariants.{Nobody, One, All as AllOf, Everybody}
 use Rattle.wq_history.specs.declared.sleepers.Wake.{Wake}
@@ -42,12 +42,12 @@ IsMet b c = IsMetIn (state b) b.closed c
 
 -- who sleeps for it: a context that runs nothing sleeps until its lane has work or has ended; a flush, a cancellation that waits,
 -- and the wait of what runs, sleep until an item or a lane is done; and `destroy` until all is done
-abbrev pub sleepers_for : Wiring → Condition → Sleepers
-sleepers_for w (WorkOn q) = Contexts q
-sleepers_for w (EndOf q) = Contexts q
-sleepers_for w (ItemDone i mark) = Waiters (lane_of w i)
-sleepers_for w (LaneDone q mark) = Waiters q
-sleepers_for w AllDone = Destroyers
+abbrev pub sleepers_for : Condition → Sleepers
+sleepers_for (WorkOn q) = Contexts q
+sleepers_for (EndOf q) = Contexts q
+sleepers_for (ItemDone i mark) = ItemWaiters i
+sleepers_for (LaneDone q mark) = LaneWaiters q
+sleepers_for AllDone = Destroyers
 
 -- what a wait of this kind for item b, with this mark, waits for
 abbrev pub awaited : Wiring → Bool → ℕ → ℕ → Condition
@@ -63,15 +63,15 @@ pub record BecomesMet (old new : BookView) (c : Condition) : Type 0 where
 
 -- nobody is woken
 abbrev pub nobody : Wake
-nobody = record { contexts = Nobody; waiters = None; destroyers = false }
+nobody = record { contexts = Nobody; item_waiters = None; lane_waiters = None; destroyers = false }
 
 -- one context of lane q is woken
 abbrev pub one_context : ℕ → Wake
-one_context q = record { contexts = One q; waiters = None; destroyers = false }
+one_context q = record { contexts = One q; item_waiters = None; lane_waiters = None; destroyers = false }
 
 -- all contexts of all lanes are woken
 abbrev pub every_context : Wake
-every_context = record { contexts = Everybody; waiters = None; destroyers = false }
+every_context = record { contexts = Everybody; item_waiters = None; lane_waiters = None; destroyers = false }
 
 -- one context of lane q is woken, or all of them
 abbrev pub WakesContext : WokenContexts → ℕ → Type 0
@@ -89,13 +89,15 @@ WakesContexts _ q = ⊥
 -- one of these sleepers is woken, or all of them
 abbrev pub WakesOne : Wake → Sleepers → Type 0
 WakesOne wake (Contexts q) = WakesContext wake.contexts q
-WakesOne wake (Waiters q) = wake.waiters ≡ Some q
+WakesOne wake (ItemWaiters i) = wake.item_waiters ≡ Some i
+WakesOne wake (LaneWaiters q) = wake.lane_waiters ≡ Some q
 WakesOne wake Destroyers = wake.destroyers ≡ true
 
 -- all of these sleepers are woken
 abbrev pub WakesAll : Wake → Sleepers → Type 0
 WakesAll wake (Contexts q) = WakesContexts wake.contexts q
-WakesAll wake (Waiters q) = wake.waiters ≡ Some q
+WakesAll wake (ItemWaiters i) = wake.item_waiters ≡ Some i
+WakesAll wake (LaneWaiters q) = wake.lane_waiters ≡ Some q
 WakesAll wake Destroyers = wake.destroyers ≡ true
 
 -- ---- who has to be woken
@@ -112,7 +114,7 @@ LetsAllGo _ = Unit {0}
 -- enough are woken: all who sleep for a condition that has become true; and, for each entry more of a lane that may be started,
 -- one of its contexts, but never for more than one entry
 pub record WakesEnough (old new : BookView) (wake : Wake) : Type 0 where
-  pub all : (c : Condition) → LetsAllGo c → BecomesMet old new c → WakesAll wake (sleepers_for old.wiring c)
+  pub all : (c : Condition) → LetsAllGo c → BecomesMet old new c → WakesAll wake (sleepers_for c)
   pub one_each : (q : ℕ) → (startable (lane_at (state new) q) ≤ startable (lane_at (state old) q))
       ⊎ ((startable (lane_at (state new) q) ≤ startable (lane_at (state old) q) + 1) × WakesOne wake (Contexts q))
 
@@ -126,21 +128,22 @@ WakesIfEnded b q woken = (IsMet b (EndOf q) × (woken ≡ AllOf q)) ⊎ ((¬ IsM
 abbrev pub WakesIfPending : BookView → ℕ → ℕ → WokenContexts → Type 0
 WakesIfPending b q i woken = (HasPending (state b) i × (woken ≡ One q)) ⊎ ((¬ HasPending (state b) i) × (woken ≡ Nobody))
 
--- those who wait for lane q, and those who wait for all, if all is done
-abbrev pub WakesWaiters : BookView → ℕ → Wake → Type 0
-WakesWaiters b q wake = (wake.waiters ≡ Some q) × (IsTrue wake.destroyers ↔ IsMet b AllDone)
+-- of lane q an entry of item i has ended: those who wait for the item, those who wait for the lane, and those who wait for all, if
+-- all is done
+abbrev pub WakesWaiters : BookView → ℕ → ℕ → Wake → Type 0
+WakesWaiters b q i wake = (wake.item_waiters ≡ Some i) × (wake.lane_waiters ≡ Some q) × (IsTrue wake.destroyers ↔ IsMet b AllDone)
 
 -- a start of a lane's last pending entry in a closed book ends the lane
 abbrev pub WakesByStart : BookView → ℕ → Wake → Type 0
-WakesByStart b q wake = WakesIfEnded b q wake.contexts × (wake.waiters ≡ None) × (wake.destroyers ≡ false)
+WakesByStart b q wake = WakesIfEnded b q wake.contexts × (wake.item_waiters ≡ None) × (wake.lane_waiters ≡ None) × (wake.destroyers ≡ false)
 
 -- a finish of item i on lane q: if the next entry of i is pending, a context may start it
 abbrev pub WakesByFinish : BookView → ℕ → ℕ → Wake → Type 0
-WakesByFinish b q i wake = WakesIfPending b q i wake.contexts × WakesWaiters b q wake
+WakesByFinish b q i wake = WakesIfPending b q i wake.contexts × WakesWaiters b q i wake
 
--- a cancellation on lane q: it can end the lane
-abbrev pub WakesByCancel : BookView → ℕ → Wake → Type 0
-WakesByCancel b q wake = WakesIfEnded b q wake.contexts × WakesWaiters b q wake
+-- a cancellation of item i on lane q: it can end the lane
+abbrev pub WakesByCancel : BookView → ℕ → ℕ → Wake → Type 0
+WakesByCancel b q i wake = WakesIfEnded b q wake.contexts × WakesWaiters b q i wake
 
 -- what a context of lane q does
 abbrev pub WakesByDeed : BookView → ℕ → HelpStep → Wake → Type 0
@@ -153,7 +156,7 @@ WakesByDeed b q _ wake = wake ≡ nobody
 abbrev pub WakesBy : BookView → Event → Bool → Wake → Type 0
 WakesBy b (Queue i) true wake = wake ≡ one_context (lane_of b.wiring i)
 WakesBy b (Queue i) false wake = wake ≡ nobody
-WakesBy b (Cancel i) true wake = WakesByCancel b (lane_of b.wiring i) wake
+WakesBy b (Cancel i) true wake = WakesByCancel b (lane_of b.wiring i) i wake
 WakesBy b (Cancel i) false wake = wake ≡ nobody
 WakesBy b (Start q i) said wake = WakesByDeed b q (DoStart i) wake
 WakesBy b (Wait q t) said wake = WakesByDeed b q (DoWait t) wake

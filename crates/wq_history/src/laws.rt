@@ -97,7 +97,7 @@ pub fn an_event_wakes_enough()
 /// Where enough are woken, somebody is woken for each condition that becomes true.
 pub fn whoever_can_go_on_is_woken()
     ensures { (old new : BookView) (wake : Wake) (c : Condition) → WakesEnough old new wake → BecomesMet old new c →
-        WakesOne wake (sleepers_for old.wiring c) }
+        WakesOne wake (sleepers_for c) }
 {}
 
 /// Whatever happens to the contexts of a lane: nobody sleeps, or for each entry that may be started somebody was woken and hasn't

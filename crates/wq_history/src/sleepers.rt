@@ -7,14 +7,17 @@ ghost use Rattle.std.specs.Prelude.{◌≡◌};
 ghost use Rattle.wq_history.specs.Waits.{nobody, one_context, every_context};
 
 use wq_groups::LaneId;
+use wq_items::ItemId;
 
 /// A group of those who sleep.
 #[derive(Clone, Copy, Debug, PartialEq, Eq)]
 pub enum Sleepers {
     /// The contexts of this lane that have nothing to start.
     Contexts(LaneId),
-    /// Whoever waits until entries of this lane have ended: callers, and what contexts of any lane run.
-    Waiters(LaneId),
+    /// Whoever waits until entries of this item have ended: callers, and what contexts of any lane run.
+    ItemWaiters(ItemId),
+    /// Whoever waits until entries of this lane have ended, of whichever items.
+    LaneWaiters(LaneId),
     /// Callers who wait until nothing is unfinished.
     Destroyers,
 }
@@ -37,8 +40,10 @@ pub enum WokenContexts {
 pub struct Wake {
     /// Which contexts.
     pub contexts: WokenContexts,
+    /// All who wait until entries of this item have ended.
+    pub item_waiters: Option<ItemId>,
     /// All who wait until entries of this lane have ended.
-    pub waiters: Option<LaneId>,
+    pub lane_waiters: Option<LaneId>,
     /// Whether all are woken who wait until nothing is unfinished.
     pub destroyers: bool,
 }
@@ -50,7 +55,8 @@ impl Wake {
     {
         Wake {
             contexts: WokenContexts::Nobody,
-            waiters: None,
+            item_waiters: None,
+            lane_waiters: None,
             destroyers: false,
         }
     }
@@ -61,7 +67,8 @@ impl Wake {
     {
         Wake {
             contexts: WokenContexts::One(q),
-            waiters: None,
+            item_waiters: None,
+            lane_waiters: None,
             destroyers: false,
         }
     }
@@ -72,7 +79,8 @@ impl Wake {
     {
         Wake {
             contexts: WokenContexts::Everybody,
-            waiters: None,
+            item_waiters: None,
+            lane_waiters: None,
             destroyers: false,
         }
     }

@@ -1,9 +1,9 @@
 -- What a call under the lock does wakes enough, and who sleeps for what.
-use Rattle.std.proofs.Common.{◌≡◌, ℕ, zero, suc, ◌<◌, ◌≤◌, ◌⊎◌, ◌↔◌, Bool, true, false, refl, sym, ap, subst, ◌∙◌, ◌+◌, arith}
-use Rattle.std.specs.Prelude.{IsTrue, Option, Some, None, Result, Ok, Err, IfOk, IfErr, OnOk, OnErr}
+use Rattle.std.proofs.Common.{◌≡◌, ℕ, zero, suc, ◌<◌, ◌≤◌, ◌⊎◌, Bool, true, false, refl, sym, ap, subst, ◌∙◌, ◌+◌, arith}
+use Rattle.std.specs.Prelude.{Option, Some, None, Result, Ok, Err, IfOk, IfErr, OnOk, OnErr}
 use Rattle.wq_core.specs.Wiring.{Wiring, IsWiring, items, max_helpers, lane_of}
 use Rattle.wq_core.specs.declared.step.Step.TheVariants.{Cancel as CancelStep}
-use Rattle.wq_core.specs.State.{State, lane_at, HasUnfinished, HasUnfinishedBelow, IsBusyBelow}
+use Rattle.wq_core.specs.State.{State, lane_at, HasUnfinishedBelow, IsBusyBelow}
 use Rattle.wq_core.specs.Rules.{effect}
 use Rattle.wq_core.specs.Held.{IsSoundState}
 use Rattle.wq_rows.specs.declared.event.Event.{Event}
@@ -14,20 +14,19 @@ use Rattle.wq_history.specs.declared.asking.Ask.TheVariants.{Idle, Waiting}
 use Rattle.wq_history.specs.declared.asking.LaneAsk.{LaneAsk}
 use Rattle.wq_history.specs.declared.asking.LaneAsk.TheVariants.{Idle as LaneIdle, Waiting as LaneWaiting}
 use Rattle.wq_history.specs.declared.sleepers.Sleepers.{Sleepers}
-use Rattle.wq_history.specs.declared.sleepers.Sleepers.TheVariants.{Waiters}
 use Rattle.wq_history.specs.declared.sleepers.Wake.{Wake}
 use Rattle.wq_history.specs.declared.sleepers.WokenContexts.{WokenContexts}
 use Rattle.wq_history.specs.declared.sleepers.WokenContexts.TheVariants.{Nobody, All as AllOf}
 use Rattle.wq_history.specs.Events.{start_event, wait_event, over_event, finish_event}
 use Rattle.wq_history.specs.Book.{BookView, state, Appends, AppendsOne}
 use Rattle.wq_history.specs.Answers.{AnswersAsk, AnswersAskLane, AnswersStart}
-use Rattle.wq_history.specs.Waits.{IsMetIn, EndOf, nobody, one_context, every_context, WakesBy, WakesByStart, WakesByFinish, WakesByCancel, WakesEnough}
+use Rattle.wq_history.specs.Waits.{IsMetIn, EndOf, sleepers_for, awaited, nobody, one_context, every_context, WakesBy, WakesByStart, WakesByFinish, WakesByCancel, WakesEnough}
 use Rattle.wq_history.proofs.Histories.{state_after-none, state_after-step}
 use Rattle.wq_core.proofs.LaneLemmas.{lane_within}
 use Rattle.wq_core.proofs.Machines.{unfinished-own_lane}
 use Rattle.wq_history.proofs.LegalRows.{IsSoundState-legal}
 use Rattle.wq_history.proofs.WaitEvents.{declared-item}
-use Rattle.wq_history.proofs.Wakes.{Suffices, cancelled-suffices, same-suffices, event-enough, closing-enough, unchanged-enough}
+use Rattle.wq_history.proofs.Wakes.{Suffices, WakesWaitersIn, cancelled-suffices, same-suffices, event-enough, closing-enough, unchanged-enough}
 use Rattle.wq_held.specs.declared.fault.CallError.{CallError}
 use Rattle.wq_held.specs.Locked.{HeldView, Holds, IsOnLane, AsksAndCancels, AnswersOverOf}
 use Rattle.wq_under_lock.specs.Turns.{WakesEnoughOf, woken_by_queueing, WakesByNext, IsGroup}
@@ -66,7 +65,7 @@ module _ (w : Wiring) (rows : ℕ) (old new : HeldView) (holds : Holds w rows ol
 -- ---- an ask, and a cancellation
 
 -- what makes the state of a new book of that of an old one
-suffices-wakes : (old new : BookView) (wake : Wake) → Suffices old.wiring (state old) (state new) old.closed new.closed wake → WakesEnough old new wake
+suffices-wakes : (old new : BookView) (wake : Wake) → Suffices (state old) (state new) old.closed new.closed wake → WakesEnough old new wake
 suffices-wakes old new wake suffices = record {
   all = λ c lets becomes. suffices.all c lets becomes.before becomes.now;
   one_each = suffices.one_each;
@@ -78,7 +77,7 @@ IfEnded t k q woken = (IsMetIn t k (EndOf q) × (woken ≡ AllOf q)) ⊎ ((¬ Is
 
 -- a book whose state is that of an old one after a cancellation
 cancelled-wakes : (old new : BookView) (i : ℕ) (wake : Wake) → IsSoundState old.wiring (state old) → state new ≡ effect old.wiring (state old) (CancelStep i) → new.closed ≡ old.closed
-    → new.wiring ≡ old.wiring → WakesByCancel new (lane_of new.wiring i) wake → WakesEnough old new wake
+    → new.wiring ≡ old.wiring → WakesByCancel new (lane_of new.wiring i) i wake → WakesEnough old new wake
 cancelled-wakes old new i wake sound states closed wirings wakes =
     let w : Wiring = old.wiring in
     let s : State = state old in
@@ -86,10 +85,11 @@ cancelled-wakes old new i wake sound states closed wirings wakes =
     let ended : IfEnded (effect w s (CancelStep i)) old.closed (lane_of w i) wake.contexts =
     subst (λ (t : State). IfEnded t old.closed (lane_of w i) wake.contexts) states
     (subst (λ (k : Bool). IfEnded (state new) k (lane_of w i) wake.contexts) closed (subst (λ (q : ℕ). IfEnded (state new) new.closed q wake.contexts) own wakes.0)) in
-    let destroyers : IsTrue wake.destroyers ↔ (¬ HasUnfinished (effect w s (CancelStep i))) = subst (λ (t : State). IsTrue wake.destroyers ↔ (¬ HasUnfinished t)) states wakes.1.1 in
-    let suffices = cancelled-suffices w s sound old.closed i wake ended (wakes.1.0 ∙ ap Some own) destroyers in
+    let waiters : WakesWaitersIn (effect w s (CancelStep i)) (lane_of w i) i wake =
+    subst (λ (t : State). WakesWaitersIn t (lane_of w i) i wake) states (subst (λ (q : ℕ). WakesWaitersIn (state new) q i wake) own wakes.1) in
+    let suffices = cancelled-suffices w s sound old.closed i wake ended waiters in
     suffices-wakes old new wake
-    (subst (λ (k : Bool). Suffices w s (state new) old.closed k wake) (sym closed) (subst (λ (t : State). Suffices w s t old.closed old.closed wake) (sym states) suffices))
+    (subst (λ (k : Bool). Suffices s (state new) old.closed k wake) (sym closed) (subst (λ (t : State). Suffices s t old.closed old.closed wake) (sym states) suffices))
 
 -- an ask leaves the state as it was
 same-asked : (old new : BookView) (i : ℕ) (answer : Ask) → AnswersAsk old new i answer → (state new ≡ state old) × (new.closed ≡ old.closed) × (new.wiring ≡ old.wiring)
@@ -127,14 +127,14 @@ both-wakes w rows old new holds i answer taken wake both wakes = by taken both.c
       let states : state new.book ≡ state old.book = ap state appends.is_new ∙ state_after-none between.wiring between.rows row refl ∙ same.0 in
       let closed : new.book.closed ≡ old.book.closed = ap (λ (b : BookView). b.closed) appends.is_new ∙ same.1 in
       suffices-wakes old.book new.book wake
-      (subst (λ (k : Bool). Suffices old.book.wiring (state old.book) (state new.book) old.book.closed k wake) (sym closed)
-      (subst (λ (t : State). Suffices old.book.wiring (state old.book) t old.book.closed old.book.closed wake) (sym states) (same-suffices old.book.wiring (state old.book) old.book.closed wake)))
+      (subst (λ (k : Bool). Suffices (state old.book) (state new.book) old.book.closed k wake) (sym closed)
+      (subst (λ (t : State). Suffices (state old.book) t old.book.closed old.book.closed wake) (sym states) (same-suffices (state old.book) old.book.closed wake)))
 
 pub taken-wakes : (w : Wiring) (rows : ℕ) (old new : HeldView) → Holds w rows old.book → (i : ℕ) (answer : Ask) (taken : Bool) (wake : Wake) → AsksAndCancels old.book new.book i answer taken → taken ≡ true
-    → WakesByCancel new.book (lane_of w i) wake → WakesEnoughOf old new wake
+    → WakesByCancel new.book (lane_of w i) i wake → WakesEnoughOf old new wake
 taken-wakes w rows old new holds i answer true wake both is wakes =
     let wiring : new.book.wiring ≡ w = ap (λ (b : BookView). b.wiring) both.cancels.1.is_new ∙ (same-asked old.book both.between i answer both.asks).2 ∙ holds.of_wiring in
-    both-wakes w rows old new holds i answer true wake both (subst (λ (x : Wiring). WakesByCancel new.book (lane_of x i) wake) (sym wiring) wakes)
+    both-wakes w rows old new holds i answer true wake both (subst (λ (x : Wiring). WakesByCancel new.book (lane_of x i) i wake) (sym wiring) wakes)
 taken-wakes w rows old new holds i answer false wake both is wakes = absurd cc
 
 pub not_taken-wakes : (w : Wiring) (rows : ℕ) (old new : HeldView) → Holds w rows old.book → (i : ℕ) (answer : Ask) (taken : Bool) (wake : Wake) → AsksAndCancels old.book new.book i answer taken → taken ≡ false
@@ -144,10 +144,10 @@ not_taken-wakes w rows old new holds i answer false wake both is wakes = both-wa
 
 -- a cancellation
 pub cancel-wakes : (w : Wiring) (rows : ℕ) (old new : HeldView) → Holds w rows old.book → (i : ℕ) (taken : Bool) (wake : Wake) → AppendsOne old.book new.book (Cancel i) taken → taken ≡ true
-    → WakesByCancel new.book (lane_of w i) wake → WakesEnoughOf old new wake
+    → WakesByCancel new.book (lane_of w i) i wake → WakesEnoughOf old new wake
 cancel-wakes w rows old new holds i true wake (n, appends) is wakes =
     let wiring : new.book.wiring ≡ w = ap (λ (b : BookView). b.wiring) appends.is_new ∙ holds.of_wiring in
-    appended-wakes w rows old new holds (Cancel i) true n wake appends (subst (λ (x : Wiring). WakesByCancel new.book (lane_of x i) wake) (sym wiring) wakes)
+    appended-wakes w rows old new holds (Cancel i) true n wake appends (subst (λ (x : Wiring). WakesByCancel new.book (lane_of x i) i wake) (sym wiring) wakes)
 cancel-wakes w rows old new holds i false wake row is wakes = absurd cc
 
 pub not_cancelled-wakes : (w : Wiring) (rows : ℕ) (old new : HeldView) → Holds w rows old.book → (i : ℕ) (taken : Bool) (wake : Wake) → AppendsOne old.book new.book (Cancel i) taken → taken ≡ false
@@ -221,8 +221,10 @@ module _ (w : Wiring) (rows : ℕ) (h : HeldView) (holds : Holds w rows h.book) 
       let wiring : IsWiring w = subst IsWiring holds.of_wiring holds.legal.wiring in
       wiring.within i 0 (omega (arith, there, wiring.one_lane_each))
 
-  pub waiters-group : (i : ℕ) (among : Sleepers) → i < items w → among ≡ Waiters (lane_of w i) → IsGroup w.lanes among
-  waiters-group i among there is = subst (IsGroup w.lanes) (sym is) (lane-within i there)
+  -- those who wait for an item that exists, or for its whole lane
+  pub waiters-group : (whole : Bool) (i : ℕ) (among : Sleepers) → i < items w → ((mark : ℕ) → among ≡ sleepers_for (awaited w whole i mark)) → IsGroup w.lanes (items w) among
+  waiters-group false i among there is = subst (IsGroup w.lanes (items w)) (sym (is 0)) there
+  waiters-group true i among there is = subst (IsGroup w.lanes (items w)) (sym (is 0)) (lane-within i there)
 
   -- an item whose entries somebody waits for
   pub awaited-item : (i mark : ℕ) → HasUnfinishedBelow (state h.book) i mark → i < items w

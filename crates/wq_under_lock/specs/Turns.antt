@@ -3,7 +3,7 @@ use Rattle.std.specs.Prelude.{◌≡◌, ℕ, ◌<◌, [], Bool, true, false, Op
 use Rattle.wq_core.specs.declared.entry.Waiting.{Waiting as WaitingOf}
 use Rattle.wq_rows.specs.declared.event.Event.{Event}
 use Rattle.wq_history.specs.declared.sleepers.Sleepers.{Sleepers}
-use Rattle.wq_history.specs.declared.sleepers.Sleepers.TheVariants.{Contexts, Waiters, Destroyers}
+use Rattle.wq_history.specs.declared.sleepers.Sleepers.TheVariants.{Contexts, ItemWaiters, LaneWaiters, Destroyers}
 use Rattle.wq_history.specs.declared.sleepers.Wake.{Wake}
 use Rattle.wq_history.specs.Events.{start_event}
 use Rattle.wq_history.specs.Book.{IsWaitingBy}
@@ -26,7 +26,7 @@ IfSleeps (Sleeps waits among) P = P waits
 -- if its caller sleeps, it does so for this condition, which isn't met, among those who sleep for it
 abbrev pub SleepsFor : {T W : Type 0} → HeldView → Condition → Turn T W → Type 0
 SleepsFor h c (Answers answer wake) = Unit {0}
-SleepsFor h c (Sleeps waits among) = (among ≡ sleepers_for h.book.wiring c) × (¬ IsMet h.book c)
+SleepsFor h c (Sleeps waits among) = (among ≡ sleepers_for c) × (¬ IsMet h.book c)
 
 -- the call answers, and this holds of its answer and of who is woken
 abbrev pub AnswersWith : {T W : Type 0} → Turn T W → (T → Wake → Type 0) → Type 0
@@ -58,23 +58,24 @@ WakesByNext new q c None wake = wake ≡ nobody
 abbrev pub SleepsForWaitOf : {T W : Type 0} → HeldView → ℕ → ℕ → Bool → ℕ → Turn T W → Type 0
 SleepsForWaitOf h q c whole b (Answers answer wake) = Unit {0}
 SleepsForWaitOf h q c whole b (Sleeps waits among) = (f : WaitingOf) × IsWaitingBy h.book q c whole f × (f.target ≡ b)
-    × (among ≡ sleepers_for h.book.wiring (awaited h.book.wiring whole b f.mark)) × (¬ IsMet h.book (awaited h.book.wiring whole b f.mark))
+    × (among ≡ sleepers_for (awaited h.book.wiring whole b f.mark)) × (¬ IsMet h.book (awaited h.book.wiring whole b f.mark))
 
 -- enough are woken by what became of the book
 abbrev pub WakesEnoughOf : HeldView → HeldView → Wake → Type 0
 WakesEnoughOf old new wake = WakesEnough old.book new.book wake
 
--- there is such a group of sleepers, if there are so many lanes
-abbrev pub IsGroup : ℕ → Sleepers → Type 0
-IsGroup lanes (Contexts q) = q < lanes
-IsGroup lanes (Waiters q) = q < lanes
-IsGroup lanes Destroyers = Unit {0}
+-- there is such a group of sleepers, if there are so many lanes and so many items
+abbrev pub IsGroup : ℕ → ℕ → Sleepers → Type 0
+IsGroup lanes items (Contexts q) = q < lanes
+IsGroup lanes items (ItemWaiters i) = i < items
+IsGroup lanes items (LaneWaiters q) = q < lanes
+IsGroup lanes items Destroyers = Unit {0}
 
 -- enough are woken by what has happened, which `enough` says; and if the caller of this call is to sleep, nothing has happened, and
 -- there is such a group of sleepers
-abbrev pub Wakes : {H T W : Type 0} → ℕ → (H → H → Wake → Type 0) → H → H → Turn T W → Type 0
-Wakes lanes enough old new (Answers answer wake) = enough old new wake
-Wakes lanes enough old new (Sleeps waits among) = (new ≡ old) × IsGroup lanes among
+abbrev pub Wakes : {H T W : Type 0} → ℕ → ℕ → (H → H → Wake → Type 0) → H → H → Turn T W → Type 0
+Wakes lanes items enough old new (Answers answer wake) = enough old new wake
+Wakes lanes items enough old new (Sleeps waits among) = (new ≡ old) × IsGroup lanes items among
 
 -- whoever serves lane q is done: the book is closed, and nothing is pending on the lane
 abbrev pub HasEnded : HeldView → ℕ → Type 0

@@ -24,6 +24,9 @@ pub trait Watched {
     // how many lanes there are, on which somebody may sleep
     ghost lanes: { ℕ };
 
+    // how many items there are, for whose entries somebody may wait
+    ghost items: { ℕ };
+
     // nothing has happened yet
     ghost is_fresh: { Self → Type 0 };
 
@@ -32,9 +35,12 @@ pub trait Watched {
 }
 
 impl<N: Naming, A: Allocator> Watched for Held<N, A> {
+    ghost use Rattle.wq_core.specs.Wiring.{items as items_of};
     ghost use Rattle.wq_under_lock.specs.Turns.{IsFresh, WakesEnoughOf};
 
     ghost lanes = { N.wiring.lanes };
+
+    ghost items = { items_of N.wiring };
 
     ghost is_fresh = { IsFresh };
 

@@ -38,7 +38,7 @@ use wq_items::ItemId;
 pub fn lanes<N: Naming, A: Allocator>(held: &Held<N, A>) -> Turn<u16, ()>
     ensures lanes { AnswersWith result (λ lanes wake. (lanes ≡ N.wiring.lanes) × (lanes ≤ max_runtime_lanes)) }
     ensures wakes { AnswersWith result (λ lanes wake. wake ≡ nobody) }
-    ensures enough { Wakes N.wiring.lanes WakesEnoughOf held.now held.now result }
+    ensures enough { Wakes N.wiring.lanes (items N.wiring) WakesEnoughOf held.now held.now result }
 {
     Turn::Answers(held.lanes() as u16, Wake::nobody())
 }
@@ -48,7 +48,7 @@ pub fn lane_of<N: Naming, A: Allocator>(held: &Held<N, A>, item: ItemId) -> Turn
     ensures some { AnswersWith result (λ lane wake. IfSome lane (λ q. IsOnLane N.wiring q item)) }
     ensures none { AnswersWith result (λ lane wake. IfNone lane (items N.wiring ≤ item)) }
     ensures wakes { AnswersWith result (λ lane wake. wake ≡ nobody) }
-    ensures enough { Wakes N.wiring.lanes WakesEnoughOf held.now held.now result }
+    ensures enough { Wakes N.wiring.lanes (items N.wiring) WakesEnoughOf held.now held.now result }
 {
     Turn::Answers(held.lane_of(item), Wake::nobody())
 }
@@ -57,7 +57,7 @@ pub fn lane_of<N: Naming, A: Allocator>(held: &Held<N, A>, item: ItemId) -> Turn
 pub fn helpers_of<N: Naming, A: Allocator>(held: &Held<N, A>, q: LaneId) -> Turn<u8, ()>
     ensures helpers { AnswersWith result (λ helpers wake. helpers ≡ helpers_of N.wiring q) }
     ensures wakes { AnswersWith result (λ helpers wake. wake ≡ nobody) }
-    ensures enough { Wakes N.wiring.lanes WakesEnoughOf held.now held.now result }
+    ensures enough { Wakes N.wiring.lanes (items N.wiring) WakesEnoughOf held.now held.now result }
 {
     Turn::Answers(held.helpers_of(q), Wake::nobody())
 }
@@ -70,7 +70,7 @@ pub fn has_context<N: Naming, A: Allocator>(
 ) -> Turn<bool, ()>
     ensures has { AnswersWith result (λ has wake. IsTrue has ↔ HasContext N.wiring q helper) }
     ensures wakes { AnswersWith result (λ has wake. wake ≡ nobody) }
-    ensures enough { Wakes N.wiring.lanes WakesEnoughOf held.now held.now result }
+    ensures enough { Wakes N.wiring.lanes (items N.wiring) WakesEnoughOf held.now held.now result }
 {
     Turn::Answers(held.has_context(q, helper), Wake::nobody())
 }
@@ -111,7 +111,7 @@ pub fn queue_work<N: Naming, A: Allocator>(
     ensures refused { AnswersWith result (λ r wake. IfErr r (λ e. RefusesQueueWork N.wiring seat.old q item e × (held.new ≡ held.old) × (seat.new ≡ seat.old))) }
     ensures cause { AnswersWith result (λ r wake. IfErr r (λ e. IsOnLane N.wiring q item → SeatHasRoom seat.old → RefusedAs (RefusesQueue held.old.book item) e)) }
     ensures woken { AnswersWith result (λ r wake. wake ≡ woken_by_queueing q r) }
-    ensures wakes { Wakes N.wiring.lanes WakesEnoughOf held.old held.new result }
+    ensures wakes { Wakes N.wiring.lanes (items N.wiring) WakesEnoughOf held.old held.new result }
 {
     held.holds();
     let answer = calls::queue(held, seat, q, item);
@@ -133,7 +133,7 @@ pub fn queue_item<N: Naming, A: Allocator>(
     ensures refused { AnswersWith result (λ r wake. IfErr r (λ e. RefusesQueueWork N.wiring seat.old (lane_of N.wiring item) item e × (held.new ≡ held.old) × (seat.new ≡ seat.old))) }
     ensures cause { AnswersWith result (λ r wake. IfErr r (λ e. item < items N.wiring → SeatHasRoom seat.old → RefusedAs (RefusesQueue held.old.book item) e)) }
     ensures woken { AnswersWith result (λ r wake. wake ≡ woken_by_queueing (lane_of N.wiring item) r) }
-    ensures wakes { Wakes N.wiring.lanes WakesEnoughOf held.old held.new result }
+    ensures wakes { Wakes N.wiring.lanes (items N.wiring) WakesEnoughOf held.old held.new result }
 {
     held.holds();
     let Some(q) = held.lane_of(item) else {
@@ -144,7 +144,8 @@ pub fn queue_item<N: Naming, A: Allocator>(
     Turn::Answers(answer, wake)
 }
 
-/// `cancel_work`, as `cancel`. Where the item was pending, all who wait for its workqueue are woken.
+/// `cancel_work`, as `cancel`. Where the item was pending, all who wait for it or for its workqueue
+/// are woken.
 pub fn cancel_work<N: Naming, A: Allocator>(
     held: &mut Held<N, A>,
     seat: &mut Seat<N, A>,
@@ -155,7 +156,7 @@ pub fn cancel_work<N: Naming, A: Allocator>(
     ensures refused { AnswersWith result (λ r wake. IfErr r (λ e. RefusesCancelWork N.wiring item e × (held.new ≡ held.old) × (seat.new ≡ seat.old))) }
     ensures cause { AnswersWith result (λ r wake. IfErr r (λ e. item < items N.wiring → SeatHasRoom seat.old → RefusedAs (RefusesItem held.old.book item Cancel) e)) }
     ensures woken { AnswersWith result (λ r wake. WakesBySaid held.new (Cancel item) r wake) }
-    ensures wakes { Wakes N.wiring.lanes WakesEnoughOf held.old held.new result }
+    ensures wakes { Wakes N.wiring.lanes (items N.wiring) WakesEnoughOf held.old held.new result }
 {
     held.holds();
     match calls::cancel(held, seat, item) {
@@ -165,8 +166,8 @@ pub fn cancel_work<N: Naming, A: Allocator>(
     }
 }
 
-/// Finishes what a context runs, an entry of this item. All who wait for its workqueue are woken, and one context of it, where the
-/// item's next entry is pending.
+/// Finishes what a context runs, an entry of this item. All who wait for it or for its workqueue are woken, and one context of the
+/// workqueue, where the item's next entry is pending.
 ///
 /// The only error is `WrongLane` (64): there is no such context, it runs nothing or an entry of another item, or it waits. After an
 /// error nothing is changed or counted.
@@ -182,7 +183,7 @@ pub fn finish_work<N: Naming, A: Allocator>(
     ensures refused { AnswersWith result (λ r wake. IfErr r (λ e. (e ≡ WrongLane) × (held.new ≡ held.old) × (seat.new ≡ seat.old))) }
     ensures cause { AnswersWith result (λ r wake. OnErr r (IsWrongToFinish held.old.book q helper item)) }
     ensures woken { AnswersWith result (λ r wake. WakesByDone held.new (finish_event q helper item) r wake) }
-    ensures wakes { Wakes N.wiring.lanes WakesEnoughOf held.old held.new result }
+    ensures wakes { Wakes N.wiring.lanes (items N.wiring) WakesEnoughOf held.old held.new result }
     ensures holds { Holds N.wiring N.rows held.old.book }
 {
     held.holds();
@@ -205,13 +206,14 @@ pub fn begin_flush<N: Naming, A: Allocator>(
     ensures refused { AnswersWith result (λ r wake. IfErr r (λ e. RefusesCancelWork N.wiring item e × (held.new ≡ held.old) × (seat.new ≡ seat.old))) }
     ensures cause { AnswersWith result (λ r wake. IfErr r (λ e. item < items N.wiring → SeatHasRoom seat.old → RefusedAs (RefusesItem held.old.book item AskEvent) e)) }
     ensures woken { AnswersWith result (λ r wake. wake ≡ nobody) }
-    ensures wakes { Wakes N.wiring.lanes WakesEnoughOf held.old held.new result }
+    ensures wakes { Wakes N.wiring.lanes (items N.wiring) WakesEnoughOf held.old held.new result }
 {
     held.holds();
     Turn::Answers(calls::ask(held, seat, item), Wake::nobody())
 }
 
-/// Begins a cancellation that waits, as `ask_and_cancel`. Where the item was pending, all who wait for its workqueue are woken.
+/// Begins a cancellation that waits, as `ask_and_cancel`. Where the item was pending, all who wait for it or for its workqueue
+/// are woken.
 pub fn begin_cancel_sync<N: Naming, A: Allocator>(
     held: &mut Held<N, A>,
     seat: &mut Seat<N, A>,
@@ -222,7 +224,7 @@ pub fn begin_cancel_sync<N: Naming, A: Allocator>(
     ensures refused { AnswersWith result (λ r wake. IfErr r (λ e. RefusesCancelWork N.wiring item e × (held.new ≡ held.old) × (seat.new ≡ seat.old))) }
     ensures cause { AnswersWith result (λ r wake. IfErr r (λ e. item < items N.wiring → SeatHasRoom seat.old → RefusesAskAndCancel held.old.book item e)) }
     ensures woken { AnswersWith result (λ r wake. IfOk r (λ both. WakesBy held.new.book (Cancel item) both.1 wake) × OnErr r (wake ≡ nobody)) }
-    ensures wakes { Wakes N.wiring.lanes WakesEnoughOf held.old held.new result }
+    ensures wakes { Wakes N.wiring.lanes (items N.wiring) WakesEnoughOf held.old held.new result }
 {
     held.holds();
     match calls::ask_and_cancel(held, seat, item) {
@@ -247,14 +249,14 @@ pub fn be_told<N: Naming, A: Allocator>(
     ensures woken { IfAnswers result (λ r wake. wake ≡ nobody) }
     ensures sleeps { IfSleeps result (λ again. (again ≡ asked) × (seat.new ≡ seat.old) × HasUnfinishedBelow (state held.old.book) asked.item asked.mark) }
     ensures among { SleepsFor held.old (ItemDone asked.item asked.mark) result }
-    ensures wakes { Wakes N.wiring.lanes WakesEnoughOf held.old held.new result }
+    ensures wakes { Wakes N.wiring.lanes (items N.wiring) WakesEnoughOf held.old held.new result }
 {
     held.holds();
     match held.told(seat, asked) {
         Told::Done => Turn::Answers(Ok(()), Wake::nobody()),
         Told::NotYet(again) => {
-            let among = waking::waiters_for(held, again.item());
-            Turn::Sleeps(again, among)
+            let item = again.item();
+            Turn::Sleeps(again, Sleepers::ItemWaiters(item))
         }
         Told::NotAsked(again) => {
             again.give_up();
@@ -276,7 +278,7 @@ pub fn begin_flush_lane<N: Naming, A: Allocator>(
     ensures refused { AnswersWith result (λ r wake. IfErr r (λ e. RefusesFlushLane N.wiring q e × (held.new ≡ held.old) × (seat.new ≡ seat.old))) }
     ensures cause { AnswersWith result (λ r wake. IfErr r (λ e. q < N.wiring.lanes → SeatHasRoom seat.old → RefusedAs (RefusesAskLane held.old.book q) e)) }
     ensures woken { AnswersWith result (λ r wake. wake ≡ nobody) }
-    ensures wakes { Wakes N.wiring.lanes WakesEnoughOf held.old held.new result }
+    ensures wakes { Wakes N.wiring.lanes (items N.wiring) WakesEnoughOf held.old held.new result }
 {
     held.holds();
     Turn::Answers(calls::ask_lane(held, seat, q), Wake::nobody())
@@ -297,14 +299,14 @@ pub fn be_told_lane<N: Naming, A: Allocator>(
     ensures woken { IfAnswers result (λ r wake. wake ≡ nobody) }
     ensures sleeps { IfSleeps result (λ again. (again ≡ asked) × (seat.new ≡ seat.old) × IsBusyBelow (lane_at (state held.old.book) asked.lane) asked.mark) }
     ensures among { SleepsFor held.old (LaneDone asked.lane asked.mark) result }
-    ensures wakes { Wakes N.wiring.lanes WakesEnoughOf held.old held.new result }
+    ensures wakes { Wakes N.wiring.lanes (items N.wiring) WakesEnoughOf held.old held.new result }
 {
     held.holds();
     match held.told_lane(seat, asked) {
         LaneTold::Done => Turn::Answers(Ok(()), Wake::nobody()),
         LaneTold::NotYet(again) => {
             let q = again.lane();
-            Turn::Sleeps(again, Sleepers::Waiters(q))
+            Turn::Sleeps(again, Sleepers::LaneWaiters(q))
         }
         LaneTold::NotAsked(again) => {
             again.give_up();
@@ -335,7 +337,7 @@ pub fn next<N: Naming, A: Allocator>(
     ensures for_work { SleepsFor held.old (WorkOn q) result }
     ensures for_end { SleepsFor held.old (EndOf q) result }
     ensures woken { IfAnswers result (λ r wake. IfOk r (λ next. WakesByNext held.new q helper next wake) × OnErr r (wake ≡ one_context q)) }
-    ensures wakes { Wakes N.wiring.lanes WakesEnoughOf held.old held.new result }
+    ensures wakes { Wakes N.wiring.lanes (items N.wiring) WakesEnoughOf held.old held.new result }
     ensures holds { Holds N.wiring N.rows held.old.book }
 {
     held.holds();
@@ -366,7 +368,7 @@ pub fn begin_wait<N: Naming, A: Allocator>(
     ensures refused { AnswersWith result (λ r wake. IfErr r (λ e. RefusesWaitIn N.wiring seat.old q helper e × (held.new ≡ held.old) × (seat.new ≡ seat.old))) }
     ensures cause { AnswersWith result (λ r wake. IfErr r (λ e. HasContext N.wiring q helper → SeatHasRoom seat.old → RefusedAs (RefusesWait held.old.book q helper whole target) e)) }
     ensures woken { AnswersWith result (λ r wake. wake ≡ nobody) }
-    ensures wakes { Wakes N.wiring.lanes WakesEnoughOf held.old held.new result }
+    ensures wakes { Wakes N.wiring.lanes (items N.wiring) WakesEnoughOf held.old held.new result }
     ensures holds { Holds N.wiring N.rows held.old.book }
 {
     held.holds();
@@ -397,13 +399,13 @@ pub fn go_on<N: Naming, A: Allocator>(
     ensures sleeps { IfSleeps result (λ none. seat.new ≡ seat.old) }
     ensures waits { IfSleeps result (λ none. AnswersOverOf held.old.book held.new.book q helper whole target false) }
     ensures among { SleepsForWaitOf held.old q helper whole target result }
-    ensures wakes { Wakes N.wiring.lanes WakesEnoughOf held.old held.new result }
+    ensures wakes { Wakes N.wiring.lanes (items N.wiring) WakesEnoughOf held.old held.new result }
     ensures holds { Holds N.wiring N.rows held.old.book }
 {
     held.holds();
     match held.over(seat, q, helper, whole, target) {
         Ok(true) => Turn::Answers(Ok(()), Wake::nobody()),
-        Ok(false) => Turn::Sleeps((), waking::waiters_for(held, target)),
+        Ok(false) => Turn::Sleeps((), waking::waiters_for(held, whole, target)),
         Err(e) => Turn::Answers(Err(e), Wake::nobody()),
     }
 }
@@ -414,7 +416,7 @@ pub fn go_on<N: Naming, A: Allocator>(
 pub fn refuse_queueings<N: Naming, A: Allocator>(held: &mut Held<N, A>) -> Turn<(), ()>
     ensures closed { held.new ≡ record { book = record held.old.book { closed = true }; seats = held.old.seats } }
     ensures woken { AnswersWith result (λ done wake. wake ≡ every_context) }
-    ensures wakes { Wakes N.wiring.lanes WakesEnoughOf held.old held.new result }
+    ensures wakes { Wakes N.wiring.lanes (items N.wiring) WakesEnoughOf held.old held.new result }
     ensures holds { Holds N.wiring N.rows held.new.book }
 {
     held.close();
@@ -428,7 +430,7 @@ pub fn be_idle<N: Naming, A: Allocator>(held: &Held<N, A>) -> Turn<(), ()>
     ensures woken { IfAnswers result (λ done wake. wake ≡ nobody) }
     ensures sleeps { IfSleeps result (λ none. HasUnfinished (state held.now.book)) }
     ensures among { SleepsFor held.now AllDone result }
-    ensures enough { Wakes N.wiring.lanes WakesEnoughOf held.now held.now result }
+    ensures enough { Wakes N.wiring.lanes (items N.wiring) WakesEnoughOf held.now held.now result }
     ensures holds { Holds N.wiring N.rows held.now.book }
 {
     held.holds();

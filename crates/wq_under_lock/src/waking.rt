@@ -1,15 +1,14 @@
 //! Whom an event wakes, once it has happened: those for whom it can have made a condition true.
 //!
 //! A queueing lets one context of its workqueue go on. So does a finish, where the next entry of the item is pending: no other
-//! context could start that while the item ran. An entry that ends, by a finish or a cancellation, can end each wait for an item of its
-//! workqueue, or for the workqueue; and the last one that is unfinished, all waits in `destroy`. Where the book is closed, the contexts
-//! of a workqueue end with its last pending entry, by a start or a cancellation. Every call takes constant time.
+//! context could start that while the item ran. An entry that ends, by a finish or a cancellation, can end each wait for its item, and
+//! for its workqueue; and the last one that is unfinished, all waits in `destroy`. Where the book is closed, the contexts of a
+//! workqueue end with its last pending entry, by a start or a cancellation. Every call takes constant time.
 
-ghost use Rattle.std.specs.Prelude.{◌≡◌, ◌<◌};
+ghost use Rattle.std.specs.Prelude.{◌≡◌, ◌<◌, ℕ};
 ghost use Rattle.wq_core.specs.Wiring.{items, lane_of};
 ghost use Rattle.wq_under_lock.specs.Turns.{woken_by_queueing};
-ghost use Rattle.wq_history.specs.declared.sleepers.Sleepers.TheVariants.{Waiters};
-ghost use Rattle.wq_history.specs.Waits.{WakesIfEnded, WakesIfPending, WakesByStart, WakesByFinish, WakesByCancel};
+ghost use Rattle.wq_history.specs.Waits.{sleepers_for, awaited, WakesIfEnded, WakesIfPending, WakesWaiters, WakesByStart, WakesByFinish, WakesByCancel};
 
 use std::alloc::Allocator;
 use wq_groups::LaneId;
@@ -55,8 +54,27 @@ pub(crate) fn by_start<N: Naming, A: Allocator>(held: &Held<N, A>, q: LaneId) ->
 {
     Wake {
         contexts: if_ended(held, q),
-        waiters: None,
+        item_waiters: None,
+        lane_waiters: None,
         destroyers: false,
+    }
+}
+
+/// Whom it wakes that an entry of an item has ended, on a workqueue: these contexts, and who waited for that.
+fn by_end<N: Naming, A: Allocator>(
+    held: &Held<N, A>,
+    contexts: WokenContexts,
+    q: LaneId,
+    item: ItemId,
+) -> Wake
+    ensures contexts { result.contexts ≡ contexts }
+    ensures waiters { WakesWaiters held.now.book q item result }
+{
+    Wake {
+        contexts,
+        item_waiters: Some(item),
+        lane_waiters: Some(q),
+        destroyers: held.is_idle(),
     }
 }
 
@@ -64,35 +82,34 @@ pub(crate) fn by_start<N: Naming, A: Allocator>(held: &Held<N, A>, q: LaneId) ->
 pub(crate) fn by_finish<N: Naming, A: Allocator>(held: &Held<N, A>, q: LaneId, item: ItemId) -> Wake
     ensures { WakesByFinish held.now.book q item result }
 {
-    Wake {
-        contexts: if_pending(held, q, item),
-        waiters: Some(q),
-        destroyers: held.is_idle(),
-    }
+    by_end(held, if_pending(held, q, item), q, item)
 }
 
 /// Whom a cancellation of an item, which exists, wakes.
 pub(crate) fn by_cancel<N: Naming, A: Allocator>(held: &Held<N, A>, item: ItemId) -> Wake
     requires { item < items N.wiring }
-    ensures { WakesByCancel held.now.book (lane_of N.wiring item) result }
+    ensures { WakesByCancel held.now.book (lane_of N.wiring item) item result }
 {
     let Some(q) = held.lane_of(item) else {
         unreachable!()
     };
-    Wake {
-        contexts: if_ended(held, q),
-        waiters: Some(q),
-        destroyers: held.is_idle(),
-    }
+    by_end(held, if_ended(held, q), q, item)
 }
 
-/// Those who wait until entries of an item, which exists, have ended.
-pub(crate) fn waiters_for<N: Naming, A: Allocator>(held: &Held<N, A>, item: ItemId) -> Sleepers
+/// Those who wait until entries of an item, which exists, have ended, or entries of its whole workqueue.
+pub(crate) fn waiters_for<N: Naming, A: Allocator>(
+    held: &Held<N, A>,
+    whole: bool,
+    item: ItemId,
+) -> Sleepers
     requires { item < items N.wiring }
-    ensures { result ≡ Waiters (lane_of N.wiring item) }
+    ensures { (mark : ℕ) → result ≡ sleepers_for (awaited N.wiring whole item mark) }
 {
+    if !whole {
+        return Sleepers::ItemWaiters(item);
+    }
     let Some(q) = held.lane_of(item) else {
         unreachable!()
     };
-    Sleepers::Waiters(q)
+    Sleepers::LaneWaiters(q)
 }

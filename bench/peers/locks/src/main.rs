@@ -5,8 +5,8 @@
 //! - `every`: all that sleep do so on one condition variable, and each event wakes all of them.
 //! - `timed`: the same, and who sleeps gives the kernel a time limit that never comes, as Rattle's `Condvar` does.
 //! - `one`: the same, but a start wakes nobody, since nobody can go on because of it.
-//! - `each`: a condition variable for each lane, which a queueing wakes, and one for each item, which a finish wakes. `wq_api` has two
-//!   for each lane, one for what a queueing wakes and one for what a finish wakes.
+//! - `each`: a condition variable for each lane, which a queueing wakes, and one for each item, which a finish wakes. `wq_api` has
+//!   these, though no more than 256 for items, and one more for each lane, for flushes of a whole workqueue.
 //!
 //! See bench/README.md.
 

@@ -14,7 +14,7 @@ returns-in-Ok-false-clause-wakes g c =
     let row = c.in-Ok-false.ensures.row in
     let item = context-item g.N.Naming.wiring g.N.Naming.rows c.args.held.now c.holds.ensures c.over.new.self.book c.args.q c.args.helper c.args.whole c.args.target c.in-Ok-false.field-0 row c.in-Ok-false.field-0-test in (
       same-held c.args.held.now c.over.new.self (unchanged-over c.args.held.now.book c.over.new.self.book c.args.q c.args.helper c.args.whole c.args.target c.in-Ok-false.field-0 row c.in-Ok-false.field-0-test) c.in-Ok-false.ensures.seats,
-      waiters-group g.N.Naming.wiring g.N.Naming.rows c.args.held.now c.holds.ensures c.args.target c.waiters_for.result item c.waiters_for.ensures,
+      waiters-group g.N.Naming.wiring g.N.Naming.rows c.args.held.now c.holds.ensures c.args.whole c.args.target c.waiters_for.result item c.waiters_for.ensures,
     )
 
 pub returns-in-Err-clause-wakes : goal.returns-in-Err-clause-wakes

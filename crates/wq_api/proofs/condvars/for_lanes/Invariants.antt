@@ -1,5 +1,5 @@
 use Rattle.std.proofs.Common.{◌≡◌, ◌≤◌, vec_len}
-use Rattle.wq_api.proofs.condvars.Condvars.new.Given as goal
+use Rattle.wq_api.proofs.condvars.for_lanes.Given as goal
 
 -- one for each workqueue so far, and there is room for the others
 abbrev pub invariant-loop : goal.invariant-loop
