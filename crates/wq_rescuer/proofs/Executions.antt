@@ -10,9 +10,11 @@ use Rattle.wq_counts.specs.Counting.{counts_each, place, HasCountsOf, raised}
 use Rattle.wq_counts.proofs.Places.{place-same, made-raised_same, made-raised_other}
 use Rattle.wq_core.specs.Wiring.{Wiring, HasContext}
 use Rattle.wq_held.specs.Locked.{IsOnLane, seat_rows}
-use Rattle.wq_rescuer.specs.Executing.{NeverRan, RanOnce, RanOnly, finished_of, finished_in_all, faults_of, SameFinished, CountsRuns, RefusesRescue, RefusesServe, RefusesHelper}
+use Rattle.wq_rescuer.specs.Executing.{NeverRan, RanOnce, RanOnly, finished_of, finished_in_all, faults_of, SameFinished, CountsRuns, RefusesRescue, RefusesServe, RefusesHelper, WasDrivenIn}
 use Rattle.wq_held.specs.declared.fault.CallError.{CallError}
+use Rattle.wq_held.specs.declared.fault.CallError.TheVariants.{WrongLane}
 use Rattle.wq_api.specs.WaitingCalls.{IsHelper}
+use Rattle.wq_api.specs.Locking.{WasStartedIn, WasWrongToFinishIn}
 use Rattle.wq_rescuer.specs.declared.body.BodyFault.{BodyFault}
 use Rattle.wq_rescuer.specs.declared.rescuing.Rescued.{Rescued}
 
@@ -149,6 +151,15 @@ below_limit b limit n says is = elim (cases_lt n limit) [
   | inl below ↦ below
   | inr at ↦ (let is_true : IsTrue b = says.1 at in cc)
 ]
+
+-- whatever the refusal is, it has this cause
+pub has_cause : (w : Wiring) (rows q c : ℕ) (r : Result Rescued CallError) → WasDrivenIn w rows q c → IfErr r (λ e. e ≡ WrongLane → WasDrivenIn w rows q c)
+has_cause w rows q c (Ok rescued) driven = tt
+has_cause w rows q c (Err e) driven = λ is. driven
+
+-- what was started can't be finished
+pub not_finished : (w : Wiring) (rows q c i : ℕ) (next : Option ℕ) → WasStartedIn w rows q c next → next ≡ Some i → WasWrongToFinishIn w rows q c i → WasDrivenIn w rows q c
+not_finished w rows q c i next started is wrong = inr (i, subst (λ n. WasStartedIn w rows q c n) is started, wrong)
 
 -- ---- a rescuer, and a helper
 

@@ -1,5 +1,5 @@
 -- Executing: what bodies run, what the seats of their contexts count, and why they are refused.
-use Rattle.std.specs.Prelude.{◌≡◌, ◌≢◌, ℕ, ◌+◌, ◌<◌, ◌≤◌, List, Result, Ok, Err, true, sum}
+use Rattle.std.specs.Prelude.{◌≡◌, ◌≢◌, ℕ, ◌+◌, ◌<◌, ◌≤◌, ◌⊎◌, List, Some, Result, Ok, Err, true, sum}
 use Rattle.std.specs.List.{sum_by, range_with_len}
 use Rattle.wq_core.specs.Wiring.{Wiring, items, HasContext}
 use Rattle.wq_counts.specs.declared.kind.Kind.TheVariants.{Finish}
@@ -9,6 +9,7 @@ use Rattle.wq_held.specs.declared.fault.CallError.TheVariants.{HistoryFull, Clos
 use Rattle.wq_held.specs.Errors.{call_code}
 use Rattle.wq_held.specs.Locked.{IsOnLane, SeatHasRoom, seat_rows}
 use Rattle.wq_api.specs.WaitingCalls.{IsHelper}
+use Rattle.wq_api.specs.Locking.{WasStartedIn, WasWrongToStartIn, WasWrongToFinishIn}
 use Rattle.wq_rescuer.specs.declared.body.BodyFault.{BodyFault}
 
 -- ---- what a body runs: how often each item ran
@@ -74,3 +75,9 @@ RefusesServe w q c seat e = call_code e ≢ 64 → (call_code e ≡ 60) × HasCo
 -- helper h of lane q, likewise
 abbrev pub RefusesHelper : Wiring → ℕ → ℕ → List ℕ → CallError → Type 0
 RefusesHelper w q h seat e = call_code e ≢ 64 → (call_code e ≡ 60) × IsHelper w q h × (seat_rows ≤ sum seat)
+
+-- of something that the lock may protect: context c of lane q was to start an entry, while it ran one or wasn't there; or it was to
+-- finish an entry of an item that it had started, while it ran none of that item, or one that waited. A context that is there comes
+-- to this only where another caller drives it, too
+abbrev pub WasDrivenIn : Wiring → ℕ → ℕ → ℕ → Type 0
+WasDrivenIn w rows q c = WasWrongToStartIn w rows q c ⊎ ((i : ℕ) × WasStartedIn w rows q c (Some i) × WasWrongToFinishIn w rows q c i)

@@ -8,7 +8,7 @@ ghost use Rattle.wq_core.specs.Wiring.{items};
 ghost use Rattle.wq_counts.specs.Counting.{counts_each};
 ghost use Rattle.wq_held.specs.Locked.{slots};
 ghost use Rattle.wq_rescuer.specs.Executing.{NeverRan};
-ghost use Rattle.wq_rescuer.specs.Serving.{IsServed, CameBackDone};
+ghost use Rattle.wq_rescuer.specs.Serving.{IsServed, CameBack};
 
 use crate::body::Body;
 use crate::rescuing::{Rescued, serve};
@@ -36,7 +36,7 @@ pub(crate) struct ContextEnd<N: Naming, A: Allocator, B: Body + Drop> {
     pub(crate) body: B,
     pub(crate) rescued: Result<Rescued, CallError>,
     ghost served: { IsServed N.wiring context seat (B.runs body) rescued },
-    ghost ended: { CameBackDone N.wiring N.rows context rescued },
+    ghost ended: { CameBack N.wiring N.rows context rescued },
 }
 
 impl<N: Naming, A: Allocator, B: Body + Drop> ContextJob<N, A, B> {

@@ -6,10 +6,11 @@
 
 ghost use Rattle.std.specs.Prelude.{◌≡◌, ℕ, ◌+◌, ◌<◌, ◌≤◌, IfOk, OnOk, IfErr, OnErr};
 ghost use Rattle.wq_core.specs.Wiring.{items, HasContext};
+ghost use Rattle.wq_held.specs.declared.fault.CallError.TheVariants.{WrongLane};
 ghost use Rattle.wq_held.specs.Locked.{IsOnLane};
 ghost use Rattle.wq_api.specs.WaitingCalls.{IsHelper};
 ghost use Rattle.wq_api.specs.Locking.{WasDone, WasDoneIn};
-ghost use Rattle.wq_rescuer.specs.Executing.{NeverRan, RanOnce, RanOnly, SameFinished, CountsRuns, CountsAtMost, finished_in_all, faults_of, RefusesRescue, RefusesServe, RefusesHelper};
+ghost use Rattle.wq_rescuer.specs.Executing.{NeverRan, RanOnce, RanOnly, SameFinished, CountsRuns, CountsAtMost, finished_in_all, faults_of, RefusesRescue, RefusesServe, RefusesHelper, WasDrivenIn};
 
 use crate::body::{Body, BodyFault};
 use crate::work::Work;
@@ -89,6 +90,7 @@ pub fn serve<N: Naming, A: Allocator, R: Wait, B: Body>(
     ensures context { OnOk result (HasContext N.wiring q helper) }
     ensures own { RanOnly N.wiring q (B.runs body.new) }
     ensures why { IfErr result (λ e. RefusesServe N.wiring q helper seat.new e) }
+    ensures cause { HasContext N.wiring q helper → IfErr result (λ e. e ≡ WrongLane → WasDrivenIn N.wiring N.rows q helper) }
     ensures refused { OnErr result (CountsAtMost seat.old seat.new (B.runs body.new)) }
     ensures ended { OnOk result (WasDoneIn N.wiring N.rows q helper) }
 {
@@ -136,6 +138,7 @@ pub fn rescue<N: Naming, A: Allocator, R: Wait, B: Body>(
     ensures lane { OnOk result (q < N.wiring.lanes) }
     ensures own { RanOnly N.wiring q (B.runs body.new) }
     ensures why { IfErr result (λ e. RefusesRescue N.wiring q seat.new e) }
+    ensures cause { q < N.wiring.lanes → IfErr result (λ e. e ≡ WrongLane → WasDrivenIn N.wiring N.rows q 0) }
     ensures refused { OnErr result (CountsAtMost seat.old seat.new (B.runs body.new)) }
     ensures ended { OnOk result (WasDone N.wiring N.rows q) }
 {
@@ -164,6 +167,7 @@ pub fn help<N: Naming, A: Allocator, R: Wait, B: Body>(
     ensures helper { OnOk result (IsHelper N.wiring q h) }
     ensures own { RanOnly N.wiring q (B.runs body.new) }
     ensures why { IfErr result (λ e. RefusesHelper N.wiring q h seat.new e) }
+    ensures cause { IsHelper N.wiring q h → IfErr result (λ e. e ≡ WrongLane → WasDrivenIn N.wiring N.rows q h) }
     ensures refused { OnErr result (CountsAtMost seat.old seat.new (B.runs body.new)) }
     ensures ended { OnOk result (WasDoneIn N.wiring N.rows q h) }
 {

@@ -12,7 +12,7 @@ ghost use Rattle.wq_counts.specs.Counting.{HasCountsOf, raised};
 ghost use Rattle.wq_held.specs.Locked.{slots, SeatHasRoom};
 ghost use Rattle.wq_under_lock.specs.Refusals.{RefusesCancelWork, RefusesWaitIn};
 ghost use Rattle.wq_api.specs.WaitingCalls.{waited_for, RefusedWaitIn, HasWaiter};
-ghost use Rattle.wq_api.specs.Locking.{WasBegunIn, WasOverIn};
+ghost use Rattle.wq_api.specs.Locking.{WasBegunIn, WasOverIn, WasCutShortIn};
 ghost use Rattle.wq_rescuer.specs.Executing.{SameFinished, RefusesQueueByBody};
 
 use std::alloc::Allocator;
@@ -113,6 +113,7 @@ impl<'a, N: Naming, A: Allocator> Work<'a, N, A> {
         ensures waiter { HasContext N.wiring self.old.context.lane self.old.context.helper → SeatHasRoom self.old.seat.now → HasWaiter N.wiring self.old.context.lane false target result }
         ensures began { IfOk result (λ unfinished. WasBegunIn N.wiring N.rows self.old.context.lane self.old.context.helper false target unfinished) }
         ensures over { OnOk result (WasOverIn N.wiring N.rows self.old.context.lane self.old.context.helper false target) }
+        ensures cause { HasContext N.wiring self.old.context.lane self.old.context.helper → SeatHasRoom self.old.seat.now → IfErr result (λ e. WasCutShortIn N.wiring N.rows self.old.context.lane self.old.context.helper false target e) }
         ensures finished { SameFinished self.old.seat.now self.new.seat.now }
         ensures same_seat { self.new.seat.ghost_name ≡ self.old.seat.ghost_name }
         ensures context { self.new.context ≡ self.old.context }
@@ -138,6 +139,7 @@ impl<'a, N: Naming, A: Allocator> Work<'a, N, A> {
         ensures waiter { HasContext N.wiring self.old.context.lane self.old.context.helper → SeatHasRoom self.old.seat.now → HasWaiter N.wiring self.old.context.lane true target result }
         ensures began { IfOk result (λ unfinished. WasBegunIn N.wiring N.rows self.old.context.lane self.old.context.helper true target unfinished) }
         ensures over { OnOk result (WasOverIn N.wiring N.rows self.old.context.lane self.old.context.helper true target) }
+        ensures cause { HasContext N.wiring self.old.context.lane self.old.context.helper → SeatHasRoom self.old.seat.now → IfErr result (λ e. WasCutShortIn N.wiring N.rows self.old.context.lane self.old.context.helper true target e) }
         ensures finished { SameFinished self.old.seat.now self.new.seat.now }
         ensures same_seat { self.new.seat.ghost_name ≡ self.old.seat.ghost_name }
         ensures context { self.new.context ≡ self.old.context }

@@ -14,3 +14,9 @@ pub returns-clause-why : goal.returns-clause-why
 returns-clause-why g c =
     let some : 0 < c.args.h = omega (arith, c.if-h-eq0.false) in
     helper_refused g.N.Naming.wiring c.args.q c.args.h c.serve.new.seat c.serve.result some c.serve.ensures.why
+
+pub returns-then-h-eq0-clause-cause : goal.returns-then-h-eq0-clause-cause
+returns-then-h-eq0-clause-cause g c = λ there. absurd (omega (arith, there.0, c.if-h-eq0.true))
+
+pub returns-clause-cause : goal.returns-clause-cause
+returns-clause-cause g c = λ there. c.serve.ensures.cause there.1

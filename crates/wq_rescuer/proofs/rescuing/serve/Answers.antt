@@ -1,9 +1,9 @@
-use Rattle.std.proofs.Common.{arith}
+use Rattle.std.proofs.Common.{arith, inl}
 use Rattle.wq_core.specs.Wiring.{items}
 use Rattle.wq_held.specs.Locked.{seat_rows, slots}
 use Rattle.std.proofs.Math.Nat.{le-max_left}
 use Rattle.std.specs.Prelude.{sum}
-use Rattle.wq_rescuer.proofs.Executions.{serving_more, one_fault_at_most, ran_only_more, on_lane_of_next, nothing_else, few_finished, few_runs, below_limit}
+use Rattle.wq_rescuer.proofs.Executions.{serving_more, one_fault_at_most, ran_only_more, on_lane_of_next, not_finished, nothing_else, few_finished, few_runs, below_limit, has_cause}
 use Rattle.wq_rescuer.proofs.rescuing.serve.Goals as goal
 
 pub execute-answer-requires-clause-few : goal.execute-answer-requires-clause-few
@@ -40,3 +40,10 @@ returns-then-not-has_context-clause-own g c = nothing_else g.N.Naming.wiring c.a
 pub returns-in_err-finish_in-clause-own : goal.returns-in_err-finish_in-clause-own
 returns-in_err-finish_in-clause-own g c =
     ran_only_more g.N.Naming.wiring c.args.q (g.B.Body.runs c.loop.body) (g.B.Body.runs c.execute-answer.new.body) c.in-Some-2.item c.loop.invariant.3 c.execute-answer.ensures.ran (on_lane_of_next g.N.Naming.wiring c.args.q c.in-Some-2.item c.in_ok-item.field-0 c.in_ok-item.ensures.started.1 c.in-Some-2.is)
+
+pub returns-in_err-item-clause-cause : goal.returns-in_err-item-clause-cause
+returns-in_err-item-clause-cause g c = λ there. has_cause g.N.Naming.wiring g.N.Naming.rows c.args.q c.args.helper c.from_residual.result (inl c.in_err-item.ensures.cause)
+
+pub returns-in_err-finish_in-clause-cause : goal.returns-in_err-finish_in-clause-cause
+returns-in_err-finish_in-clause-cause g c = λ there. has_cause g.N.Naming.wiring g.N.Naming.rows c.args.q c.args.helper c.from_residual-in_err-finish_in.result
+    (not_finished g.N.Naming.wiring g.N.Naming.rows c.args.q c.args.helper c.in-Some-2.item c.in_ok-item.field-0 c.in_ok-item.ensures.made c.in-Some-2.is c.in_err-finish_in.ensures.cause)

@@ -1,7 +1,7 @@
 use Rattle.std.proofs.Common.{◌*◌}
 use Rattle.wq_counts.specs.Counting.{counts_each}
 use Rattle.wq_held.specs.Locked.{slots}
-use Rattle.wq_rescuer.proofs.Handovers.{is_served, came_back_done}
+use Rattle.wq_rescuer.proofs.Handovers.{is_served, came_back}
 use Rattle.wq_rescuer.proofs.context_job.ContextJob.serve.Goals as goal
 
 pub invariant_of-result : goal.invariant_of-result
@@ -9,5 +9,5 @@ invariant_of-result g c = record {
   served = is_served g.N.Naming.wiring c.args.self.context (counts_each * slots g.N.Naming.wiring) c.args.self.seat c.serve-rescued.new.seat (g.B.Body.runs c.serve-rescued.new.body) c.serve-rescued.result
       c.args.self.no_counts c.serve-rescued.ensures.own c.serve-rescued.ensures.ran c.serve-rescued.ensures.finished c.serve-rescued.ensures.faults c.serve-rescued.ensures.why
       c.serve-rescued.ensures.refused;
-  ended = came_back_done g.N.Naming.wiring g.N.Naming.rows c.args.self.context c.serve-rescued.result c.serve-rescued.ensures.ended;
+  ended = came_back g.N.Naming.wiring g.N.Naming.rows c.args.self.context c.serve-rescued.result c.serve-rescued.ensures.ended c.serve-rescued.ensures.cause;
 }
