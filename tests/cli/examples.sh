@@ -87,12 +87,13 @@ ran() {
 # counts NAME ITEMS FLUSHES GROUPS WORKQUEUES: counts whether the files declare so many, and the kernel uses so many.
 counts() {
     is "$1: items, flushes, groups, workqueues in 6.1" "$2 $3 $4 $5" "$(awk '
+        FILENAME ~ /txt$/ { if ($1 == "directive:") word = $2; if ($1 == "declares:") declares[word] = $2; next }
         { sub(/#.*/, "") }
         FILENAME ~ /assign$/ { lanes += $1 == "wq"; next }
-        $1 == "item" { items++; groups++ }
-        $1 == "flush" || $1 == "flushwq" { flushes += NF - 2 }
-        $1 == "ordered" { groups -= NF - 2 }
-        END { print items + 0, flushes + 0, groups + 0, lanes + 0 }' "$1.wq" "$1.assign")"
+        declares[$1] == "item" { items++; groups++ }
+        declares[$1] == "flushes" { flushes += NF - 2 }
+        declares[$1] == "group" { groups -= NF - 2 }
+        END { print items + 0, flushes + 0, groups + 0, lanes + 0 }' "$root/docs/tables/directives.txt" "$1.wq" "$1.assign")"
 }
 
 # without_cancel NAME K: counts whether there are K workqueues without the waits of cancel_work_sync.

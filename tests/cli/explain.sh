@@ -146,10 +146,11 @@ while read -r title; do
     is "explain ${title% *}: its title" "0: $title" "$status: $(head -n 1 out)"
 done <titles
 
-# What has no explanation: a line that says so, and all titles. A number that is never printed, one of more than 32 bits, what is
-# no number, names with something more or less, with a letter beyond ASCII (a Kelvin sign for the k of `stuck`), the words of a title, a
-# part of a word, and an empty word.
-for word in 0 13 20 44 68 70 4294967295 4294967296 18446744073709551617 1x x ++1 '+' '1 ' ' 1' 0x1 TextTooLon TextTooLong1 reads \
+# What has no explanation: a line that says so, and all titles. Each number below the highest that is never printed, and the one above
+# it; one of more than 32 bits, what is no number, names with something more or less, with a letter beyond ASCII (a Kelvin sign for the
+# k of `stuck`), the words of a title, a part of a word, and an empty word.
+sed -nE 's/^([0-9]+) .*/\1/p' titles >numbers
+for word in $(seq 0 $(($(tail -n 1 numbers) + 1)) | grep -vxFf numbers) 4294967295 4294967296 18446744073709551617 1x x ++1 '+' '1 ' ' 1' 0x1 TextTooLon TextTooLong1 reads \
     'read fault' 'fault read' '1 TextTooLong' 'safe ' safer not lawful 'not  lawful' notlawful 'safe answer' answer '' \
     $'caf\303\251' $'stuc\342\204\252'; do
     run explain "$word"

@@ -1,5 +1,6 @@
 #!/usr/bin/env bash
-# Runs the program as a user would, and compares what it writes and its exit status with docs/FORMAT.md.
+# Runs the program as a user would, and compares what it writes and its exit status with docs/FORMAT.md. What the forms of all commands
+# have in common, as how files are read and what help says, is tried of each form of docs/tables/commands.txt.
 # Run it once the gate or `rt run` has built the program. The argument, if there is one, names another program.
 set -u
 . "$(dirname "$0")/../lib/script.bash"
@@ -38,18 +39,6 @@ says() {
         'of '*) python3 -B "$rule" out err "${files[${1#of }]}" ;;
         *) holds err "$1" ;;
     esac
-}
-
-# unread ARG..: what standard error has where one of these files can't be read: the first that is missing, or else the first folder. All
-# are opened before one is read. A folder can be opened.
-unread() {
-    local file
-    for file in missing ''; do
-        for arg in "$@"; do
-            [ "$arg" = "$file" ] && printf '%s' "wqplan: $file: no such file\\nfault read\\n" && return
-        done
-    done
-    printf '%s' 'wqplan: folder: is a directory\nfault read\n'
 }
 
 # check NAME STATUS OUT ERR: counts whether the last run ended so.
@@ -126,10 +115,6 @@ printf 'circle 1\narc a a\nrun 3\nqueue a\nstart 0 a\nwait 0 a\n' >circle_with_r
 printf 'circle 1\narc a a\nrun 2\nqueue a\nstart 0 a\n' >circle_with_open_run
 run check declaration plan_of_two </dev/null
 check 'check: the plan that is printed' 0 'yes 2\n' ''
-run check -- declaration plan_of_two </dev/null
-check 'check: two files behind --' 0 'yes 2\n' ''
-run check <(cat declaration) <(cat plan_of_two) </dev/null
-check 'check: two pipes' 0 'yes 2\n' ''
 run check declaration not_least </dev/null
 check 'check: a plan with a workqueue too many' 1 'no 52\n' 'of 2'
 run check declaration one_workqueue </dev/null
@@ -165,10 +150,6 @@ run deadlock declaration plan_of_two </dev/null
 check 'deadlock: the plan that is printed' 0 'safe\n' ''
 run deadlock chain lanes_of_a_plan </dev/null
 check 'deadlock: a plan text as an assignment' 1 "$hangs" ''
-run deadlock -- chain lanes </dev/null
-check 'deadlock: two files behind --' 1 "$hangs" ''
-run deadlock <(cat chain) <(cat lanes) </dev/null
-check 'deadlock: two pipes' 1 "$hangs" ''
 
 # All flushes on circles at once.
 components='components 1\ncomponent 2\narc a b\narc b c\n'
@@ -184,12 +165,6 @@ run circles circle </dev/null
 check 'circles: a declaration that has none' 1 'components 1\ncomponent 1\narc a a\n' ''
 run circles empty </dev/null
 check 'circles: no byte at all' 0 'safe\n' "empty$no_item"
-run circles -- chain lanes </dev/null
-check 'circles: two files behind --' 1 "$components" ''
-run circles <(cat chain) <(cat lanes) </dev/null
-check 'circles: two pipes' 1 "$components" ''
-run circles <(cat circle) </dev/null
-check 'circles: a pipe' 1 'components 1\ncomponent 1\narc a a\n' ''
 
 # Drawings. What is drawn has status 0, also where it is a circle.
 
@@ -229,12 +204,6 @@ run dot chain safe_lanes </dev/null
 check 'dot: a safe assignment' 0 "$drawn_safe" ''
 run dot chain lanes_of_a_plan </dev/null
 check 'dot: a plan text as an assignment' 0 "$drawn_circle" ''
-run dot -- chain lanes </dev/null
-check 'dot: two files behind --' 0 "$drawn_circle" ''
-run dot <(cat chain) <(cat lanes) </dev/null
-check 'dot: two pipes' 0 "$drawn_circle" ''
-run dot <(cat chain) </dev/null
-check 'dot: a pipe' 0 "$drawn_plan" ''
 
 # Replays.
 printf "$hangs" >deadlock
@@ -256,8 +225,6 @@ run replay chain lanes unstuck </dev/null
 check 'replay: a run with a cancelled item that can go on' 0 'open\n' ''
 run replay chain lanes stuck </dev/null
 check 'replay: a run with a cancelled item that is stuck' 1 'stuck\n' ''
-run replay <(cat chain) <(cat lanes) <(cat deadlock) </dev/null
-check 'replay: three pipes' 1 'deadlock\n' ''
 
 # Plans that are run.
 ran='workqueues 2\nitem a wq 1 queued 1 cancelled 0 finished 1\nitem b wq 0 queued 1 cancelled 0 finished 1\nfaults 0\n'
@@ -282,10 +249,6 @@ ran256=$(
 )
 run run declaration </dev/null
 check 'run: two workqueues' 0 "$ran" ''
-run run -- declaration </dev/null
-check 'run: a file behind --' 0 "$ran" ''
-run run <(cat declaration) </dev/null
-check 'run: a pipe' 0 "$ran" ''
 run run empty </dev/null
 check 'run: no item' 0 'workqueues 0\nfaults 0\n' "empty$no_item"
 run run chain256 </dev/null
@@ -310,12 +273,8 @@ run run circle </dev/null
 check 'run: a circle and its run' 1 'circle 1\narc a a\nrun 3\nqueue a\nstart 0 a\nwait 0 a\n' ''
 run run refused </dev/null
 check 'run: a refusal' 2 'refused 8 line 2\n' 'of 1'
-run run too_large </dev/null
-check 'run: a text of 1,048,577 bytes' 2 'refused 1 line 0\n' 'of 1'
 run run largest </dev/null
 check 'run: a text of 1,048,576 bytes' 0 'workqueues 0\nfaults 0\n' "largest$no_item"
-run run <(yes 'item a' 2>/dev/null) </dev/null
-check 'run: a text without end' 2 'refused 1 line 0\n' 'of 1'
 
 # leaves ARG..: counts whether the command leaves standard input to whoever reads it next.
 leaves() {
@@ -324,15 +283,6 @@ leaves() {
     : >err
     check "standard input is left: $*" 0 'the rest\n' ''
 }
-leaves plan declaration
-leaves check declaration plan_of_two
-leaves deadlock chain lanes
-leaves replay chain lanes open
-leaves circles chain
-leaves circles chain lanes
-leaves dot chain
-leaves dot chain lanes
-leaves run declaration
 leaves explain safe
 leaves explain
 leaves plan missing
@@ -348,37 +298,15 @@ bounded() {
     check "no more than a byte past the limit is read: $*" 0 'the rest\n' ''
 }
 bounded 1048576 plan
-bounded 1048576 plan /dev/stdin
-bounded 1048576 check /dev/stdin plan_of_two
-bounded 8388608 check declaration /dev/stdin
-bounded 1048576 deadlock /dev/stdin lanes
-bounded 8388608 deadlock chain /dev/stdin
-bounded 1048576 replay /dev/stdin lanes open
-bounded 8388608 replay chain /dev/stdin open
-bounded 8388608 replay chain lanes /dev/stdin
-bounded 1048576 circles /dev/stdin
-bounded 1048576 circles /dev/stdin lanes
-bounded 8388608 circles chain /dev/stdin
-bounded 1048576 dot /dev/stdin
-bounded 1048576 dot /dev/stdin lanes
-bounded 8388608 dot chain /dev/stdin
-bounded 1048576 run /dev/stdin
 
-# ends TEXT OUT ARG..: counts whether the command answers where TEXT is typed at its standard input, and then one end of the input.
-ends() {
-    local text=$1 wanted=$2
-    shift 2
-    limited python3 -B "$typed" "$text" "$program" "$@" >out 2>err
+# type_text FILE ARG..: runs the command where what the file has is typed at its standard input, and then one end of the input.
+type_text() {
+    given=("${@:2}")
+    limited python3 -B "$typed" "$(awk '{ printf "%s\\n", $0 }' "$1")" "$program" "${@:2}" >out 2>err </dev/null
     status=$?
-    check "one end of the input is enough: $*" 0 "$wanted" ''
 }
-ends 'item a\nitem b\nflush a b\n' "$plan" plan
-ends 'item a\nitem b\nflush a b\n' "$plan" plan /dev/stdin
-ends "$plan" 'yes 2\n' check declaration /dev/stdin
-ends "$plan" 'safe\n' deadlock declaration /dev/stdin
-ends 'run 1\nqueue a\n' 'open\n' replay chain lanes /dev/stdin
-ends 'item a\n' 'safe\n' circles /dev/stdin
-ends 'item a\n' 'workqueues 1\nitem a wq 0 queued 1 cancelled 0 finished 1\nfaults 0\n' run /dev/stdin
+type_text declaration plan
+check 'plan: one end of the input is enough' 0 "$plan" ''
 
 # The same each time, whatever the threads do: the first run that differs is looked at, or the last one.
 ran3=$(printf 'item %s queued 1 cancelled 0 finished 1\\n' 'a wq 2' 'b wq 1' 'c wq 0')
@@ -415,205 +343,43 @@ run_fed() {
     wait "$!" 2>/dev/null
 }
 
-usual=$seconds seconds=20
-run_fed check declaration plan_of_two
-check 'check: two pipes that are opened in turn' 0 'yes 2\n' ''
-run_fed deadlock chain lanes
-check 'deadlock: two pipes that are opened in turn' 1 "$hangs" ''
-run_fed circles chain lanes
-check 'circles: two pipes that are opened in turn' 1 "$components" ''
-run_fed dot chain lanes
-check 'dot: two pipes that are opened in turn' 0 "$drawn_circle" ''
-run_fed replay chain lanes deadlock
-check 'replay: three pipes that are opened in turn' 1 'deadlock\n' ''
-for words in 'check missing second' 'deadlock missing second' 'circles missing second' 'dot missing second' \
-    'replay missing second third' 'replay chain missing third'; do
-    # Each word is an argument of its own.
-    run $words </dev/null
-    check "$words: a pipe behind a FILE that is missing" 3 '' 'wqplan: missing: no such file\nfault read\n'
-done
-seconds=$usual
+# What every form of a command is given, by docs/tables/commands.txt: of each argument a file, its limit, what help says of it, and the
+# refusal of a text that is too long.
+printf 'plan 3\nwq 0 c\nwq 1 b\nwq 2 a\nchain 3\narc a b\narc b c\n' >chain_plan
+declare -A text_of=([FILE]=chain [DECL]=chain [CERT]=chain_plan [ASSIGN]=lanes [RUN]=open)
+declare -A limit_of=([FILE]=1048576 [DECL]=1048576 [CERT]=8388608 [ASSIGN]=8388608 [RUN]=8388608)
+declare -A subjects_of=([FILE]='declaration,standard input' [DECL]=declaration [CERT]=circle [ASSIGN]=workqueue [RUN]=step)
+declare -A longer_than=([1048576]=too_large [8388608]=too_large_certificate)
+declare -A refusal_of=([1048576]='refused 1 line 0\n' [8388608]='refused 40 line 0\n')
 
-# Refusals come in the order of the arguments, each text as a whole before the next one.
-printf 'wq 0 a b\nwq 1\n' >without_c
-run check refused too_large_certificate </dev/null
-check 'check: a wrong declaration beside a certificate that is too long' 2 'refused 8 line 2\n' 'of 1'
-run check too_large too_large_certificate </dev/null
-check 'check: two texts that are too long' 2 'refused 1 line 0\n' 'of 1'
-run check declaration too_large_certificate </dev/null
-check 'check: a certificate of 8,388,609 bytes' 2 'refused 40 line 0\n' 'of 2'
-run check declaration <(cat plan_of_two largest_certificate | head -c 8388608) </dev/null
-check 'check: a certificate of 8,388,608 bytes' 0 'yes 2\n' ''
-run check declaration <(yes '' 2>/dev/null) </dev/null
-check 'check: a certificate without end' 2 'refused 40 line 0\n' 'of 2'
-run deadlock refused too_large_certificate </dev/null
-check 'deadlock: a wrong declaration beside an assignment that is too long' 2 'refused 8 line 2\n' 'of 1'
-run deadlock too_large too_large_certificate </dev/null
-check 'deadlock: two texts that are too long' 2 'refused 1 line 0\n' 'of 1'
-run deadlock chain too_large_certificate </dev/null
-check 'deadlock: an assignment of 8,388,609 bytes' 2 'refused 40 line 0\n' 'of 2'
-run deadlock chain <(cat safe_lanes largest_certificate | head -c 8388608) </dev/null
-check 'deadlock: an assignment of 8,388,608 bytes' 0 'safe\n' ''
-run deadlock chain <(yes '' 2>/dev/null) </dev/null
-check 'deadlock: an assignment without end' 2 'refused 40 line 0\n' 'of 2'
-run deadlock chain without_c </dev/null
-check 'deadlock: an assignment without an item' 2 'refused 41 line 0\n' 'of 2'
-run circles refused too_large_certificate </dev/null
-check 'circles: a wrong declaration beside an assignment that is too long' 2 'refused 8 line 2\n' 'of 1'
-run circles chain too_large_certificate </dev/null
-check 'circles: an assignment of 8,388,609 bytes' 2 'refused 40 line 0\n' 'of 2'
-run circles chain <(cat safe_lanes largest_certificate | head -c 8388608) </dev/null
-check 'circles: an assignment of 8,388,608 bytes' 0 'safe\n' ''
-run circles chain without_c </dev/null
-check 'circles: an assignment without an item' 2 'refused 41 line 0\n' 'of 2'
-run circles refused </dev/null
-check 'circles: a refusal, without ASSIGN' 2 'refused 8 line 2\n' 'of 1'
-run circles too_large </dev/null
-check 'circles: a text of 1,048,577 bytes' 2 'refused 1 line 0\n' 'of 1'
-run dot refused too_large_certificate </dev/null
-check 'dot: a wrong declaration beside an assignment that is too long' 2 'refused 8 line 2\n' 'of 1'
-run dot chain too_large_certificate </dev/null
-check 'dot: an assignment of 8,388,609 bytes' 2 'refused 40 line 0\n' 'of 2'
-run dot chain <(cat safe_lanes largest_certificate | head -c 8388608) </dev/null
-check 'dot: an assignment of 8,388,608 bytes' 0 "$drawn_safe" ''
-run dot chain without_c </dev/null
-check 'dot: an assignment without an item' 2 'refused 41 line 0\n' 'of 2'
-run dot refused </dev/null
-check 'dot: a refusal, without ASSIGN' 2 'refused 8 line 2\n' 'of 1'
-run dot too_large </dev/null
-check 'dot: a text of 1,048,577 bytes' 2 'refused 1 line 0\n' 'of 1'
-run dot largest </dev/null
-check 'dot: a text of 1,048,576 bytes' 0 "$(drawing 'plan 0')\n" "largest$no_item"
-run replay refused without_c unlawful </dev/null
-check 'replay: a wrong declaration before a wrong assignment' 2 'refused 8 line 2\n' 'of 1'
-run replay chain without_c too_large_certificate </dev/null
-check 'replay: a wrong assignment before a run that is too long' 2 'refused 41 line 0\n' 'of 2'
-run replay chain too_large_certificate unlawful </dev/null
-check 'replay: an assignment that is too long' 2 'refused 40 line 0\n' 'of 2'
-run replay chain lanes too_large_certificate </dev/null
-check 'replay: a run that is too long' 2 'refused 40 line 0\n' 'of 3'
-run replay chain lanes <(printf 'run 1\n\nstart 4096 a\n') </dev/null
-check 'replay: a run with a workqueue that none can be' 2 'refused 43 line 3\n' 'of 3'
+# as NAME: counts whether the last run ended as the one whose answer is in the file `answer`.
+as() {
+    if [ "$status" -eq "$answered" ] && cmp -s out answer && [ ! -s err ]; then
+        ok "$1"
+    else
+        fail "$1: status $status, standard output '$(head -c 200 out)', standard error '$(head -c 200 err)'"
+    fi
+}
 
-# Limits: 1,048,576 bytes are read as a declaration, and one byte more is refused.
-run plan largest </dev/null
-check 'a text of 1,048,576 bytes' 0 'plan 0\nchain 0\n' "largest$no_item"
-run plan too_large </dev/null
-check 'a text of 1,048,577 bytes' 2 'refused 1 line 0\n' 'of 1'
-run plan < <(yes 'item a' 2>/dev/null)
-check 'a text without end' 2 'refused 1 line 0\n' 'of 0'
+# piped COMMAND FILE..: runs a command whose files are pipes with these texts.
+piped() {
+    case $# in
+        2) run "$1" <(cat -- "$2") </dev/null ;;
+        3) run "$1" <(cat -- "$2") <(cat -- "$3") </dev/null ;;
+        4) run "$1" <(cat -- "$2") <(cat -- "$3") <(cat -- "$4") </dev/null ;;
+    esac
+}
 
-# Faults of the system.
-run plan missing </dev/null
-check 'a FILE that is missing' 3 '' 'wqplan: missing: no such file\nfault read\n'
-run plan $'mis\tsi\ang\303\251' </dev/null
-check 'a FILE that is missing, with bytes that are not printable' 3 '' 'wqplan: mis si?ng??: no such file\nfault read\n'
-run plan declaration/missing </dev/null
-check 'a FILE in a file' 3 '' "wqplan: declaration/missing: a part of the path isn't a directory\nfault read\n"
-run plan "$(head -c 300 /dev/zero | tr '\0' x)" </dev/null
-check 'a FILE with a name of 300 bytes' 3 '' "wqplan: $(head -c 300 /dev/zero | tr '\0' x): the name is too long\nfault read\n"
-run plan - </dev/null
-check 'plan -' 3 '' 'wqplan: -: no such file (leave FILE out to read standard input)\nfault read\n'
-for words in 'check - plan_of_two' 'check declaration -' 'deadlock - lanes' 'replay chain lanes -' 'circles -' 'dot -' 'run -'; do
-    # Each word is an argument of its own.
-    run $words </dev/null
-    check "$words" 3 '' 'wqplan: -: no such file (only `plan` reads standard input; /dev/stdin names it)\nfault read\n'
-done
-run plan folder </dev/null
-check 'a FILE that is a folder' 3 '' 'wqplan: folder: is a directory\nfault read\n'
-run plan '' </dev/null
-check 'a FILE with an empty name' 3 '' 'wqplan: : no such file\nfault read\n'
-run plan <folder
-check 'standard input that is a folder' 3 '' 'wqplan: <stdin>: is a directory\nfault read\n'
-run plan <&-
-check 'standard input that is closed' 3 '' "wqplan: <stdin>: can't be read\nfault read\n"
-limited "$program" plan declaration </dev/null >/dev/full 2>err
-status=$?
-: >out
-check 'standard output that is full' 3 '' 'fault write\n'
-limited "$program" plan declaration </dev/null >&- 2>err
-status=$?
-check 'standard output that is closed' 3 '' 'fault write\n'
-for files in 'missing plan_of_two' 'declaration missing' 'folder plan_of_two' 'declaration folder' 'refused missing'; do
-    # Each word is an argument of its own.
-    run check $files </dev/null
-    check "check $files" 3 '' "$(unread $files)"
-done
-for files in 'missing lanes' 'chain missing' 'folder lanes' 'chain folder' 'refused missing'; do
-    run deadlock $files </dev/null
-    check "deadlock $files" 3 '' "$(unread $files)"
-    run circles $files </dev/null
-    check "circles $files" 3 '' "$(unread $files)"
-    run dot $files </dev/null
-    check "dot $files" 3 '' "$(unread $files)"
-done
-for files in 'missing lanes deadlock' 'chain missing deadlock' 'chain lanes missing' 'refused lanes folder'; do
-    run replay $files </dev/null
-    check "replay $files" 3 '' "$(unread $files)"
-done
-for files in missing folder ''; do
-    run run "$files" </dev/null
-    check "run '$files'" 3 '' "$(unread "$files")"
-    run circles "$files" </dev/null
-    check "circles '$files'" 3 '' "$(unread "$files")"
-    run dot "$files" </dev/null
-    check "dot '$files'" 3 '' "$(unread "$files")"
-done
-# Of a refusal or a `no` that can't be written there is no diagnosis.
-for words in 'plan circle' 'check declaration plan_of_two' 'deadlock chain lanes' 'replay chain lanes deadlock' \
-    'circles chain lanes' 'circles chain' 'circles circle' 'dot chain lanes' 'dot chain' 'dot circle' 'run declaration' \
-    'run circle' 'plan refused' 'check declaration no_circle' 'deadlock chain without_c' 'replay chain without_c unlawful' \
-    'circles refused' 'circles chain without_c' 'dot refused' 'dot chain without_c' 'run refused'; do
-    limited "$program" $words </dev/null >/dev/full 2>err
+# unwritten ARG..: counts whether the command ends with `fault write`, and says nothing of its answer, where that can't be written.
+unwritten() {
+    limited "$program" "$@" </dev/null >/dev/full 2>err
     status=$?
     : >out
-    check "$words, standard output that is full" 3 '' 'fault write\n'
-    limited "$program" $words </dev/null >&- 2>err
+    check "$*, standard output that is full" 3 '' 'fault write\n'
+    limited "$program" "$@" </dev/null >&- 2>err
     status=$?
-    check "$words, standard output that is closed" 3 '' 'fault write\n'
-done
-limited "$program" --help </dev/null >/dev/full 2>err
-status=$?
-check 'help on a standard output that is full' 3 '' 'fault write\n'
-
-# Command lines.
-run </dev/null
-check 'no subcommand' 2 '' some
-run plant </dev/null
-check 'an unknown subcommand' 2 '' some
-run plan declaration circle </dev/null
-check 'two FILEs' 2 '' some
-for words in 'check' 'check declaration' 'check declaration plan_of_two lanes' 'deadlock' 'deadlock chain' \
-    'deadlock chain lanes open' 'replay' 'replay chain' 'replay chain lanes' 'replay chain lanes deadlock open' \
-    'check --fast declaration plan_of_two' 'deadlock --fast chain lanes' 'circles' 'circles chain lanes open' \
-    'circles --fast chain' 'dot' 'dot chain lanes open' 'dot --fast chain' 'run' 'run declaration circle' \
-    'run --fast declaration' 'run declaration 9' 'run declaration -1' 'run declaration x' 'run declaration 2x' 'run declaration 256' \
-    'run declaration 2 3' 'run declaration 1.0' 'run -- declaration -1'; do
-    run $words </dev/null
-    check "$words" 2 '' some
-done
-run plan --fast </dev/null
-check 'an unknown option' 2 '' some
-run help plant </dev/null
-check 'help for an unknown subcommand' 2 '' some
-run plan $'\xff' </dev/null
-check 'an argument that is not UTF-8' 2 '' some
-for words in --help -h help 'help plan' 'plan --help' 'plan -h' 'help check' 'check --help' 'help deadlock' \
-    'deadlock --help' 'deadlock -h' 'help circles' 'circles -h' 'help dot' 'dot --help' 'dot -h' 'help replay' 'replay -h' \
-    'help run' 'run --help' 'run -h'; do
-    # Each word is an argument of its own.
-    run $words </dev/null
-    check "$words" 0 some ''
-done
-
-# Help fits within 80 columns, that of each command too, in each form. It is written in ASCII, so a byte is a column.
-for words in --help -h help 'help '{plan,check,deadlock,replay,circles,dot,run,explain} \
-    {plan,check,deadlock,replay,circles,dot,run,explain}' '{--help,-h}; do
-    run $words </dev/null
-    mv out help
-    LC_ALL=C grep -E '.{81}|[^ -~]' help >out
-    check "$words: 80 columns" 0 '' ''
-done
+    check "$*, standard output that is closed" 3 '' 'fault write\n'
+}
 
 # shows COMMAND ARGUMENT SUBJECTS: counts whether each form of the command's help has a line for the argument that speaks
 # of these subjects and of no other one. So it tells the argument from all others, however it is worded.
@@ -631,19 +397,184 @@ shows() {
     done
 }
 
-shows plan FILE 'declaration,standard input'
-shows check DECL declaration
-shows check CERT circle
-shows deadlock DECL declaration
-shows deadlock ASSIGN workqueue
-shows circles DECL declaration
-shows circles ASSIGN workqueue
-shows dot DECL declaration
-shows dot ASSIGN workqueue
-shows replay DECL declaration
-shows replay ASSIGN workqueue
-shows replay RUN step
-shows run DECL declaration
+# as_whole FORM COMMAND FILE..: what the form is given, of all its files at once.
+as_whole() {
+    local form=$1 command=$2
+    local files=("${@:3}")
+    run "$command" -- "${files[@]}" </dev/null
+    as "$form: files behind --"
+    piped "$command" "${files[@]}"
+    as "$form: pipes"
+    if [ ${#files[@]} -gt 1 ]; then
+        run_fed "$command" "${files[@]}"
+        as "$form: pipes that are opened in turn"
+    fi
+    leaves "$command" "${files[@]}"
+    unwritten "$command" "${files[@]}"
+    unwritten "$command" refused "${files[@]:1}"
+    run "$command" refused "${files[@]:1}" </dev/null
+    check "$form: a wrong declaration" 2 'refused 8 line 2\n' 'of 1'
+    run "$command" --fast "${files[@]}" </dev/null
+    check "$form: an option that isn't there" 2 '' some
+}
+
+# in_place FORM AT ARGUMENT COMMAND FILE..: what the form is given in the place of one of its files, which are counted from 0.
+in_place() {
+    local form=$1 at=$2 argument=$3 command=$4 limit=${limit_of[$3]} hint='only `plan` reads standard input; /dev/stdin names it'
+    local files=("${@:5}") other
+    other=("${files[@]}")
+    [ "$argument" != FILE ] || hint='leave FILE out to read standard input'
+    for file in missing ''; do
+        other[at]=$file
+        run "$command" "${other[@]}" </dev/null
+        check "$form: '$file' as $argument" 3 '' "wqplan: $file: no such file\nfault read\n"
+    done
+    other[at]=-
+    run "$command" "${other[@]}" </dev/null
+    check "$form: - as $argument" 3 '' "wqplan: -: no such file ($hint)\nfault read\n"
+    other[at]=folder
+    run "$command" "${other[@]}" </dev/null
+    check "$form: a folder as $argument" 3 '' 'wqplan: folder: is a directory\nfault read\n'
+    # All files are opened before one is read.
+    other=(refused "${files[@]:1}")
+    other[at]=missing
+    run "$command" "${other[@]}" </dev/null
+    check "$form: a missing $argument, where a text is wrong" 3 '' 'wqplan: missing: no such file\nfault read\n'
+    other=("${files[@]:0:at}" missing second third)
+    run "$command" "${other[@]:0:${#files[@]}}" </dev/null
+    check "$form: pipes behind a missing $argument" 3 '' 'wqplan: missing: no such file\nfault read\n'
+    # Texts as long as their limit, and longer ones.
+    other=("${files[@]}")
+    other[at]=/dev/stdin
+    bounded "$limit" "$command" "${other[@]}"
+    type_text "${files[at]}" "$command" "${other[@]}"
+    as "$form: one end of $argument is enough"
+    cat "${files[at]}" <(yes '') 2>/dev/null | head -c "$limit" >as_long
+    other[at]=as_long
+    run "$command" "${other[@]}" </dev/null
+    as "$form: $argument of $limit bytes"
+    other[at]=${longer_than[$limit]}
+    run "$command" "${other[@]}" </dev/null
+    check "$form: $argument of one byte more" 2 "${refusal_of[$limit]}" "of $((at + 1))"
+    run "$command" "${other[@]:0:at}" <(yes '' 2>/dev/null) "${files[@]:at+1}" </dev/null
+    check "$form: $argument without end" 2 "${refusal_of[$limit]}" "of $((at + 1))"
+    # Refusals come in the order of the arguments, each text as a whole before the next one.
+    if [ "$at" -gt 0 ]; then
+        other[0]=refused
+        run "$command" "${other[@]}" </dev/null
+        check "$form: a wrong declaration beside $argument of one byte more" 2 'refused 8 line 2\n' 'of 1'
+        other[0]=too_large
+        run "$command" "${other[@]}" </dev/null
+        check "$form: a declaration and $argument of one byte more" 2 'refused 1 line 0\n' 'of 1'
+    fi
+}
+
+usual=$seconds seconds=20
+declare -A longest=()
+while read -r form; do
+    read -ra arguments <<<"$form"
+    command=${arguments[0]}
+    arguments=("${arguments[@]:1}")
+    files=()
+    for argument in "${arguments[@]}"; do
+        files+=("${text_of[$argument]}")
+    done
+    run "$command" "${files[@]}" </dev/null
+    cp out answer
+    answered=$status
+    has "$form: an answer" '^[01]:$' "$status:$(cat err)"
+    as_whole "$form" "$command" "${files[@]}"
+    for at in "${!files[@]}"; do
+        in_place "$form" "$at" "${arguments[at]}" "$command" "${files[@]}"
+    done
+    # With one file less, but where that is another form, and with one more: that isn't a number of helpers, either.
+    if [ -z "${longest[$command]-}" ] && [ "${arguments[0]}" != FILE ]; then
+        run "$command" "${files[@]:0:${#files[@]}-1}" </dev/null
+        check "$form: one file less" 2 '' some
+    fi
+    longest[$command]=${files[*]}
+    for argument in "${arguments[@]}"; do
+        shows "$command" "$argument" "${subjects_of[$argument]}"
+    done
+done < <(python3 -B "$root/tests/lib/commands.py" forms)
+for command in "${!longest[@]}"; do
+    # Each file is an argument of its own.
+    run "$command" ${longest[$command]} more </dev/null
+    check "$command ${longest[$command]}: one file more" 2 '' some
+done
+seconds=$usual
+
+# Refusals of other texts, and which one comes first.
+printf 'wq 0 a b\nwq 1\n' >without_c
+run deadlock chain without_c </dev/null
+check 'deadlock: an assignment without an item' 2 'refused 41 line 0\n' 'of 2'
+run circles chain without_c </dev/null
+check 'circles: an assignment without an item' 2 'refused 41 line 0\n' 'of 2'
+run dot chain without_c </dev/null
+check 'dot: an assignment without an item' 2 'refused 41 line 0\n' 'of 2'
+run dot largest </dev/null
+check 'dot: a text of 1,048,576 bytes' 0 "$(drawing 'plan 0')\n" "largest$no_item"
+run replay refused without_c unlawful </dev/null
+check 'replay: a wrong declaration before a wrong assignment' 2 'refused 8 line 2\n' 'of 1'
+run replay chain without_c too_large_certificate </dev/null
+check 'replay: a wrong assignment before a run that is too long' 2 'refused 41 line 0\n' 'of 2'
+run replay chain lanes <(printf 'run 1\n\nstart 4096 a\n') </dev/null
+check 'replay: a run with a workqueue that none can be' 2 'refused 43 line 3\n' 'of 3'
+
+# Limits: 1,048,576 bytes are read as a declaration, and one byte more is refused.
+run plan largest </dev/null
+check 'a text of 1,048,576 bytes' 0 'plan 0\nchain 0\n' "largest$no_item"
+run plan < <(yes 'item a' 2>/dev/null)
+check 'a text without end' 2 'refused 1 line 0\n' 'of 0'
+
+# Faults of the system.
+run plan $'mis\tsi\ang\303\251' </dev/null
+check 'a FILE that is missing, with bytes that are not printable' 3 '' 'wqplan: mis si?ng??: no such file\nfault read\n'
+run plan declaration/missing </dev/null
+check 'a FILE in a file' 3 '' "wqplan: declaration/missing: a part of the path isn't a directory\nfault read\n"
+run plan "$(head -c 300 /dev/zero | tr '\0' x)" </dev/null
+check 'a FILE with a name of 300 bytes' 3 '' "wqplan: $(head -c 300 /dev/zero | tr '\0' x): the name is too long\nfault read\n"
+run plan <folder
+check 'standard input that is a folder' 3 '' 'wqplan: <stdin>: is a directory\nfault read\n'
+run plan <&-
+check 'standard input that is closed' 3 '' "wqplan: <stdin>: can't be read\nfault read\n"
+# Of a circle, a refusal or a `no` that can't be written there is no diagnosis, either.
+for words in 'plan circle' 'check declaration no_circle' 'deadlock chain without_c' 'replay chain without_c unlawful' 'circles circle' \
+    'circles chain without_c' 'dot circle' 'dot chain without_c' 'run circle'; do
+    # Each word is an argument of its own.
+    unwritten $words
+done
+limited "$program" --help </dev/null >/dev/full 2>err
+status=$?
+check 'help on a standard output that is full' 3 '' 'fault write\n'
+
+# Command lines.
+run </dev/null
+check 'no subcommand' 2 '' some
+run plant </dev/null
+check 'an unknown subcommand' 2 '' some
+run plan declaration circle </dev/null
+check 'two FILEs' 2 '' some
+for words in 'run declaration 9' 'run declaration -1' 'run declaration x' 'run declaration 2x' 'run declaration 256' \
+    'run declaration 2 3' 'run declaration 1.0' 'run -- declaration -1'; do
+    run $words </dev/null
+    check "$words" 2 '' some
+done
+run help plant </dev/null
+check 'help for an unknown subcommand' 2 '' some
+run plan $'\xff' </dev/null
+check 'an argument that is not UTF-8' 2 '' some
+# Help, that of each command too, in each form, fits within 80 columns. It is written in ASCII, so a byte is a column.
+mapfile -t commands < <(python3 -B "$root/tests/lib/commands.py")
+for words in --help -h help "${commands[@]/#/help }" "${commands[@]/%/ --help}" "${commands[@]/%/ -h}"; do
+    # Each word is an argument of its own.
+    run $words </dev/null
+    check "$words" 0 some ''
+    mv out help
+    LC_ALL=C grep -E '.{81}|[^ -~]' help >out
+    status=0
+    check "$words: 80 columns" 0 '' ''
+done
 shows run HELPERS workqueue
 shows explain CODE number
 run --version </dev/null

@@ -1,9 +1,9 @@
 #!/usr/bin/env python3
 """Completes lines of wqplan with man/wqplan.bash, in a folder with a few files.
 
-OFFERED calls the function as bash does, with the words of a line of which the last one is being typed, and compares what it offers.
-TYPED types a line and a TAB into a bash, and compares what then stands there. The commands, the numbers and the
-names are those of docs/FORMAT.md.
+OFFERED calls the function as bash does, with the words of a line of which the last one is being typed, and compares what it offers;
+FILES_OFFERED does it for each file of each command. TYPED types a line and a TAB into a bash, and compares what then stands there. The
+commands, the numbers and the names are those of docs/FORMAT.md, and the files of a command those of docs/tables/commands.txt.
 """
 
 import os
@@ -16,7 +16,8 @@ import tempfile
 
 ROOT = pathlib.Path(__file__).resolve().parents[2]
 sys.path.append(str(ROOT / "tests" / "lib"))
-import programs  # noqa: E402  (in tests/lib)
+import commands  # noqa: E402  (in tests/lib)
+import programs  # noqa: E402  (there, too)
 
 FORMAT = (ROOT / "docs/FORMAT.md").read_text()
 COMPLETION = ROOT / "man/wqplan.bash"
@@ -34,47 +35,48 @@ FAULTS = re.findall(r"^\| `fault (\w+)` \|", FORMAT, re.M)
 EXPLAIN = FORMAT.split("## The command `explain`\n")[1].split("\n## ")[0]
 # The blank in one of them is typed with a backslash.
 WORDS = [word.replace(" ", "\\ ") for word in re.findall(r"^\| `([a-z ]+)` \|", EXPLAIN, re.M)]
+EXPLAINED = NUMBERS + NAMES + FAULTS + WORDS
+
+
+def beginning(front, words):
+    """Those of the words that begin so."""
+    return [word for word in words if word.startswith(front)]
+
+
+def files_offered():
+    """Of each command the files that are offered for each of its files, and behind them none, where nothing else may come."""
+    for name, row in commands.ROWS.items():
+        most = len(commands.TEXTS_OF.get(name, []))
+        for count in range(most):
+            line = " ".join([name, *["a.wq", "b.wq", "out.plan"][:count]])
+            yield f"{line} ", ALL
+            yield f"{line} o", RESULTS
+        if most == len(row["arguments"].split()):
+            yield " ".join([name, *["a.wq", "b.wq", "out.plan"][:most], ""]), []
+
+
+FILES_OFFERED = list(files_offered())
 
 # A line behind `wqplan `, and what is offered for its last word.
 OFFERED = [
     ("", [*COMMANDS, "help"]),
-    ("r", ["replay", "run"]),
-    ("c", ["check", "circles"]),
-    ("d", ["deadlock", "dot"]),
+    *((name[:1], beginning(name[:1], [*COMMANDS, "help"])) for name in COMMANDS),
     ("x", []),
     ("-", ["--help", "--version"]),
     ("help ", COMMANDS),
     ("help plan ", []),
-    ("explain ", NUMBERS + NAMES + FAULTS + WORDS),
-    ("explain Unk", ["UnknownWord", "UnknownItem"]),
-    ("explain t", ["thread", "tally"]),
-    ("explain s", ["stuck", "safe"]),
+    ("explain ", EXPLAINED),
+    *((f"explain {front}", beginning(front, EXPLAINED)) for front in ("Unk", "t", "s", "not", "6")),
     ("explain not", ["not\\ lawful"]),
     ("explain read ", []),
-    ("explain 6", ["6", "69"]),
     ("explain 6 ", []),
-    ("plan ", ALL),
     ("plan su", SUB),
     ("plan sub/", ["sub/in.wq"]),
-    ("plan a.wq ", []),
     ("plan -", ["--help"]),
-    ("run ", ALL),
     ("run a.wq ", [str(number) for number in range(9)]),
     ("run a.wq 8", ["8"]),
     ("run a.wq 9", []),
     ("run a.wq 2 ", []),
-    ("check a.wq ", ALL),
-    ("check a.wq b.wq ", []),
-    ("deadlock a.wq o", RESULTS),
-    ("deadlock a.wq b.wq ", []),
-    ("circles ", ALL),
-    ("circles a.wq o", RESULTS),
-    ("circles a.wq b.wq ", []),
-    ("dot ", ALL),
-    ("dot a.wq o", RESULTS),
-    ("dot a.wq b.wq ", []),
-    ("replay a.wq b.wq o", RESULTS),
-    ("replay a.wq b.wq out.plan ", []),
     # A file of the shell's: where the command takes no more arguments, and where it takes none that is a file.
     ("plan a.wq > o", RESULTS),
     ("plan a.wq >o", RESULTS),
@@ -91,7 +93,7 @@ OFFERED = [
     ("help > o", RESULTS),
     ("plan a.wq > -", []),
     # It is no argument, and what follows is one, or none.
-    ("> r r", ["replay", "run"]),
+    ("> r r", beginning("r", COMMANDS)),
     ("> r ", [*COMMANDS, "help"]),
     ("2>r ", [*COMMANDS, "help"]),
     ("plan > out.plan ", ALL),
@@ -103,8 +105,8 @@ OFFERED = [
     ("deadlock a.wq > out.plan 2> err b", ["b.wq"]),
     ("deadlock a.wq 2>err ", ALL),
     ("deadlock 2>err a.wq b.wq ", []),
-    ("explain > out.plan 6", ["6", "69"]),
-    ("explain 6> out.plan 6", ["6", "69"]),
+    ("explain > out.plan 6", beginning("6", NUMBERS)),
+    ("explain 6> out.plan 6", beginning("6", NUMBERS)),
     # A number that isn't of a file descriptor is an argument.
     ("explain 6 > out.plan ", []),
     ("explain 6 2> out.plan ", []),
@@ -214,7 +216,7 @@ def main():
     with tempfile.TemporaryDirectory() as made:
         folder = pathlib.Path(made) / "home"
         make_files(folder)
-        for line, wanted in OFFERED:
+        for line, wanted in FILES_OFFERED + OFFERED:
             found = offered(line, folder)
             if found != sorted(wanted):
                 failed.append(f"wqplan {line}: wanted {sorted(wanted)}, found {found}")
@@ -226,7 +228,7 @@ def main():
         os.close(shell.terminal)
     for case in failed:
         print("FAILED ", case)
-    sys.exit(programs.counts_of("completion", len(OFFERED) + len(TYPED) - len(failed), len(failed)))
+    sys.exit(programs.counts_of("completion", len(FILES_OFFERED + OFFERED + TYPED) - len(failed), len(failed)))
 
 
 main()

@@ -3,15 +3,16 @@
 
 Usage: tests/docs/made.py [--check]
 
-Without an argument these are written again: the explanations in crates/wq_explain/src/table.rt and answers.rt; the words and
-forms of directives in crates/wq_findings/src/guess.rt and declaration.rt; the rows of the tables of docs/FORMAT.md that have
-them, its list of commands and its sentences that list directives; the lists of man/wqplan.5, DECLARATIONS, REFUSALS and OTHER
-ANSWERS; the synopsis of man/wqplan.1 and its list of directives; the commands and the words that man/wqplan.bash offers; the
-table of statuses in docs/GUIDE.md; and the table of commands in README.md, where a row keeps its place. What is around them is
-written by hand, and stays. With `--check` nothing is written: each file that differs is named, and the status is 1 where one
-does. tests/cli/explain.sh, manual.py and completion.py take their lists from the tables of docs/FORMAT.md.
-
-A record is lines `key: value`, and lines `key:` with the lines of a text below, each after four spaces. An empty line ends it.
+Without an argument these are written again: in crates/wq_explain the explanations (src/table.rt, answers.rt) and the lists of what
+is explained (specs/Explaining.antt); in crates/wqplan what help says of commands and statuses (src/help.rt); in crates/wq_findings
+the words and forms of directives (src/guess.rt, declaration.rt); the rows of the tables of docs/FORMAT.md that have them, its list
+of commands and its sentences that list directives and faults; of man/wqplan.5 DECLARATIONS, the lists of REFUSALS and OTHER
+ANSWERS, and the limits of docs/FORMAT.md in LIMITS; of man/wqplan.1 SYNOPSIS, COMMANDS, the directives, and what ends with 0 and 1;
+in man/wqplan.bash the commands, their files, and the words behind `explain`; in docs/GUIDE.md the table of statuses and the ranges
+of numbers; and the table of commands in README.md, where a row keeps its place. What is around them is written by hand, and stays.
+With `--check` nothing is written: each file that differs is named, and the status is 1 where one does. tests/cli/explain.sh,
+manual.py and completion.py take their lists from docs/FORMAT.md, and what goes through the commands takes them from
+tests/lib/commands.py.
 """
 
 import pathlib
@@ -19,8 +20,11 @@ import re
 import sys
 import textwrap
 
+sys.dont_write_bytecode = True
 ROOT = pathlib.Path(__file__).resolve().parents[2]
-TABLES = ROOT / "docs" / "tables"
+sys.path.append(str(ROOT / "tests" / "lib"))
+from commands import TEXTS_OF, arguments_of  # noqa: E402  (in tests/lib)
+from records import records  # noqa: E402  (there, too)
 
 # How wide the lines of a list of short names are, and how long a short one is, with its comma.
 CODE_WIDTH = 95
@@ -29,29 +33,12 @@ MAN_WIDTH = 78
 SHELL_WIDTH = 119
 PAGE_WIDTH = 100
 EXPLAINED_WIDTH = 80
+HELP_WIDTH = 80
+RUST_WIDTH = 100
+SPECS_WIDTH = 130
 COUNTS = ["none", "one", "two", "three", "four", "five", "six", "seven", "eight", "nine"]
 # Text, or `bold` or *italic*, with what stands directly behind it.
 TOKEN = re.compile(r"(`[^`]+`|\*[^*]+\*)([,.;:]?)|(\S+)")
-
-
-def records(name):
-    """The records of a data file, in their order."""
-    found, record, key = [], {}, None
-    for number, line in enumerate((TABLES / name).read_text().splitlines() + [""], 1):
-        field = re.fullmatch(r"(\w+):(?: (.+))?", line)
-        if line.startswith("#"):
-            continue
-        if not line:
-            found += [record] if record else []
-            record = {}
-        elif line.startswith("    ") and key in record:
-            record[key].append(line[4:])
-        elif field and field[1] not in record:
-            key = field[1]
-            record[key] = field[2] or []
-        else:
-            sys.exit(f"made: {name}:{number}: this is no field, or one that is there twice: {line}")
-    return found
 
 
 def titled(record):
@@ -70,6 +57,28 @@ def listed(words, last):
 def quoted(directives):
     """The words of these directives in backticks."""
     return [f"`{row['directive']}`" for row in directives]
+
+
+def ranges(numbers):
+    """Numbers, of which three or more that follow one another are a range, as in: 3 to 6, 9 and 12."""
+    runs = []
+    for number in sorted(numbers):
+        if runs and runs[-1][-1] == number - 1:
+            runs[-1].append(number)
+        else:
+            runs.append([number])
+    return listed([part for run in runs for part in ([f"{run[0]} to {run[-1]}"] if len(run) > 2 else map(str, run))], "and")
+
+
+def numbers_of(rows, key, value):
+    """The numbers of the records in which this field has this value."""
+    return ranges(int(row["number"]) for row in rows if row.get(key) == value)
+
+
+def ends(commands, key):
+    """What all commands print with status 0, which is `zero`, or with status 1: each of it once."""
+    said = [cell for row in commands if key in row for cell in row[key].split(", ")]
+    return listed(list(dict.fromkeys(said)), "or")
 
 
 def shares(directives, key):
@@ -225,6 +234,9 @@ def page(numbers, faults, words, commands, directives):
         table = re.search(rf"^\|.* {cell} \|.*\n\|[-|]+\|\n((?:\|.*\n)+)", section[0], re.M)
         start = section.start() + table.start(1)
         parts.text = parts.text[:start] + made + parts.text[start + len(table[1]):]
+    parts.replace(r"^(?<=\| Status \| What happened \|\n\|---\|---\|\n)(?:\| [01] \|.*\n)+",
+                  f"| 0 | {ends(commands, 'zero')} was printed |\n| 1 | {ends(commands, 'one')} was printed |\n")
+    parts.replace(r"(?<=^- the name of a fault: ).*(?=;$)", listed([f"`{row['fault']}`" for row in faults], "or"))
     forms = [f"`wqplan {form(row)}`" for row in commands]
     parts.say(r"^The commands are .*?\.(?= Each)", f"The commands are {listed(forms, 'and')}.")
     parts.say(r"^An? `\w+` line has (?:exactly|at least) .*?\.(?= Each further word)", words_needed(directives))
@@ -246,23 +258,19 @@ def readme(commands):
 
 
 def guesses(directives):
-    """crates/wq_findings/src/guess.rt with the first words of declarations, and with the words that others are likened to."""
+    """crates/wq_findings/src/guess.rt with the words that others are likened to."""
     parts = Parts("crates/wq_findings/src/guess.rt")
     words = [f'"{row["directive"]}"' for row in directives]
-    parts.replace(r'^ +"[^=]*"(?= => Some\("a declaration"\),$)', f"        {' | '.join(words)}")
     parts.replace(r'(?<=&\[)"item"[^\]]*', ", ".join(words))
     return parts
 
 
 def findings(directives):
-    """crates/wq_findings/src/declaration.rt with the directives, and with their forms: that of the second, `flush`, is last."""
+    """crates/wq_findings/src/declaration.rt with the directives, and with the form of each."""
     parts = Parts("crates/wq_findings/src/declaration.rt")
-    words = [f'word == b"{row["directive"]}".as_slice()' for row in directives]
-    parts.replace(r'^    word == b"(?:.*\n)*?(?=\})', "    " + "\n        || ".join(words) + "\n")
     parts.replace(r'(?<=Hint::Said\("a line begins with ).*(?="\),$)', of_directives(directives)["words"])
-    first, *others = (f'"{row["directive"]} {row["names"]}",' for row in directives)
-    arms = [f'b"{form[1:].split()[0]}" => {form}' for form in [first, *others[:0:-1]]] + [f"_ => {others[0]}"]
-    parts.replace(r'^        b"\w+" => "\w+ NAME(?:.*\n)*?(?=    \})', "".join(f"        {arm}\n" for arm in arms))
+    for row in directives:
+        parts.replace(rf'(?<= => "){row["directive"]} NAME[^"]*(?=",$)', f'{row["directive"]} {row["names"]}')
     return parts
 
 
@@ -273,8 +281,8 @@ def wrapped(text, width):
     return "\n".join(lines).replace("\0", " ")
 
 
-def guide(commands):
-    """docs/GUIDE.md with its table of statuses."""
+def guide(numbers, commands):
+    """docs/GUIDE.md with its table of statuses, and with the ranges of the numbers of refusals."""
     columns = [row for row in commands if row.get("table") != "none"]
     rows = [
         ["Status", *(f"`{row['command']}`" for row in columns)], ["---"] * (len(columns) + 1),
@@ -284,6 +292,8 @@ def guide(commands):
     made = ["|---" * len(row) + "|" if row[0] == "---" else f"| {' | '.join(row)} |".replace("|  |", "| |") for row in rows]
     parts = Parts("docs/GUIDE.md")
     parts.replace(r"^\| Status \| `plan` (?:.*\n)(?:\|.*\n)+", "".join(f"{row}\n" for row in made))
+    parts.say(r"^\d+ to [\d, toand]+(?= are refusals of a declaration\.)", numbers_of(numbers, "table", "Refusals"))
+    parts.say(r"\d+ to [\d, toand]+(?= are those of a plan, a circle,)", numbers_of(numbers, "table", "Refusals of certificates"))
     return parts
 
 
@@ -296,8 +306,17 @@ def entries(directives, text):
     return ".TP\n".join(made)
 
 
+def tag(command):
+    """The tag of a command in wqplan(1)."""
+    words = command["arguments"].split()
+    if all(word[0] != "[" for word in words):
+        return f'.BI {command["command"]} " {command["arguments"]}"'
+    marked = " ".join(re.sub(r"(\w+)", r"\\fI\1\\fR", word) for word in words)
+    return f'.BR {command["command"]} " {marked}"'
+
+
 def synopsis(commands, directives):
-    """man/wqplan.1 with its synopsis, and with its list of directives."""
+    """man/wqplan.1 with its synopsis, its commands, what ends with status 0 and 1, and its list of directives."""
     made = []
     for row in [*commands, {"command": "help", "arguments": "[COMMAND]"}]:
         needed = " ".join(word for word in row["arguments"].split() if word[0] != "[")
@@ -306,6 +325,12 @@ def synopsis(commands, directives):
         made.append("".join(f"{line}\n" for line in lines))
     parts = Parts("man/wqplan.1")
     parts.replace(r"(?<=^\.SH SYNOPSIS\n)(?:.*\n)*?(?=\.SH)", ".br\n".join(made))
+    entries_made = [f".TP\n{tag(row)}\n{roff(' '.join(row['man']))}" for row in commands]
+    parts.replace(r"(?<=^\.SH COMMANDS\n)(?:.*\n)*?(?=\.TP\n\.BR help )", "".join(entries_made))
+    for status, key, behind in (0, "zero", " was printed; or help or the version was."), (1, "one", " was printed."):
+        said = ends(commands, key)
+        made = f".B {status}\n{roff(said[0].upper() + said[1:] + behind)}"
+        parts.replace(rf"(?<=^\.TP\n)\.B {status}\n(?:.*\n)*?(?=\.TP)", made)
     parts.replace(r'^\.BI item " NAME"\n(?:.*\n)*?(?=\.PP)', entries(directives, "brief"))
     return parts
 
@@ -347,6 +372,17 @@ def manual(numbers, directives):
     parts.replace(r'^\.BI item " NAME"\n(?:.*\n)*?(?=\.PP)', entries(directives, "man"))
     above = roff(f"The names on a {of_directives(directives)['users']} line are on `item` lines above it. For example:")
     parts.replace(r"^The names on a\n(?:.*\n)*?(?=\.PP)", above)
+    lines, items, groups = (numbers_of(numbers, "pass", name) for name in ("directives", "items", "groups"))
+    passes = (
+        f"Limits of bytes are judged first, in the whole text; then directives ({lines}), then items and flushes "
+        f"({items}), then groups ({groups}). Of one kind the first line at fault is answered, and of its faults the one that "
+        "comes first here."
+    )
+    parts.replace(r"^Limits of bytes are judged first, in the whole text;(?:.*\n)*?(?=\.PP)", roff(passes))
+    limits = re.search(r"^## Limits\n\n\| What \| Limit \|\n.*\n((?:\|.*\n)+)", (ROOT / "docs/FORMAT.md").read_text(), re.M)[1]
+    limits = [row[2:-2].split(" | ") for row in limits.splitlines()]
+    made = ".TP\n".join(f".B {limit}\n{roff(what)}" for what, limit in limits)
+    parts.replace(r"(?<=^What is as large as its limit is accepted\. Of a declaration:\n\.TP 14\n)(?:.*\n)*?(?=\.PP)", made)
     lists = {}
     for row in numbers:
         lists.setdefault((row["table"], row.get("of")), []).append(row)
@@ -372,6 +408,49 @@ def completion(numbers, faults, words, commands):
     listed = " ".join(row["command"] for row in commands)
     parts.replace(r"(?<=compgen -W ')plan [a-z ]*(?= help')", listed)
     parts.replace(r"(?<=compgen -W ')plan (?:(?!help)[a-z ])*(?=')", listed)
+    counts = {}
+    for row in commands:
+        needed, others = arguments_of(row)
+        # (what has another argument, too, is written by hand)
+        if len(needed + others) == len(row["arguments"].split()):
+            counts.setdefault(len(needed + others), []).append(row["command"])
+    made = "".join(f"        {' | '.join(counts[count])}) files={count} ;;\n" for count in sorted(counts))
+    parts.replace(r"^(?:        [a-z |]+\) files=\d ;;\n)+", made)
+    return parts
+
+
+def help_texts(commands):
+    """crates/wqplan/src/help.rt with what it says of each command, and of the exit statuses 0 and 1."""
+    parts = Parts("crates/wqplan/src/help.rt")
+    made = ""
+    for row in commands:
+        name, text = f"pub(crate) const {row['command'].upper()}: &str =", f'"{row["help"]}";'
+        is_short = len(name) + 1 + len(text) <= RUST_WIDTH
+        made += f"/// What `{row['command']}` does.\n{name}{' ' if is_short else chr(10) + ' ' * 4}{text}\n\n"
+    parts.replace(r"^/// What `plan` (?:.*\n)*?(?=/// What FILE is\.)", made)
+    statuses = [f"the answer is {ends(commands, key)}" for key in ("zero", "one")]
+    statuses[0] += "; or help or the version was printed"
+    said = ""
+    for status, text in enumerate(statuses):
+        lines = wrapped(text, HELP_WIDTH - 5).splitlines()
+        said += f"  {status}  " + "\n     ".join(lines) + "\n"
+    parts.replace(r"(?<=^Exit status:\n)(?:.*\n)*?(?=  2  )", said)
+    return parts
+
+
+def explained(numbers, faults, words):
+    """crates/wq_explain/specs/Explaining.antt with the numbers and the names that have an explanation."""
+    parts = Parts("crates/wq_explain/specs/Explaining.antt")
+    parts.replace(r"(?<=^numbers = ).*(?=$)", " ∷ ".join([*(row["number"] for row in numbers), "[]"]))
+    lines = []
+    for rows in numbers + faults, words:
+        for row in rows:
+            link = f'codes "{titled(row)[0]}"'
+            if lines and row is not rows[0] and len(f"{lines[-1]} ∷ {link}") <= SPECS_WIDTH:
+                lines[-1] += f" ∷ {link}"
+            else:
+                lines.append(f"    {'∷ ' if lines else ''}{link}")
+    parts.replace(r"(?<=^names =\n)(?:    .*\n)+", "\n".join(lines) + " ∷ []\n")
     return parts
 
 
@@ -379,6 +458,8 @@ def main():
     if sys.argv[1:] not in ([], ["--check"]):
         sys.exit(__doc__)
     words, commands, directives = records("words.txt"), records("commands.txt"), records("directives.txt")
+    for row in words:
+        row["by"] = row["by"].replace("{commands}", ", ".join(f"`{name}`" for name in TEXTS_OF))
     rows = [filled(row, of_directives(directives)) for row in records("numbers.txt")]
     numbers = [row for row in rows if "number" in row]
     faults = [row for row in rows if "fault" in row]
@@ -386,10 +467,12 @@ def main():
     made = [
         explanations("crates/wq_explain/src/table.rt", ascending + faults),
         explanations("crates/wq_explain/src/answers.rt", words),
+        explained(ascending, faults, words),
+        help_texts(commands),
         guesses(directives),
         findings(directives),
         page(numbers, faults, words, commands, directives),
-        guide(commands),
+        guide(numbers, commands),
         readme(commands),
         synopsis(commands, directives),
         manual(numbers, directives),

@@ -1,12 +1,10 @@
-# Compares the program with the model of it in plan.py, check.py, replay.py, deadlock.py, circles.py,
-# dot.py and run.py:
+# Compares the program with the model of it, which has a file for each command, as plan.py (models.py):
 #
 #     compare.py PROGRAM [SEED] [CASES] [RUNS] [--only COMMAND,..]
 #
 # It makes up declarations, answers, assignments and runs, gives them to `PROGRAM plan` on standard
-# input, and as files to `PROGRAM check`, `PROGRAM replay`, `PROGRAM deadlock`, `PROGRAM circles`,
-# `PROGRAM dot` and `PROGRAM run`, and compares the bytes that are printed and the exit status with the
-# model's. Standard error must have what belongs to the answer (tests/lib/standard_error.py). Of
+# input, and to the other commands as files, and compares the bytes that are printed and the exit status
+# with the model's. Standard error must have what belongs to the answer (tests/lib/standard_error.py). Of
 # each command there are the cases at the limits of docs/FORMAT.md and at each place of small texts, once
 # each, and then CASES random ones; of `run`, which makes threads, RUNS, or a fifth as many. The same SEED makes the
 # same cases. It fails where an answer differs, and where some kind of answer never came, as may be with
@@ -33,22 +31,18 @@ import traceback
 
 sys.dont_write_bytecode = True
 sys.path.append(str(pathlib.Path(__file__).resolve().parents[1] / "lib"))
-import check  # noqa: E402  (beside this file)
-import circles  # noqa: E402
-import deadlock  # noqa: E402
-import dot  # noqa: E402
-import examples  # noqa: E402
+import examples  # noqa: E402  (beside this file)
 import make_assignments  # noqa: E402
 import make_certificates  # noqa: E402
 import make_circles  # noqa: E402
 import make_declarations  # noqa: E402
-import plan  # noqa: E402
-import replay  # noqa: E402
 import programs  # noqa: E402  (in tests/lib)
-import run  # noqa: E402
 from command_line import seed_and_counts  # noqa: E402
-from declaration import read_declaration, records  # noqa: E402
-from standard_error import fits  # noqa: E402  (in tests/lib)
+from commands import TEXTS_OF  # noqa: E402  (in tests/lib)
+from declaration import read_declaration  # noqa: E402
+from models import ANSWERS  # noqa: E402
+from records import records  # noqa: E402  (in tests/lib)
+from standard_error import fits  # noqa: E402  (there, too)
 
 DEFAULT_SEED = "1"
 DEFAULT_CASES = 2_000
@@ -58,18 +52,15 @@ DIFFERENCES_SHOWN = 3
 
 def refused_by(table):
     """The numbers of the refusals in this table of docs/FORMAT.md."""
-    return sorted(int(row[b"number"]) for row in records("numbers.txt") if row.get(b"table") == table and b"number" in row)
+    return sorted(int(row["number"]) for row in records("numbers.txt") if row.get("table") == table)
 
 
-# Of each command: the model, the cases at the limits, the random cases, the names of the texts, and
-# the kinds of answer, each with its exit status and its form. In a form N is a number, Z one or
-# more names, A is an `arc` line, and S is a step of a run that is printed.
-OF_DECLARATIONS = refused_by(b"Refusals")
+OF_DECLARATIONS = refused_by("Refusals")
 DECLARATION_REFUSALS = [
     (f"refusals {code}", 2, rf"refused {code} line N\n") for code in OF_DECLARATIONS
 ]
 CERTIFICATE_REFUSALS = [("refusals of the declaration", 2, rf"refused ({'|'.join(map(str, OF_DECLARATIONS))}) line N\n")] + [
-    (f"refusals {code}", 2, rf"refused {code} line N\n") for code in refused_by(b"Refusals of certificates")
+    (f"refusals {code}", 2, rf"refused {code} line N\n") for code in refused_by("Refusals of certificates")
 ]
 DRAWING = (
     r'digraph wqplan \{\n  graph \[label="(TITLE)", labelloc=t, labeljust=l, rankdir=LR,'
@@ -90,71 +81,77 @@ def drawing(title, look):
     return DRAWING.replace("TITLE", title).replace("LOOK", look)
 
 
+# Of a command, where `like_others` isn't enough: the cases at the limits, the random cases, and the kinds
+# of answer, each with its exit status and its form. In a form N is a number, Z one or more names, A is an `arc` line, and S is a
+# step of a run that is printed.
 COMMANDS = {
     "plan": (
-        plan.answer,
         lambda: [(what, [text]) for what, text in make_declarations.limit_cases()],
         lambda seed, number: [make_declarations.random_case(seed, number)],
-        ["declaration"],
         [("plans", 0, r"plan N\n(wq N Z\n)*chain N\nA*"),
          ("circles", 1, r"circle N\nA+run N\nS+")]
         + DECLARATION_REFUSALS,
     ),
     "check": (
-        check.answer,
         make_certificates.limit_check_cases,
         make_certificates.random_check_case,
-        ["declaration", "certificate"],
         [("yes", 0, r"yes N\n"), ("yes circle", 0, r"yes circle N\n"), ("no 50", 1, r"no 50 Z\n"),
          ("no 51", 1, r"no 51 N\n"), ("no 52", 1, r"no 52\n"), ("no 53", 1, r"no 53 N\n"),
          ("no 54", 1, r"no 54\n")]
         + CERTIFICATE_REFUSALS,
     ),
     "replay": (
-        replay.answer,
         make_certificates.limit_replay_cases,
         make_certificates.random_replay_case,
-        ["declaration", "assignment", "run"],
         [("open", 0, r"open\n"), ("stuck", 1, r"stuck\n"), ("deadlock", 1, r"deadlock\n"),
          ("not lawful", 1, r"not lawful N\n")]
         + CERTIFICATE_REFUSALS,
     ),
     "deadlock": (
-        deadlock.answer,
         make_assignments.limit_deadlock_cases,
         make_assignments.random_deadlock_case,
-        ["declaration", "assignment"],
         [("safe", 0, r"safe\n"), ("runs", 1, r"run N\nS+")] + CERTIFICATE_REFUSALS,
     ),
     "circles": (
-        circles.answer,
         make_circles.limit_circles_cases,
         make_circles.random_circles_case,
-        ["declaration", "assignment"],
         [("safe", 0, r"safe\n"), ("one component", 1, r"components 1\ncomponent N\nA+"),
          ("components", 1, r"components N\n(component N\nA+)+")]
         + DECLARATION_REFUSALS + CERTIFICATE_REFUSALS[1:],
     ),
     "dot": (
-        dot.answer,
         make_circles.limit_dot_cases,
         lambda seed, number: make_circles.random_circles_case(f"{seed} dot", number),
-        ["declaration", "assignment"],
         [("plans", 0, drawing("plan N", "style=bold")), ("safe", 0, drawing("safe", NO_LOOK)),
          ("components", 0, drawing("components N", "color=red"))]
         + DECLARATION_REFUSALS + CERTIFICATE_REFUSALS[1:],
     ),
     "run": (
-        run.answer,
         lambda: [(what, [text]) for what, text in make_declarations.limit_run_cases()],
         lambda seed, number: [make_declarations.random_case(f"{seed} run", number)],
-        ["declaration"],
         [("plans that were run", 0,
           r"workqueues N\n(item Z wq N queued 1 cancelled 0 finished 1\n)*faults 0\n"),
          ("circles", 1, r"circle N\nA+run N\nS+"), ("refusals 69", 2, r"refused 69 line 0\n")]
         + DECLARATION_REFUSALS,
     ),
 }
+
+
+def like_others(command):
+    """What stands for a command that isn't above: the cases of the first one that has the same texts, and, of each word of an answer
+    that it prints (docs/tables/words.txt), a form with any words and lines behind it. None where no command has the same texts.
+    """
+    others = [other for other in COMMANDS if TEXTS_OF[other] == TEXTS_OF[command]]
+    if not others:
+        return None
+    limit_cases, random_case, _ = COMMANDS[others[0]]
+    words = [row for row in records("words.txt") if "status" in row and f"`{command}`" in row["by"]]
+    kinds = [(row["word"], int(row["status"]), rf"{row['word']}( [^\n]+)?\n([^\n]+\n)*") for row in words]
+    return limit_cases, random_case, kinds + (CERTIFICATE_REFUSALS if len(TEXTS_OF[command]) > 1 else DECLARATION_REFUSALS)
+
+
+WITHOUT = [command for command in ANSWERS if command not in COMMANDS and not like_others(command)]
+COMMANDS |= {command: like_others(command) for command in ANSWERS if command not in COMMANDS and command not in WITHOUT}
 
 # The words behind DECL of the cases of `run`, in turn. They change no answer.
 HELPERS = [[], ["2"], ["8"], ["0"], ["1"], ["5"]]
@@ -195,7 +192,7 @@ def ask(program, command, texts, folder, number):
     if command == "plan":
         given = texts[0]
     else:
-        named = {f"{number}.{name}": text for name, text in zip(COMMANDS[command][3], texts)}
+        named = {f"{number}.{name}": text for name, text in zip(TEXTS_OF[command], texts)}
     with programs.files(folder, named) as places:
         found = programs.ask([program, command, *places, *words_behind(command, number)], input=given)
     is_right = not found.is_late() and fits(found.printed, found.errors, places)
@@ -241,7 +238,7 @@ def compare(program, asked, command, what, texts, folder, number):
     The program is asked for the commands in `asked`.
     """
     try:
-        wanted = COMMANDS[command][0](*texts)
+        wanted = ANSWERS[command](*texts)
     except Exception:
         errors = traceback.format_exc().encode()
         return None, 0, Difference(what, command, texts, errors=errors)
@@ -279,7 +276,7 @@ def show_bytes(text, folder, name):
 def show_difference(seed, number, difference, folder):
     command = difference.command
     print(f"FAILED  {command}, {difference.what} (seed {seed})")
-    for name, text in zip(COMMANDS[command][3], difference.texts):
+    for name, text in zip(TEXTS_OF[command], difference.texts):
         print(f"    {name}: {show_bytes(text, folder, f'{command}{number}.{name}')}")
     for word in words_behind(command, number):
         print(f"    and behind it: {word}")
@@ -298,7 +295,7 @@ def compare_all(program, asked, command, seed, random_count, folder):
 
     Returns None where answers differ.
     """
-    _, limit_cases, random_case, _, _ = COMMANDS[command]
+    limit_cases, random_case, _ = COMMANDS[command]
     limits = limit_cases()
     numbers = range(len(limits) + random_count)
 
@@ -362,6 +359,9 @@ def main(arguments):
         run_count = random_count // CASES_FOR_A_RUN
     program = os.path.realpath(program)
     if asked and not programs.is_there("model", program):
+        return 1
+    if WITHOUT:
+        print(f"model: FAILED: there are no cases of {', '.join(WITHOUT)} in COMMANDS of compare.py")
         return 1
 
     failed = examples.failures()

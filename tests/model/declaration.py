@@ -5,8 +5,11 @@ import dataclasses
 import functools
 import pathlib
 import re
+import sys
 
-TOP = pathlib.Path(__file__).resolve().parent.parent.parent
+sys.dont_write_bytecode = True
+sys.path.append(str(pathlib.Path(__file__).resolve().parents[1] / "lib"))
+from records import records  # noqa: E402  (in tests/lib)
 
 # Limits
 TEXT_LIMIT = 1_048_576
@@ -20,23 +23,16 @@ NAME_BYTES = LETTERS + b"0123456789_-."
 LINE_BYTES = b"\t" + bytes(range(0x20, 0x7F))
 WORD = re.compile(rb"[^ \t]+")
 
-
-def records(name):
-    """The records of a data file of docs/tables, without the texts of several lines."""
-    texts = re.sub(rb"(?m)^#.*\n", b"", (TOP / "docs" / "tables" / name).read_bytes()).split(b"\n\n")
-    return [dict(re.findall(rb"(?m)^(\w+): (.+)$", text)) for text in texts]
-
-
 # Directives, by docs/tables/directives.txt, from which the table of docs/FORMAT.md is made: how many further words a line needs
 # at least, how many it has at most where that is limited, and which directives name declared items, declare flushes, or groups.
-DIRECTIVES = {row[b"directive"]: row for row in records("directives.txt")}
-FEWEST_WORDS = {word: int(row[b"least"]) for word, row in DIRECTIVES.items()}
-MOST_WORDS = {word: int(row[b"most"]) for word, row in DIRECTIVES.items() if b"most" in row}
-USERS = [word for word, row in DIRECTIVES.items() if row[b"declares"] != b"item"]
-FLUSHES = [word for word, row in DIRECTIVES.items() if row[b"declares"] == b"flushes"]
-GROUPS = [word for word, row in DIRECTIVES.items() if row[b"declares"] == b"group"]
+DIRECTIVES = {row["directive"].encode(): row for row in records("directives.txt")}
+FEWEST_WORDS = {word: int(row["least"]) for word, row in DIRECTIVES.items()}
+MOST_WORDS = {word: int(row["most"]) for word, row in DIRECTIVES.items() if "most" in row}
+USERS = [word for word, row in DIRECTIVES.items() if row["declares"] != "item"]
+FLUSHES = [word for word, row in DIRECTIVES.items() if row["declares"] == "flushes"]
+GROUPS = [word for word, row in DIRECTIVES.items() if row["declares"] == "group"]
 # The step that makes a flush, by the directive that declares it, and the directives of those of whole workqueues.
-WAIT = {word: DIRECTIVES[word][b"step"] for word in FLUSHES}
+WAIT = {word: DIRECTIVES[word]["step"].encode() for word in FLUSHES}
 FLUSHES_WHOLE = [word for word in FLUSHES if WAIT[word] == b"waitwq"]
 LISTED = b", ".join(b"`%s`" % word for word in DIRECTIVES)
 LISTED = b" or ".join(LISTED.rsplit(b", ", 1))
@@ -97,7 +93,7 @@ def text_pass(text):
 
 
 def directives_pass(lines):
-    """Refusals, the pass over the directives (3, 4, 5, 12, 6).
+    """Refusals, the pass over the directives, in the order of the rows.
 
     Returns the number, the first word and the further words of each line that isn't blank.
     """
@@ -122,7 +118,7 @@ def directives_pass(lines):
 
 
 def items_pass(directives):
-    """Refusals, the pass over the items (7, 9, 8, 10); Items and groups: Items, Flushes and places.
+    """Refusals, the pass over the items, in the order of the rows; Items and groups: Items, Flushes and places.
 
     Returns the names of the items by their numbers, the flushes by their places, each as the names
     of its item and of its target, and the directive of each flush.

@@ -35,32 +35,20 @@ sys.dont_write_bytecode = True
 ROOT = pathlib.Path(__file__).resolve().parents[2]
 sys.path.append(str(ROOT / "tests" / "lib"))
 import certificate  # noqa: E402  (beside this file)
-import check  # noqa: E402
-import circles  # noqa: E402
 import deadlock  # noqa: E402
-import dot  # noqa: E402
 import plan  # noqa: E402
 import programs  # noqa: E402  (in tests/lib)
-import replay  # noqa: E402
-import run  # noqa: E402
 import unlawful  # noqa: E402
 from command_line import seed_and_counts  # noqa: E402
+from commands import TEXTS_OF, given  # noqa: E402  (in tests/lib)
 from declaration import (  # noqa: E402
     DIRECTIVES, FEWEST_WORDS, FLUSHES_WHOLE, LINE_BYTES, LINE_LIMIT, LISTED, NAME_LIMIT, Refused, before_comment, is_name,
     read_declaration, split_lines, split_words,
 )
+from models import ANSWERS  # noqa: E402
+from records import records  # noqa: E402  (in tests/lib)
 
-# The commands: the model of each, the kinds of its texts behind the declaration, and how they are read. The assignment of
-# `circles` and `dot` may be missing.
-COMMANDS = {
-    "plan": (plan.answer, []),
-    "check": (check.answer, ["answer"]),
-    "deadlock": (deadlock.answer, ["assignment"]),
-    "replay": (replay.answer, ["assignment", "run"]),
-    "circles": (circles.answer, ["assignment"]),
-    "dot": (dot.answer, ["assignment"]),
-    "run": (run.answer, []),
-}
+# How the texts behind a declaration are read.
 READERS = {
     "answer": certificate.read_answer,
     "assignment": certificate.read_assignment,
@@ -73,7 +61,7 @@ CUT = 94
 BEFORE = 40
 
 # The lines of declarations, and the first words of the other texts.
-DIRECTIVE_FORMS = {word: b"`%s %s`" % (word, row[b"names"]) for word, row in DIRECTIVES.items()}
+DIRECTIVE_FORMS = {word: b"`%s %s`" % (word, row["names"].encode()) for word, row in DIRECTIVES.items()}
 STEP = b"a step"
 COMMENTS = (b"//", b"/*", b"*", b";", b"%", b"--")
 CALLS = {
@@ -596,8 +584,7 @@ def printed_of(file, text, line, found, word, code):
 
 def answer(command, files, texts):
     """The bytes of the answer, the exit status, and what is said on standard error."""
-    model, kinds = COMMANDS[command]
-    printed, status = model(*texts)
+    printed, status = ANSWERS[command](*texts)
     if printed.startswith(b"no "):
         line, found = of_no(read_declaration(texts[0]), texts[1], printed)
         return printed, status, printed_of(files[1], texts[1], line, found, b"no", int(printed.split()[1]))
@@ -606,7 +593,7 @@ def answer(command, files, texts):
     if status != 2:
         return printed, status, b"" if read_declaration(texts[0]).items else note(files[0])
     code, line = (int(word) for word in printed.split()[1::2])
-    return printed, status, said(kinds, files, texts, code, line)
+    return printed, status, said(TEXTS_OF[command][1:], files, texts, code, line)
 
 
 def note(file):
@@ -649,8 +636,11 @@ DEFAULT_SEED = "1"
 DEFAULT_CASES = 400
 DIFFERENCES_SHOWN = 5
 
-# The numbers that must come. The other ones are those of large texts, of which tests/cli/diagnoses has rows.
-MUST_COME = [3, 4, 5, 6, 7, 8, 11, 12, 40, 41, 42, 43]
+# The numbers that must come: those of refused texts that aren't large. Of the others tests/cli/diagnoses has rows.
+MUST_COME = [
+    int(row["number"]) for row in records("numbers.txt")
+    if row.get("table") in ("Refusals", "Refusals of certificates") and row["rule"] != "Limits"
+]
 
 BYTES = b"\t\r\n\0 #,;.-_/!aZ09\x01\x7f\x80\xc3\xa4\xef\xff"
 OTHER_WORDS = [
@@ -667,37 +657,23 @@ FILE_NAMES = [b"d.wq", b"two words", b"gr\xc3\xb6\xc3\x9fe", b"a\tb", b"\x1b", b
 def seeds():
     """Commands and texts that are changed: those of the examples and of tests/cli/rows, and a text that is none of wqplan's."""
     sys.path.append(str(ROOT / "tests" / "cli" / "rows"))
-    import checks
-    import circlings
-    import deadlocks
-    import drawings
+    import every
     import plans
-    import replays
     from tables import text_of
 
     found = []
     for path in sorted((ROOT / "examples").rglob("*.wq")):
         text = path.read_bytes()
-        found += [("plan", [text]), ("run", [text]), ("check", [text, plan.answer(text)[0]])]
-        found += [("circles", [text]), ("dot", [text])]
+        found += given({"declaration": text, "answer": plan.answer(text)[0]})
         for other in sorted(path.parent.glob(path.stem + "*.assign")):
             assignment = other.read_bytes()
-            found += [(command, [text, assignment]) for command in ("deadlock", "circles", "dot")]
-            found.append(("replay", [text, assignment, deadlock.answer(text, assignment)[0]]))
+            steps = deadlock.answer(text, assignment)[0]
+            found += given({"declaration": text, "assignment": assignment, "run": steps}, "assignment")
     found.append(("plan", [(ROOT / "tests" / "cli" / "outlives.rt.txt").read_bytes()]))
-    for text, _ in plans.BYTES + plans.PLANS + plans.REFUSALS:
-        found.append(("plan", [text_of(text)]))
+    for _, command, rows in every.tables(without=["limits", "runs", "worked"]):
+        found += [(command, [text_of(text) for text in texts]) for *texts, _ in rows]
     for text, circle, steps in plans.CIRCLES:
         found.append(("check", [text_of(text), text_of(circle + " / " + steps)]))
-    for text, rows in checks.CHECKS:
-        found += [("check", [text_of(text), text_of(answer)]) for answer, _ in rows]
-    for text, rows in deadlocks.DEADLOCKS:
-        found += [("deadlock", [text_of(text), text_of(assignment)]) for assignment, _ in rows]
-    found += [("deadlock", [text_of(text) for text in texts]) for *texts, _ in deadlocks.REFUSALS]
-    for command, rows in (("circles", circlings.REFUSALS), ("dot", drawings.REFUSALS)):
-        found += [(command, [text_of(text) for text in texts]) for *texts, _ in rows]
-    for text, assignment, rows in replays.REPLAYS:
-        found += [("replay", [text_of(text), text_of(assignment), text_of(steps)]) for steps, _ in rows]
     return found
 
 

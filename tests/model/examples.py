@@ -8,44 +8,30 @@ import pathlib
 import sys
 
 sys.dont_write_bytecode = True
-sys.path.append(str(pathlib.Path(__file__).resolve().parents[1] / "cli" / "rows"))
-import check  # noqa: E402  (beside this file)
-import circles  # noqa: E402
-import deadlock  # noqa: E402
-import dot  # noqa: E402
-import plan  # noqa: E402
-import replay  # noqa: E402
-import run  # noqa: E402
+TESTS = pathlib.Path(__file__).resolve().parents[1]
+# The model first: its dot.py isn't the reader of drawings in tests/lib, of the same name.
+from models import ANSWERS  # noqa: E402  (beside this file)
+
+sys.path += [str(TESTS / "lib"), str(TESTS / "cli" / "rows")]
 from statuses import STATUS  # noqa: E402  (in tests/cli/rows)
-from worked import CHECKS, CIRCLES, DEADLOCKS, DOTS, PLANS, REPLAYS, RUNS, text  # noqa: E402  (there, too)
-
-
-def wanted(answer):
-    return text(answer), STATUS[answer.split()[0]]
+from tables import text_of  # noqa: E402  (in tests/lib)
+from worked import ROWS  # noqa: E402  (in tests/cli/rows)
 
 
 def failures():
     """What is shown of each example that the model answers in another way."""
-    answers = [(repr(texts), plan.answer(texts), wanted(answer)) for texts, answer in PLANS]
-    for *texts, answer in CHECKS:
-        answers.append((texts, check.answer(*map(text, texts)), wanted(answer)))
-    for *texts, answer in REPLAYS:
-        answers.append((texts, replay.answer(*map(text, texts)), wanted(answer)))
-    for *texts, answer in DEADLOCKS:
-        answers.append((texts, deadlock.answer(*map(text, texts)), wanted(answer)))
-    answers += [(repr(texts), run.answer(texts), wanted(answer)) for texts, answer in RUNS]
-    for *texts, answer in CIRCLES:
-        answers.append((texts, circles.answer(*map(text, texts)), wanted(answer)))
-    for *texts, answer in DOTS:
-        answers.append((texts, dot.answer(*map(text, texts)), wanted(answer)))
-    return [
-        f"{what}: wanted {page}, the model has {model}"
-        for what, model, page in answers if model != page
-    ]
+    found = []
+    for command, rows in ROWS.items():
+        for *texts, answer in rows:
+            wanted = text_of(answer), STATUS[answer.split(maxsplit=1)[0]]
+            model = ANSWERS[command](*map(text_of, texts))
+            if model != wanted:
+                found.append(f"{command}, {texts!r}: wanted {wanted}, the model has {model}")
+    return found
 
 
 def count():
-    return sum(map(len, (PLANS, CHECKS, REPLAYS, DEADLOCKS, RUNS, CIRCLES, DOTS)))
+    return sum(map(len, ROWS.values()))
 
 
 if __name__ == "__main__":

@@ -12,7 +12,7 @@ from declaration import DIRECTIVES, FEWEST_WORDS, FLUSH_LIMIT, ITEM_LIMIT, LINE_
 NAME_LETTERS = (string.ascii_letters + string.digits + "_-.").encode()
 OTHER_LETTERS = bytes(byte for byte in range(0x21, 0x7F) if byte not in NAME_LETTERS + b"#")
 BAD_BYTES = bytes(byte for byte in range(256) if byte not in b"\t\n" + bytes(range(0x20, 0x7F)))
-FORM = [b"declares", b"step", b"least", b"most"]
+FORM = ["declares", "step", "least", "most"]
 COMMENT_BYTES = bytes(byte for byte in range(256) if byte != 0x0A)
 TAKEN_WORDS = [*FEWEST_WORDS, b"7", b"-", b".", b"_", b"0", b"plan", b"Item"]
 WRONG_FIRST_WORDS = [

@@ -21,12 +21,10 @@ sys.dont_write_bytecode = True
 import certificate  # noqa: E402  (beside this file)
 import check  # noqa: E402
 import circles  # noqa: E402
+import compare  # noqa: E402
 import deadlock  # noqa: E402
 import dot  # noqa: E402
-import make_assignments  # noqa: E402
 import make_certificates  # noqa: E402
-import make_circles  # noqa: E402
-import make_declarations  # noqa: E402
 import plan  # noqa: E402
 import replay  # noqa: E402
 import run  # noqa: E402
@@ -745,33 +743,23 @@ def look_at_searches(seed, walks, declarations):
         demand(not wrong, f"the search finds what the model answers: {text!r}: {wrong}")
 
 
+# Of each command what looks at the model's answer to the cases of compare.py.
+LAWS = {
+    "plan": look_at_plan, "check": look_at_check, "replay": look_at_replay, "deadlock": look_at_deadlock,
+    "run": look_at_running, "circles": look_at_circles, "dot": look_at_dot,
+}
+
+
 def main(arguments):
     found = seed_and_counts(arguments, DEFAULT_SEED, DEFAULT_CASES)
     if not found:
         print("usage: properties.py [SEED] [CASES]", file=sys.stderr)
         return 2
     seed, count = found
-    parts = [
-        ("plan", look_at_plan, lambda *case: [make_declarations.random_case(*case)]),
-        ("check", look_at_check, make_certificates.random_check_case),
-        ("replay", look_at_replay, make_certificates.random_replay_case),
-        ("deadlock", look_at_deadlock, make_assignments.random_deadlock_case),
-        ("run", look_at_running, lambda *case: [make_declarations.random_case(*case)]),
-        ("circles", look_at_circles, make_circles.random_circles_case),
-        ("dot", look_at_dot, make_circles.random_circles_case),
-    ]
-    limits = {
-        "plan": [],
-        "check": make_certificates.limit_check_cases(),
-        "replay": make_certificates.limit_replay_cases(),
-        "deadlock": make_assignments.limit_deadlock_cases(),
-        "run": [(what, [text]) for what, text in make_declarations.limit_run_cases()],
-        "circles": make_circles.limit_circles_cases(),
-        "dot": make_circles.limit_dot_cases(),
-    }
     looked = 0
-    for command, look_at, random_case in parts:
-        small = [texts for _, texts in limits[command] if sum(map(len, texts)) < 20_000]
+    for command, look_at in LAWS.items():
+        limit_cases, random_case, _ = compare.COMMANDS[command]
+        small = [texts for _, texts in limit_cases() if sum(map(len, texts)) < 20_000]
         for number in range(len(small) + count):
             texts = small[number] if number < len(small) else random_case(seed, number - len(small))
             looked += 1

@@ -417,7 +417,7 @@ def look_at_declaration(ask, text):
 
 
 def ask_model(command, texts):
-    return compare.COMMANDS[command][0](*texts)
+    return compare.ANSWERS[command](*texts)
 
 
 def main(arguments):

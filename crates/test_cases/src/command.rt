@@ -1,11 +1,19 @@
-//! The commands that take no threads, and what a case of them is. A run takes the time of the command.
+//! The commands that take no threads, what a case of them is, and their cases, each command's in a file of its own. A run takes the
+//! time of the command.
 
-use crate::checks::CHECKS;
-use crate::circles::CIRCLES;
-use crate::deadlocks::DEADLOCKS;
-use crate::drawings::DRAWINGS;
-use crate::plans::PLANS;
-use crate::replays::REPLAYS;
+mod checks;
+mod circles;
+mod deadlocks;
+mod drawings;
+mod plans;
+mod replays;
+
+use crate::command::checks::CHECKS;
+use crate::command::circles::CIRCLES;
+use crate::command::deadlocks::DEADLOCKS;
+use crate::command::drawings::DRAWINGS;
+use crate::command::plans::PLANS;
+use crate::command::replays::REPLAYS;
 use std::alloc::{AllocError, Allocator};
 use std::io::{Read, Write};
 use wq_circles::CirclesCommand;

@@ -6,18 +6,12 @@
 //! that the heap is an allocator is proved.
 #![tactic(auto)]
 
-mod checks;
-mod circles;
 mod command;
-mod deadlocks;
 mod declarations;
 mod diagnoses;
-mod drawings;
 mod fakes;
 mod largest;
-mod plans;
 mod refusing_heap;
-mod replays;
 mod runs;
 
 pub use command::{Case, PlainCommand, Readers, SEED, cases, perform};

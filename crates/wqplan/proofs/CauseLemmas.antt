@@ -1,6 +1,5 @@
 -- Seeds that are drawn, files that are opened, and what follows for the ends of a command.
 use Rattle.std.proofs.Common.{◌≡◌, ◌≢◌, ◌⊎◌, ℕ, List, [], ◌∷◌, ◌++◌, Option, Some, None, Result, Ok, Err, inl, inr, refl, sym, subst, arith}
-use Rattle.std.specs.Prelude.{option_to_list}
 use Rattle.std.proofs.lemmas.Grind.{common_steps}
 use Rattle.std.proofs.lemmas.List.Elements.{All-contains, All-nil, All-push}
 use Rattle.std.proofs.lemmas.List.Quantifiers.{Any-push}
@@ -17,9 +16,9 @@ use Rattle.wq_run.specs.declared.fault.CommandFault.TheVariants.{Common, Tally, 
 use Rattle.wq_run.specs.declared.fault.RunStop.{RunStop}
 use Rattle.wq_run.specs.declared.fault.RunStop.TheVariants as stop
 use Rattle.wq_run.specs.Fault.{end_or_stop}
-use Rattle.wqplan.specs.Cause.{EndsAlone, EndsReady, IsCaused, IsReady, IsUnready, files_of}
+use Rattle.wqplan.specs.Cause.{EndsAlone, EndsReady, IsCaused, IsReady, IsUnready}
 use Rattle.clap.specs.Words.{Text}
-use Rattle.wqplan.specs.CommandLine.{Asked, plans, checks, judges, replays, finds, draws, runs, explains}
+use Rattle.wqplan.specs.CommandLine.{Asked, plans, runs, explains, files_of}
 use Rattle.wqplan.specs.Status.{end_or_common, explained_or_common}
 
 Any-more : {X : Type 0} (P : X → Type 0) (xs : List X) (y : X) → Any P xs → Any P (xs ++ y ∷ [])
@@ -100,26 +99,16 @@ module _ {F : Type 0} (Seeds : Option ℕ → Type 0) (Opens : Text → Option F
     pub caused_file : (asked : Asked) → IsCaused Seeds Opens InputFailed asked result → (path : Text) → Contains (files_of asked) path → ((file : F) → ¬ Opens path (Some file))
         → result ≡ Err (Common Read)
     caused_file (plans None) = never_opened [] InputFailed ⊥ result
-    caused_file (plans (Some file)) = never_opened (file ∷ []) (Unit {0}) ⊥ result
-    caused_file (checks declaration certificate) = never_opened (declaration ∷ certificate ∷ []) (Unit {0}) ⊥ result
-    caused_file (judges declaration assignment) = never_opened (declaration ∷ assignment ∷ []) (Unit {0}) ⊥ result
-    caused_file (replays declaration assignment run) = never_opened (declaration ∷ assignment ∷ run ∷ []) (Unit {0}) ⊥ result
-    caused_file (finds declaration assignment) = never_opened (declaration ∷ option_to_list assignment) (Unit {0}) ⊥ result
-    caused_file (draws declaration assignment) = never_opened (declaration ∷ option_to_list assignment) (Unit {0}) ⊥ result
     caused_file (runs declaration helpers) = never_opened (declaration ∷ []) (Unit {0}) (Unit {0}) result
     caused_file (explains code) = λ alone path contains never. absurd (omega (arith, contains.1))
+    caused_file asked = never_opened (files_of asked) (Unit {0}) ⊥ result
 
     pub caused_seed : (asked : Asked) → IsCaused Seeds Opens InputFailed asked result → ((code : Option Text) → asked ≢ explains code) → ((seed : ℕ) → ¬ Seeds (Some seed))
         → result ≡ Err (Common Read)
     caused_seed (plans None) = λ caused other. never_drawn [] InputFailed ⊥ result caused
-    caused_seed (plans (Some file)) = λ caused other. never_drawn (file ∷ []) (Unit {0}) ⊥ result caused
-    caused_seed (checks declaration certificate) = λ caused other. never_drawn (declaration ∷ certificate ∷ []) (Unit {0}) ⊥ result caused
-    caused_seed (judges declaration assignment) = λ caused other. never_drawn (declaration ∷ assignment ∷ []) (Unit {0}) ⊥ result caused
-    caused_seed (replays declaration assignment run) = λ caused other. never_drawn (declaration ∷ assignment ∷ run ∷ []) (Unit {0}) ⊥ result caused
-    caused_seed (finds declaration assignment) = λ caused other. never_drawn (declaration ∷ option_to_list assignment) (Unit {0}) ⊥ result caused
-    caused_seed (draws declaration assignment) = λ caused other. never_drawn (declaration ∷ option_to_list assignment) (Unit {0}) ⊥ result caused
     caused_seed (runs declaration helpers) = λ caused other. never_drawn (declaration ∷ []) (Unit {0}) (Unit {0}) result caused
     caused_seed (explains code) = λ caused other never. absurd (other code refl)
+    caused_seed asked = λ caused other. never_drawn (files_of asked) (Unit {0}) ⊥ result caused
 
   not_started : (files : List Text) (MayFail : Type 0) (result : Result End CommandFault) → EndsReady Seeds Opens files MayFail ⊥ result → (result ≡ Err Thread) ⊎ (result ≡ Err Tally) → ⊥
   not_started files MayFail (Ok end) caused (inl is) = cc
@@ -140,14 +129,9 @@ module _ {F : Type 0} (Seeds : Option ℕ → Type 0) (Opens : Text → Option F
   pub only_run : (InputFailed : Type 0) (result : Result End CommandFault) (asked : Asked) → IsCaused Seeds Opens InputFailed asked result
       → (result ≡ Err Thread) ⊎ (result ≡ Err Tally) → (path : Text) × (helpers : ℕ) × (asked ≡ runs path helpers)
   only_run InputFailed result (plans None) caused is = absurd (not_started [] InputFailed result caused is)
-  only_run InputFailed result (plans (Some file)) caused is = absurd (not_started (file ∷ []) (Unit {0}) result caused is)
-  only_run InputFailed result (checks declaration certificate) caused is = absurd (not_started (declaration ∷ certificate ∷ []) (Unit {0}) result caused is)
-  only_run InputFailed result (judges declaration assignment) caused is = absurd (not_started (declaration ∷ assignment ∷ []) (Unit {0}) result caused is)
-  only_run InputFailed result (replays declaration assignment run) caused is = absurd (not_started (declaration ∷ assignment ∷ run ∷ []) (Unit {0}) result caused is)
-  only_run InputFailed result (finds declaration assignment) caused is = absurd (not_started (declaration ∷ option_to_list assignment) (Unit {0}) result caused is)
-  only_run InputFailed result (draws declaration assignment) caused is = absurd (not_started (declaration ∷ option_to_list assignment) (Unit {0}) result caused is)
   only_run InputFailed result (runs declaration helpers) caused is = (declaration, helpers, refl)
   only_run InputFailed result (explains code) caused is = absurd (not_alone result caused is)
+  only_run InputFailed result asked caused is = absurd (not_started (files_of asked) (Unit {0}) result caused is)
 
 -- `explain` reads nothing and starts no threads
 alone : (ended : Result Explained Fault) → ended ≢ Err Read → EndsAlone (explained_or_common ended)

@@ -1,5 +1,6 @@
 -- The numbers that the program prints, and those that have an explanation.
-use Rattle.std.proofs.Common.{◌≡◌, ℕ, Bool, true, false, cond, List, [], ◌∷◌, Option, Some, None, map, refl, subst}
+use Rattle.std.proofs.Common.{◌≡◌, ℕ, Bool, true, false, cond, List, [], ◌∷◌, Option, Some, None, refl, subst}
+use Rattle.std.specs.List.{cons_option, filter_map}
 use Rattle.std.proofs.lemmas.Bool.{eqb-true}
 use Rattle.wq_text.specs.declared.text.TextError.TheVariants.{TextTooLong, LineTooLong}
 use Rattle.wq_decl.specs.declared.fault.DeclError.TheVariants.{BadByte, UnknownWord, MissingName, ExtraWord, BadName}
@@ -10,7 +11,7 @@ use Rattle.wq_checker.specs.declared.answer.No.TheVariants.{NotFalling, LengthDi
 use Rattle.wq_commands.specs.Numbers.{IsPrinted, of_limit, of_line, of_item, of_group, of_certificate, of_no}
 use Rattle.wqplan.specs.Numbers.{IsPrintedByProgram, of_text, of_plan}
 use Rattle.wq_explain.specs.declared.explain.Explained.TheVariants.{Known}
-use Rattle.wq_explain.specs.Explaining.{Row, explanations, known_or_not, number_end, numbered, with_number}
+use Rattle.wq_explain.specs.Explaining.{Row, explanations, known_or_not, number_end, numbered, numbers, with_number}
 
 -- the number of a refused text, or of a `no`, has an explanation
 Known-text : (code : ℕ) → IsPrinted code → number_end code ≡ Known
@@ -44,32 +45,34 @@ pub Known-printed : (code : ℕ) → IsPrintedByProgram code → number_end code
 Known-printed code (of_text printed) = Known-text code printed
 Known-printed code of_plan = refl
 
--- a row has no number, or one that is printed
-abbrev PrintedIfNumber : Option ℕ → Type 0
-PrintedIfNumber None = Unit {0}
-PrintedIfNumber (Some code) = IsPrintedByProgram code
-
--- each of these rows does
-abbrev AllPrinted : List (Option ℕ) → Type 0
+-- each of these numbers is printed
+abbrev AllPrinted : List ℕ → Type 0
 AllPrinted [] = Unit {0}
-AllPrinted (code ∷ codes) = PrintedIfNumber code × AllPrinted codes
+AllPrinted (code ∷ codes) = IsPrintedByProgram code × AllPrinted codes
 
--- the number that a row has is printed
-printed_at : (own : Option ℕ) (code : ℕ) → PrintedIfNumber own → numbered own code ≡ true → IsPrintedByProgram code
-printed_at (Some own) code printed is = subst IsPrintedByProgram (eqb-true own code is) printed
-printed_at None code printed is = cc
+-- so are the number that a row has, if it has one, and those of the rows after it
+printed_at : (own : Option ℕ) (codes : List ℕ) (code : ℕ) → AllPrinted (cons_option own codes) → numbered own code ≡ true → IsPrintedByProgram code
+printed_at (Some own) codes code printed is = subst IsPrintedByProgram (eqb-true own code is) printed.0
+printed_at None codes code printed is = cc
+
+printed_after : (own : Option ℕ) (codes : List ℕ) → AllPrinted (cons_option own codes) → AllPrinted codes
+printed_after (Some own) codes printed = printed.1
+printed_after None codes printed = printed
 
 -- a number that one of the rows has is one of theirs
-printed_in : (rows : List Row) → AllPrinted (map (λ (row : Row). row.code) rows) → (code : ℕ) → known_or_not (with_number rows code) ≡ Known → IsPrintedByProgram code
+printed_in : (rows : List Row) → AllPrinted (filter_map (λ (row : Row). row.code) rows) → (code : ℕ) → known_or_not (with_number rows code) ≡ Known → IsPrintedByProgram code
 printed_in [] printed code known = absurd cc
-printed_in (row ∷ rows) printed code known = go (numbered row.code code) refl known (printed_in rows printed.1 code)
+printed_in (row ∷ rows) printed code known =
+    let others = filter_map (λ (row : Row). row.code) rows in
+    go (numbered row.code code) refl known (printed_in rows (printed_after row.code others printed) code)
   where
     go : (same : Bool) → numbered row.code code ≡ same → known_or_not (cond same (Some row) (with_number rows code)) ≡ Known
         → (known_or_not (with_number rows code) ≡ Known → IsPrintedByProgram code) → IsPrintedByProgram code
-    go true is found others = printed_at row.code code printed.0 is
+    go true is found others = printed_at row.code (filter_map (λ (row : Row). row.code) rows) code printed is
     go false is found others = others found
 
-all_printed : AllPrinted (map (λ (row : Row). row.code) explanations)
+-- in the order of the numbers
+all_printed : AllPrinted numbers
 all_printed = (
   of_text (of_limit TextTooLong),
   (
@@ -114,7 +117,7 @@ all_printed = (
                                           of_text (of_no RunBroken),
                                           (
                                             of_plan,
-                                            (tt, (tt, (tt, (tt, (tt, (tt, (tt, (tt, (tt, (tt, (tt, (tt, (tt, (tt, (tt, (tt, (tt, (tt, (tt, (tt, (tt, (tt, tt)))))))))))))))))))))),
+                                            tt,
                                           ),
                                         ),
                                       ),

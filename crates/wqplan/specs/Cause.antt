@@ -1,5 +1,5 @@
 -- What a command needs before it reads, and what follows from how it ends.
-use Rattle.std.specs.Prelude.{◌≡◌, ◌⊎◌, ℕ, ◌+◌, ◌≤◌, List, [], ◌∷◌, Option, Some, None, Result, Ok, Err, option_to_list}
+use Rattle.std.specs.Prelude.{◌≡◌, ◌⊎◌, ℕ, ◌+◌, ◌≤◌, List, [], ◌∷◌, Option, Some, None, Result, Ok, Err}
 use Rattle.std.specs.List.{All, Any}
 use Rattle.wq_meter.specs.declared.fault.Fault.TheVariants.{Memory, Read, Write}
 use Rattle.wq_meter.specs.Meter.{LosesPrefix, Meter}
@@ -8,18 +8,7 @@ use Rattle.wq_commands.specs.declared.end.End.{End}
 use Rattle.wq_run.specs.declared.fault.CommandFault.{CommandFault}
 use Rattle.wq_run.specs.declared.fault.CommandFault.TheVariants.{Common, Tally, Thread}
 use Rattle.clap.specs.Words.{Text}
-use Rattle.wqplan.specs.CommandLine.{Asked, plans, checks, judges, replays, finds, draws, runs, explains}
-
--- the files of a command, in the order in which they are opened
-abbrev pub files_of : Asked → List Text
-files_of (plans file) = option_to_list file
-files_of (checks declaration certificate) = declaration ∷ certificate ∷ []
-files_of (judges declaration assignment) = declaration ∷ assignment ∷ []
-files_of (replays declaration assignment run) = declaration ∷ assignment ∷ run ∷ []
-files_of (finds declaration assignment) = declaration ∷ option_to_list assignment
-files_of (draws declaration assignment) = declaration ∷ option_to_list assignment
-files_of (runs declaration helpers) = declaration ∷ []
-files_of (explains code) = []
+use Rattle.wqplan.specs.CommandLine.{Asked, plans, runs, explains, files_of}
 
 -- a seed was drawn, and each of these files was opened
 abbrev pub IsReady : {F : Type 0} → (Option ℕ → Type 0) → (Text → Option F → Type 0) → List Text → Type 0
@@ -49,27 +38,15 @@ EndsAlone (Err Thread) = ⊥
 EndsAlone (Err Tally) = ⊥
 
 -- the command that is asked for ended like this. A read of a file may always have failed, since no clause sees the reads of a file;
--- a read of standard input failed if `InputFailed` holds
+-- a read of standard input failed if `InputFailed` holds. Only `run` starts threads, and `explain` reads nothing
 abbrev pub IsCaused : {F : Type 0} → (Option ℕ → Type 0) → (Text → Option F → Type 0) → Type 0 → Asked → Result End CommandFault → Type 0
 IsCaused Seeds Opens InputFailed (plans None) result = EndsReady Seeds Opens [] InputFailed ⊥ result
-IsCaused Seeds Opens InputFailed (plans (Some file)) result = EndsReady Seeds Opens (file ∷ []) (Unit {0}) ⊥ result
-IsCaused Seeds Opens InputFailed (checks declaration certificate) result = EndsReady Seeds Opens (declaration ∷ certificate ∷ []) (Unit {0}) ⊥ result
-IsCaused Seeds Opens InputFailed (judges declaration assignment) result = EndsReady Seeds Opens (declaration ∷ assignment ∷ []) (Unit {0}) ⊥ result
-IsCaused Seeds Opens InputFailed (replays declaration assignment run) result = EndsReady Seeds Opens (declaration ∷ assignment ∷ run ∷ []) (Unit {0}) ⊥ result
-IsCaused Seeds Opens InputFailed (finds declaration assignment) result = EndsReady Seeds Opens (declaration ∷ option_to_list assignment) (Unit {0}) ⊥ result
-IsCaused Seeds Opens InputFailed (draws declaration assignment) result = EndsReady Seeds Opens (declaration ∷ option_to_list assignment) (Unit {0}) ⊥ result
 IsCaused Seeds Opens InputFailed (runs declaration helpers) result = EndsReady Seeds Opens (declaration ∷ []) (Unit {0}) (Unit {0}) result
 IsCaused Seeds Opens InputFailed (explains code) result = EndsAlone result
+IsCaused Seeds Opens InputFailed asked result = EndsReady Seeds Opens (files_of asked) (Unit {0}) ⊥ result
 
 -- what a command takes from standard input: a declaration up to the first byte past its limit, in at most as many calls, if `plan` is
 -- asked for without a file, and else nothing
 abbrev pub ReadsInput : {I : Type 0} → (I → Option (List ℕ)) → Meter I → Meter I → Asked → Type 0
 ReadsInput remaining old new (plans None) = LosesPrefix remaining old new (max_declaration + 1) × (new.calls ≤ old.calls + (max_declaration + 1))
-ReadsInput remaining old new (plans (Some file)) = new ≡ old
-ReadsInput remaining old new (checks declaration certificate) = new ≡ old
-ReadsInput remaining old new (judges declaration assignment) = new ≡ old
-ReadsInput remaining old new (replays declaration assignment run) = new ≡ old
-ReadsInput remaining old new (finds declaration assignment) = new ≡ old
-ReadsInput remaining old new (draws declaration assignment) = new ≡ old
-ReadsInput remaining old new (runs declaration helpers) = new ≡ old
-ReadsInput remaining old new (explains code) = new ≡ old
+ReadsInput remaining old new _ = new ≡ old

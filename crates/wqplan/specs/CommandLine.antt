@@ -1,5 +1,5 @@
 -- The command line of the program, in the words of `clap`.
-use Rattle.std.specs.Prelude.{◌≡◌, ◌==◌, ◌+◌, ◌≤◌, ◌⊎◌, ℕ, Bool, not, [], ◌∷◌, List, Option, Some, None, codes, true, option_map, pos, nat_lt, if◌then◌else◌, Result, Ok, Err}
+use Rattle.std.specs.Prelude.{◌≡◌, ◌==◌, ◌+◌, ◌≤◌, ◌⊎◌, ℕ, Bool, not, [], ◌∷◌, List, Option, Some, None, codes, true, option_map, option_to_list, pos, nat_lt, if◌then◌else◌, Result, Ok, Err}
 use Rattle.std.specs.Str.Parse.{digits_value, without_leading_plus}
 use Rattle.clap.specs.Words.{App, IsUnsignedIn, Row, Rule, Text, first_of, new_app, new_rule, one_of, subcommand_of, with_rule, with_subcommand}
 use Rattle.clap.specs.declared.builder.value_parser.ValueParser.TheVariants.{Signed}
@@ -90,6 +90,17 @@ command_name (finds declaration assignment) = codes "circles"
 command_name (draws declaration assignment) = codes "dot"
 command_name (runs declaration helpers) = codes "run"
 command_name (explains code) = codes "explain"
+
+-- the files of a command, in the order in which they are opened
+abbrev pub files_of : Asked → List Text
+files_of (plans file) = option_to_list file
+files_of (checks declaration certificate) = declaration ∷ certificate ∷ []
+files_of (judges declaration assignment) = declaration ∷ assignment ∷ []
+files_of (replays declaration assignment run) = declaration ∷ assignment ∷ run ∷ []
+files_of (finds declaration assignment) = declaration ∷ option_to_list assignment
+files_of (draws declaration assignment) = declaration ∷ option_to_list assignment
+files_of (runs declaration helpers) = declaration ∷ []
+files_of (explains code) = []
 
 -- a word for the number of helpers is a number from 0 to 8
 abbrev pub IsHelpers : Option Text → Type 0

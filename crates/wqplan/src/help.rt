@@ -6,30 +6,30 @@ Plans workqueues with WQ_MEM_RECLAIM: says which work item goes on which
 workqueue, so that no item shares one with an item that it waits for. Runs such
 a plan in threads.";
 
-/// What `plan` reads and prints.
+/// What `plan` does.
 pub(crate) const PLAN: &str =
     "Reads a declaration of work items and their flushes, prints its plan";
 
-/// What `check` reads and prints.
+/// What `check` does.
 pub(crate) const CHECK: &str = "Reads a declaration and an answer, prints whether that is right";
 
-/// What `deadlock` reads and prints.
+/// What `deadlock` does.
 pub(crate) const DEADLOCK: &str =
     "Reads a declaration and an assignment, prints `safe` or a deadlock";
 
-/// What `replay` reads and prints.
+/// What `replay` does.
 pub(crate) const REPLAY: &str = "Reads a declaration, an assignment and a run, prints how it ends";
 
-/// What `circles` reads and prints.
+/// What `circles` does.
 pub(crate) const CIRCLES: &str = "Reads a declaration, prints all flushes on circles, or `safe`";
 
-/// What `dot` reads and prints.
+/// What `dot` does.
 pub(crate) const DOT: &str = "Reads a declaration, prints a drawing of it for Graphviz";
 
-/// What `run` reads, does and prints.
+/// What `run` does.
 pub(crate) const RUN: &str = "Reads a declaration, runs its plan in threads, prints what happened";
 
-/// What `explain` prints.
+/// What `explain` does.
 pub(crate) const EXPLAIN: &str =
     "Prints what a refusal, a fault or an answer means, and what to do";
 
@@ -68,12 +68,10 @@ pub(crate) const STATUSES: &str = "\
 Each command prints one answer to standard output, or `refused CODE line N`.
 
 Exit status:
-  0  the answer is a plan, `yes ..`, `safe`, `open`, a drawing, the counts of a
-     plan that was run, an explanation, or the titles of all of them; or help or
-     the version was printed
-  1  the answer is a circle, where items wait for one another and there is no
-     plan; or it is `no ..`, a run that deadlocks, `components N`, `deadlock`,
-     `stuck` or `not lawful N`
+  0  the answer is a plan, `yes ..`, `safe`, `open`, a drawing, `workqueues ..`,
+     an explanation or the titles of all; or help or the version was printed
+  1  the answer is a circle, `no ..`, a run that deadlocks, `deadlock`, `stuck`,
+     `not lawful N` or `components ..`
   2  a refusal was printed: a text isn't of the form that it should have, or a
      plan has too many workqueues to run; or the word to explain is none that
      has an explanation. Or the command line is wrong; then standard error says

@@ -10,8 +10,8 @@ ghost use Rattle.wq_meter.specs.declared.fault.Fault.TheVariants.{Read as ReadFa
 ghost use Rattle.wq_commands.specs.declared.end.End.{End};
 ghost use Rattle.wq_run.specs.declared.fault.CommandFault.{CommandFault};
 ghost use Rattle.wq_run.specs.declared.fault.CommandFault.TheVariants.{Common, Tally, Thread};
-ghost use Rattle.wqplan.specs.Cause.{IsCaused, files_of};
-ghost use Rattle.wqplan.specs.CommandLine.{Asked, explains, runs};
+ghost use Rattle.wqplan.specs.Cause.{IsCaused};
+ghost use Rattle.wqplan.specs.CommandLine.{Asked, explains, files_of, runs};
 ghost use Rattle.wqplan.specs.Numbers.{IsPrintedByProgram};
 ghost use Rattle.wq_explain.specs.Explaining.{number_end};
 ghost use Rattle.wq_explain.specs.declared.explain.Explained.TheVariants.{Known};

@@ -4,6 +4,8 @@
 # hand. A row is the files by their names, the command line, the answer, the status, and the lines on standard error.
 # In a file a `str` is lines that ` / ` parts, and `bytes` are bytes. The file `<stdin>` is standard input.
 
+from hints import BEGINS  # beside this file
+
 # 3: a byte that no line may hold.
 BYTES = [
     ({"d.wq": b"item a\nitem \x01b\n"}, "plan d.wq", "refused 3 line 2", 2, [
@@ -157,7 +159,7 @@ WORDS = [
     ({"d.wq": "item a / order a"}, "plan d.wq", "refused 4 line 2", 2, [
         "d.wq:2:1: `order` isn't a directive [refused 4, `wqplan explain 4`]",
         "    order a",
-        "    ^^^^^ a line begins with `item`, `flush`, `flushwq` or `ordered`",
+        f"    ^^^^^ {BEGINS}",
     ]),
     ({"d.wq": "item: a"}, "plan d.wq", "refused 4 line 1", 2, [
         "d.wq:1:1: `item:` isn't a directive [refused 4, `wqplan explain 4`]",
@@ -167,23 +169,23 @@ WORDS = [
     ({"d.wq": "i a # the last line"}, "plan d.wq", "refused 4 line 1", 2, [
         "d.wq:1:1: `i` isn't a directive [refused 4, `wqplan explain 4`]",
         "    i a # the last line",
-        "    ^ a line begins with `item`, `flush`, `flushwq` or `ordered`",
+        f"    ^ {BEGINS}",
     ]),
     ({"d.wq": "depends a b"}, "plan d.wq", "refused 4 line 1", 2, [
         "d.wq:1:1: `depends` isn't a directive [refused 4, `wqplan explain 4`]",
         "    depends a b",
-        "    ^^^^^^^ a line begins with `item`, `flush`, `flushwq` or `ordered`",
+        f"    ^^^^^^^ {BEGINS}",
     ]),
     # A last line without a line feed, and one with the carriage return that is dropped.
     ({"d.wq": b"item a\nwork b"}, "plan d.wq", "refused 4 line 2", 2, [
         "d.wq:2:1: `work` isn't a directive [refused 4, `wqplan explain 4`]",
         "    work b",
-        "    ^^^^ a line begins with `item`, `flush`, `flushwq` or `ordered`",
+        f"    ^^^^ {BEGINS}",
     ]),
     ({"d.wq": b"\r\n# a\r\nwork b\r\n"}, "plan d.wq", "refused 4 line 3", 2, [
         "d.wq:3:1: `work` isn't a directive [refused 4, `wqplan explain 4`]",
         "    work b",
-        "    ^^^^ a line begins with `item`, `flush`, `flushwq` or `ordered`",
+        f"    ^^^^ {BEGINS}",
     ]),
     # Other comments, also where the word is like a directive.
     ({"d.wq": "// the items"}, "plan d.wq", "refused 4 line 1", 2, [
@@ -240,7 +242,7 @@ WORDS = [
     ({"d.wq": "arc a b"}, "plan d.wq", "refused 4 line 1", 2, [
         "d.wq:1:1: `arc` isn't a directive [refused 4, `wqplan explain 4`]",
         "    arc a b",
-        "    ^^^ a line begins with `item`, `flush`, `flushwq` or `ordered`",
+        f"    ^^^ {BEGINS}",
     ]),
     ({"circle": "circle 1 / arc a a", "d.wq": "item a / flush a a"}, "check circle d.wq", "refused 4 line 1", 2, [
         "circle:1:1: `circle` isn't a directive [refused 4, `wqplan explain 4`]",

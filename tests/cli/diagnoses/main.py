@@ -4,9 +4,10 @@
 #     main.py PROGRAM [SEED] [CASES]
 #
 # Each row is files, a command line, the answer, the exit status, and what is on standard error, each byte of which
-# was written by hand from tests/DIAGNOSES.md and docs/FORMAT.md, "Diagnoses". First the model must give each row, for
-# which no program is needed. Then the program must, and where standard error is closed or full its answer and its
-# status must be the same. At last it must say what the model says of CASES changed texts that SEED makes.
+# was written by hand from tests/DIAGNOSES.md and docs/FORMAT.md, "Diagnoses". Each number of docs/tables has a row.
+# First the model must give each row, for which no program is needed. Then the program must, and where standard error
+# is closed or full its answer and its status must be the same. At last it must say what the model says of CASES
+# changed texts that SEED makes.
 
 import os
 import pathlib
@@ -24,7 +25,8 @@ import unlawful_runs  # noqa: E402
 import usual  # noqa: E402
 from command_line import seed_and_counts  # noqa: E402
 from programs import counts_of, is_there  # noqa: E402  (in tests/lib)
-from tables import text_of  # noqa: E402  (there, too)
+from records import records  # noqa: E402  (there, too)
+from tables import text_of  # noqa: E402
 
 TABLES = [
     ("usual mistakes of declarations", usual.DECLARATIONS),
@@ -90,6 +92,13 @@ def rows_of(table):
     return [Row(*row) for row in table]
 
 
+def without_row(tables):
+    """The numbers of which there is no row."""
+    first = [row.wanted[0].split()[:2] for _, rows in tables for row in rows]
+    found = {words[1].decode() for words in first if words[:1] in ([b"refused"], [b"no"])}
+    return [row["number"] for row in records("numbers.txt") if "number" in row and row["number"] not in found]
+
+
 def model_gives(row):
     found = row.model()
     if found != row.wanted:
@@ -124,6 +133,8 @@ def main(arguments):
         return 2
     tables = [(name, rows_of(table)) for name, table in TABLES]
     counts = Counts()
+    without = without_row(tables)
+    counts.table(f"a row of each number, but {', '.join(without)}" if without else "a row of each number", [not without])
     counts.table("the model", [model_gives(row) for _, rows in tables for row in rows])
     program = os.path.realpath(arguments[0])
     if not is_there("diagnoses", program):

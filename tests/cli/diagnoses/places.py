@@ -1,6 +1,8 @@
 # Where the refused text comes from, how much of a long line is shown, and texts that are as large as a limit or one
 # larger. The rows are as in declarations.py.
 
+from hints import BEGINS  # beside this file
+
 AB = "item a / item b / flush a b"
 WQS = "wq 0 b / wq 1 a"
 
@@ -121,24 +123,24 @@ CUTS = [
     ({"d.wq": "work " + X[:95]}, "plan d.wq", "refused 4 line 1", 2, [
         "d.wq:1:1: `work` isn't a directive [refused 4, `wqplan explain 4`]",
         "    work " + X[:95],
-        "    ^^^^ a line begins with `item`, `flush`, `flushwq` or `ordered`",
+        f"    ^^^^ {BEGINS}",
     ]),
     # Cut at the right end.
     ({"d.wq": "work " + X[:96]}, "plan d.wq", "refused 4 line 1", 2, [
         "d.wq:1:1: `work` isn't a directive [refused 4, `wqplan explain 4`]",
         "    work " + X[:89] + "...",
-        "    ^^^^ a line begins with `item`, `flush`, `flushwq` or `ordered`",
+        f"    ^^^^ {BEGINS}",
     ]),
     ({"d.wq": " " * 40 + "work " + X}, "plan d.wq", "refused 4 line 1", 2, [
         "d.wq:1:41: `work` isn't a directive [refused 4, `wqplan explain 4`]",
         "    " + " " * 40 + "work " + X[:49] + "...",
-        "    " + " " * 40 + "^^^^ a line begins with `item`, `flush`, `flushwq` or `ordered`",
+        "    " + " " * 40 + f"^^^^ {BEGINS}",
     ]),
     # Cut at both ends.
     ({"d.wq": " " * 41 + "work " + X}, "plan d.wq", "refused 4 line 1", 2, [
         "d.wq:1:42: `work` isn't a directive [refused 4, `wqplan explain 4`]",
         "    ..." + " " * 40 + "work " + X[:49] + "...",
-        "       " + " " * 40 + "^^^^ a line begins with `item`, `flush`, `flushwq` or `ordered`",
+        "       " + " " * 40 + f"^^^^ {BEGINS}",
     ]),
     ({"d.wq": "item a / flush" + " a" * 50 + " zz # " + Y}, "plan d.wq", "refused 8 line 2", 2, [
         "d.wq:2:107: no item `zz` is declared above this line [refused 8, `wqplan explain 8`]",
@@ -171,18 +173,18 @@ CUTS = [
     ({"d.wq": X[:120] + " a"}, "plan d.wq", "refused 4 line 1", 2, [
         "d.wq:1:1: `" + X[:120] + "` isn't a directive [refused 4, `wqplan explain 4`]",
         "    " + X[:94] + "...",
-        "    " + "^" * 94 + " a line begins with `item`, `flush`, `flushwq` or `ordered`",
+        "    " + "^" * 94 + f" {BEGINS}",
     ]),
     ({"d.wq": " " * 50 + X[:120] + " a"}, "plan d.wq", "refused 4 line 1", 2, [
         "d.wq:1:51: `" + X[:120] + "` isn't a directive [refused 4, `wqplan explain 4`]",
         "    ..." + " " * 40 + X[:54] + "...",
-        "       " + " " * 40 + "^" * 54 + " a line begins with `item`, `flush`, `flushwq` or `ordered`",
+        "       " + " " * 40 + "^" * 54 + f" {BEGINS}",
     ]),
     # The bytes of UTF-8 and TABs count one each, also where the cut is within a letter.
     ({"d.wq": b"item a\nwork b" + "\t# ".encode() + "\u00e4".encode() * 60}, "plan d.wq", "refused 4 line 2", 2, [
         "d.wq:2:1: `work` isn't a directive [refused 4, `wqplan explain 4`]",
         "    work b # " + "?" * 85 + "...",
-        "    ^^^^ a line begins with `item`, `flush`, `flushwq` or `ordered`",
+        f"    ^^^^ {BEGINS}",
     ]),
     # A certificate.
     ({"d": AB, "p": "plan 1 / wq 0" + " " * 200 + "a b c"}, "check d p", "refused 40 line 2", 2, [

@@ -7,8 +7,10 @@ the texts: some are long, and only the process that asks about them makes them.
 import pathlib
 import sys
 
-sys.path.append(str(pathlib.Path(__file__).resolve().parent.parent / "rows"))
+TESTS = pathlib.Path(__file__).resolve().parents[2]
+sys.path += [str(TESTS / "lib"), str(TESTS / "cli" / "rows")]
 import limits  # noqa: E402  (in the folder of the rows)
+from commands import given  # noqa: E402  (in tests/lib)
 from limits import name  # noqa: E402
 
 MOST_DECLARATION = 1_048_576
@@ -32,6 +34,12 @@ def filled(text, size, line):
     """The text, and comments behind it up to so many bytes, in lines of this many at most."""
     left = size - len(text)
     return text + (comment(line) + b"\n") * (left // (line + 1)) + comment(left % (line + 1))
+
+
+def cases_of(what, texts, kind=None):
+    """A case for each form of a command with these texts, each of which is bytes or a function that makes it."""
+    for command, made in given(texts, kind):
+        yield what, command, lambda made=made: [text() if callable(text) else text for text in made]
 
 
 # ---- declarations
@@ -77,12 +85,7 @@ def on_one(count):
 
 def declaration_cases():
     for what, text, assignment in DECLARATIONS:
-        for command in "plan", "run", "circles", "dot":
-            yield what, command, lambda text=text: [text()]
-        for command in "deadlock", "circles", "dot":
-            yield what, command, lambda text=text, beside=assignment: [text(), beside()]
-        yield what, "check", lambda text=text: [text(), EMPTY]
-        yield what, "replay", lambda text=text, beside=assignment: [text(), beside(), b"run 0\n"]
+        yield from cases_of(what, {"declaration": text, "answer": EMPTY, "assignment": assignment, "run": b"run 0\n"})
 
 
 # ---- answers, assignments and runs
@@ -114,9 +117,7 @@ ASSIGNMENTS = [
 
 def assignment_cases():
     for what, text in ASSIGNMENTS:
-        for command in "deadlock", "circles", "dot":
-            yield what, command, lambda text=text: [ITSELF, text()]
-        yield what, "replay", lambda text=text: [ITSELF, text(), STEPS]
+        yield from cases_of(what, {"declaration": ITSELF, "assignment": text, "run": STEPS}, "assignment")
 
 
 def arcs(count):
@@ -164,17 +165,23 @@ def steps_on(queue):
     return [b"run 1\n%s %d a\n" % (word, queue) for word in (b"start", b"wait", b"waitwq", b"over", b"overwq", b"finish")]
 
 
+def run_cases(what, text, is_behind_a_circle):
+    """The run by itself, and maybe behind a circle."""
+    yield from cases_of(what, {"declaration": ITSELF, "assignment": b"wq 0 a\n", "run": text}, "run")
+    if is_behind_a_circle:
+        yield from cases_of(what, {"declaration": ITSELF, "answer": lambda: CIRCLE + text()}, "answer")
+
+
 def certificate_cases():
     for what, declaration, text in ANSWERS:
-        yield what, "check", lambda declaration=declaration, text=text: [declaration, text()]
-    for what, text in LONG_RUNS + RUNS:
-        yield what, "replay", lambda text=text: [ITSELF, b"wq 0 a\n", text()]
+        yield from cases_of(what, {"declaration": declaration, "answer": text}, "answer")
+    for what, text in LONG_RUNS:
+        yield from run_cases(what, text, False)
     for what, text in RUNS:
-        yield what, "check", lambda text=text: [ITSELF, CIRCLE + text()]
+        yield from run_cases(what, text, True)
     for queue in 4_095, 4_096:
         for text in steps_on(queue):
-            yield f"a step of workqueue {queue:,}", "replay", lambda text=text: [ITSELF, b"wq 0 a\n", text]
-            yield f"a step of workqueue {queue:,}", "check", lambda text=text: [ITSELF, CIRCLE + text]
+            yield from run_cases(f"a step of workqueue {queue:,}", lambda text=text: text, True)
 
 
 # ---- the longest answers
@@ -184,26 +191,20 @@ LONG_PLAN = limits.chain_plan(limits.long_name).encode()
 ROUND_RUN = limits.run(limits.CIRCLE_RUN).encode()
 
 
+# What it is, and its texts: the declaration is that of all answers, and of the commands that need no other text.
+LONGEST = [
+    ("4,096 items in a chain, with names of 63 bytes", {"declaration": LONG_CHAIN, "answer": LONG_PLAN, "assignment": LONG_PLAN}),
+    ("4,096 items in a circle",
+     {"declaration": limits.ROUND_TEXT, "answer": limits.CIRCLE.encode(), "assignment": limits.OWN.encode(), "run": ROUND_RUN}),
+    ("the longest run",
+     {"declaration": limits.LONGEST_TEXT, "answer": limits.LONGEST_CIRCLE, "assignment": limits.LONGEST_LANES,
+      "run": limits.LONGEST_RUN}),
+]
+
+
 def longest_cases():
-    what = "4,096 items in a chain, with names of 63 bytes"
-    for command in "plan", "run", "circles", "dot":
-        yield what, command, lambda: [LONG_CHAIN]
-    for command in "check", "deadlock", "circles", "dot":
-        yield what, command, lambda: [LONG_CHAIN, LONG_PLAN]
-    what = "4,096 items in a circle"
-    for command in "plan", "run", "circles", "dot":
-        yield what, command, lambda: [limits.ROUND_TEXT]
-    for command in "deadlock", "circles", "dot":
-        yield what, command, lambda: [limits.ROUND_TEXT, limits.OWN.encode()]
-    yield what, "check", lambda: [limits.ROUND_TEXT, limits.CIRCLE.encode()]
-    yield what, "replay", lambda: [limits.ROUND_TEXT, limits.OWN.encode(), ROUND_RUN]
-    what = "the longest run"
-    for command in "plan", "run", "circles", "dot":
-        yield what, command, lambda: [limits.LONGEST_TEXT]
-    for command in "deadlock", "circles", "dot":
-        yield what, command, lambda: [limits.LONGEST_TEXT, limits.LONGEST_LANES]
-    yield what, "check", lambda: [limits.LONGEST_TEXT, limits.LONGEST_CIRCLE]
-    yield what, "replay", lambda: [limits.LONGEST_TEXT, limits.LONGEST_LANES, limits.LONGEST_RUN]
+    for what, texts in LONGEST:
+        yield from cases_of(what, texts)
 
 
 def cases():

@@ -21,9 +21,10 @@ import typing
 sys.dont_write_bytecode = True
 TESTS = pathlib.Path(__file__).resolve().parents[2]
 sys.path[1:1] = [str(TESTS / "model"), str(TESTS / "lib")]
-import compare  # noqa: E402  (in tests/model)
+import commands  # noqa: E402  (in tests/lib)
 import extremes  # noqa: E402  (beside this file)
 from changes import cuts, forgeries  # noqa: E402
+from models import ANSWERS  # noqa: E402  (in tests/model)
 from programs import ask, counts_of, files, is_there  # noqa: E402  (in tests/lib)
 from standard_error import fits  # noqa: E402  (there, too)
 from subjects import GROUPS, SUBJECTS, TWO  # noqa: E402
@@ -48,21 +49,10 @@ class Case:
 
 def changed(change, subject):
     """Of a subject each text that is changed, under each command that reads it; the texts beside it are whole."""
-    for text in change(subject.declaration):
-        for command in "plan", "run", "circles", "dot":
-            yield command, [text]
-        for command in "deadlock", "circles", "dot":
-            yield command, [text, subject.assignment]
-        yield "check", [text, subject.answer]
-        yield "replay", [text, subject.assignment, subject.run]
-    for text in change(subject.answer):
-        yield "check", [subject.declaration, text]
-    for text in change(subject.assignment):
-        for command in "deadlock", "circles", "dot":
-            yield command, [subject.declaration, text]
-        yield "replay", [subject.declaration, text, subject.run]
-    for text in change(subject.run):
-        yield "replay", [subject.declaration, subject.assignment, text]
+    whole = dataclasses.asdict(subject)
+    for kind, text in whole.items():
+        for other in change(text):
+            yield from commands.given(whole | {kind: other}, kind)
 
 
 def all_cases():
@@ -84,7 +74,7 @@ def judged(program, command, texts, folder):
         found = ask([program, command, *places])
     if found.is_late():
         return None, "it took too long"
-    wanted = compare.COMMANDS[command][0](*texts)
+    wanted = ANSWERS[command](*texts)
     if (found.printed, found.status) != wanted:
         printed, status = wanted
         return found.status, f"status {found.status}, {short(found.printed)}; the model has status {status}, {short(printed)}"
@@ -133,7 +123,7 @@ def main(arguments):
         return 1
     statuses, failed = ask_all(os.path.realpath(arguments[0]))
     for kind in "forgeries", "cuts", "limits":
-        for command in compare.COMMANDS:
+        for command in ANSWERS:
             counts = [statuses[kind, command, status] for status in (0, 1, 2)]
             total = sum(count for (k, c, _), count in statuses.items() if (k, c) == (kind, command))
             bad = failed[kind, command]

@@ -290,3 +290,6 @@ CHECKS = [
          "no 54"),
     ]),
 ]
+
+# The tables of this file: of each its name, the command, and the rows, which are the texts and the answer.
+TABLES = [("certificates", "check", [(text, *row) for text, rows in CHECKS for row in rows])]

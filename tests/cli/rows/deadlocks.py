@@ -178,3 +178,9 @@ REFUSALS = [
     ("item a", "plan 0 / chain 0", "refused 41 line 0"),
     ("item a / item b", "plan 1 / wq 0 a / wq 1 b / chain 0", "refused 41 line 0"),
 ]
+
+# The tables of this file: of each its name, the command, and the rows, which are the texts and the answer.
+TABLES = [
+    ("assignments", "deadlock", [(text, *row) for text, rows in DEADLOCKS for row in rows]),
+    ("refusals of assignments", "deadlock", REFUSALS),
+]

@@ -210,3 +210,10 @@ REFUSALS = [
     # The declaration before the assignment.
     ("item a / flush a b", "wq 1", "refused 8 line 2"),
 ]
+
+# The tables of this file: of each its name, the command, and the rows, which are the texts and the answer.
+TABLES = [
+    ("drawings", "dot", OWN),
+    ("refusals of `dot`", "dot", REFUSALS),
+    ("drawings of assignments", "dot", [(text, *row) for text, rows in ASSIGNED for row in rows]),
+]

@@ -290,3 +290,11 @@ DEADLOCKS = [
      run(CIRCLE_RUN[:4_098]).encode()),
     (LONGEST_TEXT, LONGEST_LANES, LONGEST_RUN),
 ]
+
+# The tables of this file: of each its name, the command, and the rows, which are the texts and the answer.
+TABLES = [
+    ("limits of declarations", "plan", PLANS),
+    ("limits of certificates", "check", [(text, *row) for text, rows in CHECKS for row in rows]),
+    ("limits of assignments", "deadlock", DEADLOCKS),
+    ("limits of runs", "replay", REPLAYS),
+]

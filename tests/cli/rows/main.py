@@ -2,29 +2,28 @@
 #
 #     main.py PROGRAM
 #
-# Each row is texts and the answer to them: `PROGRAM plan`, `check`, `deadlock`, `replay`, `circles`,
-# `dot` or `run` must print just that, with the exit status that goes with it. To standard error it must
-# print nothing, but beside a refusal or a `no` its diagnosis. The worked examples of worked.py are rows,
-# too; the model must give them as well. What is printed must be true: a plan or a circle is then given to
-# `check`, and a run to `replay`. It takes a few seconds.
+# Each row is texts and the answer of a command to them: the program must print just that, with the exit
+# status that goes with it. To standard error it must print nothing, but beside a refusal or a `no` its
+# diagnosis. Each command, directive and number of docs/tables has a row. The worked examples of worked.py
+# are rows, too; the model must give them as well. What is printed must be true: a plan or a circle is
+# then given to `check`, and a run to `replay`. It takes a few seconds.
 
 import pathlib
 import sys
 
 sys.dont_write_bytecode = True
 sys.path.append(str(pathlib.Path(__file__).resolve().parents[2] / "lib"))
-import checks  # noqa: E402  (beside this file)
-import circlings  # noqa: E402
-import deadlocks  # noqa: E402
-import drawings  # noqa: E402
-import limits  # noqa: E402
-import plans  # noqa: E402
+import every  # noqa: E402  (beside this file)
 import prefixes  # noqa: E402
 import replays  # noqa: E402
 import runs  # noqa: E402
 import statuses  # noqa: E402
-import worked  # noqa: E402
-from tables import Case, run_cases, text_of  # noqa: E402  (in tests/lib)
+from commands import TEXTS_OF  # noqa: E402  (in tests/lib)
+from records import records  # noqa: E402  (there, too)
+from tables import Case, run_cases, text_of  # noqa: E402  (there, too)
+
+# What the lines of each directive declare.
+DECLARES = {row["directive"].encode(): row["declares"] for row in records("directives.txt")}
 
 
 def case(table, command, texts, answer, *behind):
@@ -36,61 +35,12 @@ def case(table, command, texts, answer, *behind):
 
 
 def table_cases():
-    """A case for each row of the tables."""
-    for table, rows in [
-        ("plans, bytes", plans.BYTES),
-        ("plans", plans.PLANS),
-        ("circles", [(text, circle + " / " + run) for text, circle, run in plans.CIRCLES]),
-        ("refusals of declarations", plans.REFUSALS),
-        ("limits of declarations", limits.PLANS),
-    ]:
-        for text, answer in rows:
-            yield case(table, "plan", [text], answer)
-    for table, groups in [
-        ("certificates", checks.CHECKS), ("limits of certificates", limits.CHECKS)
-    ]:
-        for text, rows in groups:
-            for certificate, answer in rows:
-                yield case(table, "check", [text, certificate], answer)
-    for text, rows in deadlocks.DEADLOCKS:
-        for assignment, answer in rows:
-            yield case("assignments", "deadlock", [text, assignment], answer)
-    for table, rows in [
-        ("refusals of assignments", deadlocks.REFUSALS), ("limits of assignments", limits.DEADLOCKS)
-    ]:
+    """A case for each row of the tables, and others that are made from rows."""
+    for table, command, rows in every.tables():
         for *texts, answer in rows:
-            yield case(table, "deadlock", texts, answer)
-    for table, rows in [
-        ("components", circlings.OWN), ("refusals of `circles`", circlings.REFUSALS)
-    ]:
-        for *texts, answer in rows:
-            yield case(table, "circles", texts, answer)
-    for text, rows in circlings.ASSIGNED:
-        for assignment, answer in rows:
-            yield case("components of assignments", "circles", [text, assignment], answer)
-    for table, rows in [
-        ("drawings", drawings.OWN), ("refusals of `dot`", drawings.REFUSALS)
-    ]:
-        for *texts, answer in rows:
-            yield case(table, "dot", texts, answer)
-    for text, rows in drawings.ASSIGNED:
-        for assignment, answer in rows:
-            yield case("drawings of assignments", "dot", [text, assignment], answer)
-    for text, assignment, rows in replays.REPLAYS:
-        for run, answer in rows:
-            yield case("runs", "replay", [text, assignment, run], answer)
+            yield case(table, command, texts, answer)
     for text, assignment, answer, steps in replays.STEPS:
         yield from step_cases([text, assignment], answer, steps.split(" / "))
-    for table, rows in [
-        ("refusals with runs", replays.REFUSALS), ("limits of runs", limits.REPLAYS)
-    ]:
-        for *texts, answer in rows:
-            yield case(table, "replay", texts, answer)
-    for table, rows in [
-        ("plans that are run", runs.RUNS), ("what isn't run", runs.OTHERS), ("limits of what is run", runs.LIMITS)
-    ]:
-        for text, answer in rows:
-            yield case(table, "run", [text], answer)
     for text, answer in runs.RUNS + runs.OTHERS:
         for helpers in runs.HELPERS:
             yield case("plans that are run with helpers", "run", [text], answer, helpers)
@@ -98,12 +48,6 @@ def table_cases():
         yield case("limits of what is run with helpers", "run", [text], answer, "8")
     for words in runs.WRONG_HELPERS:
         yield Case("what is no number of helpers", ["run", 0, *words], [b"item a\n"], b"", 2, complains=True)
-    for command, rows in [
-        ("plan", worked.PLANS), ("check", worked.CHECKS), ("replay", worked.REPLAYS), ("deadlock", worked.DEADLOCKS),
-        ("run", worked.RUNS), ("circles", worked.CIRCLES), ("dot", worked.DOTS)
-    ]:
-        for *texts, answer in rows:
-            yield case(f"worked examples, {command}", command, texts, answer)
     for command, texts, fronts in prefixes.PREFIXES:
         yield from prefix_cases(command, [text_of(text) for text in texts], fronts)
 
@@ -137,10 +81,10 @@ def prefix_cases(command, texts, fronts):
 def own_workqueues(declaration):
     """The assignment that gives each group a workqueue of its own, numbered as the groups are."""
     lines = [line.split(b"#")[0].split() for line in declaration.splitlines()]
-    items = [words[1] for words in lines if words[:1] == [b"item"]]
+    items = [words[1] for words in lines if words[:1] and DECLARES.get(words[0]) == "item"]
     groups = {item: [item] for item in items}
     for words in lines:
-        if words[:1] == [b"ordered"]:
+        if words[:1] and DECLARES.get(words[0]) == "group":
             group = sorted(words[1:], key=items.index)
             groups.update({item: group for item in group})
     first = [item for item in items if groups[item][0] == item]
@@ -166,8 +110,24 @@ def follow_ups(cases):
             yield case("runs that are replayed", "replay", texts + [answer], "deadlock")
 
 
+def without_row(cases):
+    """The commands, numbers and directives of docs/tables of which there is no row."""
+    commands = {given.arguments[0] for given in cases}
+    answers = [given.answer.split()[:2] for given in cases]
+    numbers = {words[1].decode() for words in answers if words[:1] in ([b"refused"], [b"no"])}
+    short = [given.texts[0] for given in cases if given.status != 2 and len(given.texts[0]) < 1_000]
+    firsts = [line.split()[:1] for text in short for line in text.splitlines()]
+    found = [command for command in TEXTS_OF if command not in commands]
+    found += [row["number"] for row in records("numbers.txt") if "number" in row and row["number"] not in numbers]
+    return found + [word.decode() for word in DECLARES if [word] not in firsts]
+
+
 def main(arguments):
     cases = list(table_cases())
+    without = without_row(cases)
+    if without:
+        print(f"FAILED  rows: there is no row of {', '.join(without)}")
+        return 1
     return run_cases("rows", arguments, cases + list(follow_ups(cases)))
 
 

@@ -311,3 +311,11 @@ REFUSALS = [
     ("item a / ordered a a / item a", "refused 7 line 3"),
     ("item a / ordered a a zz", "refused 8 line 2"),
 ]
+
+# The tables of this file: of each its name, the command, and the rows, which are the texts and the answer.
+TABLES = [
+    ("plans, bytes", "plan", BYTES),
+    ("plans", "plan", PLANS),
+    ("circles", "plan", [(text, circle + " / " + run) for text, circle, run in CIRCLES]),
+    ("refusals of declarations", "plan", REFUSALS),
+]

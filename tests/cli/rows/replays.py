@@ -249,3 +249,9 @@ STEPS = [
     ("item a / item b / item c / item d / flush a b / flush c d", "wq 0 a d / wq 1 b c", "open",
      "queue b / cancel b / !cancel b"),
 ]
+
+# The tables of this file: of each its name, the command, and the rows, which are the texts and the answer.
+TABLES = [
+    ("runs", "replay", [(text, assignment, *row) for text, assignment, rows in REPLAYS for row in rows]),
+    ("refusals with runs", "replay", REFUSALS),
+]

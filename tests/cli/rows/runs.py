@@ -152,3 +152,10 @@ LIMITS = [
     (" / ".join(f"item i{i} / item j{i} / flush j{i} i{i}" for i in range(1_000)),
      ran(*((f"{x}{i}", lane) for i in range(1_000) for x, lane in [("i", 0), ("j", 1)]))),
 ]
+
+# The tables of this file: of each its name, the command, and the rows, which are the texts and the answer.
+TABLES = [
+    ("plans that are run", "run", RUNS),
+    ("what isn't run", "run", OTHERS),
+    ("limits of what is run", "run", LIMITS),
+]

@@ -1,8 +1,9 @@
 # "Faults and exit statuses": the status that goes with the first word of an answer, by docs/tables/words.txt, or of a drawing.
 
 import pathlib
-import re
+import sys
 
-WORDS = pathlib.Path(__file__).resolve().parents[3] / "docs" / "tables" / "words.txt"
-FOUND = re.findall(r"^word: (\w+).*\nstatus: (\d)$", WORDS.read_text(), re.M)
-STATUS = {word: int(status) for word, status in FOUND} | {"digraph": 0}
+sys.path.append(str(pathlib.Path(__file__).resolve().parents[2] / "lib"))
+from records import records  # noqa: E402  (in tests/lib)
+
+STATUS = {row["word"].split()[0]: int(row["status"]) for row in records("words.txt") if "status" in row} | {"digraph": 0}

@@ -361,3 +361,9 @@ DOTS = [
     ("item a / flush a b / item b", "refused 8 line 2"),
     (T, "wq 1 a d", "refused 43 line 1"),
 ]
+
+# The rows of each command. The model must give these, too.
+ROWS = {
+    "plan": PLANS, "check": CHECKS, "replay": REPLAYS, "deadlock": DEADLOCKS, "run": RUNS, "circles": CIRCLES, "dot": DOTS,
+}
+TABLES = [(f"worked examples, {command}", command, rows) for command, rows in ROWS.items()]

@@ -99,13 +99,13 @@ c:5:1: expected `arc NAME TARGET`, found `nope` [refused 40, `wqplan explain 40`
     Case {
         name: "a declaration that is none",
         command: PlainCommand::Check,
-        texts: &["nope\n", PLAN_OF_TWO],
+        texts: &["items\n", PLAN_OF_TWO],
         end: End::Refused,
         answer: "refused 4 line 1\n",
         said: "\
-d:1:1: `nope` isn't a directive [refused 4, `wqplan explain 4`]
-    nope
-    ^^^^ a line begins with `item`, `flush`, `flushwq` or `ordered`
+d:1:1: `items` isn't a directive [refused 4, `wqplan explain 4`]
+    items
+    ^^^^^ did you mean `item`?
 ",
     },
 ];
