@@ -12,8 +12,8 @@ mod testbed;
 use crate::loads::Load;
 use crate::sessions::{Task, TaskText, answer};
 use crate::testbed::{
-    MAX_HELPERS, MAX_TEXT, Setting, ended, misused, print_answer, read_file, read_texts, unread,
-    without_helpers, words,
+    MAX_CERTIFICATE, MAX_HELPERS, Setting, ended, misused, print_answer, read_file, read_texts,
+    unread, without_helpers, words,
 };
 use std::process::ExitCode;
 use std::rt::{Env, Files};
@@ -72,7 +72,7 @@ fn perform<R: Files + Print + AllocGlobal + Threads + Wait + Clock + Sync>(
 ) -> Result<u8, Fault> {
     let texts = read_texts(rt, &order.setting)?;
     let text = match order.path {
-        Some(path) => read_file(rt, path, MAX_TEXT)?,
+        Some(path) => read_file(rt, path, MAX_CERTIFICATE)?,
         None => Vec::new(rt.alloc()),
     };
     let request = TaskText {

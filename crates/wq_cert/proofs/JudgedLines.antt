@@ -6,7 +6,7 @@ use Rattle.wq_cert.specs.FirstFaults.{line_of, NoLineIsAtFault}
 use Rattle.wq_cert.specs.Lines.{CertLine}
 use Rattle.wq_items.specs.Building.{and_then}
 use Rattle.wq_cert.specs.Reading.{Read, and_read, next_line, next_lines}
-use Rattle.wq_cert.specs.Spelled.{words_in}
+use Rattle.wq_cert.specs.Spelled.{words_of_lines}
 use Rattle.wq_cert.proofs.FirstLines.{nothing_stands, IsAt, Settles, ReadsInOrder, with_more, read_and, of_no_line, ReadsInOrder-and_read, ReadsInOrder-of_no_line, ReadsInOrder-next_line, ReadsInOrder-next_lines}
 use Rattle.wq_cert.proofs.SpelledLines.{IsReadBy}
 
@@ -134,13 +134,13 @@ module _ (line : CertLine) (Breaks : CertError → Type 0) (Keeps : Type 0) wher
 
     -- some of them come before it
     module _ (show : V → List (List ℕ)) (P : V → Type 0) (reads : IsReadBy read show P) where
-      pub JudgesNext-next_lines : (vs : List V) (n : ℕ) (before : List CertLine) → length vs < n → words_in before ≡ map show vs → AllByRecursion P vs → JudgesNext (next_lines read n) before
+      pub JudgesNext-next_lines : (vs : List V) (n : ℕ) (before : List CertLine) → length vs < n → words_of_lines before ≡ map show vs → AllByRecursion P vs → JudgesNext (next_lines read n) before
       JudgesNext-next_lines vs zero before fewer words hold = absurd (omega (arith, fewer))
       JudgesNext-next_lines [] (suc n) [] fewer words hold = JudgesNext-first_line n
       JudgesNext-next_lines [] (suc n) (front ∷ before) fewer words hold = absurd cc
       JudgesNext-next_lines (v ∷ vs) (suc n) [] fewer words hold = absurd cc
       JudgesNext-next_lines (v ∷ vs) (suc n) (front ∷ before) fewer words hold =
           let first : front.words ≡ show v = cc in
-          let others : words_in before ≡ map show vs = cc in
+          let others : words_of_lines before ≡ map show vs = cc in
           JudgesNext-behind (next_line read) (front ∷ before) v before (ReadsInOrder-next_line read at) (ap (λ (r : Result V CertError). of_no_line r before) (reads.said front v first hold.0)) (more_lines n)
           (JudgesNext-first (next_lines read n) before (joined v) (JudgesNext-next_lines vs n before (omega (arith, fewer)) others hold.1) (ReadsInOrder-joined v))

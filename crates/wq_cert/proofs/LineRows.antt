@@ -16,7 +16,7 @@ use Rattle.wq_cert.specs.Ranges.{IsArcOf, IsStepOf}
 use Rattle.wq_items.specs.Building.{and_then}
 use Rattle.wq_cert.specs.Reading.{and_read, next_line, next_lines, at_end, count_reading, circle_count_reading, arc_reading, names_far_lane, step_reading, assignment_of, whole_assignment, counted_assignment, chain_reading, plan_reading, run_reading, run_after, circle_reading}
 use Rattle.wq_cert.specs.RunText.{step_line}
-use Rattle.wq_cert.specs.Spelled.{words_in, workqueue_lines, count_line, AreWorkqueues}
+use Rattle.wq_cert.specs.Spelled.{words_of_lines, workqueue_lines, count_line, AreWorkqueues}
 use Rattle.wq_cert.proofs.FirstLines.{ReadsInOrder-next_line, ReadsInOrder-next_lines, Settles-at_end}
 use Rattle.wq_cert.proofs.FirstReaders.{circle_made, plan_made, at-count, at-circle, at-run, at-arc, at-step, last_step, steps_behind, Settles-steps, behind_arcs, behind_circle, Settles-behind_arcs, Settles-behind_circle, ReadsInOrder-counted, behind_chain, Settles-behind_chain, behind_assignment, behind_lanes, Settles-behind_lanes}
 use Rattle.wq_cert.proofs.JudgedLines.{Judges, IsJudged, JudgesNext-next_line, Judges-first, Judges-behind, Judges-and_then, JudgesNext-next_lines}
@@ -161,7 +161,7 @@ module _ (names : List (List ℕ)) (line : CertLine) where
     abbrev JudgesForm : LineForm → {V : Type 0} → (List CertLine → Result V CertError) → List CertLine → Type 0
     JudgesForm form read before = Judges line (Breaks form) (KeepsLine names form line) read before
 
-    Judges-run : (form : LineForm) (before : List CertLine) → StandsInRun names (words_in before) form → JudgesForm form (run_reading names) before
+    Judges-run : (form : LineForm) (before : List CertLine) → StandsInRun names (words_of_lines before) form → JudgesForm form (run_reading names) before
     Judges-run PlanLine before stands = absurd stands
     Judges-run ChainLine before stands = absurd stands
     Judges-run CircleLine before stands = absurd stands
@@ -181,14 +181,14 @@ module _ (names : List (List ℕ)) (line : CertLine) where
 
     -- ---- circles
 
-    Judges-run_after : (form : LineForm) (before : List CertLine) → StandsInRun names (words_in before) form → JudgesForm form (run_after names) before
+    Judges-run_after : (form : LineForm) (before : List CertLine) → StandsInRun names (words_of_lines before) form → JudgesForm form (run_after names) before
     Judges-run_after form before stands = nonempty before (Judges-and_then line (Breaks form) (KeepsLine names form line) (run_reading names) (λ (steps : List Step). Some steps) before (Judges-run form before stands))
       where
         nonempty : (front : List CertLine) → JudgesForm form (λ lines. and_then (λ (steps : List Step). Ok (Some steps)) (run_reading names lines)) front → JudgesForm form (run_after names) front
         nonempty [] h = record { refused = h.refused; kept = h.kept }
         nonempty (other ∷ front) h = record { refused = h.refused; kept = h.kept }
 
-    Judges-behind_arcs : (form : LineForm) (before : List CertLine) (run : List (List (List ℕ))) → IsBehindArcs names (words_in before) run → StandsInRun names run form → JudgesForm form (circle_reading names) before
+    Judges-behind_arcs : (form : LineForm) (before : List CertLine) (run : List (List (List ℕ))) → IsBehindArcs names (words_of_lines before) run → StandsInRun names run form → JudgesForm form (circle_reading names) before
     Judges-behind_arcs form before run all stands =
         let n = length all.arcs in
         let first = begun_line circle_count_reading (count_words (codes "circle")) IsCircleCount IsReadBy-circle before n (map (arc_line names) all.arcs ++ run) all.words_are (all.some, all.few) in
@@ -198,7 +198,7 @@ module _ (names : List (List ℕ)) (line : CertLine) where
         (Judges-and_then line (Breaks form) (KeepsLine names form line) (run_after names) (circle_made all.arcs) said.rest
         (Judges-run_after form said.rest (subst (λ (ws : List (List (List ℕ))). StandsInRun names ws form) (sym said.behind) stands))))
 
-    Judges-circle : (form : LineForm) (before : List CertLine) → StandsInCircle names (words_in before) form → JudgesForm form (circle_reading names) before
+    Judges-circle : (form : LineForm) (before : List CertLine) → StandsInCircle names (words_of_lines before) form → JudgesForm form (circle_reading names) before
     Judges-circle PlanLine before stands = absurd stands
     Judges-circle ChainLine before stands = absurd stands
     Judges-circle CircleLine before stands =
@@ -226,9 +226,9 @@ module _ (names : List (List ℕ)) (line : CertLine) where
       record Counts (workqueues : List (List ℕ)) (lines : List CertLine) (others : List (List (List ℕ))) : Type 0 where
         rest : List CertLine
         is_read : counted_assignment names p (length workqueues) lines ≡ Ok (assignment_of p workqueues, rest)
-        behind : words_in rest ≡ others
+        behind : words_of_lines rest ≡ others
 
-      Counts-workqueues : (workqueues : List (List ℕ)) (lines : List CertLine) (others : List (List (List ℕ))) → AreWorkqueues (length names) p.group_of workqueues → words_in lines ≡ workqueue_lines names workqueues ++ others → Counts workqueues lines others
+      Counts-workqueues : (workqueues : List (List ℕ)) (lines : List CertLine) (others : List (List (List ℕ))) → AreWorkqueues (length names) p.group_of workqueues → words_of_lines lines ≡ workqueue_lines names workqueues ++ others → Counts workqueues lines others
       Counts-workqueues workqueues lines others are words =
           let said = GrowsTo-lines names p.group_of differ workqueues [] lines others (AreGrown-workqueues (length names) p.group_of workqueues are) words in
           record {
@@ -241,7 +241,7 @@ module _ (names : List (List ℕ)) (line : CertLine) where
 
       -- what judges the line after the workqueues judges it in the plan
       Judges-behind_workqueues : (form : LineForm) (before : List CertLine) (workqueues : List (List ℕ)) (others : List (List (List ℕ))) → AreWorkqueues (length names) p.group_of workqueues
-          → words_in before ≡ plan_line (length workqueues) ∷ (workqueue_lines names workqueues ++ others) → ((rest : List CertLine) → words_in rest ≡ others → JudgesForm form (chain_reading names) rest) → JudgesForm form (plan_reading names p) before
+          → words_of_lines before ≡ plan_line (length workqueues) ∷ (workqueue_lines names workqueues ++ others) → ((rest : List CertLine) → words_of_lines rest ≡ others → JudgesForm form (chain_reading names) rest) → JudgesForm form (plan_reading names p) before
       Judges-behind_workqueues form before workqueues others are words then =
           let k = length workqueues in
           let a = assignment_of p workqueues in
@@ -251,7 +251,7 @@ module _ (names : List (List ℕ)) (line : CertLine) where
           (Judges-behind line (Breaks form) (KeepsLine names form line) (counted_assignment names p k) first.rest a all.rest (ReadsInOrder-counted names p k) all.is_read (behind_assignment names p)
           (Judges-and_then line (Breaks form) (KeepsLine names form line) (chain_reading names) (plan_made a) all.rest (then all.rest all.behind)))
 
-      Judges-plan : (form : LineForm) (before : List CertLine) → StandsInPlan names p (words_in before) form → JudgesForm form (plan_reading names p) before
+      Judges-plan : (form : LineForm) (before : List CertLine) → StandsInPlan names p (words_of_lines before) form → JudgesForm form (plan_reading names p) before
       Judges-plan PlanLine before stands =
           subst (JudgesForm PlanLine (plan_reading names p)) (sym (no_words before stands))
           (Judges-first line (Breaks PlanLine) (KeepsLine names PlanLine line) (next_line (count_reading (codes "plan"))) [] (behind_lanes names p)
@@ -280,21 +280,21 @@ module _ (names : List (List ℕ)) (line : CertLine) where
 -- ---- what is answered
 
 module _ (names : List (List ℕ)) (differ : AllPairs (λ (a b : List ℕ). a ≢ b) names) (form : LineForm) (before : List CertLine) (line : CertLine) where
-  module _ (p : Partition) (one_group_each : length names ≡ length p.group_of) (stands : StandsInPlan names p (words_in before) form) where
+  module _ (p : Partition) (one_group_each : length names ≡ length p.group_of) (stands : StandsInPlan names p (words_of_lines before) form) where
     pub plan_reading-BreaksLine : (behind : List CertLine) (fault : CertError) → BreaksLine names form line fault → plan_reading names p (before ++ (line ∷ behind)) ≡ Err fault
     plan_reading-BreaksLine behind fault breaks = (Judges-plan names line differ p one_group_each form before stands).refused fault behind breaks
 
     pub plan_reading-KeepsLine : KeepsLine names form line → NoLineIsAtFault (plan_reading names p (before ++ (line ∷ [])))
     plan_reading-KeepsLine keeps = (Judges-plan names line differ p one_group_each form before stands).kept keeps
 
-  module _ (stands : StandsInCircle names (words_in before) form) where
+  module _ (stands : StandsInCircle names (words_of_lines before) form) where
     pub circle_reading-BreaksLine : (behind : List CertLine) (fault : CertError) → BreaksLine names form line fault → circle_reading names (before ++ (line ∷ behind)) ≡ Err fault
     circle_reading-BreaksLine behind fault breaks = (Judges-circle names line differ form before stands).refused fault behind breaks
 
     pub circle_reading-KeepsLine : KeepsLine names form line → NoLineIsAtFault (circle_reading names (before ++ (line ∷ [])))
     circle_reading-KeepsLine keeps = (Judges-circle names line differ form before stands).kept keeps
 
-  module _ (stands : StandsInRun names (words_in before) form) where
+  module _ (stands : StandsInRun names (words_of_lines before) form) where
     pub run_reading-BreaksLine : (behind : List CertLine) (fault : CertError) → BreaksLine names form line fault → run_reading names (before ++ (line ∷ behind)) ≡ Err fault
     run_reading-BreaksLine behind fault breaks = (Judges-run names line differ form before stands).refused fault behind breaks
 

@@ -18,7 +18,7 @@ use Rattle.wq_cert.specs.WorkqueueRows.{AreFirstWorkqueues, AllStand, begins_wor
 use Rattle.wq_items.specs.Building.{and_then}
 use Rattle.wq_cert.specs.Reading.{Read, and_read, count_reading, all_workqueues, hold_all, assignment_of, whole_assignment, plan_reading, workqueues_reading}
 use Rattle.wq_cert.specs.LineRows.{count_words}
-use Rattle.wq_cert.specs.Spelled.{words_in, workqueue_lines, AreWorkqueues}
+use Rattle.wq_cert.specs.Spelled.{words_of_lines, workqueue_lines, AreWorkqueues}
 
 -- ---- where the workqueues end
 
@@ -31,14 +31,14 @@ module _ (names : List (List ℕ)) (group_of : List ℕ) (behind : List CertLine
   end_here workqueues (line ∷ rest) none = ap (all_by names group_of workqueues line rest) none
 
   module _ (differ : AllPairs (λ (a b : List ℕ). a ≢ b) names) where
-    pub all_workqueues-stop : (more workqueues : List (List ℕ)) (lines : List CertLine) → GrownBy names group_of workqueues more → words_in lines ≡ lines_from names group_of (length workqueues) more
+    pub all_workqueues-stop : (more workqueues : List (List ℕ)) (lines : List CertLine) → GrownBy names group_of workqueues more → words_of_lines lines ≡ lines_from names group_of (length workqueues) more
         → all_workqueues names group_of workqueues (lines ++ behind) ≡ read_to (workqueues ++ more) behind
     all_workqueues-stop [] workqueues [] grown words = end_here workqueues behind stops ∙ ap (λ (qs : List (List ℕ)). read_to qs behind) (sym (append-nil workqueues))
     all_workqueues-stop [] workqueues (found ∷ lines) grown words = absurd cc
     all_workqueues-stop (workqueue ∷ more) workqueues [] grown words = absurd cc
     all_workqueues-stop (workqueue ∷ more) workqueues (found ∷ lines) grown words =
         let first : found.words ≡ workqueue_line names (length workqueues, workqueue) = cc in
-        let others : words_in lines ≡ lines_from names group_of (length workqueues + 1) more = cc in
+        let others : words_of_lines lines ≡ lines_from names group_of (length workqueues + 1) more = cc in
         let count : length workqueues + 1 ≡ length (workqueues ++ (workqueue ∷ [])) = sym (length-append workqueues (workqueue ∷ [])) in
         ap (λ (ws : List (List ℕ)). all_by names group_of workqueues found (lines ++ behind) (begins_with (codes "wq") ws)) first
         ∙ ap (and_all names group_of workqueues (lines ++ behind)) (said_next names group_of differ workqueues more workqueue found grown first)
@@ -56,7 +56,7 @@ module _ (names : List (List ℕ)) (p : Partition) (one_group_each : length name
       ap (whole_if workqueues)
       (false_from_ne_true (hold_all (length p.group_of) workqueues) (λ e. missing (Contains-hold_all (length names) workqueues (ap (λ (n : ℕ). hold_all n workqueues) one_group_each ∙ e))))
 
-  pub plan_reading-missing : (workqueues : List (List ℕ)) (lines : List CertLine) (behind : List (List (List ℕ))) → words_in lines ≡ plan_line (length workqueues) ∷ (workqueue_lines names workqueues ++ behind)
+  pub plan_reading-missing : (workqueues : List (List ℕ)) (lines : List CertLine) (behind : List (List (List ℕ))) → words_of_lines lines ≡ plan_line (length workqueues) ∷ (workqueue_lines names workqueues ++ behind)
       → AreFirstWorkqueues (length names) p.group_of workqueues → (AllStand (length names) workqueues → ⊥) → plan_reading names p lines ≡ Err (NotAllItems 0)
   plan_reading-missing workqueues lines behind words first missing =
       let count = begun_line (count_reading (codes "plan")) (count_words (codes "plan")) IsCount (IsReadBy-count (codes "plan")) lines (length workqueues) (workqueue_lines names workqueues ++ behind) words first.few in
@@ -66,13 +66,13 @@ module _ (names : List (List ℕ)) (p : Partition) (one_group_each : length name
       ∙ ap (λ (r : Read (List (List ℕ))). and_read (with_chain names p) r) said.is_read
       ∙ ap (and_then (behind_workqueues names p said.rest)) (whole_assignment-missing workqueues missing)
 
-  pub workqueues_reading-missing : (workqueues : List (List ℕ)) (before behind : List CertLine) → words_in before ≡ workqueue_lines names workqueues → begins_workqueue behind ≡ false
+  pub workqueues_reading-missing : (workqueues : List (List ℕ)) (before behind : List CertLine) → words_of_lines before ≡ workqueue_lines names workqueues → begins_workqueue behind ≡ false
       → AreFirstWorkqueues (length names) p.group_of workqueues → (AllStand (length names) workqueues → ⊥) → workqueues_reading names p (before ++ behind) ≡ Err (NotAllItems 0)
   workqueues_reading-missing workqueues before behind words stops first missing =
       ap (and_read (assigned p)) (all_workqueues-stop names p.group_of behind stops differ workqueues [] before (AreGrown-first (length names) p.group_of workqueues first) words)
       ∙ ap (and_then (ended behind)) (whole_assignment-missing workqueues missing)
 
-  pub workqueues_reading-other : (workqueues : List (List ℕ)) (before : List CertLine) (line : CertLine) (behind : List CertLine) → words_in before ≡ workqueue_lines names workqueues
+  pub workqueues_reading-other : (workqueues : List (List ℕ)) (before : List CertLine) (line : CertLine) (behind : List CertLine) → words_of_lines before ≡ workqueue_lines names workqueues
       → begins_with (codes "wq") line.words ≡ false → AreWorkqueues (length names) p.group_of workqueues → workqueues_reading names p (before ++ (line ∷ behind)) ≡ Err (BadCertLine line.no)
   workqueues_reading-other workqueues before line behind words stops are =
       ap (and_read (assigned p)) (all_workqueues-stop names p.group_of (line ∷ behind) stops differ workqueues [] before (AreGrown-workqueues (length names) p.group_of workqueues are) words)

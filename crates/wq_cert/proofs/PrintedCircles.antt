@@ -24,7 +24,7 @@ use Rattle.wq_cert.proofs.PrintedLines.{IsPrintableLine, IsShort-printed, words_
 use Rattle.wq_cert.proofs.PrintedRuns.{IsPrintableLine-run}
 use Rattle.wq_cert.proofs.PrintedWords.{IsPrintable-keyword, IsPrintableLine-count}
 use Rattle.wq_cert.proofs.SpelledAnswers.{text_reading-KeepsLimits, answer_reading-circle}
-use Rattle.wq_cert.proofs.TextWords.{words_in-text}
+use Rattle.wq_cert.proofs.TextWords.{words_of_lines-text}
 
 module _ (t : Table) (table : IsTable t) where
   -- the lines of the run, if there is one
@@ -77,4 +77,4 @@ module _ (t : Table) (table : IsTable t) where
         run = SpellsRunAfter-printed steps steps_named few_steps;
       } in
       text_reading-KeepsLimits (answer_reading t.names p) text (OfCircle circle) (KeepsLimits-printed lines printable most)
-      (answer_reading-circle t.names p table.distinct (cert_lines (lines_of text)) circle (subst (λ (ws : List (List (List ℕ))). SpellsCircle t.names ws circle) (sym (words_in-text text ∙ words_of_text-printed lines printable)) spells))
+      (answer_reading-circle t.names p table.distinct (cert_lines (lines_of text)) circle (subst (λ (ws : List (List (List ℕ))). SpellsCircle t.names ws circle) (sym (words_of_lines-text text ∙ words_of_text-printed lines printable)) spells))

@@ -16,9 +16,9 @@ use Rattle.wq_text.proofs.WordLemmas.{words_from-filled}
 use Rattle.wq_lines.specs.LineText.{spaced, line_text}
 use Rattle.wq_cert.specs.Lines.{bytes_of, holds_word, cert_line, cert_lines}
 use Rattle.wq_cert.proofs.ListLemmas.{AllByRecursion-append, AllByRecursion-weaker}
-use Rattle.wq_cert.specs.Spelled.{words_in, words_of_text, KeepsLimits}
+use Rattle.wq_cert.specs.Spelled.{words_of_lines, words_of_text, KeepsLimits}
 use Rattle.wq_cert.specs.Texts.{max_certificate}
-use Rattle.wq_cert.proofs.TextWords.{words_in-text}
+use Rattle.wq_cert.proofs.TextWords.{words_of_lines-text}
 
 -- ---- what can be printed
 
@@ -143,21 +143,21 @@ pieces-line words text h =
     ap (λ (l : List ℕ). pieces (l ++ text)) (line_text-body words) ∙ ap pieces (append_assoc (line_body words) (10 ∷ []) text)
     ∙ pieces-feed (line_body words) text (NoFeed-printed (line_body words) (printed-body words h))
 
-lines_from-printed : (n start : ℕ) (lines : List (List (List ℕ))) → AllByRecursion IsPrintableLine lines → words_in (cert_lines (lines_from n start (pieces (flat_map line_text lines)))) ≡ lines
+lines_from-printed : (n start : ℕ) (lines : List (List (List ℕ))) → AllByRecursion IsPrintableLine lines → words_of_lines (cert_lines (lines_from n start (pieces (flat_map line_text lines)))) ≡ lines
 lines_from-printed n start [] h = refl
 lines_from-printed n start (words ∷ lines) h =
     let text = flat_map line_text lines in
     let behind = start + (length (line_body words) + 1) in
     let line = printed_line n start words in
     let same = bytes_of-printed_line n start words h.0 in
-    ap (λ ps. words_in (cert_lines (lines_from n start ps))) (pieces-line words text h.0)
-    ∙ ap words_in (cert_lines-cons line (lines_from (n + 1) behind (pieces text)) (some_word (words_of line) words h.0 same))
-    ∙ ap (λ (ws : List (List ℕ)). ws ∷ words_in (cert_lines (lines_from (n + 1) behind (pieces text)))) same
+    ap (λ ps. words_of_lines (cert_lines (lines_from n start ps))) (pieces-line words text h.0)
+    ∙ ap words_of_lines (cert_lines-cons line (lines_from (n + 1) behind (pieces text)) (some_word (words_of line) words h.0 same))
+    ∙ ap (λ (ws : List (List ℕ)). ws ∷ words_of_lines (cert_lines (lines_from (n + 1) behind (pieces text)))) same
     ∙ ap (λ (ls : List (List (List ℕ))). words ∷ ls) (lines_from-printed (n + 1) behind lines h.1)
 
 -- the words of a printed text are those that were printed
 pub words_of_text-printed : (lines : List (List (List ℕ))) → AllByRecursion IsPrintableLine lines → words_of_text (flat_map line_text lines) ≡ lines
-words_of_text-printed lines h = sym (words_in-text (flat_map line_text lines)) ∙ lines_from-printed 1 0 lines h
+words_of_text-printed lines h = sym (words_of_lines-text (flat_map line_text lines)) ∙ lines_from-printed 1 0 lines h
 
 -- ---- limits
 

@@ -19,7 +19,7 @@ use Rattle.wq_cert.specs.RunText.{step_line}
 use Rattle.wq_cert.specs.Ranges.{IsAssignmentOf, IsRunOf, IsPlanOf, IsCircleOf, IsCertificateOf}
 use Rattle.wq_items.specs.Building.{and_then}
 use Rattle.wq_cert.specs.Reading.{plan_reading, circle_reading, run_reading, workqueues_reading, answer_reading, assignment_reading, assignment_of}
-use Rattle.wq_cert.specs.Spelled.{words_in, AreWorkqueues, SpellsPlan, SpellsRun, SpellsRunAfter, SpellsCircle}
+use Rattle.wq_cert.specs.Spelled.{words_of_lines, AreWorkqueues, SpellsPlan, SpellsRun, SpellsRunAfter, SpellsCircle}
 use Rattle.wq_cert.specs.Texts.{max_certificate, max_certificate_line, unless_too_long, text_reading, answer_of, assignment_of_text, run_of}
 use Rattle.wq_cert.proofs.ListLemmas.{length-filter-le}
 use Rattle.wq_cert.proofs.SpelledLines.{Follows-and_then, same_ok}
@@ -55,8 +55,8 @@ length-cert_lines text =
       length-pieces text,
     )
 
-length-words_in : (lines : List CertLine) → length (words_in lines) ≡ length lines
-length-words_in lines = length-map lines (λ (line : CertLine). line.words)
+length-words_of_lines : (lines : List CertLine) → length (words_of_lines lines) ≡ length lines
+length-words_of_lines lines = length-map lines (λ (line : CertLine). line.words)
 
 -- ---- texts
 
@@ -156,9 +156,9 @@ module _ (names : List (List ℕ)) (p : Partition) (partition : IsPartition p) (
       record { some = spells.some; few = spells.few; arcs = spells.known; run = λ steps is. run_after spells.behind c.steps steps behind spells.run is }
 
   IsCertificateOf-read : (lines : List CertLine) (c : Certificate) → length lines ≤ 8388608 → IsReadAs names p lines c → IsCertificateOf (length names) p.groups c
-  IsCertificateOf-read lines (OfPlan c) few e = IsPlanOf-spelled (words_in lines) c (SpellsPlan-plan_reading names p one_group_each lines c e)
+  IsCertificateOf-read lines (OfPlan c) few e = IsPlanOf-spelled (words_of_lines lines) c (SpellsPlan-plan_reading names p one_group_each lines c e)
   IsCertificateOf-read lines (OfCircle c) few e =
-      IsCircleOf-spelled (words_in lines) c (omega (arith, few, length-words_in lines)) (SpellsCircle-circle_reading names lines c e)
+      IsCircleOf-spelled (words_of_lines lines) c (omega (arith, few, length-words_of_lines lines)) (SpellsCircle-circle_reading names lines c e)
 
   pub IsCertificateOf-answer_of : (text : List ℕ) (c : Certificate) → answer_of names p text ≡ Ok c → IsCertificateOf (length names) p.groups c
   IsCertificateOf-answer_of text c e =
@@ -171,7 +171,7 @@ module _ (names : List (List ℕ)) (p : Partition) (partition : IsPartition p) (
       let spells = SpellsWorkqueues-workqueues_reading names p one_group_each lines a e in
       IsAssignmentOf-spelled spells.workqueues a spells.are spells.assignment
   IsAssignmentOf-read lines a (inr (c, e, is)) =
-      subst (IsAssignmentOf p.groups) is (IsPlanOf-spelled (words_in lines) c (SpellsPlan-plan_reading names p one_group_each lines c e)).assignment
+      subst (IsAssignmentOf p.groups) is (IsPlanOf-spelled (words_of_lines lines) c (SpellsPlan-plan_reading names p one_group_each lines c e)).assignment
 
   pub IsAssignmentOf-assignment_of_text : (text : List ℕ) (a : Assignment) → assignment_of_text names p text ≡ Ok a → IsAssignmentOf p.groups a
   IsAssignmentOf-assignment_of_text text a e =
@@ -183,4 +183,4 @@ pub IsRunOf-run_of : (names : List (List ℕ)) (text : List ℕ) (steps : List S
 IsRunOf-run_of names text steps e =
     let found = IsReadSo-text_reading (run_reading names) text steps e in
     let lines = cert_lines (lines_of text) in
-    IsRunOf-spelled names (words_in lines) steps (omega (arith, few_lines text found.within, length-words_in lines)) (SpellsRun-run_reading names lines steps found.is_read)
+    IsRunOf-spelled names (words_of_lines lines) steps (omega (arith, few_lines text found.within, length-words_of_lines lines)) (SpellsRun-run_reading names lines steps found.is_read)

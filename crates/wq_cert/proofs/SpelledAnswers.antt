@@ -16,11 +16,11 @@ use Rattle.wq_cert.specs.PlanText.{plan_line}
 use Rattle.wq_cert.specs.CircleText.{circle_line}
 use Rattle.wq_items.specs.Building.{and_then}
 use Rattle.wq_cert.specs.Reading.{plan_reading, circle_reading, run_reading, workqueues_reading, answer_reading, assignment_reading}
-use Rattle.wq_cert.specs.Spelled.{words_in, words_of_text, workqueue_lines, SpellsCircle, SpellsRun, SpellsCertificate, SpellsAssignment, KeepsLimits}
+use Rattle.wq_cert.specs.Spelled.{words_of_lines, words_of_text, workqueue_lines, SpellsCircle, SpellsRun, SpellsCertificate, SpellsAssignment, KeepsLimits}
 use Rattle.wq_cert.specs.Texts.{max_certificate, max_certificate_line, unless_too_long, text_reading, answer_of, assignment_of_text, run_of}
 use Rattle.wq_cert.proofs.SpelledTexts.{SpellsRun-run_reading, run_reading-SpellsRun, SpellsCircle-circle_reading, circle_reading-SpellsCircle, SpellsWorkqueues-workqueues_reading, workqueues_reading-SpellsWorkqueues, SpellsPlan-plan_reading, plan_reading-SpellsPlan}
 use Rattle.wq_cert.proofs.ReadRanges.{IsReadSo-text_reading, IsReadAs, IsReadAs-answer_reading, circle_answer, plan_answer, IsAssignedBy, IsAssignedBy-assignment_reading, of_plan}
-use Rattle.wq_cert.proofs.TextWords.{words_in-text}
+use Rattle.wq_cert.proofs.TextWords.{words_of_lines-text}
 
 -- ---- limits
 
@@ -39,7 +39,7 @@ module _ {V : Type 0} (read : List CertLine → Result V CertError) (text : List
 -- ---- lines
 
 -- a circle, whatever the groups: the first word decides that it is one
-pub answer_reading-circle : (names : List (List ℕ)) (p : Partition) → AllPairs (λ (a b : List ℕ). a ≢ b) names → (lines : List CertLine) (c : CircleCertificate) → SpellsCircle names (words_in lines) c
+pub answer_reading-circle : (names : List (List ℕ)) (p : Partition) → AllPairs (λ (a b : List ℕ). a ≢ b) names → (lines : List CertLine) (c : CircleCertificate) → SpellsCircle names (words_of_lines lines) c
     → answer_reading names p lines ≡ Ok (OfCircle c)
 answer_reading-circle names p differ [] c spells = absurd (let words = spells.words in cc)
 answer_reading-circle names p differ (line ∷ lines) c spells =
@@ -51,7 +51,7 @@ answer_reading-circle names p differ (line ∷ lines) c spells =
     ∙ ap (and_then circle_answer) (circle_reading-SpellsCircle names differ (line ∷ lines) c spells)
 
 module _ (names : List (List ℕ)) (p : Partition) (one_group_each : length names ≡ length p.group_of) where
-  SpellsCertificate-read : (lines : List CertLine) (c : Certificate) → IsReadAs names p lines c → SpellsCertificate names p (words_in lines) c
+  SpellsCertificate-read : (lines : List CertLine) (c : Certificate) → IsReadAs names p lines c → SpellsCertificate names p (words_of_lines lines) c
   SpellsCertificate-read lines (OfPlan c) e = SpellsPlan-plan_reading names p one_group_each lines c e
   SpellsCertificate-read lines (OfCircle c) e = SpellsCircle-circle_reading names lines c e
 
@@ -60,11 +60,11 @@ module _ (names : List (List ℕ)) (p : Partition) (one_group_each : length name
       let found = KeepsLimits-text_reading (answer_reading names p) text c e in
       let lines = cert_lines (lines_of text) in (
         found.0,
-        subst (λ (ws : List (List (List ℕ))). SpellsCertificate names p ws c) (words_in-text text)
+        subst (λ (ws : List (List (List ℕ))). SpellsCertificate names p ws c) (words_of_lines-text text)
             (SpellsCertificate-read lines c (IsReadAs-answer_reading names p lines c found.1)),
       )
 
-  SpellsAssignment-read : (lines : List CertLine) (a : Assignment) → IsAssignedBy names p lines a → SpellsAssignment names p (words_in lines) a
+  SpellsAssignment-read : (lines : List CertLine) (a : Assignment) → IsAssignedBy names p lines a → SpellsAssignment names p (words_of_lines lines) a
   SpellsAssignment-read lines a (inl e) = inl (SpellsWorkqueues-workqueues_reading names p one_group_each lines a e)
   SpellsAssignment-read lines a (inr (c, e, is)) = inr (c, SpellsPlan-plan_reading names p one_group_each lines c e, is)
 
@@ -73,13 +73,13 @@ module _ (names : List (List ℕ)) (p : Partition) (one_group_each : length name
       let found = KeepsLimits-text_reading (assignment_reading names p) text a e in
       let lines = cert_lines (lines_of text) in (
         found.0,
-        subst (λ (ws : List (List (List ℕ))). SpellsAssignment names p ws a) (words_in-text text)
+        subst (λ (ws : List (List (List ℕ))). SpellsAssignment names p ws a) (words_of_lines-text text)
             (SpellsAssignment-read lines a (IsAssignedBy-assignment_reading names p lines a found.1)),
       )
 
   module _ (differ : AllPairs (λ (a b : List ℕ). a ≢ b) names) where
     -- the first word decides what is read
-    answer_reading-spelled : (lines : List CertLine) (c : Certificate) → SpellsCertificate names p (words_in lines) c → answer_reading names p lines ≡ Ok c
+    answer_reading-spelled : (lines : List CertLine) (c : Certificate) → SpellsCertificate names p (words_of_lines lines) c → answer_reading names p lines ≡ Ok c
     answer_reading-spelled lines (OfCircle c) spells = answer_reading-circle names p differ lines c spells
     answer_reading-spelled [] (OfPlan c) spells = absurd (let words = spells.words in cc)
     answer_reading-spelled (line ∷ lines) (OfPlan c) spells =
@@ -92,16 +92,16 @@ module _ (names : List (List ℕ)) (p : Partition) (one_group_each : length name
 
     pub answer_of-spelled : (text : List ℕ) (c : Certificate) → KeepsLimits text × SpellsCertificate names p (words_of_text text) c → answer_of names p text ≡ Ok c
     answer_of-spelled text c h =
-        let spells = subst (λ (ws : List (List (List ℕ))). SpellsCertificate names p ws c) (sym (words_in-text text)) h.1 in
+        let spells = subst (λ (ws : List (List (List ℕ))). SpellsCertificate names p ws c) (sym (words_of_lines-text text)) h.1 in
         text_reading-KeepsLimits (answer_reading names p) text c h.0 (answer_reading-spelled (cert_lines (lines_of text)) c spells)
 
-    no_plan : (workqueues : List (List ℕ)) (line : CertLine) (lines : List CertLine) → words_in (line ∷ lines) ≡ workqueue_lines names workqueues → begins_with (codes "plan") line.words ≡ false
+    no_plan : (workqueues : List (List ℕ)) (line : CertLine) (lines : List CertLine) → words_of_lines (line ∷ lines) ≡ workqueue_lines names workqueues → begins_with (codes "plan") line.words ≡ false
     no_plan [] line lines e = absurd cc
     no_plan (workqueue ∷ more) line lines e =
         let first : line.words ≡ codes "wq" ∷ decimal 0 ∷ map (λ (i : ℕ). get_or names i []) workqueue = cc in
         ap (begins_with (codes "plan")) first
 
-    assignment_reading-spelled : (lines : List CertLine) (a : Assignment) → SpellsAssignment names p (words_in lines) a → assignment_reading names p lines ≡ Ok a
+    assignment_reading-spelled : (lines : List CertLine) (a : Assignment) → SpellsAssignment names p (words_of_lines lines) a → assignment_reading names p lines ≡ Ok a
     assignment_reading-spelled [] a (inl spells) = workqueues_reading-SpellsWorkqueues names p one_group_each differ [] a spells
     assignment_reading-spelled [] a (inr (c, spells, is)) = absurd (let words = spells.words in cc)
     assignment_reading-spelled (line ∷ lines) a (inl spells) =
@@ -120,7 +120,7 @@ module _ (names : List (List ℕ)) (p : Partition) (one_group_each : length name
 
     pub assignment_of_text-spelled : (text : List ℕ) (a : Assignment) → KeepsLimits text × SpellsAssignment names p (words_of_text text) a → assignment_of_text names p text ≡ Ok a
     assignment_of_text-spelled text a h =
-        let spells = subst (λ (ws : List (List (List ℕ))). SpellsAssignment names p ws a) (sym (words_in-text text)) h.1 in
+        let spells = subst (λ (ws : List (List (List ℕ))). SpellsAssignment names p ws a) (sym (words_of_lines-text text)) h.1 in
         text_reading-KeepsLimits (assignment_reading names p) text a h.0 (assignment_reading-spelled (cert_lines (lines_of text)) a spells)
 
 -- ---- runs
@@ -130,11 +130,11 @@ module _ (names : List (List ℕ)) where
   SpellsRun-run_of text steps e =
       let found = KeepsLimits-text_reading (run_reading names) text steps e in (
         found.0,
-        subst (λ (ws : List (List (List ℕ))). SpellsRun names ws steps) (words_in-text text)
+        subst (λ (ws : List (List (List ℕ))). SpellsRun names ws steps) (words_of_lines-text text)
             (SpellsRun-run_reading names (cert_lines (lines_of text)) steps found.1),
       )
 
   pub run_of-spelled : AllPairs (λ (a b : List ℕ). a ≢ b) names → (text : List ℕ) (steps : List Step) → KeepsLimits text × SpellsRun names (words_of_text text) steps → run_of names text ≡ Ok steps
   run_of-spelled differ text steps h =
-      let spells = subst (λ (ws : List (List (List ℕ))). SpellsRun names ws steps) (sym (words_in-text text)) h.1 in
+      let spells = subst (λ (ws : List (List (List ℕ))). SpellsRun names ws steps) (sym (words_of_lines-text text)) h.1 in
       text_reading-KeepsLimits (run_reading names) text steps h.0 (run_reading-SpellsRun names differ (cert_lines (lines_of text)) steps spells)

@@ -14,7 +14,7 @@ use Rattle.wq_cert.specs.Ranges.{IsArcOf, IsStepOf}
 use Rattle.wq_items.specs.Building.{and_then}
 use Rattle.wq_cert.specs.Reading.{Read, and_read, next_line, next_lines, at_end, count_reading, circle_count_reading, arc_reading, names_far_lane, step_reading}
 use Rattle.wq_cert.specs.LineRows.{SpellsCount, count_words}
-use Rattle.wq_cert.specs.Spelled.{words_in}
+use Rattle.wq_cert.specs.Spelled.{words_of_lines}
 use Rattle.wq_cert.proofs.SpelledForms.{SpellsCount-count_form, count_form-SpellsCount, SpellsArc-arc_form, arc_form-SpellsArc, SpellsStep-step_form, step_form-line, IsNumbered-near}
 
 -- ---- what follows a value
@@ -70,7 +70,7 @@ pub at_end-Ok : {V : Type 0} (v w : V) (lines : List CertLine) → at_end v line
 at_end-Ok v w [] e = (refl, cc)
 at_end-Ok v w (line ∷ lines) e = absurd cc
 
-pub no_words : (lines : List CertLine) → words_in lines ≡ [] → lines ≡ []
+pub no_words : (lines : List CertLine) → words_of_lines lines ≡ [] → lines ≡ []
 no_words [] e = refl
 no_words (line ∷ lines) e = absurd cc
 
@@ -88,21 +88,21 @@ pub record Shows {V : Type 0} (read : CertLine → Result V CertError) (show : V
 pub record Begins {V : Type 0} (read : CertLine → Result V CertError) (lines : List CertLine) (others : List (List (List ℕ))) (v : V) : Type 0 where
   pub rest : List CertLine
   pub is_read : next_line read lines ≡ Ok (v, rest)
-  pub behind : words_in rest ≡ others
+  pub behind : words_of_lines rest ≡ others
 
 pub record BeginsAll {V : Type 0} (read : CertLine → Result V CertError) (lines : List CertLine) (others : List (List (List ℕ))) (vs : List V) : Type 0 where
   pub rest : List CertLine
   pub is_read : next_lines read (length vs) lines ≡ Ok (vs, rest)
-  pub behind : words_in rest ≡ others
+  pub behind : words_of_lines rest ≡ others
 
 -- this many values come first
 pub record AreInFront {V : Type 0} (show : V → List (List ℕ)) (P : V → Type 0) (n : ℕ) (lines rest : List CertLine) (vs : List V) : Type 0 where
   pub count : length vs ≡ n
-  pub words_are : words_in lines ≡ map show vs ++ words_in rest
+  pub words_are : words_of_lines lines ≡ map show vs ++ words_of_lines rest
   pub hold : AllByRecursion P vs
 
 module _ {V : Type 0} (read : CertLine → Result V CertError) (show : V → List (List ℕ)) (P : V → Type 0) where
-  pub shown_line : Shows read show P → (lines rest : List CertLine) (v : V) → next_line read lines ≡ Ok (v, rest) → (words_in lines ≡ show v ∷ words_in rest) × P v
+  pub shown_line : Shows read show P → (lines rest : List CertLine) (v : V) → next_line read lines ≡ Ok (v, rest) → (words_of_lines lines ≡ show v ∷ words_of_lines rest) × P v
   shown_line shows [] rest v e = absurd cc
   shown_line shows (line ∷ lines) rest v e =
       let next : V → Read V = λ u. Ok (u, lines) in
@@ -111,9 +111,9 @@ module _ {V : Type 0} (read : CertLine → Result V CertError) (show : V → Lis
       let value : found.value ≡ v = ap (λ (p : V × List CertLine). p.0) same in
       let behind : lines ≡ rest = ap (λ (p : V × List CertLine). p.1) same in
       let is : read line ≡ Ok v = found.first ∙ ap (λ (u : V). Ok u) value in
-      (ap₂ (λ (ws : List (List ℕ)) (ls : List CertLine). ws ∷ words_in ls) (shows.words_are line v is) behind, shows.holds line v is)
+      (ap₂ (λ (ws : List (List ℕ)) (ls : List CertLine). ws ∷ words_of_lines ls) (shows.words_are line v is) behind, shows.holds line v is)
 
-  pub begun_line : IsReadBy read show P → (lines : List CertLine) (v : V) (others : List (List (List ℕ))) → words_in lines ≡ show v ∷ others → P v → Begins read lines others v
+  pub begun_line : IsReadBy read show P → (lines : List CertLine) (v : V) (others : List (List (List ℕ))) → words_of_lines lines ≡ show v ∷ others → P v → Begins read lines others v
   begun_line reads [] v others e h = absurd cc
   begun_line reads (line ∷ lines) v others e h =
       let first : line.words ≡ show v = cc in
@@ -126,7 +126,7 @@ module _ {V : Type 0} (read : CertLine → Result V CertError) (show : V → Lis
       let same : (none, lines) ≡ (vs, rest) = same_ok (none, lines) (vs, rest) e in
       let nothing : none ≡ vs = ap (λ (p : List V × List CertLine). p.0) same in
       let behind : lines ≡ rest = ap (λ (p : List V × List CertLine). p.1) same in
-      subst (AreInFront show P zero lines rest) nothing (record { count = refl; words_are = ap words_in behind; hold = tt })
+      subst (AreInFront show P zero lines rest) nothing (record { count = refl; words_are = ap words_of_lines behind; hold = tt })
   shown_lines shows (suc n) lines rest vs e =
       let join : V → List V → List CertLine → Read (List V) = λ v us behind. Ok (v ∷ us, behind) in
       let next : V → List CertLine → Read (List V) = λ v behind. and_read (join v) (next_lines read n behind) in
@@ -140,11 +140,11 @@ module _ {V : Type 0} (read : CertLine → Result V CertError) (show : V → Lis
       subst (AreInFront show P (suc n) lines rest) values (record {
         count = ap suc others.count;
         words_are =
-            one.0 ∙ ap (λ (ws : List (List (List ℕ))). show first.value ∷ ws) (others.words_are ∙ ap (λ (ls : List CertLine). map show more.value ++ words_in ls) behind);
+            one.0 ∙ ap (λ (ws : List (List (List ℕ))). show first.value ∷ ws) (others.words_are ∙ ap (λ (ls : List CertLine). map show more.value ++ words_of_lines ls) behind);
         hold = (one.1, others.hold);
       })
 
-  pub begun_lines : IsReadBy read show P → (vs : List V) (lines : List CertLine) (others : List (List (List ℕ))) → words_in lines ≡ map show vs ++ others → AllByRecursion P vs
+  pub begun_lines : IsReadBy read show P → (vs : List V) (lines : List CertLine) (others : List (List (List ℕ))) → words_of_lines lines ≡ map show vs ++ others → AllByRecursion P vs
       → BeginsAll read lines others vs
   begun_lines reads [] lines others e h = record { rest = lines; is_read = refl; behind = e }
   begun_lines reads (v ∷ vs) lines others e h =

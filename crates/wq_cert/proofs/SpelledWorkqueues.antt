@@ -14,7 +14,7 @@ use Rattle.wq_cert.specs.Forms.{wq_form, begins_with}
 use Rattle.wq_items.specs.Building.{and_then}
 use Rattle.wq_cert.specs.Reading.{Read, and_read, next_line, has_stood, splits_group, wq_reading, next_workqueues, all_workqueues, hold_all, assignment_of, whole_assignment}
 use Rattle.wq_cert.specs.PlanText.{workqueue_line}
-use Rattle.wq_cert.specs.Spelled.{words_in, AreWorkqueues}
+use Rattle.wq_cert.specs.Spelled.{words_of_lines, AreWorkqueues}
 use Rattle.wq_cert.proofs.SpelledForms.{IsWorkqueueLine-wq_form, wq_form-IsWorkqueueLine}
 use Rattle.wq_cert.proofs.SpelledLines.{Follows-and_then, FollowsRead-and_read, same_ok, Some-ok_or, past}
 use Rattle.wq_cert.proofs.WorkqueueLists.{AreGrown, IsNextWorkqueue, AreGrown-push, AreGrown-front, IsNextWorkqueue-grown, AreWorkqueues-grown, hold_all-Contains}
@@ -77,18 +77,18 @@ module _ (names : List (List ℕ)) (group_of : List ℕ) where
   pub record Grows (workqueues all : List (List ℕ)) (lines rest : List CertLine) : Type 0 where
     pub more : List (List ℕ)
     pub whole : all ≡ workqueues ++ more
-    pub words_are : words_in lines ≡ lines_from (length workqueues) more ++ words_in rest
+    pub words_are : words_of_lines lines ≡ lines_from (length workqueues) more ++ words_of_lines rest
     pub grown : AreGrown items group_of all
 
   Grows-none : (workqueues all : List (List ℕ)) (lines rest : List CertLine) → AreGrown items group_of workqueues → workqueues ≡ all → lines ≡ rest → Grows workqueues all lines rest
   Grows-none workqueues all lines rest grown same behind = record {
     more = [];
     whole = sym same ∙ sym (append-nil workqueues);
-    words_are = ap words_in behind;
+    words_are = ap words_of_lines behind;
     grown = subst (AreGrown items group_of) same grown;
   }
 
-  Grows-more : (workqueues all : List (List ℕ)) (workqueue : List ℕ) (lines between rest : List CertLine) → words_in lines ≡ workqueue_line names (length workqueues, workqueue) ∷ words_in between
+  Grows-more : (workqueues all : List (List ℕ)) (workqueue : List ℕ) (lines between rest : List CertLine) → words_of_lines lines ≡ workqueue_line names (length workqueues, workqueue) ∷ words_of_lines between
       → Grows (workqueues ++ (workqueue ∷ [])) all between rest → Grows workqueues all lines rest
   Grows-more workqueues all workqueue lines between rest first g =
       let next : length (workqueues ++ (workqueue ∷ [])) ≡ length workqueues + 1 = length-append workqueues (workqueue ∷ []) in
@@ -97,13 +97,13 @@ module _ (names : List (List ℕ)) (group_of : List ℕ) where
         whole = g.whole ∙ append_assoc workqueues (workqueue ∷ []) g.more;
         words_are =
             first ∙ ap (λ (ws : List (List (List ℕ))). workqueue_line names (length workqueues, workqueue) ∷ ws)
-            (g.words_are ∙ ap (λ (n : ℕ). lines_from n g.more ++ words_in rest) next);
+            (g.words_are ∙ ap (λ (n : ℕ). lines_from n g.more ++ words_of_lines rest) next);
         grown = g.grown;
       }
 
   -- the first line says the next workqueue
   said_first : (workqueues : List (List ℕ)) (lines rest : List CertLine) (workqueue : List ℕ) → next_line (wq_reading names group_of workqueues) lines ≡ Ok (workqueue, rest)
-      → (words_in lines ≡ workqueue_line names (length workqueues, workqueue) ∷ words_in rest) × IsNextWorkqueue items group_of workqueues workqueue
+      → (words_of_lines lines ≡ workqueue_line names (length workqueues, workqueue) ∷ words_of_lines rest) × IsNextWorkqueue items group_of workqueues workqueue
   said_first workqueues [] rest workqueue e = absurd cc
   said_first workqueues (line ∷ lines) rest workqueue e =
       let next : List ℕ → Read (List ℕ) = λ u. Ok (u, lines) in
@@ -112,7 +112,7 @@ module _ (names : List (List ℕ)) (group_of : List ℕ) where
       let value : found.value ≡ workqueue = ap (λ (p : List ℕ × List CertLine). p.0) same in
       let behind : lines ≡ rest = ap (λ (p : List ℕ × List CertLine). p.1) same in
       let said = SaysWorkqueue-wq_reading workqueues line workqueue (found.first ∙ ap (λ (u : List ℕ). Ok u) value) in
-      (ap₂ (λ (ws : List (List ℕ)) (ls : List CertLine). ws ∷ words_in ls) said.words_are behind, said.next)
+      (ap₂ (λ (ws : List (List ℕ)) (ls : List CertLine). ws ∷ words_of_lines ls) said.words_are behind, said.next)
 
   same_length : (workqueues all : List (List ℕ)) → workqueues ≡ all → length all ≡ length workqueues + 0
   same_length workqueues all same = omega (arith, ap length same)
@@ -148,7 +148,7 @@ module _ (names : List (List ℕ)) (group_of : List ℕ) where
           let found = Follows-and_then (after workqueues lines) (wq_reading names group_of workqueues line) (all, rest) e in
           let said = SaysWorkqueue-wq_reading workqueues line found.value found.first in
           let others = others_of found.value (AreGrown-push items group_of workqueues found.value grown said.next) found.then in
-          Grows-more workqueues all found.value (line ∷ lines) lines rest (ap (λ (ws : List (List ℕ)). ws ∷ words_in lines) said.words_are) others
+          Grows-more workqueues all found.value (line ∷ lines) lines rest (ap (λ (ws : List (List ℕ)). ws ∷ words_of_lines lines) said.words_are) others
       chosen others_of false e =
           let same : (workqueues, line ∷ lines) ≡ (all, rest) = same_ok (workqueues, line ∷ lines) (all, rest) e in
           Grows-none workqueues all (line ∷ lines) rest grown (ap (λ (p : List (List ℕ) × List CertLine). p.0) same) (ap (λ (p : List (List ℕ) × List CertLine). p.1) same)
@@ -171,15 +171,15 @@ module _ (names : List (List ℕ)) (group_of : List ℕ) where
     pub record GrowsTo (n : ℕ) (workqueues all : List (List ℕ)) (lines : List CertLine) (others : List (List (List ℕ))) : Type 0 where
       pub rest : List CertLine
       pub is_read : next_workqueues names group_of n workqueues lines ≡ Ok (all, rest)
-      pub behind : words_in rest ≡ others
+      pub behind : words_of_lines rest ≡ others
 
     pub GrowsTo-lines : (more workqueues : List (List ℕ)) (lines : List CertLine) (others : List (List (List ℕ))) → AreGrown items group_of (workqueues ++ more)
-        → words_in lines ≡ lines_from (length workqueues) more ++ others → GrowsTo (length more) workqueues (workqueues ++ more) lines others
+        → words_of_lines lines ≡ lines_from (length workqueues) more ++ others → GrowsTo (length more) workqueues (workqueues ++ more) lines others
     GrowsTo-lines [] workqueues lines others grown words = record { rest = lines; is_read = ap (λ (qs : List (List ℕ)). Ok (qs, lines)) (sym (append-nil workqueues)); behind = words }
     GrowsTo-lines (workqueue ∷ more) workqueues [] others grown words = absurd cc
     GrowsTo-lines (workqueue ∷ more) workqueues (line ∷ lines) others grown words =
         let first : line.words ≡ workqueue_line names (length workqueues, workqueue) = cc in
-        let behind : words_in lines ≡ lines_from (length workqueues + 1) more ++ others = cc in
+        let behind : words_of_lines lines ≡ lines_from (length workqueues + 1) more ++ others = cc in
         let count : length workqueues + 1 ≡ length (workqueues ++ (workqueue ∷ [])) = sym (length-append workqueues (workqueue ∷ [])) in
         let others_are = GrowsTo-lines more (workqueues ++ (workqueue ∷ [])) lines others (first_grown workqueues more workqueue grown) (behind ∙ ap (λ (n : ℕ). lines_from n more ++ others) count) in
         let next : List ℕ → List CertLine → Read (List (List ℕ)) = λ q rest. next_workqueues names group_of (length more) (workqueues ++ (q ∷ [])) rest in
@@ -192,14 +192,14 @@ module _ (names : List (List ℕ)) (group_of : List ℕ) where
           behind = others_are.behind;
         }
 
-    pub all_workqueues-lines : (more workqueues : List (List ℕ)) (lines : List CertLine) → AreGrown items group_of (workqueues ++ more) → words_in lines ≡ lines_from (length workqueues) more
+    pub all_workqueues-lines : (more workqueues : List (List ℕ)) (lines : List CertLine) → AreGrown items group_of (workqueues ++ more) → words_of_lines lines ≡ lines_from (length workqueues) more
         → all_workqueues names group_of workqueues lines ≡ Ok (workqueues ++ more, [])
     all_workqueues-lines [] workqueues [] grown words = ap (λ (qs : List (List ℕ)). Ok (qs, [])) (sym (append-nil workqueues))
     all_workqueues-lines [] workqueues (line ∷ lines) grown words = absurd cc
     all_workqueues-lines (workqueue ∷ more) workqueues [] grown words = absurd cc
     all_workqueues-lines (workqueue ∷ more) workqueues (line ∷ lines) grown words =
         let first : line.words ≡ workqueue_line names (length workqueues, workqueue) = cc in
-        let behind : words_in lines ≡ lines_from (length workqueues + 1) more = cc in
+        let behind : words_of_lines lines ≡ lines_from (length workqueues + 1) more = cc in
         let count : length workqueues + 1 ≡ length (workqueues ++ (workqueue ∷ [])) = sym (length-append workqueues (workqueue ∷ [])) in
         let next : List ℕ → Read (List (List ℕ)) = λ q. all_workqueues names group_of (workqueues ++ (q ∷ [])) lines in
         let stop : Read (List (List ℕ)) = Ok (workqueues, line ∷ lines) in

@@ -19,7 +19,7 @@ use Rattle.wq_cert.specs.PlanText.{plan_line, workqueue_line}
 use Rattle.wq_cert.specs.WorkqueueRows.{AreFirstWorkqueues, SpellsWorkqueue, SpellsNextWorkqueue, BreaksWorkqueueRow}
 use Rattle.wq_items.specs.Building.{and_then}
 use Rattle.wq_cert.specs.Reading.{Read, and_read, count_reading, has_stood, splits_group, wq_reading, next_workqueues, all_workqueues, plan_reading, workqueues_reading}
-use Rattle.wq_cert.specs.Spelled.{words_in, workqueue_lines}
+use Rattle.wq_cert.specs.Spelled.{words_of_lines, workqueue_lines}
 
 pub AreGrown-first : (items : ℕ) (group_of : List ℕ) (workqueues : List (List ℕ)) → AreFirstWorkqueues items group_of workqueues → AreGrown items group_of workqueues
 AreGrown-first items group_of workqueues h = record { few = h.few; known = h.known; once = h.once; whole = h.whole }
@@ -98,7 +98,7 @@ module _ (names : List (List ℕ)) (group_of : List ℕ) (differ : AllPairs (λ 
   and_workqueues n workqueues lines r =
       and_read (λ items rest. next_workqueues names group_of n (workqueues ++ (items ∷ [])) rest) (and_then (λ items. Ok (items, lines)) r)
 
-  refused-next_workqueues : (more workqueues : List (List ℕ)) (lines : List CertLine) (n : ℕ) → GrownBy names group_of workqueues more → words_in lines ≡ lines_from names group_of (length workqueues) more → length more < n
+  refused-next_workqueues : (more workqueues : List (List ℕ)) (lines : List CertLine) (n : ℕ) → GrownBy names group_of workqueues more → words_of_lines lines ≡ lines_from names group_of (length workqueues) more → length more < n
       → wq_reading names group_of (workqueues ++ more) line ≡ Err fault → next_workqueues names group_of n workqueues (lines ++ (line ∷ behind)) ≡ Err fault
   refused-next_workqueues more workqueues lines zero grown words below refused = absurd (omega (arith, below))
   refused-next_workqueues [] workqueues [] (suc n) grown words below refused =
@@ -107,13 +107,13 @@ module _ (names : List (List ℕ)) (group_of : List ℕ) (differ : AllPairs (λ 
   refused-next_workqueues (workqueue ∷ more) workqueues [] (suc n) grown words below refused = absurd cc
   refused-next_workqueues (workqueue ∷ more) workqueues (found ∷ lines) (suc n) grown words below refused =
       let first : found.words ≡ workqueue_line names (length workqueues, workqueue) = cc in
-      let others : words_in lines ≡ lines_from names group_of (length workqueues + 1) more = cc in
+      let others : words_of_lines lines ≡ lines_from names group_of (length workqueues + 1) more = cc in
       let count : length workqueues + 1 ≡ length (workqueues ++ (workqueue ∷ [])) = sym (length-append workqueues (workqueue ∷ [])) in
       ap (and_workqueues n workqueues (lines ++ (line ∷ behind))) (said_next names group_of differ workqueues more workqueue found grown first)
       ∙ refused-next_workqueues more (workqueues ++ (workqueue ∷ [])) lines n (first_grown names group_of differ workqueues more workqueue grown) (others ∙ ap (λ (k : ℕ). lines_from names group_of k more) count)
       (omega (arith, below)) (ap (λ (qs : List (List ℕ)). wq_reading names group_of qs line) (append_assoc workqueues (workqueue ∷ []) more) ∙ refused)
 
-  refused-all_workqueues : (more workqueues : List (List ℕ)) (lines : List CertLine) → GrownBy names group_of workqueues more → words_in lines ≡ lines_from names group_of (length workqueues) more → begins_with (codes "wq") line.words ≡ true
+  refused-all_workqueues : (more workqueues : List (List ℕ)) (lines : List CertLine) → GrownBy names group_of workqueues more → words_of_lines lines ≡ lines_from names group_of (length workqueues) more → begins_with (codes "wq") line.words ≡ true
       → wq_reading names group_of (workqueues ++ more) line ≡ Err fault → all_workqueues names group_of workqueues (lines ++ (line ∷ behind)) ≡ Err fault
   refused-all_workqueues [] workqueues [] grown words is_wq refused =
       ap (all_by names group_of workqueues line behind) is_wq ∙ ap (and_all names group_of workqueues behind) (ap (λ (qs : List (List ℕ)). wq_reading names group_of qs line) (sym (append-nil workqueues)) ∙ refused)
@@ -121,7 +121,7 @@ module _ (names : List (List ℕ)) (group_of : List ℕ) (differ : AllPairs (λ 
   refused-all_workqueues (workqueue ∷ more) workqueues [] grown words is_wq refused = absurd cc
   refused-all_workqueues (workqueue ∷ more) workqueues (found ∷ lines) grown words is_wq refused =
       let first : found.words ≡ workqueue_line names (length workqueues, workqueue) = cc in
-      let others : words_in lines ≡ lines_from names group_of (length workqueues + 1) more = cc in
+      let others : words_of_lines lines ≡ lines_from names group_of (length workqueues + 1) more = cc in
       let count : length workqueues + 1 ≡ length (workqueues ++ (workqueue ∷ [])) = sym (length-append workqueues (workqueue ∷ [])) in
       ap (λ (ws : List (List ℕ)). all_by names group_of workqueues found (lines ++ (line ∷ behind)) (begins_with (codes "wq") ws)) first
       ∙ ap (and_all names group_of workqueues (lines ++ (line ∷ behind))) (said_next names group_of differ workqueues more workqueue found grown first)
@@ -132,12 +132,12 @@ module _ (names : List (List ℕ)) (group_of : List ℕ) (differ : AllPairs (λ 
 
 module _ (names : List (List ℕ)) (p : Partition) (differ : AllPairs (λ (a b : List ℕ). a ≢ b) names) where
   pub plan_reading-BreaksWorkqueueRow : (k : ℕ) (workqueues : List (List ℕ)) (before : List CertLine) (line : CertLine) (behind : List CertLine) (fault : CertError) → k ≤ 4096 → length workqueues < k
-      → words_in before ≡ plan_line k ∷ workqueue_lines names workqueues → AreFirstWorkqueues (length names) p.group_of workqueues → BreaksWorkqueueRow names p.group_of workqueues line fault
+      → words_of_lines before ≡ plan_line k ∷ workqueue_lines names workqueues → AreFirstWorkqueues (length names) p.group_of workqueues → BreaksWorkqueueRow names p.group_of workqueues line fault
       → plan_reading names p (before ++ (line ∷ behind)) ≡ Err fault
   plan_reading-BreaksWorkqueueRow k workqueues [] line behind fault few below words first breaks = absurd cc
   plan_reading-BreaksWorkqueueRow k workqueues (opening ∷ lines) line behind fault few below words first breaks =
       let opens : opening.words ≡ plan_line k = cc in
-      let others : words_in lines ≡ workqueue_lines names workqueues = cc in
+      let others : words_of_lines lines ≡ workqueue_lines names workqueues = cc in
       let rest = lines ++ (line ∷ behind) in
       let count : count_reading (codes "plan") opening ≡ Ok k = (IsReadBy-count (codes "plan")).said opening k opens few in
       let refused : next_workqueues names p.group_of k [] rest ≡ Err fault =
@@ -148,7 +148,7 @@ module _ (names : List (List ℕ)) (p : Partition) (differ : AllPairs (λ (a b :
       ∙ ap (λ (r : Read (List (List ℕ))). and_read (with_chain names p) r) refused
 
   pub workqueues_reading-BreaksWorkqueueRow : (workqueues : List (List ℕ)) (before : List CertLine) (line : CertLine) (behind : List CertLine) (fault : CertError)
-      → words_in before ≡ workqueue_lines names workqueues → begins_with (codes "wq") line.words ≡ true → AreFirstWorkqueues (length names) p.group_of workqueues → BreaksWorkqueueRow names p.group_of workqueues line fault
+      → words_of_lines before ≡ workqueue_lines names workqueues → begins_with (codes "wq") line.words ≡ true → AreFirstWorkqueues (length names) p.group_of workqueues → BreaksWorkqueueRow names p.group_of workqueues line fault
       → workqueues_reading names p (before ++ (line ∷ behind)) ≡ Err fault
   workqueues_reading-BreaksWorkqueueRow workqueues before line behind fault words is_wq first breaks =
       ap (and_read (assigned p))

@@ -16,8 +16,8 @@ use Rattle.wq_cert.specs.CircleText.{circle_line}
 use Rattle.wq_cert.specs.Texts.{max_certificate, max_certificate_line}
 
 -- the words of each line
-abbrev pub words_in : List CertLine → List (List (List ℕ))
-words_in lines = map (λ (line : CertLine). line.words) lines
+abbrev pub words_of_lines : List CertLine → List (List (List ℕ))
+words_of_lines lines = map (λ (line : CertLine). line.words) lines
 
 -- ---- workqueues
 

@@ -25,7 +25,7 @@ ghost use Rattle.wq_cert.specs.LineRows.{LineForm, StandsInPlan, StandsInCircle,
 ghost use Rattle.wq_cert.specs.Lines.{CertLine};
 ghost use Rattle.wq_cert.specs.Reading.{assignment_of, plan_reading, circle_reading, run_reading, workqueues_reading};
 ghost use Rattle.wq_cert.specs.WorkqueueRows.{AreFirstWorkqueues, BreaksWorkqueueRow, AllStand, begins_workqueue};
-ghost use Rattle.wq_cert.specs.Spelled.{words_in, words_of_text, workqueue_lines, IsOnWorkqueue, AreWorkqueues, SpellsPlan, SpellsCircle, SpellsRun, SpellsWorkqueues, SpellsCertificate, SpellsAssignment, KeepsLimits};
+ghost use Rattle.wq_cert.specs.Spelled.{words_of_lines, words_of_text, workqueue_lines, IsOnWorkqueue, AreWorkqueues, SpellsPlan, SpellsCircle, SpellsRun, SpellsWorkqueues, SpellsCertificate, SpellsAssignment, KeepsLimits};
 
 /// What is read is in range: items that are declared, groups on at most 4,096 workqueues, as many arcs as the text says, and
 /// fewer steps than there are numbers.
@@ -63,14 +63,14 @@ pub fn a_number_is_read_by_its_spelling()
 pub fn lines_are_read_where_they_spell()
     ensures plan { (names : List (List ℕ)) (p : Partition) (lines : List CertLine) (c : PlanCertificate) →
         AllPairs (λ (a b : List ℕ). a ≢ b) names → length names ≡ length p.group_of →
-        (plan_reading names p lines ≡ Ok c) ↔ SpellsPlan names p (words_in lines) c }
+        (plan_reading names p lines ≡ Ok c) ↔ SpellsPlan names p (words_of_lines lines) c }
     ensures circle { (names : List (List ℕ)) (lines : List CertLine) (c : CircleCertificate) →
-        AllPairs (λ (a b : List ℕ). a ≢ b) names → (circle_reading names lines ≡ Ok c) ↔ SpellsCircle names (words_in lines) c }
+        AllPairs (λ (a b : List ℕ). a ≢ b) names → (circle_reading names lines ≡ Ok c) ↔ SpellsCircle names (words_of_lines lines) c }
     ensures run { (names : List (List ℕ)) (lines : List CertLine) (steps : List Step) →
-        AllPairs (λ (a b : List ℕ). a ≢ b) names → (run_reading names lines ≡ Ok steps) ↔ SpellsRun names (words_in lines) steps }
+        AllPairs (λ (a b : List ℕ). a ≢ b) names → (run_reading names lines ≡ Ok steps) ↔ SpellsRun names (words_of_lines lines) steps }
     ensures workqueues { (names : List (List ℕ)) (p : Partition) (lines : List CertLine) (a : Assignment) →
         AllPairs (λ (a b : List ℕ). a ≢ b) names → length names ≡ length p.group_of →
-        (workqueues_reading names p lines ≡ Ok a) ↔ SpellsWorkqueues names p (words_in lines) a }
+        (workqueues_reading names p lines ≡ Ok a) ↔ SpellsWorkqueues names p (words_of_lines lines) a }
 {}
 
 /// A text is read exactly where it keeps the limits and the words of its lines are those of an answer, of an assignment or of a
@@ -103,12 +103,12 @@ pub fn a_refusal_is_of_the_first_line_at_fault()
 pub fn the_line_of_a_workqueue_is_refused_by_its_first_row()
     ensures plan { (names : List (List ℕ)) (p : Partition) (k : ℕ) (workqueues : List (List ℕ)) (before : List CertLine)
         (line : CertLine) (after : List CertLine) (fault : CertError) → AllPairs (λ (a b : List ℕ). a ≢ b) names →
-        k ≤ 4096 → length workqueues < k → words_in before ≡ plan_line k ∷ workqueue_lines names workqueues →
+        k ≤ 4096 → length workqueues < k → words_of_lines before ≡ plan_line k ∷ workqueue_lines names workqueues →
         AreFirstWorkqueues (length names) p.group_of workqueues → BreaksWorkqueueRow names p.group_of workqueues line fault →
         plan_reading names p (before ++ (line ∷ after)) ≡ Err fault }
     ensures workqueues { (names : List (List ℕ)) (p : Partition) (workqueues : List (List ℕ)) (before : List CertLine)
         (line : CertLine) (after : List CertLine) (fault : CertError) → AllPairs (λ (a b : List ℕ). a ≢ b) names →
-        words_in before ≡ workqueue_lines names workqueues → begins_with (codes "wq") line.words ≡ true →
+        words_of_lines before ≡ workqueue_lines names workqueues → begins_with (codes "wq") line.words ≡ true →
         AreFirstWorkqueues (length names) p.group_of workqueues → BreaksWorkqueueRow names p.group_of workqueues line fault →
         workqueues_reading names p (before ++ (line ∷ after)) ≡ Err fault }
 {}
@@ -118,15 +118,15 @@ pub fn the_line_of_a_workqueue_is_refused_by_its_first_row()
 pub fn each_other_line_is_refused_by_its_first_row()
     ensures plan { (names : List (List ℕ)) (p : Partition) (form : LineForm) (before : List CertLine) (line : CertLine)
         (after : List CertLine) (fault : CertError) → AllPairs (λ (a b : List ℕ). a ≢ b) names → length names ≡ length p.group_of →
-        StandsInPlan names p (words_in before) form → BreaksLine names form line fault →
+        StandsInPlan names p (words_of_lines before) form → BreaksLine names form line fault →
         plan_reading names p (before ++ (line ∷ after)) ≡ Err fault }
     ensures circle { (names : List (List ℕ)) (form : LineForm) (before : List CertLine) (line : CertLine)
         (after : List CertLine) (fault : CertError) → AllPairs (λ (a b : List ℕ). a ≢ b) names →
-        StandsInCircle names (words_in before) form → BreaksLine names form line fault →
+        StandsInCircle names (words_of_lines before) form → BreaksLine names form line fault →
         circle_reading names (before ++ (line ∷ after)) ≡ Err fault }
     ensures run { (names : List (List ℕ)) (form : LineForm) (before : List CertLine) (line : CertLine)
         (after : List CertLine) (fault : CertError) → AllPairs (λ (a b : List ℕ). a ≢ b) names →
-        StandsInRun names (words_in before) form → BreaksLine names form line fault →
+        StandsInRun names (words_of_lines before) form → BreaksLine names form line fault →
         run_reading names (before ++ (line ∷ after)) ≡ Err fault }
 {}
 
@@ -134,13 +134,13 @@ pub fn each_other_line_is_refused_by_its_first_row()
 pub fn a_line_that_breaks_no_row_is_no_fault()
     ensures plan { (names : List (List ℕ)) (p : Partition) (form : LineForm) (before : List CertLine) (line : CertLine) →
         AllPairs (λ (a b : List ℕ). a ≢ b) names → length names ≡ length p.group_of →
-        StandsInPlan names p (words_in before) form → KeepsLine names form line →
+        StandsInPlan names p (words_of_lines before) form → KeepsLine names form line →
         NoLineIsAtFault (plan_reading names p (before ++ (line ∷ []))) }
     ensures circle { (names : List (List ℕ)) (form : LineForm) (before : List CertLine) (line : CertLine) →
-        AllPairs (λ (a b : List ℕ). a ≢ b) names → StandsInCircle names (words_in before) form →
+        AllPairs (λ (a b : List ℕ). a ≢ b) names → StandsInCircle names (words_of_lines before) form →
         KeepsLine names form line → NoLineIsAtFault (circle_reading names (before ++ (line ∷ []))) }
     ensures run { (names : List (List ℕ)) (form : LineForm) (before : List CertLine) (line : CertLine) →
-        AllPairs (λ (a b : List ℕ). a ≢ b) names → StandsInRun names (words_in before) form →
+        AllPairs (λ (a b : List ℕ). a ≢ b) names → StandsInRun names (words_of_lines before) form →
         KeepsLine names form line → NoLineIsAtFault (run_reading names (before ++ (line ∷ []))) }
 {}
 
@@ -149,17 +149,17 @@ pub fn a_line_that_breaks_no_row_is_no_fault()
 pub fn missing_items_are_answered_after_the_workqueues()
     ensures plan { (names : List (List ℕ)) (p : Partition) (workqueues : List (List ℕ)) (lines : List CertLine)
         (after : List (List (List ℕ))) → AllPairs (λ (a b : List ℕ). a ≢ b) names → length names ≡ length p.group_of →
-        words_in lines ≡ plan_line (length workqueues) ∷ (workqueue_lines names workqueues ++ after) →
+        words_of_lines lines ≡ plan_line (length workqueues) ∷ (workqueue_lines names workqueues ++ after) →
         AreFirstWorkqueues (length names) p.group_of workqueues → ¬ (AllStand (length names) workqueues) →
         plan_reading names p lines ≡ Err (NotAllItems 0) }
     ensures workqueues { (names : List (List ℕ)) (p : Partition) (workqueues : List (List ℕ)) (before after : List CertLine) →
         AllPairs (λ (a b : List ℕ). a ≢ b) names → length names ≡ length p.group_of →
-        words_in before ≡ workqueue_lines names workqueues → begins_workqueue after ≡ false →
+        words_of_lines before ≡ workqueue_lines names workqueues → begins_workqueue after ≡ false →
         AreFirstWorkqueues (length names) p.group_of workqueues → ¬ (AllStand (length names) workqueues) →
         workqueues_reading names p (before ++ after) ≡ Err (NotAllItems 0) }
     ensures other { (names : List (List ℕ)) (p : Partition) (workqueues : List (List ℕ)) (before : List CertLine)
         (line : CertLine) (after : List CertLine) → AllPairs (λ (a b : List ℕ). a ≢ b) names →
-        length names ≡ length p.group_of → words_in before ≡ workqueue_lines names workqueues →
+        length names ≡ length p.group_of → words_of_lines before ≡ workqueue_lines names workqueues →
         begins_with (codes "wq") line.words ≡ false → AreWorkqueues (length names) p.group_of workqueues →
         workqueues_reading names p (before ++ (line ∷ after)) ≡ Err (BadCertLine line.no) }
 {}

@@ -11,14 +11,12 @@ ghost use Rattle.wq_cert.specs.Reading.{count_reading, circle_count_reading, arc
 
 use crate::fault::CertError;
 use crate::form::{arc_form, count_form, number_of};
+use crate::limits::MAX_COUNT;
 use std::alloc::Allocator;
 use wq_core::Step;
 use wq_groups::LaneId;
 use wq_items::{ItemId, ItemTable};
 use wq_text::{Line, Words};
-
-/// How many workqueues, groups or arcs there may be.
-const MAX_COUNT: u32 = 4096;
 
 /// `run M`: the number, which may be any number.
 pub(crate) fn read_any_count(line: &Line<'_>) -> Result<u32, CertError>

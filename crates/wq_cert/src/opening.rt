@@ -9,14 +9,9 @@ ghost use Rattle.wq_cert.specs.Texts.{max_certificate, max_certificate_line, tex
 ghost use Rattle.wq_cert.specs.declared.fault.CertError.TheVariants.{OutOfMemory};
 
 use crate::fault::CertError;
+use crate::limits::{MAX_CERTIFICATE, MAX_CERTIFICATE_LINE};
 use crate::view::CertView;
 use wq_text::{Text, TextError};
-
-/// How many bytes a certificate may have.
-const MAX_CERTIFICATE: u32 = 8_388_608;
-
-/// How many bytes a line of it may have.
-const MAX_CERTIFICATE_LINE: u32 = 524_288;
 
 /// Opens a text as its lines that hold a word. The error is `BadCertLine` (40), with line 0 for a text that is too long, or else
 /// with the first line that is too long.

@@ -15,12 +15,9 @@ ghost use Rattle.wq_cert.specs.Texts.{IsCertFaultOf};
 use crate::fault::CertError;
 use crate::form::wq_form;
 use std::alloc::{AllocError, Allocator};
-use wq_groups::{Assignment, Groups, LaneId};
+use wq_groups::{Assignment, Groups, LaneId, MAX_ASSIGNED_LANES};
 use wq_items::{ItemId, ItemTable};
 use wq_text::Line;
-
-/// How many workqueues there may be.
-const MAX_LANES: u16 = 4096;
 
 /// What is known of the workqueues that were read so far.
 #[derive(Drop)]
@@ -46,7 +43,7 @@ fn read_items<A: Allocator + Copy>(
     let Some((number, items)) = wq_form(alloc, table, line.words())? else {
         return Err(CertError::BadCertLine { line: line.no() });
     };
-    if number != u32::from(place) || place >= MAX_LANES {
+    if number != u32::from(place) || place >= MAX_ASSIGNED_LANES {
         return Err(CertError::NumberOutOfRange { line: line.no() });
     }
     Ok(items)

@@ -210,7 +210,7 @@ module _ (s : Declared) (sound : IsSound s) where
       } in
       let along = IsChainAlong-good d is said (IsAsked-read s (text_of_plan s a) (OfPlan said) sound read) good in
       record {
-        kept = record { assignment = a; arcs = arcs; text = refl; least = least; chain = along.0; leads = LeadThrough-along d arcs along.0 along.1; long = along.2 };
+        kept = record { assignment = a; arcs = arcs; text = refl; least = least; groups = along.0; leads = LeadThrough-along d arcs along.0 along.1; long = along.2 };
         plan = record { assignment = a; length = a.lanes; arcs = arcs };
         is_plan = refl;
         limits = spells.0;
@@ -326,7 +326,7 @@ module _ (s : Declared) (sound : IsSound s) (out : List ℕ) where
           falls = shown.falls;
           long = said ∙ sym of_kept;
           has_group = λ lacks. absurd (omega (arith, shown.is_chain.within 0 0 (omega (arith, shown.kept.long, said, lacks.0)), lacks.1));
-          joined = AllJoin-along (declared_waits s) shown.plan.arcs shown.kept.chain shown.is_chain;
+          joined = AllJoin-along (declared_waits s) shown.plan.arcs shown.kept.groups shown.is_chain;
         };
       }
 

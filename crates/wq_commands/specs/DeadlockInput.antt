@@ -5,12 +5,12 @@ use Rattle.wq_cert.specs.Texts.{max_certificate}
 use Rattle.wq_commands.specs.declared.end.End.{End}
 use Rattle.wq_commands.specs.Deadlocking.{Judges}
 use Rattle.wq_commands.specs.Declaration.{max_declaration}
-use Rattle.wq_meter.specs.Input.{Gives}
+use Rattle.wq_meter.specs.Input.{GivesText}
 
 -- this is the verdict on the declaration and the assignment that two readers had
 pub record JudgesInput {D S : Type 0} (known : D → Option (List ℕ)) (assigned : S → Option (List ℕ)) (old new : Meter D) (a_old a_new : Meter S) (end : End) (out : List ℕ) : Type 0 where
   pub text : List ℕ
-  pub declaration : Gives known old new max_declaration text
+  pub declaration : GivesText known old new max_declaration text
   pub lanes : List ℕ
-  pub assignment : Gives assigned a_old a_new max_certificate lanes
+  pub assignment : GivesText assigned a_old a_new max_certificate lanes
   pub answer : Judges text lanes end out

@@ -54,7 +54,8 @@ add_item t names =
     if list_any (is_item t.names) names || nat_le max_items (length t.names) then None
     else Some (record { names = t.names ++ names; waits = t.waits ++ ([] ∷ []) })
 
--- the items, where the first of these flushes the others too, or their whole workqueues, unless that makes too many flushes
+-- the items, of which the first that is listed now flushes the rest of the list, or their whole workqueues, unless that makes too
+-- many flushes
 abbrev pub add_flushes : Items → Bool → List ℕ → Option Items
 add_flushes t whole [] = Some t
 add_flushes t whole (i ∷ items) =
@@ -109,11 +110,11 @@ pub record Named : Type 0 where
 -- the items with the groups that these lines put them in
 abbrev pub in_groups : List (List (List ℕ)) → Items → Named
 in_groups lines t =
-    let of = map (group_with lines t.names) t.names in
-    record { names = t.names; declared = record { waits = t.waits; group_of = of; groups = length (first_items lines t.names) } }
+    let each = map (group_with lines t.names) t.names in
+    record { names = t.names; declared = record { waits = t.waits; group_of = each; groups = length (first_items lines t.names) } }
 
--- the words of each line of a text. By the library's `lines` each line feed ends a line, without one CR directly before it, and
--- bytes after the last line feed, if there are any, are a line as they are
+-- the words of each line of a text. By the library's `lines` each line feed ends a line, which leaves out one CR directly before
+-- it; bytes after the last line feed, if there are any, are a line as they are
 abbrev pub words_by_line : List ℕ → List (List (List ℕ))
 words_by_line text = map words_in (lines text)
 
@@ -123,7 +124,7 @@ is_in_form text =
     (nat_le (length text) max_declaration && list_all (λ line. nat_le (length line) max_declaration_line) (lines text))
     && (list_all is_read (lines text) && not (has_twin (flat_map ordered_on (words_by_line text))))
 
--- what a text declares, if it is a declaration
+-- what a text declares, unless it is refused
 abbrev pub declared_in : List ℕ → Option Named
 declared_in text =
     if is_in_form text then option_map (in_groups (words_by_line text)) (after_lines (record { names = []; waits = [] }) (words_by_line text)) else None

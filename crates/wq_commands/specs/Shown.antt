@@ -25,7 +25,7 @@ pub record ShowsPlan (s : Declared) (out : List ℕ) : Type 0 where
   pub limits : KeepsLimits out
   pub spelled : SpellsPlan s.table.names s.partition (words_of_text out) plan
   pub falls : AllFall (declared_waits s) plan.assignment
-  pub is_chain : IsChainAlong (declared_waits s) plan.arcs kept.chain
+  pub is_chain : IsChainAlong (declared_waits s) plan.arcs kept.groups
 
 -- the bytes keep what is promised of a circle. They are the text of its arcs with a run after them, and spell both, within the
 -- limits of a certificate; the groups along the arcs wait for each other in a circle; and the run deadlocks where each group has

@@ -20,11 +20,11 @@ use wq_groups::{GroupError, Groups};
 use wq_items::{ItemError, ItemId, ItemTable, read_at_once};
 use wq_text::{Text, TextError};
 
-/// How many bytes a declaration may have.
+/// How many bytes a declaration may have: 1 MiB.
 pub const MAX_DECLARATION: u32 = 1_048_576;
 
-/// How many bytes a line of it may have, without its line feed and a carriage return before that.
-const MAX_DECLARATION_LINE: u32 = 4096;
+/// How many bytes a line of it may have, without its line feed and a carriage return before that: 4 KiB.
+pub const MAX_DECLARATION_LINE: u32 = 4096;
 
 /// What a text declares: its items with their flushes, and their groups.
 #[derive(Drop)]

@@ -2,7 +2,7 @@
 //! for each other kind of answer. Every call takes constant time.
 ghost use Rattle.std.specs.Prelude.{◌≡◌};
 
-/// How a run that met no fault ends.
+/// How the program ends, if it met no fault.
 #[derive(Clone, Copy, Debug, PartialEq, Eq)]
 pub enum End {
     /// The input was understood, and the answer is yes.

@@ -96,7 +96,7 @@ pub fn a_long_text_is_refused_by_its_prefix()
 
 /// The text of a plan has at most 8,388,608 bytes, and no line of it has more than 524,288, so whoever reads it back can
 /// set limits.
-pub fn a_plan_text_is_within_the_limits()
+pub fn a_printed_plan_is_within_the_limits()
     ensures text { (text : List ℕ) (s : Declared) (a : Assignment) → declaration text ≡ Ok s → IsPlan (declared_waits s) a →
         length (text_of_plan s a) ≤ 8388608 }
     ensures lines { (text : List ℕ) (s : Declared) (a : Assignment) → declaration text ≡ Ok s → IsPlan (declared_waits s) a →
@@ -104,7 +104,7 @@ pub fn a_plan_text_is_within_the_limits()
 {}
 
 /// The text of a circle with its run is within the same limits: there are at most 4,096 arcs and 45,056 steps.
-pub fn a_circle_text_is_within_the_limits()
+pub fn a_printed_circle_is_within_the_limits()
     ensures few { (text : List ℕ) (s : Declared) (circle : List WaitArc) (steps : List Step) → declaration text ≡ Ok s →
         IsWalkedCircle (group_graph (declared_waits s)) circle →
         IsCircleRun (wiring (declared_waits s) (own_lanes s.partition.groups)) circle steps →

@@ -26,7 +26,7 @@ mod why;
 pub use answer::text_of_circle;
 pub use check::{CheckCommand, check_cmd};
 pub use deadlock::{DeadlockCommand, deadlock_cmd};
-pub use declaration::{Declaration, MAX_DECLARATION, Stop, read_declaration};
+pub use declaration::{Declaration, MAX_DECLARATION, MAX_DECLARATION_LINE, Stop, read_declaration};
 pub use end::End;
 pub use judging::safe_text;
 pub use limits::{ONE_TEXT, THREE_TEXTS, TWO_TEXTS};

@@ -1,10 +1,8 @@
 //! Which texts the commands have, and how long these may be.
 
 use crate::declaration::MAX_DECLARATION;
+use wq_cert::MAX_CERTIFICATE;
 use wq_meter::Limits;
-
-/// How many bytes a certificate, an assignment or a run may have: 8 MiB.
-const MAX_CERTIFICATE: u32 = 8_388_608;
 
 /// A declaration.
 pub const ONE_TEXT: Limits = Limits {

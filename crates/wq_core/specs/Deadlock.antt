@@ -13,8 +13,8 @@ pub record IsStuck (w : Wiring) (s : State) : Type 0 where
   pub left : HasUnfinished s
   pub no_step : (step : Step) → IsForcedStep step → ¬ Lawful w s step
 
--- whatever the number of helpers, no run ends stuck. This says something about an assignment only if the lane of each item is one
--- of the lanes (`IsWiring`)
+-- with 0 to 8 helpers of each lane, no run ends stuck. This says something about an assignment only if each item is on one of the
+-- lanes, which has to be said beside it (`IsLeast` says it by `IsAssignment`)
 abbrev pub IsSafe : Wiring → Type 0
 IsSafe w = (n : ℕ) → n ≤ max_helpers →
     (steps : List Step) → IsRun (with_helpers w n) steps → ¬ IsStuck (with_helpers w n) (end_of (with_helpers w n) steps)
@@ -27,7 +27,7 @@ pub record DeadlocksBy (w : Wiring) (steps : List Step) : Type 0 where
   pub no_help : HasNoHelp steps
   pub stuck : IsStuck w (end_of w steps)
 
--- some run deadlocks in this way, whatever the number of helpers
+-- one run deadlocks in this way, the same under each number of helpers
 abbrev pub Deadlocks : Wiring → Type 0
 Deadlocks w = (steps : List Step) × ((n : ℕ) → n ≤ max_helpers → DeadlocksBy (with_helpers w n) steps)
 

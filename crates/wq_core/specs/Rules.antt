@@ -13,14 +13,14 @@ use Rattle.wq_core.specs.State.{Lane, State, lane_at, with_lane, run_by, with_ru
 
 -- ---- what one context may do with what it runs
 
--- it may begin to wait for item b, or for the whole lane of b: it isn't waiting, its item declares such a flush, and it has made
--- fewer waits than its item declares
+-- what runs may begin to wait for item b, or for the whole lane of b: it isn't waiting, its item declares such a flush, and it has
+-- made fewer waits than its item declares
 pub record MayWait (w : Wiring) (whole : Bool) (b : ℕ) (r : Running) : Type 0 where
   pub awake : r.waiting ≡ None
   pub declared : ItemWaitsBy w.waits whole r.entry.item b
   pub fewer : r.made < length (declared_by w r.entry.item)
 
--- what a wait with this mark is for isn't done: an unfinished entry of item b, or, for a wait for the whole lane of b, any
+-- a wait with this mark isn't over yet: an unfinished entry of item b, or, for a wait for the whole lane of b, any
 -- unfinished entry of that lane, has a number below the mark
 abbrev pub IsHeldBack : Wiring → State → Bool → ℕ → ℕ → Type 0
 IsHeldBack w s false b mark = HasUnfinishedBelow s b mark
@@ -35,7 +35,7 @@ pub record IsHolder (w : Wiring) (s : State) (whole : Bool) (b mark i : ℕ) : T
   pub below : entry.number < mark
   pub itself : whole ≡ false → i ≡ b
 
--- its wait of this kind for item b is over: nothing holds it back
+-- the wait of what runs, of this kind for item b, is over: nothing holds it back
 pub record MayBeOver (w : Wiring) (s : State) (whole : Bool) (b : ℕ) (r : Running) : Type 0 where
   pub flush : Waiting
   pub waits : r.waiting ≡ Some flush
@@ -43,7 +43,7 @@ pub record MayBeOver (w : Wiring) (s : State) (whole : Bool) (b : ℕ) (r : Runn
   pub target : flush.target ≡ b
   pub done : ¬ IsHeldBack w s whole b flush.mark
 
--- it may finish the entry of item i: it isn't waiting
+-- what runs may finish, an entry of item i: it isn't waiting
 pub record MayFinish (i : ℕ) (r : Running) : Type 0 where
   pub entry : r.entry.item ≡ i
   pub awake : r.waiting ≡ None
@@ -148,7 +148,7 @@ begun e = record { entry = e; made = 0; waiting = None }
 abbrev pub with_started : ℕ → ℕ → Lane → Lane
 with_started c i lane = with_run_by (with_cancelled i lane) c (option_map begun (pending_of lane i))
 
--- it waits so for item b with this mark, and has made one more wait
+-- it waits for item b in this way, with this mark, and has made one more wait
 abbrev pub waiting_for : Bool → ℕ → ℕ → Running → Running
 waiting_for whole b mark r = record r { made = r.made + 1; waiting = Some (record { target = b; whole = whole; mark = mark }) }
 
@@ -156,7 +156,7 @@ waiting_for whole b mark r = record r { made = r.made + 1; waiting = Some (recor
 abbrev pub going_on : Running → Running
 going_on r = record r { waiting = None }
 
--- what context c runs waits so for item b with this mark
+-- what context c runs waits for item b in this way, with this mark
 abbrev pub with_wait : ℕ → Bool → ℕ → ℕ → Lane → Lane
 with_wait c whole b mark lane = with_run_by lane c (option_map (waiting_for whole b mark) (run_by lane c))
 

@@ -53,8 +53,7 @@ abbrev pub GoesOn : HelpStep → Type 0
 GoesOn (DoStart i) = ⊥
 GoesOn _ = ⊤
 
--- a step that doesn't hang on what is queued or cancelled, or on what helpers take: any but a queueing, a cancellation and a
--- helper's start
+-- any step but a queueing, a cancellation and a helper's start: what goes on though nobody queues or cancels, and no helper comes
 abbrev pub IsForcedStep : Step → Type 0
 IsForcedStep (Queue i) = ⊥
 IsForcedStep (Cancel i) = ⊥
@@ -63,13 +62,13 @@ IsForcedStep _ = ⊤
 
 -- ---- executions that flush as declared
 
--- the next target that what context c of lane q runs declares is item b, and it is of this kind
+-- context c of lane q runs an item whose next declared target is item b, of this kind
 abbrev pub IsNextWait : Wiring → State → ℕ → ℕ → Bool → ℕ → Type 0
 IsNextWait w s q c whole b = (r : Running) × RunsIn (lane_at s q) c r
     × ((t : Target) × (slice_get (declared_by w r.entry.item) r.made ≡ Some t) × (t.item ≡ b) × (t.whole ≡ whole))
 
--- what context c of lane q does keeps to the order of the declaration: its next wait is for the next declared target, of the kind
--- that is declared there, and it finishes after the last
+-- this deed of context c of lane q is in the declared order: its next wait is for the next declared target, of the kind that is
+-- declared there, and it finishes after the last
 abbrev pub KeepsOrderIn : Wiring → State → ℕ → ℕ → HelpStep → Type 0
 KeepsOrderIn w s q c (DoWait b) = IsNextWait w s q c false b
 KeepsOrderIn w s q c (DoWaitAll b) = IsNextWait w s q c true b

@@ -5,14 +5,14 @@ use Rattle.wq_core.specs.declared.entry.Entry.{Entry}
 use Rattle.wq_core.specs.declared.entry.Running.{Running}
 use Rattle.wq_core.specs.Wiring.{Wiring, max_helpers}
 
--- the entries that are pending on a lane, the next one first; what its rescuer runs; and what each of its helpers runs, helper 1
+-- the entries that are pending on a lane, the oldest first; what its rescuer runs; and what each of its helpers runs, helper 1
 -- first. There is a place for each helper that a lane may have
 pub record Lane : Type 0 where
   pub pending : List Entry
   pub running : Option Running
   pub helping : List (Option Running)
 
--- the number that the next accepted queueing gets, and the lanes in turn
+-- the number that the next queueing gets, and the lanes in turn
 pub record State : Type 0 where
   pub next : ℕ
   pub lanes : List Lane

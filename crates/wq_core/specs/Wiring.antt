@@ -7,7 +7,7 @@ use Rattle.wq_groups.specs.Declaration.{Declaration}
 use Rattle.wq_groups.specs.Assignment.{Assignment, group_lane, item_lanes}
 
 -- for each item in turn, the targets of its flushes and its lane; how many lanes there are, and which of them run one item at a
--- time; and how many helpers each other lane has. A lane is a workqueue, whose contexts are its rescuer and its helpers
+-- time; and how many helpers each other lane has. The contexts of a lane are its rescuer and its helpers
 pub record Wiring : Type 0 where
   pub waits : List (List Target)
   pub lane_of_item : List ℕ
@@ -19,11 +19,11 @@ pub record Wiring : Type 0 where
 abbrev pub max_helpers : ℕ
 max_helpers = 8
 
--- a group of two or more items is on lane q, if these are the groups of the items, and there are this many
+-- a group of two or more items is on lane q: the items have these groups, of which there are so many
 abbrev pub is_ordered_lane : Assignment → List ℕ → ℕ → ℕ → Bool
 is_ordered_lane a group_of groups q = list_any (λ g. (group_lane a g == q) && nat_lt 1 (length (items_at group_of g))) (range_with_len 0 groups)
 
--- each item on the lane of its group. A lane that holds a group of two or more items is ordered, and there are no helpers
+-- each item on the lane of its group. A lane that holds a group of two or more items is ordered. No lane has a helper yet
 abbrev pub wiring : Declaration → Assignment → Wiring
 wiring d a = record {
   waits = d.waits;

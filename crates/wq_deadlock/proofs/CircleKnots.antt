@@ -14,7 +14,7 @@ use Rattle.wq_levels.specs.Walks.{LeadsRound}
 use Rattle.wq_levels.proofs.OneCircle.{some_length}
 use Rattle.wq_core.specs.Wiring.{Wiring, wiring, lane_of}
 use Rattle.wq_core.specs.Knot.{HasLane, WaitsAmong, IsKnot}
-use Rattle.wq_deadlock.specs.CircleRun.{first_items}
+use Rattle.wq_deadlock.specs.CircleRun.{flushing_items}
 
 module _ (d : Declaration) (a : Assignment) (declaration : IsDeclaration d) (assignment : IsAssignment d.groups a) (circle : List WaitArc) (round : LeadsRound (lane_graph d a) circle) where
   abbrev w : Wiring
@@ -34,36 +34,36 @@ module _ (d : Declaration) (a : Assignment) (declaration : IsDeclaration d) (ass
       All-contains (λ (b : WaitArc). IsArc d.waits (item_lanes a d.group_of) b × (slice_index (item_lanes a d.group_of) b.src ≡ slice_index round.left k))
       (arcs_at (lane_graph d a) (slice_index round.left k)) (arc k) (AreArcsFrom-lane_graph d a declaration assignment (slice_index round.left k)).declared (round.leaves k no_arc lt)
 
-  size : length (first_items circle) ≡ length circle
+  size : length (flushing_items circle) ≡ length circle
   size = length-map circle (λ (b : WaitArc). b.src)
 
-  first_item : (k e : ℕ) → k < length circle → get_or (first_items circle) k e ≡ (arc k).src
+  first_item : (k e : ℕ) → k < length circle → get_or (flushing_items circle) k e ≡ (arc k).src
   first_item k e lt = get_or-map (λ (b : WaitArc). b.src) circle k no_arc e lt
 
   -- each lane of the circle has its first item
-  HasLane-left : (k : ℕ) → k < length circle → HasLane w (first_items circle) (slice_index round.left k)
+  HasLane-left : (k : ℕ) → k < length circle → HasLane w (flushing_items circle) (slice_index round.left k)
   HasLane-left k lt = (k, (arc k).src, omega (arith, size), first_item k (arc k).src lt, (arc_leaves k lt).1)
 
   -- an arc leads to a lane of the circle
-  HasLane-head : (k : ℕ) → k < length circle → HasLane w (first_items circle) (arc k).head
+  HasLane-head : (k : ℕ) → k < length circle → HasLane w (flushing_items circle) (arc k).head
   HasLane-head k lt = elim (cases_lt (k + 1) (length circle)) [
-    | inl before ↦ subst (λ (q : ℕ). HasLane w (first_items circle) q) (sym (round.joined k no_arc before)) (HasLane-left (k + 1) before)
+    | inl before ↦ subst (λ (q : ℕ). HasLane w (flushing_items circle) q) (sym (round.joined k no_arc before)) (HasLane-left (k + 1) before)
     | inr last ↦ (
         let at : length circle - 1 ≡ k = omega arith in
         let closes : (arc k).head ≡ slice_index round.left 0 = subst (λ (m : ℕ). (arc m).head ≡ slice_index round.left 0) at (round.closes no_arc) in
-        subst (λ (q : ℕ). HasLane w (first_items circle) q) (sym closes) (HasLane-left 0 (omega arith))
+        subst (λ (q : ℕ). HasLane w (flushing_items circle) q) (sym closes) (HasLane-left 0 (omega arith))
         )
   ]
 
-  WaitsAmong-arc : (k : ℕ) → k < length circle → WaitsAmong w (first_items circle) (arc k).src
+  WaitsAmong-arc : (k : ℕ) → k < length circle → WaitsAmong w (flushing_items circle) (arc k).src
   WaitsAmong-arc k lt =
       let is = (arc_leaves k lt).0 in
       let t : Target = is.declared.1 in
       let lane : (arc k).head ≡ lane_of w t.item = is.head ∙ ap (lane_of w) (sym is.declared.4.0) in
-      (is.declared.0, t, is.declared.2, is.declared.3, subst (λ (q : ℕ). HasLane w (first_items circle) q) lane (HasLane-head k lt))
+      (is.declared.0, t, is.declared.2, is.declared.3, subst (λ (q : ℕ). HasLane w (flushing_items circle) q) lane (HasLane-head k lt))
 
-  pub IsKnot-first_items : IsKnot w (first_items circle)
-  IsKnot-first_items = record {
+  pub IsKnot-flushing_items : IsKnot w (flushing_items circle)
+  IsKnot-flushing_items = record {
     some = omega (arith, size, some_length circle round.some);
     apart = λ i j e lt within same.
         let last : j < length circle = omega (arith, size) in
@@ -73,5 +73,5 @@ module _ (d : Declaration) (a : Assignment) (declaration : IsDeclaration d) (ass
         round.once i j 0 lt (omega (arith, round.one_each)) left;
     held = λ k e lt.
         let within : k < length circle = omega (arith, size) in
-        subst (λ (i : ℕ). WaitsAmong w (first_items circle) i) (sym (first_item k e within)) (WaitsAmong-arc k within);
+        subst (λ (i : ℕ). WaitsAmong w (flushing_items circle) i) (sym (first_item k e within)) (WaitsAmong-arc k within);
   }

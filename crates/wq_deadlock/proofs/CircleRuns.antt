@@ -16,8 +16,8 @@ use Rattle.wq_core.proofs.KnotRuns.{DeadlocksBy-knot, IsRun-queue_order}
 use Rattle.wq_core.proofs.Playing.{IsPlayedFrom-exists}
 use Rattle.wq_core.proofs.Sound.{IsSoundState-end_of}
 use Rattle.wq_core.proofs.Wirings.{IsWiring-wiring}
-use Rattle.wq_deadlock.specs.CircleRun.{first_items, IsCircleRun}
-use Rattle.wq_deadlock.proofs.CircleKnots.{IsKnot-first_items}
+use Rattle.wq_deadlock.specs.CircleRun.{flushing_items, IsCircleRun}
+use Rattle.wq_deadlock.proofs.CircleKnots.{IsKnot-flushing_items}
 
 module _ (d : Declaration) (a : Assignment) (declaration : IsDeclaration d) (assignment : IsAssignment d.groups a) (circle : List WaitArc) (walked : IsWalkedCircle (lane_graph d a) circle) where
   abbrev w : Wiring
@@ -26,19 +26,19 @@ module _ (d : Declaration) (a : Assignment) (declaration : IsDeclaration d) (ass
   sound : IsWiring w
   sound = IsWiring-wiring d a declaration assignment
 
-  knot : IsKnot w (first_items circle)
-  knot = IsKnot-first_items d a declaration assignment circle (LeadsRound-walked (lane_graph d a) circle walked)
+  knot : IsKnot w (flushing_items circle)
+  knot = IsKnot-flushing_items d a declaration assignment circle (LeadsRound-walked (lane_graph d a) circle walked)
 
   -- its first items can be queued first, and then all others
-  pub IsRun-first_items : IsRun w (queue_order w (first_items circle))
-  IsRun-first_items = IsRun-queue_order w (first_items circle) sound knot
+  pub IsRun-flushing_items : IsRun w (queue_order w (flushing_items circle))
+  IsRun-flushing_items = IsRun-queue_order w (flushing_items circle) sound knot
 
   pub IsCircleRun-exists : (steps : List Step) × IsCircleRun w circle steps
   IsCircleRun-exists =
-      let start = queue_order w (first_items circle) in
-      let played = IsPlayedFrom-exists w (end_of w start) (IsSoundState-end_of w start IsRun-first_items) in
+      let start = queue_order w (flushing_items circle) in
+      let played = IsPlayedFrom-exists w (end_of w start) (IsSoundState-end_of w start IsRun-flushing_items) in
       (start ++ played.0, record { played = played.0; is_played = played.1; all = refl })
 
   pub DeadlocksBy-circle_run : (steps : List Step) → IsCircleRun w circle steps → DeadlocksBy w steps
   DeadlocksBy-circle_run steps is_run =
-      subst (λ (all : List Step). DeadlocksBy w all) (sym is_run.all) (DeadlocksBy-knot w (first_items circle) is_run.played sound knot is_run.is_played)
+      subst (λ (all : List Step). DeadlocksBy w all) (sym is_run.all) (DeadlocksBy-knot w (flushing_items circle) is_run.played sound knot is_run.is_played)

@@ -16,7 +16,7 @@ use Rattle.wq_core.proofs.DeclaredSteps.{IsDeclaredStep-over}
 use Rattle.wq_core.proofs.LaneLemmas.{Contains-nil}
 use Rattle.wq_core.proofs.Machines.{running-item}
 use Rattle.smallvec.specs.SmallVec.{SmallVec}
-use Rattle.wq_deadlock.specs.Stuck.{StuckLanes, Awaits, IsHeldBackBy, IsKnown, IsAfter, IsReleased, waiting_for, with_waiting, with_stuck}
+use Rattle.wq_deadlock.specs.Stuck.{StuckLanes, Awaits, IsHeldBackBy, IsKnown, IsAfter, IsReleased, held_back_by, with_waiting, with_stuck}
 use Rattle.wq_deadlock.proofs.Kept.{LeavesItem, IsHolder-step, lane_at-other, HasNoDeclaredStep-other}
 
 -- ---- lanes that are forgotten
@@ -65,7 +65,7 @@ pub record KnowsStuck (w : Wiring) (s : State) (stuck : StuckLanes) : Type 0 whe
   pub each_lane : length stuck.known ≡ w.lanes
   pub each_item : length stuck.waiting ≡ items w
   pub still : (q : ℕ) → IsKnown stuck q → HasNoDeclaredStep w s q
-  pub listed : (q : ℕ) (f : Waiting) → IsKnown stuck q → Awaits s q f → (i : ℕ) × IsHolder w s f.whole f.target f.mark i × Contains (waiting_for stuck i) q
+  pub listed : (q : ℕ) (f : Waiting) → IsKnown stuck q → Awaits s q f → (i : ℕ) × IsHolder w s f.whole f.target f.mark i × Contains (held_back_by stuck i) q
 
 none_known : (n q : ℕ) → get_or (replicate n false) q false ≡ false
 none_known zero q = refl
@@ -91,21 +91,21 @@ module _ (w : Wiring) (s : State) (stuck : StuckLanes) (q : ℕ) (holder : Optio
 
   length_waiting : (o : Option ℕ) → length (with_waiting stuck.waiting q o) ≡ length stuck.waiting
   length_waiting None = refl
-  length_waiting (Some i) = length-set stuck.waiting i (waiting_for stuck i ++ (q ∷ []))
+  length_waiting (Some i) = length-set stuck.waiting i (held_back_by stuck i ++ (q ∷ []))
 
   -- the list of an item that is found to hold back the lane
-  own_list : (i : ℕ) → i < length stuck.waiting → get_or (with_waiting stuck.waiting q (Some i)) i [] ≡ waiting_for stuck i ++ (q ∷ [])
-  own_list i within = get_or-set_same stuck.waiting i (waiting_for stuck i ++ (q ∷ [])) [] within
+  own_list : (i : ℕ) → i < length stuck.waiting → get_or (with_waiting stuck.waiting q (Some i)) i [] ≡ held_back_by stuck i ++ (q ∷ [])
+  own_list i within = get_or-set_same stuck.waiting i (held_back_by stuck i ++ (q ∷ [])) [] within
 
-  stays_listed : (o : Option ℕ) → IfSome o (λ j. j < length stuck.waiting) → (i p : ℕ) → Contains (waiting_for stuck i) p → Contains (get_or (with_waiting stuck.waiting q o) i []) p
+  stays_listed : (o : Option ℕ) → IfSome o (λ j. j < length stuck.waiting) → (i p : ℕ) → Contains (held_back_by stuck i) p → Contains (get_or (with_waiting stuck.waiting q o) i []) p
   stays_listed None within i p there = there
   stays_listed (Some j) within i p there = elim (cases_eq i j) [
     | inl same ↦ (
-        let here : Contains (waiting_for stuck j) p = subst (λ (k : ℕ). Contains (waiting_for stuck k) p) same there in
-        let longer : Contains (get_or (with_waiting stuck.waiting q (Some j)) j []) p = subst (λ (l : List ℕ). Contains l p) (sym (own_list j within)) (Contains-append_left (waiting_for stuck j) (q ∷ []) p here) in
+        let here : Contains (held_back_by stuck j) p = subst (λ (k : ℕ). Contains (held_back_by stuck k) p) same there in
+        let longer : Contains (get_or (with_waiting stuck.waiting q (Some j)) j []) p = subst (λ (l : List ℕ). Contains l p) (sym (own_list j within)) (Contains-append_left (held_back_by stuck j) (q ∷ []) p here) in
         subst (λ (k : ℕ). Contains (get_or (with_waiting stuck.waiting q (Some j)) k []) p) (sym same) longer
         )
-    | inr other ↦ subst (λ (l : List ℕ). Contains l p) (sym (get_or-set_other stuck.waiting j i (waiting_for stuck j ++ (q ∷ [])) [] other)) there
+    | inr other ↦ subst (λ (l : List ℕ). Contains l p) (sym (get_or-set_other stuck.waiting j i (held_back_by stuck j ++ (q ∷ [])) [] other)) there
   ]
 
   pub KnowsStuck-noted : HasNoDeclaredStep w s q → IfSome holder (λ i. i < items w) → ((f : Waiting) → Awaits s q f → IsHeldBackBy w s f holder) → KnowsStuck w s (with_stuck stuck q holder)
@@ -126,15 +126,15 @@ module _ (w : Wiring) (s : State) (stuck : StuckLanes) (q : ℕ) (holder : Optio
       found : (o : Option ℕ) → IfSome o (λ j. j < length stuck.waiting) → (f : Waiting) → Awaits s q f → IsHeldBackBy w s f o
           → (i : ℕ) × IsHolder w s f.whole f.target f.mark i × Contains (get_or (with_waiting stuck.waiting q o) i []) q
       found None fits f awaits done = absurd (none (over_of f.whole q f.target) (IsDeclaredStep-over w s q awaits.0 awaits.1 f awaits.2 done))
-      found (Some i) fits f awaits is = (i, is, subst (λ (l : List ℕ). Contains l q) (sym (own_list i fits)) (Contains-push (waiting_for stuck i) q))
+      found (Some i) fits f awaits is = (i, is, subst (λ (l : List ℕ). Contains l q) (sym (own_list i fits)) (Contains-push (held_back_by stuck i) q))
 
       listed : (p : ℕ) (f : Waiting) → IsKnown (with_stuck stuck q holder) p → Awaits s p f
-          → (i : ℕ) × IsHolder w s f.whole f.target f.mark i × Contains (waiting_for (with_stuck stuck q holder) i) p
+          → (i : ℕ) × IsHolder w s f.whole f.target f.mark i × Contains (held_back_by (with_stuck stuck q holder) i) p
       listed p f is awaits = elim (cases_eq p q) [
         | inl same ↦ (
             let here : Awaits s q f = subst (λ (k : ℕ). Awaits s k f) same awaits in
             let at = found holder within f here (held f here) in
-            (at.0, at.1, subst (λ (k : ℕ). Contains (waiting_for (with_stuck stuck q holder) at.0) k) (sym same) at.2)
+            (at.0, at.1, subst (λ (k : ℕ). Contains (held_back_by (with_stuck stuck q holder) at.0) k) (sym same) at.2)
             )
         | inr other ↦ (let at = knows.listed p f (known_before p other is) awaits in (at.0, at.1, stays_listed holder within at.0 p at.2))
       ]
@@ -148,7 +148,7 @@ module _ (w : Wiring) (s : State) (q : ℕ) (step : Step) (stuck : StuckLanes) (
 
   -- a lane stays known only where no item that lists it is finished, and then it stays listed
   KnowsStuck-moved : (new : StuckLanes) → length new.known ≡ length stuck.known → length new.waiting ≡ length stuck.waiting → ((p : ℕ) → IsKnown new p → IsKnown stuck p)
-      → ((p i : ℕ) → IsKnown new p → Contains (waiting_for stuck i) p → LeavesItem q step i × Contains (waiting_for new i) p) → KnowsStuck w (effect w s step) new
+      → ((p i : ℕ) → IsKnown new p → Contains (held_back_by stuck i) p → LeavesItem q step i × Contains (held_back_by new i) p) → KnowsStuck w (effect w s step) new
   KnowsStuck-moved new lanes lists before lists_it = record {
     each_lane = lanes ∙ knows.each_lane;
     each_item = lists ∙ knows.each_item;
@@ -159,7 +159,7 @@ module _ (w : Wiring) (s : State) (q : ℕ) (step : Step) (stuck : StuckLanes) (
         (at.0, IsHolder-step w s q step sound is f.whole f.target f.mark at.0 at.2 at.1, at.3);
   }
     where
-      held : (p : ℕ) (f : Waiting) → IsKnown new p → Awaits s p f → (i : ℕ) × IsHolder w s f.whole f.target f.mark i × LeavesItem q step i × Contains (waiting_for new i) p
+      held : (p : ℕ) (f : Waiting) → IsKnown new p → Awaits s p f → (i : ℕ) × IsHolder w s f.whole f.target f.mark i × LeavesItem q step i × Contains (held_back_by new i) p
       held p f known awaits =
           let at = knows.listed p f (before p known) awaits in
           let kept = lists_it p at.0 known at.2 in
@@ -174,8 +174,8 @@ module _ (w : Wiring) (s : State) (q : ℕ) (step : Step) (stuck : StuckLanes) (
   KnowsStuck-released i new only released size =
       KnowsStuck-moved new size (ap length released.waiting ∙ length-set stuck.waiting i []) (λ p known. (released.known p known).0)
       (λ p k known there.
-      let other : k ≢ i = λ same. (released.known p known).1 (subst (λ (n : ℕ). Contains (waiting_for stuck n) p) same there) in
-      let at : get_or new.waiting k [] ≡ waiting_for stuck k = ap (λ (l : List (List ℕ)). get_or l k []) released.waiting ∙ get_or-set_other stuck.waiting i k [] [] other in
+      let other : k ≢ i = λ same. (released.known p known).1 (subst (λ (n : ℕ). Contains (held_back_by stuck n) p) same there) in
+      let at : get_or new.waiting k [] ≡ held_back_by stuck k = ap (λ (l : List (List ℕ)). get_or l k []) released.waiting ∙ get_or-set_other stuck.waiting i k [] [] other in
       ((λ j made same. other (same ∙ sym (only j made))), subst (λ (l : List ℕ). Contains l p) (sym at) there))
 
 pub KnowsStuck-step : (w : Wiring) (s : State) (q : ℕ) (step : Step) (stuck new : StuckLanes) → KnowsStuck w s stuck → IsSoundState w s → IsDeclaredStep w s q step → IsAfter stuck step new → length new.known ≡ length stuck.known

@@ -9,7 +9,7 @@ use Rattle.wq_core.specs.Rules.{effect}
 use Rattle.wq_core.specs.Runs.{end_of}
 use Rattle.wq_core.specs.Played.{IsDeclaredStep, HasNoDeclaredStep, IsPlayedFrom, queue_order}
 use Rattle.wq_core.proofs.DeclaredSteps.{declared_steps_equal}
-use Rattle.wq_deadlock.specs.CircleRun.{first_items, IsCircleRun}
+use Rattle.wq_deadlock.specs.CircleRun.{flushing_items, IsCircleRun}
 
 -- the lowest lane that can move has one step
 same_lowest : (w : Wiring) (s : State) (p q : ℕ) (a b : Step) → IsDeclaredStep w s p a → ((r : ℕ) → r < p → HasNoDeclaredStep w s r) → IsDeclaredStep w s q b → ((r : ℕ) → r < q → HasNoDeclaredStep w s r) → a ≡ b
@@ -33,5 +33,5 @@ same_played w s (a ∷ more) (b ∷ others) played played_too =
 pub same_circle_run : (w : Wiring) (circle : List WaitArc) (one other : List Step) → IsCircleRun w circle one → IsCircleRun w circle other → one ≡ other
 same_circle_run w circle one other run run_too =
     run.all
-    ∙ ap (λ (xs : List Step). queue_order w (first_items circle) ++ xs) (same_played w (end_of w (queue_order w (first_items circle))) run.played run_too.played run.is_played run_too.is_played)
+    ∙ ap (λ (xs : List Step). queue_order w (flushing_items circle) ++ xs) (same_played w (end_of w (queue_order w (flushing_items circle))) run.played run_too.played run.is_played run_too.is_played)
     ∙ sym run_too.all

@@ -22,7 +22,7 @@ use Rattle.wq_core.specs.Wiring.{LaneWaits, wiring, lane_of}
 use Rattle.wq_core.specs.Played.{queue_order}
 use Rattle.wq_core.proofs.LaneCircles.{Circle-map}
 use Rattle.wq_core.proofs.Safety.{IsSafe-falls}
-use Rattle.wq_deadlock.specs.CircleRun.{first_items, IsCircleRun}
+use Rattle.wq_deadlock.specs.CircleRun.{flushing_items, IsCircleRun}
 use Rattle.wq_deadlock.specs.Verdict.{IsSafeByRanks, IsDeadlock}
 use Rattle.wq_deadlock.proofs.CircleRuns.{DeadlocksBy-circle_run}
 use Rattle.wq_deadlock.proofs.Queueings.{length-queue_order}
@@ -75,9 +75,9 @@ module _ (d : Declaration) (a : Assignment) (declaration : IsDeclaration d) (ass
       lanes_wait =
           Circle-map (HasArc (lane_graph d a)) (LaneWaits (wiring d a)) (λ q. q) (λ p q arc. (VertexWaits-lane_graph d a declaration assignment p q).1 arc) (HasCircle-walked (lane_graph d a) sound circle walked).0
 
-      pub length-first_items : length (queue_order (wiring d a) (first_items circle)) ≤ 8192
-      length-first_items =
-          let queued = length-queue_order (wiring d a) (first_items circle) in
+      pub length-flushing_items : length (queue_order (wiring d a) (flushing_items circle)) ≤ 8192
+      length-flushing_items =
+          let queued = length-queue_order (wiring d a) (flushing_items circle) in
           let size = length-map circle (λ (b : WaitArc). b.src) in
           let round = IsWalkedCircle-few (lane_graph d a) circle walked in
           omega (arith, queued, size, round, long, few, declaration.one_list_each, declaration.partition.few_items)

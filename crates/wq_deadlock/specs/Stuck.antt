@@ -27,8 +27,8 @@ abbrev pub IsKnown : StuckLanes → ℕ → Type 0
 IsKnown stuck q = slice_index_or stuck.known q false ≡ true
 
 -- the lanes whose wait item i was found to hold back
-abbrev pub waiting_for : StuckLanes → ℕ → List ℕ
-waiting_for stuck i = slice_index_or stuck.waiting i []
+abbrev pub held_back_by : StuckLanes → ℕ → List ℕ
+held_back_by stuck i = slice_index_or stuck.waiting i []
 
 -- the lists after this item was found to hold back the wait of lane q, or none was
 abbrev pub with_waiting : List (List ℕ) → ℕ → Option ℕ → List (List ℕ)
@@ -41,7 +41,7 @@ with_stuck stuck q holder = record { known = slice_set stuck.known q true; waiti
 
 -- item i is finished: the lanes whose wait it was found to hold back aren't known to be stuck any more
 pub record IsReleased (old : StuckLanes) (i : ℕ) (new : StuckLanes) : Type 0 where
-  pub known : (q : ℕ) → IsKnown new q → IsKnown old q × (¬ Contains (waiting_for old i) q)
+  pub known : (q : ℕ) → IsKnown new q → IsKnown old q × (¬ Contains (held_back_by old i) q)
   pub waiting : new.waiting ≡ slice_set old.waiting i []
 
 -- a step was made: only a finish lets other lanes move

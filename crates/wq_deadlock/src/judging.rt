@@ -15,7 +15,7 @@ ghost use Rattle.wq_deadlock.specs.Verdict.{IsVerdict};
 
 use crate::outcome::Verdict;
 use crate::playing::play;
-use crate::queueing::{first_items, make_all, queueings};
+use crate::queueing::{flushing_items, make_all, queueings};
 use std::alloc::{AllocError, Allocator};
 use wq_core::{Core, Step};
 use wq_graph::{WaitArc, WaitGraph};
@@ -40,7 +40,7 @@ fn run_of_circle<A: Allocator + Copy>(
     prove!(groups.len() <= table.len());
     prove!(assignment.lanes() <= 4096);
     let mut core = Core::new(alloc, table, groups, assignment)?;
-    let first = first_items(alloc, circle)?;
+    let first = flushing_items(alloc, circle)?;
     let mut steps = queueings(alloc, &core, first.as_slice())?;
     make_all(&mut core, steps.as_slice());
     let played = play(alloc, &mut core)?;

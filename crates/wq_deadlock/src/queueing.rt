@@ -1,6 +1,6 @@
 //! The queueings with which the run of a circle begins.
 //!
-//! The first items of the circle's arcs come first, in the circle's order, and then all others, in declaration order. So
+//! The items that flush along the circle's arcs come first, in the circle's order, and then all others, in declaration order. So
 //! each lane of the circle starts with an item that waits for the next lane, and no lane of the circle finishes anything.
 //! It takes time in the number of items times the length of the circle.
 
@@ -9,19 +9,19 @@ ghost use Rattle.std.specs.List.{list_any};
 ghost use Rattle.wq_core.specs.Held.{AreDone};
 ghost use Rattle.wq_core.specs.Played.{queue_order};
 ghost use Rattle.wq_core.specs.Runs.{IsRunFrom};
-ghost use Rattle.wq_deadlock.specs.CircleRun.{first_items};
+ghost use Rattle.wq_deadlock.specs.CircleRun.{flushing_items};
 
 use std::alloc::{AllocError, Allocator};
 use wq_core::{Core, Step};
 use wq_graph::WaitArc;
 use wq_items::ItemId;
 
-/// The first items of arcs, in their order.
-pub(crate) fn first_items<A: Allocator + Copy>(
+/// The items that flush along these arcs, in their order.
+pub(crate) fn flushing_items<A: Allocator + Copy>(
     alloc: A,
     arcs: &[WaitArc],
 ) -> Result<Vec<ItemId, A>, AllocError>
-    ensures { IfOk result (λ items. items.items ≡ first_items arcs.now) }
+    ensures { IfOk result (λ items. items.items ≡ flushing_items arcs.now) }
 {
     arcs.iter().map(|arc| arc.src).collect(alloc)
 }

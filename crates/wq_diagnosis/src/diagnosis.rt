@@ -22,7 +22,7 @@ use wq_lines::put;
 use wq_text::{Line, Text};
 
 /// The number of the refusal of a plan that has too many workqueues to run.
-const TOO_MANY: u32 = 69;
+pub(crate) const TOO_MANY: u32 = 69;
 
 /// A text of a command, and the file that it comes from.
 #[derive(Clone, Copy, Debug, PartialEq, Eq)]

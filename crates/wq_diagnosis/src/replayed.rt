@@ -24,18 +24,18 @@ use wq_text::{Line, Text};
 
 /// The first step that isn't lawful: how many steps stand before it, the step, and why it isn't.
 #[derive(Clone, Copy)]
-struct Found {
+struct UnlawfulStep {
     at: u32,
     step: Step,
     why: Unlawful,
 }
 
 /// Makes the steps up to the first that isn't lawful, and says why that one isn't; nothing where each is made.
-fn find<A: Allocator>(core: &mut Core<A>, steps: &[Step]) -> Option<Found>
+fn find<A: Allocator>(core: &mut Core<A>, steps: &[Step]) -> Option<UnlawfulStep>
     requires { length steps.now < 4294967295 }
-    ensures { IfSome result (λ found. AreDone core.old (take found.at steps.now) core.new × (slice_get steps.now found.at ≡ Some found.step)
-        × ((e : StepError) × IsRefusal core.new found.step e)
-        × ReasonHolds core.new.wiring core.new.state (workqueue_of found.step) (item_of found.step) found.why) }
+    ensures { IfSome result (λ first. AreDone core.old (take first.at steps.now) core.new × (slice_get steps.now first.at ≡ Some first.step)
+        × ((e : StepError) × IsRefusal core.new first.step e)
+        × ReasonHolds core.new.wiring core.new.state (workqueue_of first.step) (item_of first.step) first.why) }
 {
     let Err(error) = core.run(steps) else {
         return None;
@@ -43,7 +43,7 @@ fn find<A: Allocator>(core: &mut Core<A>, steps: &[Step]) -> Option<Found>
     let at = error.at;
     let step = *steps.get(at as usize)?;
     let why = reason_of(core, step)?;
-    Some(Found { at, step, why })
+    Some(UnlawfulStep { at, step, why })
 }
 
 /// The name of an item.
@@ -175,18 +175,18 @@ impl fmt::Display for Sentence<'_> {
 fn said_why<'a, A: Allocator + Copy>(
     table: &ItemTable<'a, A>,
     lanes: usize,
-    found: &Found,
+    unlawful: &UnlawfulStep,
 ) -> Sentence<'a> {
-    let step = found.step;
+    let step = unlawful.step;
     let (q, item) = named(step);
-    let reason = found.why;
+    let reason = unlawful.why;
     let (other, target) = others(reason, item);
     let flushes = if other.get() < table.len() {
         table.waits(other).len()
     } else {
         0
     };
-    let why = found.why;
+    let why = unlawful.why;
     Sentence {
         why,
         q,
@@ -331,13 +331,13 @@ fn of_steps<A: Allocator + Copy>(
 {
     let Declaration { table, groups } = declared;
     let mut core = Core::new(alloc, table, groups, assignment)?;
-    let Some(found) = find(&mut core, steps) else {
+    let Some(unlawful) = find(&mut core, steps) else {
         return Ok(None);
     };
-    if found.at.saturating_add(1) != number {
+    if unlawful.at.saturating_add(1) != number {
         return Ok(None);
     }
-    let sentence = said_why(table, core.lanes(), &found);
+    let sentence = said_why(table, core.lanes(), &unlawful);
     let what = sentence.to_string(alloc)?;
     let said = said_of(alloc, run, &what, number)?;
     Ok(Some(said))

@@ -9,15 +9,13 @@ ghost use Rattle.wq_diagnosis.specs.Diagnosis.{IsDiagnosis};
 ghost use Rattle.wq_diagnosis.specs.Voice.{SaysWhy};
 
 use crate::diagnosis::{
-    Source, of_answered_no, of_no_item, of_refused_certificate, of_refused_declaration, of_too_many,
+    Source, TOO_MANY, of_answered_no, of_no_item, of_refused_certificate, of_refused_declaration,
+    of_too_many,
 };
 use crate::replayed::of_unlawful;
 use std::alloc::{AllocError, Allocator};
 use wq_commands::{Outcome, Texts, Voice, Which, Why};
 use wq_findings::CertificateKind;
-
-/// The number of the refusal of a plan that has too many workqueues to run.
-const TOO_MANY: u32 = 69;
 
 /// Says why an answer is no good one.
 #[derive(Clone, Copy, Debug)]

@@ -14,17 +14,9 @@ use crate::stage::{Shape, Stage, line_and_stage, stray_line};
 use crate::token::{Mark, Token, bytes_at, first_mark, word_at};
 use crate::what::{Unplaced, What};
 use std::alloc::{AllocError, Allocator};
+use wq_cert::{MAX_CERTIFICATE, MAX_CERTIFICATE_LINE, MAX_COUNT};
 use wq_items::ItemTable;
 use wq_text::{Line, Text, number};
-
-/// How many bytes a certificate may have.
-const MAX_TEXT: usize = 8_388_608;
-
-/// How many bytes a line of it may have.
-const MAX_LINE: usize = 524_288;
-
-/// How many workqueues an assignment may have.
-const MAX_WORKQUEUES: u32 = 4096;
 
 /// What is wrong in a text that is refused with this number for this line, and that line, if there is one.
 ///
@@ -91,7 +83,7 @@ fn on_line<'a, A: Allocator + Copy>(
 
 /// What is wrong with a text that is too long, or ends too early.
 fn cut_short<'a>(text: &Text<'_>, stage: Stage) -> What<'a> {
-    if text.bytes().len() > MAX_TEXT {
+    if text.bytes().len() > MAX_CERTIFICATE as usize {
         return What::Said("the text has more than 8,388,608 bytes");
     }
     What::EndsAt(stage)
@@ -99,7 +91,7 @@ fn cut_short<'a>(text: &Text<'_>, stage: Stage) -> What<'a> {
 
 /// What is wrong with a `wq` line whose number isn't the next one.
 fn out_of_order<'a>(next: u32) -> What<'a> {
-    if next < MAX_WORKQUEUES {
+    if next < MAX_COUNT {
         What::OutOfOrder(next)
     } else {
         What::Said("an assignment has at most 4,096 workqueues")
@@ -133,8 +125,9 @@ fn wrong_line<'a, A: Allocator + Copy>(
     stage: Stage,
 ) -> Result<Finding<'a>, AllocError> {
     let word = bytes_at(line, 0);
-    if line.bytes().len() > MAX_LINE {
-        Ok(Finding::too_long(line, MAX_LINE, "the line has more than 524,288 bytes"))
+    let limit = MAX_CERTIFICATE_LINE as usize;
+    if line.bytes().len() > limit {
+        Ok(Finding::too_long(line, limit, "the line has more than 524,288 bytes"))
     } else if !stage.may_begin_with(word) {
         other_line(alloc, line, stage)
     } else {

@@ -13,10 +13,9 @@ use crate::quoted::Quoted;
 use crate::token::{Mark, Token, bytes_at, first_mark, first_word, line_at, stands_before};
 use crate::what::What;
 use std::alloc::{AllocError, Allocator};
+use wq_commands::MAX_DECLARATION_LINE;
+use wq_decl::Keyword;
 use wq_text::{Line, Text};
-
-/// How many bytes a line may have.
-const MAX_LINE: usize = 4096;
 
 /// How many bytes a name may have.
 const MAX_NAME: usize = 63;
@@ -54,7 +53,11 @@ fn on_line<'a, A: Allocator + Copy>(
 /// The same for a refusal whose explanation takes no memory.
 fn on_this_line<'a>(text: &Text<'a>, line: &Line<'a>, code: u32) -> Finding<'a> {
     match code {
-        2 => Finding::too_long(line, MAX_LINE, "the line has more than 4,096 bytes"),
+        2 => Finding::too_long(
+            line,
+            MAX_DECLARATION_LINE as usize,
+            "the line has more than 4,096 bytes",
+        ),
         3 => bad_byte(line),
         5 => missing_name(line),
         6 => bad_name(line),
@@ -117,19 +120,11 @@ fn unknown_word<'a, A: Allocator + Copy>(
 /// Whether a line of a text begins with a directive.
 fn has_directive(text: &Text<'_>) -> bool {
     for line in text.lines() {
-        if is_directive(first_word(&line)) {
+        if Keyword::of(first_word(&line)).is_some() {
             return true;
         }
     }
     false
-}
-
-/// Whether a word is a directive.
-fn is_directive(word: &[u8]) -> bool {
-    word == b"item".as_slice()
-        || word == b"flush".as_slice()
-        || word == b"flushwq".as_slice()
-        || word == b"ordered".as_slice()
 }
 
 /// What a word that isn't a directive was most likely meant to be.
@@ -155,11 +150,11 @@ fn directive_hint<A: Allocator + Copy>(
 
 /// The form of the lines that begin like this one.
 fn form_of(line: &Line<'_>) -> &'static str {
-    match bytes_at(line, 0) {
-        b"item" => "item NAME",
-        b"ordered" => "ordered NAME..",
-        b"flushwq" => "flushwq NAME ITEM",
-        _ => "flush NAME TARGET..",
+    match Keyword::of(bytes_at(line, 0)) {
+        Some(Keyword::Item) => "item NAME",
+        Some(Keyword::FlushWq) => "flushwq NAME ITEM",
+        Some(Keyword::Ordered) => "ordered NAME..",
+        Some(Keyword::Flush) | None => "flush NAME TARGET..",
     }
 }
 
@@ -171,13 +166,13 @@ fn missing_name<'a>(line: &Line<'a>) -> Finding<'a> {
 
 /// An `item` line with more than one name, or a `flushwq` line with more than two.
 fn extra_word<'a>(line: &Line<'a>) -> Finding<'a> {
-    let (at, what, hint) = match bytes_at(line, 0) {
-        b"flushwq" => (
+    let (at, what, hint) = match Keyword::of(bytes_at(line, 0)) {
+        Some(Keyword::FlushWq) => (
             3,
             "a `flushwq` line has two names",
             "each workqueue has a `flushwq` line of its own",
         ),
-        _ => (
+        Some(Keyword::Item | Keyword::Flush | Keyword::Ordered) | None => (
             2,
             "an `item` line has one name",
             "each item has an `item` line of its own",
@@ -245,7 +240,7 @@ fn unknown_item<'a, A: Allocator + Copy>(
     text: &Text<'a>,
     line: &Line<'a>,
 ) -> Result<Finding<'a>, AllocError> {
-    let items = LineNames::above(alloc, text, b"item", line.no())?;
+    let items = LineNames::above(alloc, text, Keyword::Item, line.no())?;
     match not_above(&items, line) {
         Some(word) => undeclared(alloc, text, word),
         None => Ok(Finding::whole(What::Said("no line above declares a name of this line"))),
@@ -297,7 +292,7 @@ fn grouped_twice<'a, A: Allocator + Copy>(
     text: &Text<'a>,
     line: &Line<'a>,
 ) -> Result<Finding<'a>, AllocError> {
-    let above = LineNames::above(alloc, text, b"ordered", line.no())?;
+    let above = LineNames::above(alloc, text, Keyword::Ordered, line.no())?;
     Ok(ordered_twice(&above, line))
 }
 

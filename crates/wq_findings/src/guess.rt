@@ -8,6 +8,7 @@ use crate::quoted::Quoted;
 use std::alloc::{AllocError, Allocator};
 use std::str;
 use strsim::osa_distance;
+use wq_decl::Keyword;
 
 /// What a zero byte most likely is.
 pub(crate) const ZERO_BYTE: &str = "a zero byte: is this a text, and not UTF-16?";
@@ -102,11 +103,13 @@ pub(crate) fn call_hint(word: &[u8], is_among_directives: bool) -> Option<Hint<'
 
 /// Which kind of text has lines that begin with this word.
 pub(crate) fn text_with(word: &[u8]) -> Option<&'static str> {
+    if Keyword::of(word).is_some() {
+        return Some("a declaration");
+    }
     let Ok(word) = str::from_utf8(word) else {
         return None;
     };
     match word {
-        "item" | "flush" | "flushwq" | "ordered" => Some("a declaration"),
         "plan" | "wq" | "chain" => Some("a plan or an assignment"),
         "circle" => Some("a circle"),
         "run" | "queue" | "cancel" | "start" | "wait" | "over" | "waitwq" | "overwq" | "finish" =>

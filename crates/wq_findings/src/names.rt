@@ -6,6 +6,7 @@
 use crate::guess::{edits_between, letters};
 use crate::token::{bytes_at, first_word};
 use std::alloc::{AllocError, Allocator};
+use wq_decl::Keyword;
 use wq_text::{Line, Text};
 
 /// A name on a line.
@@ -22,24 +23,27 @@ pub(crate) struct LineNames<'a, A: Allocator> {
 }
 
 impl<'a, A: Allocator + Copy> LineNames<'a, A> {
-    /// The names above the line with this number, on those lines of a text that begin with this word.
+    /// The names above the line with this number, on those lines of a text that have this keyword.
     pub(crate) fn above(
         alloc: A,
         text: &Text<'a>,
-        directive: &[u8],
+        keyword: Keyword,
         no: u32,
     ) -> Result<Self, AllocError> {
         let mut names = LineNames {
             names: Vec::new(alloc),
         };
-        names.add_lines(text, directive, no)?;
+        names.add_lines(text, keyword, no)?;
         Ok(names)
     }
 
     /// Adds the names on such lines of a text.
-    fn add_lines(&mut self, text: &Text<'a>, directive: &[u8], no: u32) -> Result<(), AllocError> {
+    fn add_lines(&mut self, text: &Text<'a>, keyword: Keyword, no: u32) -> Result<(), AllocError> {
         for line in text.lines() {
-            if line.no() < no && first_word(&line) == directive {
+            if line.no() < no
+                && let Some(found) = Keyword::of(first_word(&line))
+                && found == keyword
+            {
                 self.add(&line)?;
             }
         }
@@ -71,7 +75,7 @@ impl<'a, A: Allocator + Copy> LineNames<'a, A> {
 
 /// The name on a line that declares an item.
 fn item_on<'a>(line: &Line<'a>) -> Option<LineName<'a>> {
-    if first_word(line) == b"item".as_slice() {
+    if matches!(Keyword::of(first_word(line)), Some(Keyword::Item)) {
         Some(LineName {
             name: bytes_at(line, 1),
             line: line.no(),

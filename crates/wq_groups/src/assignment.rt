@@ -12,10 +12,11 @@ use crate::lane_id::LaneId;
 use std::alloc::Allocator;
 use std::marker::Model;
 
-/// How many lanes an assignment may have.
-const MAX_LANES: u16 = 4096;
+/// How many lanes an assignment may have: as many as a declaration may have items, since no plan needs more. A runtime takes fewer.
+pub const MAX_ASSIGNED_LANES: u16 = 4096;
 
-/// A number of lanes, and the lane of each group. A lane may serve no group. Contracts see only these.
+/// An assignment puts each group on a lane, which is a workqueue: how many lanes there are, and the lane of each group. A lane
+/// may serve no group. Contracts see only these.
 #[derive(Drop)]
 pub struct Assignment<A: Allocator> {
     lanes: u16,
@@ -49,7 +50,7 @@ impl<A: Allocator> Assignment<A> {
         ensures some { IfSome result (λ a. (a.lanes ≡ lanes) × (a.lane_of_group ≡ of_group.items)) }
         ensures exactly { IsSome result ↔ ((lanes ≤ 4096) × All (λ l. l < lanes) of_group.items) }
     {
-        if lanes > MAX_LANES || !are_below(of_group.as_slice(), lanes) {
+        if lanes > MAX_ASSIGNED_LANES || !are_below(of_group.as_slice(), lanes) {
             return None;
         }
         Some(Assignment { lanes, of_group })

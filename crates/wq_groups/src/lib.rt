@@ -18,7 +18,7 @@ mod members;
 mod numbering;
 mod reading;
 
-pub use assignment::Assignment;
+pub use assignment::{Assignment, MAX_ASSIGNED_LANES};
 pub use fault::GroupError;
 pub use group_id::GroupId;
 pub use groups::Groups;

@@ -19,11 +19,8 @@ use crate::fault::GroupError;
 use arrayvec::ArrayVec;
 use std::alloc::Allocator;
 use wq_decl::DeclView;
-use wq_items::{ItemId, ItemTable};
+use wq_items::{ItemId, ItemTable, MAX_ITEMS};
 use wq_text::Words;
-
-/// How many items a table has, at most.
-const MAX_ITEMS: usize = 4096;
 
 /// Items that are likely to be looked up next. Nothing is promised of them.
 #[derive(Drop)]

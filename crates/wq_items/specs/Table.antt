@@ -16,7 +16,7 @@ pub record Table : Type 0 where
 abbrev pub item_named : List (List ℕ) → List ℕ → Option ℕ
 item_named names name = position (bytes_eq name) names
 
--- the targets of item i, in order of place
+-- the targets of item i, in the order in which it declares them
 abbrev pub targets_of : List (List Target) → ℕ → List Target
 targets_of waits i = slice_index_or waits i []
 
@@ -24,11 +24,11 @@ targets_of waits i = slice_index_or waits i []
 abbrev pub ItemWaits : List (List Target) → ℕ → ℕ → Type 0
 ItemWaits waits i j = Any (λ (t : Target). t.item ≡ j) (targets_of waits i)
 
--- the same of one kind: a flush of item j alone, or of the whole workqueue of item j
+-- item i declares a flush of this kind: of item j alone, or of the whole workqueue of item j
 abbrev pub ItemWaitsBy : List (List Target) → Bool → ℕ → ℕ → Type 0
 ItemWaitsBy waits whole i j = Any (λ (t : Target). (t.item ≡ j) × (t.whole ≡ whole)) (targets_of waits i)
 
--- the items at vertex v, in declaration order, where `vertex_of` has the vertex of each item in turn: its group or its lane
+-- the items at vertex v, in declaration order, where `vertex_of` has the vertex of each item in turn: its group or its workqueue
 abbrev pub items_at : List ℕ → ℕ → List ℕ
 items_at vertex_of v = filter (λ i. slice_index vertex_of i == v) (range_with_len 0 (length vertex_of))
 

@@ -23,5 +23,5 @@ mod waits;
 
 pub use at_once::read_at_once;
 pub use fault::ItemError;
-pub use table::ItemTable;
+pub use table::{ItemTable, MAX_ITEMS};
 pub use target::{ItemId, Target};

@@ -29,7 +29,7 @@ use wq_decl::{DeclView, Directive};
 use wq_text::{Span, Word, Words};
 
 /// How many items a declaration may declare.
-pub(crate) const MAX_ITEMS: usize = 4096;
+pub const MAX_ITEMS: usize = 4096;
 
 /// How many flushes a declaration may declare, all items together.
 const MAX_FLUSHES: u32 = 16_384;

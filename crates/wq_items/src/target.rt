@@ -43,11 +43,12 @@ impl Default for ItemId {
     }
 }
 
-/// An item whose flush is declared, and the place of the declaration in the text.
+/// An item whose flush is declared, and how many flushes are declared before this one.
 #[derive(Clone, Copy, Debug, Default, PartialEq, Eq)]
 pub struct Target {
     pub item: ItemId,
     /// Whether the whole workqueue of the item is flushed.
     pub whole: bool,
+    /// How many flushes are declared before it, in the order of the text.
     pub place: u32,
 }

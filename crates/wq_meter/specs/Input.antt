@@ -7,14 +7,14 @@ abbrev pub IsInput : Option (List ℕ) → List ℕ → Type 0
 IsInput known text = IfSome known (λ bytes. text ≡ bytes)
 
 -- a reader had this text, and gave it up to the first byte past the limit
-pub record Gives {R : Type 0} (remaining : R → Option (List ℕ)) (old new : Meter R) (limit : ℕ) (text : List ℕ) : Type 0 where
+pub record GivesText {R : Type 0} (remaining : R → Option (List ℕ)) (old new : Meter R) (limit : ℕ) (text : List ℕ) : Type 0 where
   pub input : IsInput (remaining old.device) text
   pub taken : TakesPrefix remaining old new (limit + 1) text
 
 -- a reader gave a text in this way, and no call failed
 pub record HasGiven {R : Type 0} (remaining : R → Option (List ℕ)) (old new : Meter R) (limit : ℕ) : Type 0 where
   pub text : List ℕ
-  pub gives : Gives remaining old new limit text
+  pub gives : GivesText remaining old new limit text
   pub none_failed : new.failures ≡ old.failures
 
 -- a reader has given a text, and these are the bytes that came

@@ -2,7 +2,7 @@
 use Rattle.std.specs.Prelude.{◌≡◌, ◌⊎◌, ℕ, ◌+◌, List, [], Option, Some, None, take, refl}
 use Rattle.std.specs.Coded.{Coded, code_by, coded×, coded_ℕ, coded_list}
 use Rattle.wq_meter.specs.Meter.{Meter, WritesPrefix, WritesWhole}
-use Rattle.wq_meter.specs.Input.{Gives, HasGiven, HasGivenBytes, HasFailed}
+use Rattle.wq_meter.specs.Input.{GivesText, HasGiven, HasGivenBytes, HasFailed}
 use Rattle.wq_meter.specs.declared.fault.Fault.{Fault}
 use Rattle.wq_meter.specs.declared.texts.Limits.{Limits}
 
@@ -44,7 +44,7 @@ kept limits texts = record {
 -- it had this text, and gave it up to the first byte past the limit; if it isn't asked, the text is empty
 abbrev pub GivesIf : {R : Type 0} → (R → Option (List ℕ)) → Meter R → Meter R → Option ℕ → List ℕ → Type 0
 GivesIf remaining old new None text = (new ≡ old) × (text ≡ [])
-GivesIf remaining old new (Some limit) text = Gives remaining old new limit text
+GivesIf remaining old new (Some limit) text = GivesText remaining old new limit text
 
 -- it has given its text, and no call failed
 abbrev pub HasGivenIf : {R : Type 0} → (R → Option (List ℕ)) → Meter R → Meter R → Option ℕ → Type 0

@@ -19,7 +19,7 @@ use Rattle.wq_commands.proofs.AnswerLemmas.{declaration-take}
 use Rattle.wq_run.specs.declared.fault.RunStop.{RunStop}
 use Rattle.wq_run.specs.declared.fault.RunStop.TheVariants as stop
 use Rattle.wq_run.specs.Fault.{Stops}
-use Rattle.wq_run.specs.Run.{IsRun, IsRunnableInput, only}
+use Rattle.wq_run.specs.Run.{IsAnsweredByRun, IsRunnableInput, only}
 use Rattle.wq_run.specs.Running.{HasRuntime, IsRunnable, RunsPlan, RunsDeclared, RunsTexts, run_why}
 
 module _ (helpers : ℕ) (one other : List ℕ) (declared : declaration one ≡ declaration other) where
@@ -40,9 +40,9 @@ module _ {R : Type 0} (helpers : ℕ) {remaining : R → Option (List ℕ)} {old
   declared_same : declaration bytes ≡ declaration came.given.text
   declared_same = ap declaration came.prefix ∙ declaration-take came.given.text
 
-  pub IsRun-read : (outcome : Outcome) (IsWritten : List ℕ → Type 0) (IsTold : Given → Type 0) (out : List ℕ)
-      → RunsTexts helpers texts outcome out → IsWritten out → IsTold texts → IsRun helpers remaining old new outcome IsWritten IsTold
-  IsRun-read outcome IsWritten IsTold out runs written told = record {
+  pub IsAnsweredByRun-read : (outcome : Outcome) (IsWritten : List ℕ → Type 0) (IsTold : Given → Type 0) (out : List ℕ)
+      → RunsTexts helpers texts outcome out → IsWritten out → IsTold texts → IsAnsweredByRun helpers remaining old new outcome IsWritten IsTold
+  IsAnsweredByRun-read outcome IsWritten IsTold out runs written told = record {
     text = came.given.text;
     given = came.given.gives;
     out = out;

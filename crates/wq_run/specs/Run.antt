@@ -1,7 +1,7 @@
 -- A run of `run`: a text is taken from a reader, and answered.
 use Rattle.std.specs.Prelude.{ℕ, ◌+◌, List, [], Option, take}
 use Rattle.wq_meter.specs.Meter.{Meter}
-use Rattle.wq_meter.specs.Input.{Gives}
+use Rattle.wq_meter.specs.Input.{GivesText}
 use Rattle.wq_meter.specs.Shell.{Given}
 use Rattle.wq_commands.specs.declared.end.End.{End}
 use Rattle.wq_commands.specs.declared.why.Outcome.{Outcome}
@@ -12,13 +12,13 @@ use Rattle.wq_run.specs.Running.{RunsPlan, RunsTexts, IsRunnable}
 -- limit
 pub record RunsInput {R : Type 0} (helpers : ℕ) (remaining : R → Option (List ℕ)) (old new : Meter R) (end : End) (out : List ℕ) : Type 0 where
   pub text : List ℕ
-  pub given : Gives remaining old new max_declaration text
+  pub given : GivesText remaining old new max_declaration text
   pub answer : RunsPlan helpers text end out
 
 -- the text that a reader had declares items whose plan a runtime can have
 pub record IsRunnableInput {R : Type 0} (remaining : R → Option (List ℕ)) (old new : Meter R) : Type 0 where
   pub text : List ℕ
-  pub given : Gives remaining old new max_declaration text
+  pub given : GivesText remaining old new max_declaration text
   pub runnable : IsRunnable text
 
 -- the texts of a command that has only this one
@@ -27,9 +27,9 @@ only text = record { first = text; second = []; third = [] }
 
 -- a reader had a text; this is the answer to it, with this many helpers, and why; these bytes of the answer are written, and this
 -- is said of what was read of the text
-pub record IsRun {R : Type 0} (helpers : ℕ) (remaining : R → Option (List ℕ)) (old new : Meter R) (outcome : Outcome) (IsWritten : List ℕ → Type 0) (IsTold : Given → Type 0) : Type 0 where
+pub record IsAnsweredByRun {R : Type 0} (helpers : ℕ) (remaining : R → Option (List ℕ)) (old new : Meter R) (outcome : Outcome) (IsWritten : List ℕ → Type 0) (IsTold : Given → Type 0) : Type 0 where
   pub text : List ℕ
-  pub given : Gives remaining old new max_declaration text
+  pub given : GivesText remaining old new max_declaration text
   pub out : List ℕ
   pub answer : RunsTexts helpers (only text) outcome out
   pub written : IsWritten out

@@ -16,7 +16,7 @@ ghost use Rattle.wq_commands.specs.declared.why.Outcome.{Outcome};
 ghost use Rattle.wq_meter.specs.declared.fault.Fault.TheVariants.{Memory, Read as ReadFault, Write as WriteFault};
 ghost use Rattle.wq_run.specs.declared.fault.CommandFault.TheVariants.{Common, Thread, Tally};
 ghost use Rattle.wq_run.specs.Fault.{Stops};
-ghost use Rattle.wq_run.specs.Run.{IsRun, RunsInput, IsRunnableInput, only};
+ghost use Rattle.wq_run.specs.Run.{IsAnsweredByRun, RunsInput, IsRunnableInput, only};
 ghost use Rattle.wq_run.specs.Running.{IsRunnable, RunsTexts};
 
 use crate::fault::{CommandFault, RunStop};
@@ -163,12 +163,12 @@ pub fn carry_out_run<
     requires few_helpers { helpers ≤ max_helpers }
 
     // The answer to the text that the reader had is written, and nothing else; then it is said what there is to be said.
-    ensures answered { IfOk result (λ outcome. IsRun helpers D.remaining declaration.old declaration.new outcome
+    ensures answered { IfOk result (λ outcome. IsAnsweredByRun helpers D.remaining declaration.old declaration.new outcome
         (WritesWhole W.contents writer.old writer.new)
         (λ texts. Tells E.contents teller.old teller.new (V.says voice.now texts outcome))) }
 
     // What a fault leaves.
-    ensures prefix { result ≡ Err (Faulted WriteFault) → (outcome : Outcome) × IsRun helpers D.remaining declaration.old declaration.new outcome
+    ensures prefix { result ≡ Err (Faulted WriteFault) → (outcome : Outcome) × IsAnsweredByRun helpers D.remaining declaration.old declaration.new outcome
         (WritesPrefix W.contents writer.old writer.new)
         (λ _. teller.new ≡ teller.old) }
     ensures untouched { IfErr result (λ stopped. stopped ≢ Faulted WriteFault → writer.new ≡ writer.old) }

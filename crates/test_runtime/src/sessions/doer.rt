@@ -138,19 +138,6 @@ impl Body for Doer<'_> {
     }
 }
 
-/// Queues an item on its lane.
-fn queue<N: Naming, A: Allocator, R: Wait>(
-    rt: &R,
-    runtime: &WqRuntime<N, A>,
-    seat: &mut Seat<N, A>,
-    item: ItemId,
-) -> Result<bool, CallError> {
-    let Some(q) = runtime.lane_of(rt, item) else {
-        return Err(CallError::NoItem);
-    };
-    runtime.queue_work(rt, seat, q, item)
-}
-
 /// Does one thing in a caller, and tells whether it has seen what it looked for.
 fn do_in_caller<N: Naming, A: Allocator, R: Wait>(
     rt: &R,
@@ -162,7 +149,7 @@ fn do_in_caller<N: Naming, A: Allocator, R: Wait>(
 ) -> Result<bool, CallError> {
     let answer = match deed {
         Deed::Flush(item) => runtime.flush_work(rt, seat, item),
-        Deed::Queue(item) => queue(rt, runtime, seat, item),
+        Deed::Queue(item) => runtime.queue_item(rt, seat, item),
         Deed::Cancel(item) => runtime.cancel_work(rt, seat, item),
         Deed::CancelSync(item) => runtime.cancel_work_sync(rt, seat, item),
         Deed::FlushLane(q) => runtime.flush_workqueue(rt, seat, q).and(Ok(true)),

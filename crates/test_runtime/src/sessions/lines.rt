@@ -1,6 +1,6 @@
 //! A text that says line by line what is to be done. Reading one takes time in its length, besides that of what is done.
 
-use crate::testbed::{MAX_LINE, MAX_TEXT};
+use crate::testbed::{MAX_CERTIFICATE, MAX_CERTIFICATE_LINE};
 use std::alloc::{AllocError, Global};
 use wq_items::ItemTable;
 use wq_text::{Text, Words};
@@ -45,7 +45,7 @@ pub(crate) fn tell_text<L: Listener>(
     text: &[u8],
     out: &mut String,
 ) -> Result<Option<u32>, AllocError> {
-    match Text::new(text, MAX_TEXT, MAX_LINE) {
+    match Text::new(text, MAX_CERTIFICATE, MAX_CERTIFICATE_LINE) {
         Ok(text) => tell_lines(to, table, &text, out),
         Err(error) => Ok(Some(error.line())),
     }

@@ -6,7 +6,7 @@
 use crate::sessions::asking::{RuntimeCall, read_call};
 use crate::sessions::seats::Seats;
 use crate::sessions::sleeping::{Sleeper, wake};
-use crate::testbed::{MAX_LINE, MAX_TEXT, mistake, put_closed};
+use crate::testbed::{MAX_CERTIFICATE, MAX_CERTIFICATE_LINE, mistake, put_closed};
 use std::alloc::{AllocError, Global};
 use std::sync::Wait;
 use std::thread::Threads;
@@ -227,7 +227,7 @@ fn call_all<N: Naming + Send + Sync, R: Threads + Wait + Clock + Sync>(
     if let Some(runtime) = &session.runtime {
         session.seats.add(session.rt, session.alloc, runtime, 1)?;
     }
-    let text = match Text::new(text, MAX_TEXT, MAX_LINE) {
+    let text = match Text::new(text, MAX_CERTIFICATE, MAX_CERTIFICATE_LINE) {
         Ok(text) => text,
         Err(error) => return mistake(out, error.line()),
     };

@@ -3,13 +3,8 @@
 use crate::testbed::command_line::Setting;
 use std::fs;
 use std::rt::Files;
+use wq_cert::MAX_CERTIFICATE;
 use wq_commands::{Fault, MAX_DECLARATION, Metered, read_text};
-
-/// How many bytes an assignment, or a text that says what is to be done, may have: 8 MiB.
-pub const MAX_TEXT: u32 = 8_388_608;
-
-/// How many bytes a line of such a text may have, without its line feed and a carriage return before that.
-pub const MAX_LINE: u32 = 524_288;
 
 /// The seed of the hashes of names. No answer depends on it.
 pub const SEED: u64 = 0;
@@ -33,6 +28,6 @@ pub fn read_texts<R: Files + AllocGlobal>(
     setting: &Setting<'_>,
 ) -> Result<SettingTexts, Fault> {
     let declared = read_file(rt, setting.declaration, MAX_DECLARATION)?;
-    let assigned = read_file(rt, setting.assignment, MAX_TEXT)?;
+    let assigned = read_file(rt, setting.assignment, MAX_CERTIFICATE)?;
     Ok(SettingTexts { declared, assigned })
 }

@@ -2,13 +2,13 @@ use Rattle.std.proofs.Common.{◌≡◌, OnErr, subst}
 use Rattle.std.proofs.lemmas.Result.{IfOk-weaker, IfErr-weaker}
 use Rattle.wq_meter.specs.Meter.{WritesPrefix, WritesWhole}
 use Rattle.wq_meter.specs.Shell.{Tells}
-use Rattle.wq_run.proofs.InputLemmas.{IsRun-read, IfUnanswered-read}
+use Rattle.wq_run.proofs.InputLemmas.{IsAnsweredByRun-read, IfUnanswered-read}
 use Rattle.wq_run.proofs.run.carry_out_run.Goals as goal
 
 pub returns-clause-answered : goal.returns-clause-answered
 returns-clause-answered g c =
     IfOk-weaker c.respond-ended.result _ _ (λ outcome h.
-    IsRun-read c.args.helpers c.in_ok-text.ensures.given c.only-texts.result c.only-texts.ensures outcome
+    IsAnsweredByRun-read c.args.helpers c.in_ok-text.ensures.given c.only-texts.result c.only-texts.ensures outcome
     (WritesWhole g.W.Write.contents c.args.writer.now c.respond-ended.new.writer)
     (λ t. Tells g.E.Write.contents c.args.teller.now c.respond-ended.new.teller (g.V.Voice.says c.args.voice.now t outcome))
     h.0 h.1 h.2 h.3) c.respond-ended.ensures.answered
@@ -17,7 +17,7 @@ pub returns-clause-prefix : goal.returns-clause-prefix
 returns-clause-prefix g c = λ is.
     let h = c.respond-ended.ensures.prefix is in (
       h.0,
-      IsRun-read c.args.helpers c.in_ok-text.ensures.given c.only-texts.result c.only-texts.ensures h.0
+      IsAnsweredByRun-read c.args.helpers c.in_ok-text.ensures.given c.only-texts.result c.only-texts.ensures h.0
           (WritesPrefix g.W.Write.contents c.args.writer.now c.respond-ended.new.writer)
           (λ t. c.respond-ended.new.teller ≡ c.args.teller.now)
           h.1 h.2 h.3
