@@ -122,6 +122,8 @@ WAKES = [
     Wake("destroy", "the rescuers of two workqueues", "", "next 0: none / next 1: none", "destroy: ok", ""),
     Wake("finish_work", "two callers that flush the workqueue", A_RUNS,
          "flushwq 0: ok / flushwq 0: ok", "finish 0 a: ok", "destroy: ok", "made lane 0 toldlane yes 2"),
+    Wake("finish_work", "two callers that flush another workqueue", C_RUNS,
+         "flushwq 1: ok / flushwq 1: ok", "finish 1 c: ok", "destroy: ok", "made lane 1 toldlane yes 2"),
     Wake("cancel_work", "two callers that flush the workqueue", "queue 0 b: true",
          "flushwq 0: ok / flushwq 0: ok", "cancel b: true", "destroy: ok", "made lane 0 toldlane yes 2"),
     Wake("cancel_work_sync", "two callers that flush the workqueue", "queue 0 b: true",
