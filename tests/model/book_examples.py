@@ -5,11 +5,13 @@
 #
 # drive_books.py goes through them before it compares anything. ` / ` parts lines.
 
+import pathlib
 import sys
 
 sys.dont_write_bytecode = True
+sys.path.append(str(pathlib.Path(__file__).resolve().parents[1] / "lib"))
 import book  # noqa: E402  (beside this file)
-from examples import text  # noqa: E402
+from tables import text_of  # noqa: E402  (in tests/lib)
 
 # The declaration, the assignment, the number of rows, and the lines of EVENTS, each with what is
 # printed for it and the row that is written, or "".
@@ -226,14 +228,14 @@ def cases():
     for number, (helpers, declared, assigned, row_count, lines) in enumerate(tables, start=1):
         rows = [row for _, _, row in lines if row]
         printed = [line for _, line, _ in lines] + [f"rows {len(rows)}"] + rows
-        events = text(" / ".join(line for line, _, _ in lines))
-        words = ["book", text(declared), text(assigned), str(row_count), events]
-        yield f"the worked history {number}", book.with_helpers(helpers, words), (text(" / ".join(printed)), 0)
+        events = text_of(" / ".join(line for line, _, _ in lines))
+        words = ["book", text_of(declared), text_of(assigned), str(row_count), events]
+        yield f"the worked history {number}", book.with_helpers(helpers, words), (text_of(" / ".join(printed)), 0)
     judged = [(0, *history) for history in JUDGED] + HELPED_JUDGED
     for number, (helpers, declared, assigned, digits, printed) in enumerate(judged, start=1):
-        words = ["check", text(declared), text(assigned), digits.encode()]
+        words = ["check", text_of(declared), text_of(assigned), digits.encode()]
         status = 0 if printed.startswith("legal") else 1
-        yield f"the judged history {number}", book.with_helpers(helpers, words), (text(printed), status)
+        yield f"the judged history {number}", book.with_helpers(helpers, words), (text_of(printed), status)
 
 
 def model_answer(words):
