@@ -1,7 +1,7 @@
 #!/usr/bin/env bash
-# Runs every command in the fenced blocks of README.md, of docs/GUIDE.md, docs/WAITS.md and docs/RUNTIME.md, and of
-# the pages in examples/, and compares what it shows with what stands below it on the page; looks for each excerpt of
-# code on a page in crates/example_rdisk; compares the files that docs/GUIDE.md and docs/WAITS.md show with those in
+# Runs every command in the fenced blocks of README.md, of docs/GUIDE.md, docs/WAITS.md, docs/KERNELS.md and
+# docs/RUNTIME.md, and of the pages in examples/, and compares what it shows with what stands below it on the page; looks
+# for each excerpt of code on a page in crates/example_rdisk; compares the files that docs/GUIDE.md and docs/WAITS.md show with those in
 # examples/rdisk; and gives the `grep` lines of docs/GUIDE.md each name that the page says they find. Run it once the
 # gate or `rt run` has built the program and the example's program, crates/example_rdisk. The arguments, if there are
 # any, name others in their place.
@@ -179,7 +179,7 @@ names() {
         grep -oE '`[A-Za-z]+_[A-Za-z_]*' | tr -d '`'
 }
 
-pages README.md docs/GUIDE.md docs/WAITS.md docs/RUNTIME.md examples/*.md
+pages README.md docs/GUIDE.md docs/WAITS.md docs/KERNELS.md docs/RUNTIME.md examples/*.md
 others
 page=docs/GUIDE.md
 finds 1 $(names 'The line also finds' 1) $(names '| File | Lines' 4)
