@@ -35,6 +35,7 @@ docs     definitions  docs/definitions.py | docs/headline_lines.py
 docs     pages        docs/pages.py | docs/made.py --check
 docs     manual       docs/manual.py
 docs     completion   docs/completion.py
+docs     citations    docs/citations.py
 cli      install      cli/install.sh
 lib      dot          lib/dot_texts.py | lib/dot_drawn.py
 cli      outlives     cli/outlives.sh

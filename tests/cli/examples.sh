@@ -160,14 +160,6 @@ draws() {
     fi
 }
 
-# Each wait names its kind and its place in the kernel's sources.
-for file in *.wq; do
-    is "$file: each flush has a kind, a file, a line and a function" '' \
-        "$(grep '^flush' "$file" | grep -vE '# (flush|flushwq|done|cancel) [a-z0-9/_-]+\.c:[0-9].* [a-z_]+')"
-    is "$file: the waits for whole workqueues are the \`flushwq\` lines" \
-        "$(grep -n '^flushwq ' "$file")" "$(grep -n '# flushwq ' "$file")"
-done
-
 # dm-snapshot: six workqueues, safe; with one kcopyd for all it hangs.
 counts dm-snapshot 6 3 6 6
 answers dm-snapshot 'plan 3' do_work.merging do_work.other do_metadata.other
@@ -192,8 +184,9 @@ hangs 'dm-integrity: without dm-integrity-offload' dm-integrity.wq dm-integrity.
 draws dm-integrity 'plan 3: items 8, workqueues 3, arrows 13, red 0, bold 2' dm-integrity.wq
 
 # nvmet-tcp: a circle, so that every assignment hangs: the kernel's, one workqueue for all, and one for each item. The
-# last is the one whose run stands behind the circle.
-counts nvmet-tcp 10 9 10 4
+# last is the one whose run stands behind the circle. Without the flush of nvmet-wq it needs three: the release of a queue waits
+# for io_work, which waits for the work of a file that gives back elements of a pool.
+counts nvmet-tcp 12 16 12 5
 answers nvmet-tcp 'circle 2' nvmet_tcp_io_work nvmet_tcp_release_queue_work nvmet_tcp_io_work
 without_cancel nvmet-tcp 3
 hangs 'nvmet-tcp: the kernel' nvmet-tcp.wq nvmet-tcp.assign
@@ -203,7 +196,12 @@ hangs 'nvmet-tcp: one workqueue' nvmet-tcp.wq one.assign
 awk '$1 == "item" { print "wq", lanes++, $2 }' nvmet-tcp.wq >own.assign
 hangs 'nvmet-tcp: a workqueue for each item' nvmet-tcp.wq own.assign
 is 'nvmet-tcp: the run behind the circle' "$(cat hangs.run)" "$(sed -n '/^run/,$p' nvmet-tcp.answer)"
-draws nvmet-tcp 'components 1: items 10, workqueues 10, arrows 9, red 2, bold 0' nvmet-tcp.wq
+draws nvmet-tcp 'components 1: items 12, workqueues 12, arrows 16, red 2, bold 0' nvmet-tcp.wq
+grep -v 'flushwq tcp.c:1923' nvmet-tcp.wq >nvmet-tcp.noflush.wq
+answers nvmet-tcp.noflush 'plan 3' nvmet_tcp_release_queue_work nvmet_tcp_io_work nvmet_file_buffered_io_work
+plan_is_least nvmet-tcp.noflush
+grep -v '# cancel' nvmet-tcp.noflush.wq >nvmet-tcp.requests.wq
+hangs 'nvmet-tcp: the kernel, without the flush, without cancel' nvmet-tcp.requests.wq nvmet-tcp.assign
 
 # nvme-auth: two workqueues, of which one hangs; three are enough, and a later kernel has them.
 counts nvme-auth 4 4 4 2
@@ -214,6 +212,9 @@ hangs 'nvme-auth: the kernel' nvme-auth.wq nvme-auth.assign 8
 run deadlock nvme-auth.wq nvme-auth.later.assign
 ends 'nvme-auth: a later kernel' 0 safe
 draws nvme-auth 'plan 3: items 4, workqueues 3, arrows 4, red 0, bold 2' nvme-auth.wq
+{ cat nvme-auth.wq && echo 'flush auth_work dhchap_auth_work connect_work'; } >nvme-auth.pool.wq
+run plan nvme-auth.pool.wq
+begins 'nvme-auth: plan, with a pool of buffers' 1 'circle 2'
 draws 'nvme-auth: the kernel' 'components 1: items 4, workqueues 2, arrows 4, red 2, bold 0' nvme-auth.wq nvme-auth.assign
 draws 'nvme-auth: a later kernel' 'safe: items 4, workqueues 3, arrows 4, red 0, bold 0' nvme-auth.wq nvme-auth.later.assign
 
@@ -236,27 +237,36 @@ ends 'md: a workqueue for each array' 0 safe
 draws md 'plan 2: items 4, workqueues 2, arrows 4, red 0, bold 1' md.wq
 draws 'md: the kernel' 'components 1: items 4, workqueues 1, arrows 4, red 4, bold 0' md.wq md.assign
 
-# rbd: two ordered groups, five workqueues, safe.
-counts rbd 11 19 6 5
+# rbd: two ordered groups, five workqueues and the system's, safe.
+counts rbd 13 26 8 6
 answers rbd 'plan 3' rbd_acquire_lock do_watch_notify ceph_con_workfn
 without_cancel rbd 3
 plan_is_least rbd
 run deadlock rbd.wq rbd.assign
 ends 'rbd: the kernel' 0 safe
-draws rbd 'plan 3: items 11, workqueues 3, arrows 19, red 0, bold 2' rbd.wq
-draws 'rbd: the kernel' 'safe: items 11, workqueues 5, arrows 19, red 0, bold 0' rbd.wq rbd.assign
+draws rbd 'plan 3: items 13, workqueues 3, arrows 26, red 0, bold 2' rbd.wq
+draws 'rbd: the kernel' 'safe: items 13, workqueues 6, arrows 26, red 0, bold 0' rbd.wq rbd.assign
 
-# xfs: eleven workqueues, safe; five are enough, and four without the two that have no rescuer.
-counts xfs 12 18 12 11
-answers xfs 'plan 5' xfs_flush_inodes_worker wb_workfn xfs_btree_split_worker xlog_cil_push_work xlog_ioend_work
-without_cancel xfs 5
+# xfs: twelve workqueues, safe; six are enough, with and without the two that have no rescuer. Where there is no free block, an
+# end of a write waits for the cleaners, which wait for ends of writes, and a cleaner flushes its own workqueue.
+counts xfs 13 40 13 12
+answers xfs 'plan 6' xfs_flush_inodes_worker wb_workfn xfs_end_io xfs_btree_split_worker xlog_cil_push_work xlog_ioend_work
+without_cancel xfs 6
 plan_is_least xfs
 run deadlock xfs.wq xfs.assign
 ends 'xfs: the kernel' 0 safe
-draws xfs 'plan 5: items 12, workqueues 5, arrows 18, red 0, bold 4' xfs.wq
+draws xfs 'plan 6: items 13, workqueues 6, arrows 40, red 0, bold 5' xfs.wq
 grep -vE '^[^#]*(xfs_flush_inodes_worker|xfs_log_worker|xlog_discard_endio_work)' xfs.wq >xfs.rescuers.wq
-run plan xfs.rescuers.wq
-begins 'xfs: plan, without xfs-sync and xfsdiscard' 0 'plan 4'
+answers xfs.rescuers 'plan 6' xfs_blockgc_worker iomap_dio_complete_work xfs_end_io xfs_btree_split_worker xlog_cil_push_work \
+    xlog_ioend_work
+cat xfs.wq xfs.nospace.wq >xfs.full.wq
+run plan xfs.full.wq
+begins 'xfs: plan, without a free block' 1 'circle 3'
+run circles xfs.full.wq
+for arc in 'xfs_end_io xfs_blockgc_worker' 'xfs_blockgc_worker xfs_end_io' 'xfs_inodegc_worker xfs_inodegc_worker'; do
+    is "xfs: without a free block, on a circle: $arc" "arc $arc" "$(grep -x "arc $arc" out)"
+done
+hangs 'xfs: the kernel, without a free block' xfs.full.wq xfs.assign
 
 # The tests of want of memory have the largest declaration and its workqueues, byte for byte.
 cases=$(<"$root/crates/test_cases/src/largest.rt")

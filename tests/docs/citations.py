@@ -1,0 +1,223 @@
+#!/usr/bin/env python3
+"""Checks how the declarations and assignments of examples/ cite the kernel: examples/README.md, "How a place is cited".
+
+    tests/docs/citations.py [KERNEL ..]
+
+KERNEL is the folder of a kernel's sources. Without one, those in the variable KERNEL are taken, with `:` between them, or else
+Debian's /usr/src/linux-source-6.1.tar.xz, if it is there. In a kernel whose version is that of a file's `# Sources:` line each
+cited line must stand in the cited function. What couldn't be looked up, as there is no such kernel, is said at the end.
+
+The form is checked without a kernel. First of all, texts with mistakes must be found faulty.
+"""
+import os
+import pathlib
+import re
+import subprocess
+import sys
+import tempfile
+
+ROOT = pathlib.Path(__file__).resolve().parents[2]
+TARBALL = pathlib.Path("/usr/src/linux-source-6.1.tar.xz")
+
+SOURCES = re.compile(r"# Sources: Linux (\d[\w.]*)((?:, [\w/.-]+)*)")
+PLACE = re.compile(r"(?<![\w./-])([\w./-]+\.[ch]):(\d+) ([A-Za-z_]\w*)")
+# What only a place may have: a file's name with a colon, or a number that may be a line's.
+LEFT_OVER = re.compile(r"[\w./-]+\.[chS]:\S*|(?<![\w.])\d{3,}(?![\w.])")
+KINDS = {"flush": ("flush", "done", "cancel"), "flushwq": ("flushwq",)}
+QUEUED = re.compile(r"queued to \w[\w-]* at ")
+
+
+class Places:
+    """The places that a text cites, and what is wrong with how it does so."""
+
+    def __init__(self, name, text):
+        self.name, self.version, self.folders = name, None, []
+        self.found, self.wrong = [], []
+        lines = text.splitlines()
+        self.is_kernels = not lines[0].startswith("# Not in ")
+        for number, line in enumerate(lines, 1):
+            self.read(number, line)
+        if self.found and self.version is None:
+            self.wrong.append(f"{name}: it cites places, and has no line `# Sources: Linux VERSION, FOLDER ..`")
+
+    def read(self, number, line):
+        where = f"{self.name}:{number}"
+        sources = SOURCES.fullmatch(line)
+        if sources:
+            if self.version is not None:
+                self.wrong.append(f"{where}: a second `# Sources:` line")
+            self.version, self.folders = sources[1], sources[2].split(", ")[1:]
+            return
+        if line.startswith("# Sources"):
+            self.wrong.append(f"{where}: not `# Sources: Linux VERSION, FOLDER ..`")
+            return
+        words, _, comment = line.partition("#")
+        places = [(where, place[1], int(place[2]), place[3]) for place in PLACE.finditer(comment)]
+        self.found += places
+        for left in LEFT_OVER.findall(PLACE.sub("", comment)):
+            self.wrong.append(f"{where}: `{left}` isn't FILE:LINE FUNCTION")
+        wanted = self.wanted((words.split() or [""])[0], comment.strip())
+        if wanted:
+            self.wrong.append(f"{where}: {wanted}")
+
+    def wanted(self, directive, comment):
+        """What the comment of such a line lacks."""
+        if directive in KINDS:
+            kind, _, rest = comment.partition(" ")
+            if kind not in KINDS[directive] or not PLACE.match(rest):
+                return f"the comment doesn't begin with {' or '.join(KINDS[directive])}, and a place"
+        elif directive == "item":
+            queued = QUEUED.search(comment)
+            if not queued or not PLACE.match(comment, queued.end()):
+                return "the comment doesn't say `queued to WORKQUEUE at` and a place"
+        elif directive == "wq" and self.is_kernels and not PLACE.search(comment):
+            return "the comment has no place that makes the workqueue"
+        return None
+
+
+class Tree:
+    """The sources of a kernel."""
+
+    def __init__(self, folder):
+        self.folder = pathlib.Path(folder)
+        self.functions = {}
+        numbers = dict(re.findall(r"^(VERSION|PATCHLEVEL|SUBLEVEL) *= *(\d+)$", (self.folder / "Makefile").read_text(), re.M))
+        self.version = ".".join(numbers[part] for part in ("VERSION", "PATCHLEVEL", "SUBLEVEL"))
+
+    def wrong(self, folders, place):
+        """Why a place isn't there."""
+        where, name, line, function = place
+        paths = [self.folder / folder / name for folder in folders] + [self.folder / name]
+        path = next((path for path in paths if path.is_file()), None)
+        if path is None:
+            return f"{where}: Linux {self.version} has no {name}"
+        if path not in self.functions:
+            self.functions[path] = functions_of(path.read_text(errors="replace").splitlines())
+        spans = self.functions[path].get(function, [])
+        if not any(first <= line <= last for first, last in spans):
+            stands = ", ".join(f"lines {first} to {last}" for first, last in spans) or "nowhere"
+            return f"{where}: line {line} of {name} isn't in {function}, which stands at {stands}"
+        return None
+
+
+def functions_of(lines):
+    """The functions of a C file in the kernel's style, of each name the first and last lines of those that are called so.
+
+    Its body begins with a `{` and ends with a `}`, each the first in its line. What stands above the body, up to an empty line, a
+    comment or the end of something else, is its head.
+    """
+    functions = {}
+    start = None
+    for number, line in enumerate(lines, 1):
+        if line.startswith("{"):
+            start = number
+        elif line.startswith("}") and start is not None:
+            first = start
+            while first > 1 and lines[first - 2].strip() and not re.match(r"[}#]| ?\*|/\*", lines[first - 2]):
+                first -= 1
+            for name in re.findall(r"(\w+)\s*\(", " ".join(lines[first - 1:start])):
+                functions.setdefault(name, []).append((first, number))
+            start = None
+    return functions
+
+
+# Texts, and what must be said of each: a part of it, or nothing.
+HEAD = "# x\n# Sources: Linux 6.1.192, fs/xfs\n"
+ITEM = "item a  # queued to wq at a.c:2 f\n"
+FORMS = [
+    (HEAD + ITEM + "flush a a  # done a.c:2 f, g.c:30 h; 16 words, 6.1.192\nflushwq a a  # flushwq a.c:2 f\n", ""),
+    (HEAD + "wq 0 a  # made at a.c:2 f\n", ""),
+    ("# Not in 6.1: x\nwq 0 a\n", ""),
+    (HEAD + "wq 0 a  # made\n", "no place that makes the workqueue"),
+    ("# x\n" + ITEM, "no line `# Sources:"),
+    (HEAD + HEAD, "a second `# Sources:` line"),
+    ("# Sources: 6.1.192\n", "not `# Sources:"),
+    (HEAD + "item a  # f\n", "doesn't say `queued to WORKQUEUE at`"),
+    (HEAD + "item a  # queued to wq at f\n", "doesn't say `queued to WORKQUEUE at`"),
+    (HEAD + "flush a a  # a.c:2 f\n", "doesn't begin with flush or done or cancel"),
+    (HEAD + "flush a a  # flushwq a.c:2 f\n", "doesn't begin with flush or done or cancel"),
+    (HEAD + "flushwq a a  # flush a.c:2 f\n", "doesn't begin with flushwq"),
+    (HEAD + "flush a a  # done f at a.c:2 f\n", "and a place"),
+    (HEAD + "# a.c:12\n", "`a.c:12` isn't FILE:LINE FUNCTION"),
+    (HEAD + "# a.c:12-15 f\n", "`a.c:12-15` isn't FILE:LINE FUNCTION"),
+    (HEAD + "# a.c:12, 15 f\n", "`a.c:12,` isn't FILE:LINE FUNCTION"),
+    (HEAD + "# a.c:12 f, 150 g\n", "`150` isn't FILE:LINE FUNCTION"),
+]
+C = """\
+static int
+f(
+\tint x) __releases(lock)
+{
+\tif (x) {
+\t\treturn 1;
+\t}
+}
+
+/* says f() */
+int __init g(void)
+{
+}
+"""
+IN_FUNCTION = {("f", line): 1 <= line <= 8 for line in range(1, 14)} | {("g", line): line >= 11 for line in range(1, 14)}
+
+
+def planted():
+    """What isn't said as it should be of the texts above."""
+    for text, wanted in FORMS:
+        said = "; ".join(Places("x", text).wrong)
+        if wanted not in said or bool(wanted) != bool(said):
+            yield f"of {text!r} is said: {said or 'nothing'}"
+    functions = functions_of(C.splitlines())
+    for (name, line), wanted in IN_FUNCTION.items():
+        if any(first <= line <= last for first, last in functions[name]) != wanted:
+            yield f"line {line} of the C text is {'not ' if wanted else ''}in {name}"
+
+
+def unpacked(into, texts):
+    """Unpacks what the texts cite from Debian's archive, into a folder. Gives the folder."""
+    top = TARBALL.name.removesuffix(".tar.xz")
+    names = {"Makefile"}
+    for text in texts:
+        for _, name, _, _ in text.found:
+            names.update([name] + [f"{folder}/{name}" for folder in text.folders])
+    # (tar says of each name that isn't there that it isn't, and unpacks the others)
+    subprocess.run(["tar", "-xJf", TARBALL, "-C", into, "--strip-components=1"] + [f"{top}/{name}" for name in sorted(names)],
+                   stderr=subprocess.DEVNULL, check=False)
+    return into
+
+
+def main():
+    files = sorted(path for end in ("wq", "assign") for path in (ROOT / "examples").glob(f"*.{end}"))
+    texts = [Places(path.name, path.read_text()) for path in files]
+    wrong = list(planted()) + [what for text in texts for what in text.wrong]
+    cited = sum(len(text.found) for text in texts)
+    if not cited:
+        wrong.append("examples/ cites nothing")
+    passed = len(FORMS) + len(IN_FUNCTION) + sum(not text.wrong for text in texts)
+
+    with tempfile.TemporaryDirectory() as into:
+        kernels = sys.argv[1:] or [name for name in os.environ.get("KERNEL", "").split(":") if name]
+        if not kernels and TARBALL.is_file():
+            kernels = [unpacked(into, texts)]
+        trees = {tree.version: tree for tree in map(Tree, kernels)}
+
+        skipped = {}
+        for text in texts:
+            tree = trees.get(text.version)
+            if tree is None:
+                skipped[text.version] = skipped.get(text.version, 0) + len(text.found)
+                continue
+            for place in text.found:
+                said = tree.wrong(text.folders, place)
+                passed += said is None
+                wrong += [said] if said else []
+    for what in wrong:
+        print(f"FAILED  {what}")
+    for version, count in skipped.items():
+        if count:
+            print(f"skipped {count} places of Linux {version}: there are no sources of it (KERNEL=FOLDER names some)")
+    print(f"citations: {passed} passed, {len(wrong)} failed ({cited} places are cited)")
+    sys.exit(1 if wrong else 0)
+
+
+main()
