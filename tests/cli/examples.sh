@@ -238,24 +238,24 @@ draws md 'plan 2: items 4, workqueues 2, arrows 4, red 0, bold 1' md.wq
 draws 'md: the kernel' 'components 1: items 4, workqueues 1, arrows 4, red 4, bold 0' md.wq md.assign
 
 # rbd: two ordered groups, five workqueues and the system's, safe.
-counts rbd 13 26 8 6
+counts rbd 13 39 8 6
 answers rbd 'plan 3' rbd_acquire_lock do_watch_notify ceph_con_workfn
 without_cancel rbd 3
 plan_is_least rbd
 run deadlock rbd.wq rbd.assign
 ends 'rbd: the kernel' 0 safe
-draws rbd 'plan 3: items 13, workqueues 3, arrows 26, red 0, bold 2' rbd.wq
-draws 'rbd: the kernel' 'safe: items 13, workqueues 6, arrows 26, red 0, bold 0' rbd.wq rbd.assign
+draws rbd 'plan 3: items 13, workqueues 3, arrows 39, red 0, bold 2' rbd.wq
+draws 'rbd: the kernel' 'safe: items 13, workqueues 6, arrows 39, red 0, bold 0' rbd.wq rbd.assign
 
 # xfs: twelve workqueues, safe; six are enough, with and without the two that have no rescuer. Where there is no free block, an
 # end of a write waits for the cleaners, which wait for ends of writes, and a cleaner flushes its own workqueue.
-counts xfs 13 40 13 12
+counts xfs 13 42 13 12
 answers xfs 'plan 6' xfs_flush_inodes_worker wb_workfn xfs_end_io xfs_btree_split_worker xlog_cil_push_work xlog_ioend_work
 without_cancel xfs 6
 plan_is_least xfs
 run deadlock xfs.wq xfs.assign
 ends 'xfs: the kernel' 0 safe
-draws xfs 'plan 6: items 13, workqueues 6, arrows 40, red 0, bold 5' xfs.wq
+draws xfs 'plan 6: items 13, workqueues 6, arrows 42, red 0, bold 5' xfs.wq
 grep -vE '^[^#]*(xfs_flush_inodes_worker|xfs_log_worker|xlog_discard_endio_work)' xfs.wq >xfs.rescuers.wq
 answers xfs.rescuers 'plan 6' xfs_blockgc_worker iomap_dio_complete_work xfs_end_io xfs_btree_split_worker xlog_cil_push_work \
     xlog_ioend_work

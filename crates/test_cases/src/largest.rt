@@ -12,7 +12,7 @@ pub const LARGEST: &str = "\
 # xfs_log_cil.c:946 xlog_cil_order_write). It waits only for those that have started: an older push puts itself on the
 # list of these (xfs_log_cil.c:1260 xlog_cil_push_work), and makes the context of the next one only after that
 # (xfs_log_cil.c:1291 xlog_cil_push_work).
-# Not declared: waits for locks.
+# Not declared: waits for locks of inodes and of pages. Their holders wait for nothing for which these items don't wait anyway.
 
 item xfs_flush_inodes_worker  # queued to xfs-sync at xfs_super.c:622 xfs_flush_inodes
 item xfs_log_worker           # delayed work, queued to xfs-sync at xfs_log.c:1441 xfs_log_work_queue
@@ -37,6 +37,8 @@ item xlog_discard_endio_work  # queued to xfsdiscard at xfs_log_cil.c:723 xlog_d
 # - A page is being written: folio_wait_writeback and its like sleep until that has ended. For pages of unwritten extents, of
 #   copies on write and behind the end of the file xfs_end_io says so (xfs_aops.c:134 xfs_end_ioend), for others an interrupt.
 
+# Who frees or takes blocks locks the head of their group, the AGF. Its holder may have handed a split to another item, and
+# sleep until that is done.
 # When the last reference of an unlinked inode is dropped, xfs_inodegc_queue waits if memory is short, or too many inodes wait.
 flush xfs_flush_inodes_worker wb_workfn              # done fs/fs-writeback.c:2822 sync_inodes_sb, from xfs_super.c:600 xfs_flush_inodes_worker
 flush xfs_flush_inodes_worker xfs_end_io             # done fs/fs-writeback.c:2703 wait_sb_inodes, by sync_inodes_sb
@@ -52,10 +54,12 @@ flush wb_workfn xlog_ioend_work                      # done xfs_log.c:890 xlog_w
 flush wb_workfn xlog_discard_endio_work              # done xfs_extent_busy.c:587 xfs_extent_busy_flush
 flush wb_workfn xfs_buf_ioend_work                   # done xfs_buf.c:1611 xfs_buf_iowait
 flushwq xfs_inodegc_worker xlog_cil_push_work        # flushwq xfs_log_cil.c:1521 xlog_cil_push_now, at xfs_buf.c:1119 xfs_buf_lock, by xfs_inactive at xfs_icache.c:1879 xfs_inodegc_inactivate
+flush xfs_inodegc_worker xfs_btree_split_worker      # done xfs_buf.c:1120 xfs_buf_lock; interpretation: an AGF whose holder waits for a split
 flush xfs_inodegc_worker xlog_ioend_work             # done xfs_log.c:890 xlog_wait_on_iclog, at xfs_extent_busy.c:579 xfs_extent_busy_flush
 flush xfs_inodegc_worker xlog_discard_endio_work     # done xfs_extent_busy.c:587 xfs_extent_busy_flush
 flush xfs_inodegc_worker xfs_buf_ioend_work          # done xfs_buf.c:1611 xfs_buf_iowait
 flushwq xfs_blockgc_worker xlog_cil_push_work        # flushwq xfs_log_cil.c:1521 xlog_cil_push_now, at xfs_buf.c:1119 xfs_buf_lock
+flush xfs_blockgc_worker xfs_btree_split_worker      # done xfs_buf.c:1120 xfs_buf_lock; interpretation: an AGF whose holder waits for a split
 flush xfs_blockgc_worker xlog_ioend_work             # done xfs_log.c:890 xlog_wait_on_iclog, at xfs_extent_busy.c:579 xfs_extent_busy_flush
 flush xfs_blockgc_worker xlog_discard_endio_work     # done xfs_extent_busy.c:587 xfs_extent_busy_flush
 flush xfs_blockgc_worker xfs_buf_ioend_work          # done xfs_buf.c:1611 xfs_buf_iowait
