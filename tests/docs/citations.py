@@ -3,9 +3,10 @@
 
     tests/docs/citations.py [KERNEL ..]
 
-KERNEL is the folder of a kernel's sources. Without one, those in the variable KERNEL are taken, with `:` between them, or else
-Debian's /usr/src/linux-source-6.1.tar.xz, if it is there. In a kernel whose version is that of a file's `# Sources:` line each
-cited line must stand in the cited function. What couldn't be looked up, as there is no such kernel, is said at the end.
+KERNEL is the folder of a kernel's sources. Without one, those in the variable KERNEL are taken, with `:` between them,
+or else Debian's /usr/src/linux-source-6.1.tar.xz, if it is there. In a kernel whose version is that of a file's
+`# Sources:` line each cited line must stand in the cited function. What couldn't be looked up, as there is no such
+kernel, is said at the end.
 
 The form is checked without a kernel. First of all, texts with mistakes must be found faulty.
 """
@@ -81,7 +82,8 @@ class Tree:
     def __init__(self, folder):
         self.folder = pathlib.Path(folder)
         self.functions = {}
-        numbers = dict(re.findall(r"^(VERSION|PATCHLEVEL|SUBLEVEL) *= *(\d+)$", (self.folder / "Makefile").read_text(), re.M))
+        makefile = (self.folder / "Makefile").read_text()
+        numbers = dict(re.findall(r"^(VERSION|PATCHLEVEL|SUBLEVEL) *= *(\d+)$", makefile, re.M))
         self.version = ".".join(numbers[part] for part in ("VERSION", "PATCHLEVEL", "SUBLEVEL"))
 
     def wrong(self, folders, place):
@@ -101,10 +103,10 @@ class Tree:
 
 
 def functions_of(lines):
-    """The functions of a C file in the kernel's style, of each name the first and last lines of those that are called so.
+    """The functions of a C file in the kernel's style: of each name the first and last lines of those called so.
 
-    Its body begins with a `{` and ends with a `}`, each the first in its line. What stands above the body, up to an empty line, a
-    comment or the end of something else, is its head.
+    Its body begins with a `{` and ends with a `}`, each the first in its line. What stands above the body, up to an
+    empty line, a comment or the end of something else, is its head.
     """
     functions = {}
     start = None
@@ -125,7 +127,7 @@ def functions_of(lines):
 HEAD = "# x\n# Sources: Linux 6.1.192, fs/xfs\n"
 ITEM = "item a  # queued to wq at a.c:2 f\n"
 FORMS = [
-    (HEAD + ITEM + "flush a a  # done a.c:2 f, g.c:30 h; 16 words, 6.1.192\nflushwq a a  # flushwq a.c:2 f\n", ""),
+    (HEAD + ITEM + "flush a a  # done a.c:2 f, g.c:30 h; 16, 6.1.192\nflushwq a a  # flushwq a.c:2 f\n", ""),
     (HEAD + "wq 0 a  # made at a.c:2 f\n", ""),
     ("# Not in 6.1: x\nwq 0 a\n", ""),
     (HEAD + "wq 0 a  # made\n", "no place that makes the workqueue"),
@@ -158,7 +160,8 @@ int __init g(void)
 {
 }
 """
-IN_FUNCTION = {("f", line): 1 <= line <= 8 for line in range(1, 14)} | {("g", line): line >= 11 for line in range(1, 14)}
+LINES = range(1, len(C.splitlines()) + 1)
+IN_FUNCTION = {("f", line): 1 <= line <= 8 for line in LINES} | {("g", line): 11 <= line <= 13 for line in LINES}
 
 
 def planted():
@@ -181,8 +184,9 @@ def unpacked(into, texts):
         for _, name, _, _ in text.found:
             names.update([name] + [f"{folder}/{name}" for folder in text.folders])
     # (tar says of each name that isn't there that it isn't, and unpacks the others)
-    subprocess.run(["tar", "-xJf", TARBALL, "-C", into, "--strip-components=1"] + [f"{top}/{name}" for name in sorted(names)],
-                   stderr=subprocess.DEVNULL, check=False)
+    members = [f"{top}/{name}" for name in sorted(names)]
+    subprocess.run(["tar", "-xJf", TARBALL, "-C", into, "--strip-components=1", *members], stderr=subprocess.DEVNULL,
+                   check=False)
     return into
 
 
@@ -199,6 +203,9 @@ def main():
         kernels = sys.argv[1:] or [name for name in os.environ.get("KERNEL", "").split(":") if name]
         if not kernels and TARBALL.is_file():
             kernels = [unpacked(into, texts)]
+        strange = [name for name in kernels if not pathlib.Path(name, "Makefile").is_file()]
+        if strange:
+            sys.exit(f"citations: there are no sources of a kernel in {' '.join(strange)}")
         trees = {tree.version: tree for tree in map(Tree, kernels)}
 
         skipped = {}
