@@ -25,7 +25,7 @@ item iomap_dio_complete_work  # queued to dio at fs/iomap/direct-io.c:167 iomap_
 item xfs_btree_split_worker   # queued to xfsalloc at libxfs/xfs_btree.c:2958 xfs_btree_split
 item xlog_cil_push_work       # queued to xfs-cil at xfs_log_cil.c:1545 xlog_cil_push_now
 item xlog_ioend_work          # queued to xfs-log at xfs_log.c:1844 xlog_bio_end_io
-item xfs_buf_ioend_work       # queued to xfs-buf at xfs_buf.c:1359 xfs_buf_ioend_async, for synchronous I/O too (xfs_buf.c:1443 xfs_buf_bio_end_io)
+item xfs_buf_ioend_work       # queued to xfs-buf at xfs_buf.c:1359 xfs_buf_ioend_async, for synchronous I/O too
 item xlog_discard_endio_work  # queued to xfsdiscard at xfs_log_cil.c:723 xlog_discard_endio
 
 # Five waits come again and again:
