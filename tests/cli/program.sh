@@ -578,6 +578,6 @@ done
 shows run HELPERS workqueue
 shows explain CODE number
 run --version </dev/null
-check '--version' 0 'wqplan 0.2.0-dev\n' ''
+check '--version' 0 'wqplan 0.2.0\n' ''
 
 counts_of program

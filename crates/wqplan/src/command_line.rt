@@ -192,7 +192,7 @@ fn bare<'a>(alloc: Global) -> Command<'a>
     ensures { app_of result ≡ bare }
 {
     Command::new(alloc, "wqplan")
-        .version("0.2.0-dev")
+        .version("0.2.0")
         .about(help::PROGRAM)
         .after_help(help::STATUSES)
         .subcommand_required(true)
