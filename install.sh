@@ -1,9 +1,10 @@
 #!/usr/bin/env bash
 # Proves and builds wqplan, and installs it with its manual pages and its
-# completion for bash.
+# completion for bash; or makes a Debian package of it.
 #
 #     bash install.sh [PREFIX]
 #     bash install.sh --uninstall [PREFIX]
+#     bash install.sh --deb [FOLDER]
 #
 # PREFIX is ~/.local unless you name one. These files are installed:
 #
@@ -25,6 +26,10 @@
 # it that are then empty. If there is no list, nothing is removed, and the exit
 # status is 1. Then nothing is installed, or it was installed by the install.sh
 # of version 0.1.0, which kept no list.
+#
+# --deb installs nothing. It makes wqplan_VERSION_amd64.deb in FOLDER, or in the
+# folder that you are in, of what was proved and built in the same way.
+# package/deb.sh says what is in it. It needs dpkg-dev.
 set -euo pipefail
 
 fail() {
@@ -32,8 +37,9 @@ fail() {
     exit 1
 }
 
-usage='bash install.sh [--uninstall] [PREFIX]'
+usage='bash install.sh [--uninstall] [PREFIX], or --deb [FOLDER]'
 uninstall=
+deb=
 case ${1-} in
     -h | --help)
         sed -n '2,/^set/{/^set/d;s/^# \{0,1\}//;p}' "$0"
@@ -43,16 +49,24 @@ case ${1-} in
         uninstall=1
         shift
         ;;
+    --deb)
+        deb=1
+        shift
+        ;;
 esac
 case ${1-} in
     -*) fail "there is no option $1 here ($usage)" ;;
 esac
-[ $# -le 1 ] || fail "one PREFIX at most ($usage)"
-[ -n "${1-}${HOME-}" ] || fail 'name a PREFIX: there is no home folder'
-prefix=$(realpath -m -- "${1:-${HOME-}/.local}")
-
-# What was installed: lines `file NAME` and `folder NAME`, each name as seen from PREFIX.
-list=$prefix/share/wqplan/installed
+[ $# -le 1 ] || fail "one folder at most ($usage)"
+if [ -n "$deb" ]; then
+    target=$(realpath -m -- "${1:-.}")
+else
+    [ -n "${1-}${HOME-}" ] || fail 'name a PREFIX: there is no home folder'
+    prefix=$(realpath -m -- "${1:-${HOME-}/.local}")
+    target=$prefix
+    # What was installed: lines `file NAME` and `folder NAME`, each name as seen from PREFIX.
+    list=$prefix/share/wqplan/installed
+fi
 
 if [ -n "$uninstall" ]; then
     [ -f "$list" ] || fail "nothing is installed to $prefix: there is no list $list"
@@ -113,18 +127,28 @@ sources=("$newlist" "$build/crates/wqplan/out/wqplan" man/wqplan.1 man/wqplan.5 
 places=(share/wqplan/installed bin/wqplan share/man/man1/wqplan.1 share/man/man5/wqplan.5 share/bash-completion/completions/wqplan)
 modes=(644 755 644 644 644)
 
-# Before anything is built: can a file be made in each folder, or in the nearest one above it that is there?
-for place in "${places[@]}"; do
-    folder=$(dirname -- "$prefix/$place")
-    nearest=$folder
-    while [ ! -e "$nearest" ] && [ ! -L "$nearest" ]; do
-        nearest=$(dirname -- "$nearest")
+# may_install: can a file be made in each folder, or in the nearest one above it that is there?
+may_install() {
+    local place folder nearest trial
+    for place in "${places[@]}"; do
+        folder=$(dirname -- "$prefix/$place")
+        nearest=$folder
+        while [ ! -e "$nearest" ] && [ ! -L "$nearest" ]; do
+            nearest=$(dirname -- "$nearest")
+        done
+        [ -d "$nearest" ] || fail "can't install to $folder: $nearest isn't a folder"
+        trial=$(mktemp -d "$nearest/.wqplan.XXXXXX" 2>/dev/null) || fail "can't install to $folder: $nearest can't be written"
+        rmdir -- "$trial"
+        [ ! -d "$prefix/$place" ] || fail "can't install: $prefix/$place is a folder"
     done
-    [ -d "$nearest" ] || fail "can't install to $folder: $nearest isn't a folder"
-    trial=$(mktemp -d "$nearest/.wqplan.XXXXXX" 2>/dev/null) || fail "can't install to $folder: $nearest can't be written"
-    rmdir -- "$trial"
-    [ ! -d "$prefix/$place" ] || fail "can't install: $prefix/$place is a folder"
-done
+}
+
+# Before anything is built: what can be known of what comes after.
+if [ -n "$deb" ]; then
+    bash package/deb.sh --look "$target"
+else
+    may_install
+fi
 command -v rt >/dev/null || fail 'rt, the toolchain of Rattle, is not on the PATH'
 # The page that `rt doc` names is in the toolchain's folder.
 { page=$(rt doc) && version=$(rt version); } 2>"$log" || fail "rt doesn't say where the toolchain is: $(tail -n 1 "$log")"
@@ -240,7 +264,11 @@ case $total in
     "${#crates[@]}") first="First its $total crates are proved, up to $jobs at a time, which takes about an hour" ;;
     *) first="First $total of its ${#crates[@]} crates are proved, up to $jobs at a time" ;;
 esac
-echo "install: wqplan will be installed to $prefix. $first (in $build)."
+if [ -n "$deb" ]; then
+    echo "install: a package of wqplan will be made in $target. $first (in $build)."
+else
+    echo "install: wqplan will be installed to $target. $first (in $build)."
+fi
 
 # begin CRATE: has it proved in a process group of its own, which cleanup can end. Its status comes when it has ended.
 begin() {
@@ -288,6 +316,11 @@ while [ $count -lt $total ]; do
         fi
     done
 done
+
+if [ -n "$deb" ]; then
+    bash package/deb.sh "$target" "$(result wqplan)"
+    exit 0
+fi
 
 # make FOLDER: makes a folder and those above it, and notes those that weren't there.
 make() {

@@ -37,6 +37,7 @@ docs     manual       docs/manual.py
 docs     completion   docs/completion.py
 docs     citations    docs/citations.py
 cli      install      cli/install.sh
+cli      package      cli/package.sh WQPLAN
 lib      dot          lib/dot_texts.py | lib/dot_drawn.py
 cli      outlives     cli/outlives.sh
 edits    edits_test   edits/edits_test.sh

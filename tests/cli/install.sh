@@ -1,90 +1,14 @@
 #!/usr/bin/env bash
-# Runs install.sh in a copy of what it reads, with a toolchain that proves and builds nothing: an `rt` of this script, which names a
-# folder with a `rattle` and a `rattle-link`, which note their calls. So what is tested is the script alone: in which order the crates
-# are proved, what it installs where, what a refusal leaves, what --uninstall removes. It needs no program, and takes seconds.
+# Runs install.sh in a copy of what it reads, with the toolchain of tests/lib/toolchain.bash, which proves and builds nothing. So what
+# is tested is the script alone: in which order the crates are proved, what it installs where, what a refusal leaves, what --uninstall
+# removes. It needs no program, and takes seconds. What --deb makes is tested by package.sh.
 set -u
 . "$(dirname "$0")/../lib/script.bash"
 repository=$(realpath -- "$(dirname "$0")/../..")
 work=$(mktemp -d)
 trap 'rm -rf -- "$work"' EXIT
 
-# A clone: install.sh, crates.txt, the pages, and of each crate a file in src/, in specs/ and (but for wq_text) in proofs/, and
-# what install.sh has no use for.
-clone="$work/the clone"
-kit="$work/the kit"
-mkdir -p -- "$clone/crates" "$work/toolchain" "$kit/bin" "$work/home" "$work/tmp"
-cp -r -- "$repository/install.sh" "$repository/crates.txt" "$repository/man" "$clone"
-while IFS=: read -r crate _; do
-    mkdir -p -- "$clone/crates/$crate"/{src,specs,proofs,must-fail,out}
-    echo "$crate" | tee -- "$clone/crates/$crate"/{src/lib.rt,specs/Lib.antt} >"$clone/crates/$crate/proofs/Lib.antt"
-done <"$clone/crates.txt"
-rm -r -- "$clone/crates/wq_text/proofs"
-mv -- "$clone/crates/wqplan/src/lib.rt" "$clone/crates/wqplan/src/main.rt"
-
-# `rattle build` proves each crate but $UNPROVED, where each library that it is passed is there, and makes a folder of a library. Of
-# $HANGING it never ends. `rattle-link` makes a program that prints $BUILT, unless that is empty, and then does what $AFTER says.
-# How many calls of `rattle` are at work is noted beside each.
-cat >"$work/toolchain/rt" <<'END'
-#!/usr/bin/env bash
-case $* in
-    doc) echo "$KIT/START-HERE.md" ;;
-    version) echo "${VERSION-rattle-kit-1}" ;;
-    *) exit 1 ;;
-esac
-END
-cat >"$kit/bin/rattle" <<'END'
-#!/usr/bin/env bash
-[ "$1" = build ] || exit 2
-words=("$@")
-for ((i = 1; i < $#; i++)); do
-    case ${words[i]} in
-        --crate-name) crate=${words[++i]} ;;
-        --extern)
-            library=${words[++i]#*=}
-            [ "${library%/*}" = "$KIT/rlibs" ] || [ -d "$library" ] || { echo "there is no $library"; exit 2; }
-            ;;
-        -o) made=${words[++i]} ;;
-        src/*.rt) source=${words[i]} ;;
-    esac
-done
-mkdir -- "$WORK/at-work/$crate" || exit 2
-echo "$crate" >>"$WORK/calls"
-ls -- "$WORK/at-work" | wc -l >>"$WORK/counts"
-[ "$crate" != "${HANGING-}" ] || sleep 600
-sleep 0.05
-rmdir -- "$WORK/at-work/$crate"
-grep -qx "$crate" "$source" "${source/src*/specs/Lib.antt}" || exit 2
-if [ "$crate" = "${UNPROVED-}" ]; then
-    echo "fn $crate::f: not proved"
-    exit 1
-fi
-[ "$crate" = wqplan ] && touch -- "$made" || mkdir -- "$made"
-END
-cat >"$kit/bin/rattle-link" <<'END'
-#!/usr/bin/env bash
-[ -e out/wqplan.o ] && [ -n "${BUILT-}" ] || exit 1
-echo "$PWD link" >>"$WORK/calls"
-printf '#!/bin/sh\necho %s\n' "$BUILT" >out/wqplan
-chmod 755 out/wqplan
-eval "${AFTER-}"
-END
-chmod 755 "$work/toolchain/rt" "$kit"/bin/*
-
-# start ARGS..: becomes install.sh, in a folder elsewhere.
-start() {
-    rm -rf -- "$work/calls" "$work/counts" "$work/at-work"
-    touch "$work/calls"
-    mkdir -- "$work/at-work"
-    cd -- "$work" && umask 077 && WORK=$work KIT=${KIT-$kit} HOME=${HOUSE-$work/home} XDG_CACHE_HOME=${CACHE-$work/cache} TMPDIR=$work/tmp \
-        BUILT=${BUILT-one} PATH=${TOOLS-$work/toolchain:$PATH} exec timeout 60 bash "$clone/install.sh" "$@" \
-        >"$work/out" 2>"$work/err" </dev/null
-}
-
-# run ARGS..: runs install.sh, and keeps what it writes, its status and the calls of `rattle`.
-run() {
-    (start "$@")
-    status=$?
-}
+. "$repository/tests/lib/toolchain.bash"
 
 # ends NAME STATUS ERROR: counts whether the last run ended so, with this on standard error, and left nothing in TMPDIR.
 ends() {
@@ -386,13 +310,14 @@ rm -- "$kit/bin/rattle"
 run "$prefix"
 ends 'a toolchain without a prover' 1 "install: there is no $kit/bin/rattle in the toolchain that rt names"
 untouched 'a toolchain without a prover' '' "$prefix"
-for words in --remove '--uninstall --remove' '-x a'; do
+usage='bash install.sh [--uninstall] [PREFIX], or --deb [FOLDER]'
+for words in --remove '--uninstall --remove' '--deb --remove' '-x a'; do
     run $words
-    ends "$words" 1 "install: there is no option $(grep -oE -- '(--remove|-x)' <<<"$words") here (bash install.sh [--uninstall] [PREFIX])"
+    ends "$words" 1 "install: there is no option $(grep -oE -- '(--remove|-x)' <<<"$words") here ($usage)"
 done
-for words in "$prefix b" "--uninstall $prefix b"; do
+for words in "$prefix b" "--uninstall $prefix b" "--deb $prefix b"; do
     run $words
-    ends "two PREFIXes: $words" 1 'install: one PREFIX at most (bash install.sh [--uninstall] [PREFIX])'
+    ends "two PREFIXes: $words" 1 "install: one folder at most ($usage)"
     untouched "two PREFIXes: $words" '' "$prefix"
 done
 

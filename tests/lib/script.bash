@@ -58,6 +58,19 @@ has() {
     fi
 }
 
+# skipped TEXT..: says what isn't tested here, and why.
+skipped() {
+    echo "SKIPPED $*"
+}
+
+# from_debian PROGRAM PACKAGE: whether the program is there. Where it may, it installs the package that has it.
+from_debian() {
+    command -v "$1" >/dev/null && return
+    [ "$(id -u)" -eq 0 ] && command -v apt-get >/dev/null || return
+    DEBIAN_FRONTEND=noninteractive apt-get -qq -y --no-install-recommends install "$2" >/dev/null 2>&1 </dev/null
+    command -v "$1" >/dev/null
+}
+
 # counts_of SCRIPT: says how many passed and failed. The status is 0 where none failed.
 counts_of() {
     echo "$1: $passed passed, $failed failed"
