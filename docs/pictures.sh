@@ -31,6 +31,7 @@ picture() {
     }
 }
 
+picture nvme-auth nvme-auth.wq nvme-auth.assign
 picture dm-snapshot dm-snapshot.wq
 picture dm-snapshot.merged dm-snapshot.wq dm-snapshot.merged.assign
 picture rbd rbd.wq

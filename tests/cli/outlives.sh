@@ -11,6 +11,10 @@ set -euo pipefail
 cd -- "$(dirname "$0")/../.." || exit 1
 sample=tests/cli/outlives.rt.txt
 . tests/lib/script.bash
+if ! command -v rt >/dev/null; then
+    skipped 'outlives: rt, the toolchain of Rattle, is not on the PATH'
+    exit 0
+fi
 # A check that reads the sources of all libraries takes longer than a program of the tests.
 seconds=600
 
