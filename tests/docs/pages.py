@@ -1,8 +1,12 @@
 #!/usr/bin/env python3
-"""Looks for each name on the pages that speak of the code, and names those that are nowhere; and measures pages.
+"""Looks for each name on the pages that speak of the code, and for each section of a page that is named anywhere, and says which of them
+are nowhere; and measures pages.
 
 What stands in backticks is a name where it looks like one of the code's: `snake_case`, `CamelCase`, `path::to`, a field
 `Record.field` of a record of crates/*/specs, a file by the end of its path (`src/lib.rt`), or a folder of the repository.
+
+A section is named as in `docs/FORMAT.md, "Limits"`, or `"Limits" and "Directives" in docs/FORMAT.md`, or `GUIDE.md, section 2`. It is a
+heading of this page, or what stands in bold where a paragraph begins.
 
 Outside code blocks no line of a page of MEASURED has more than LINE_WIDTH columns, or, in a table, ROW_WIDTH. How long a page is, is
 judged by its readers.
@@ -15,6 +19,8 @@ import sys
 ROOT = pathlib.Path(__file__).resolve().parents[2]
 PAGES = ["README.md", "CONTRIBUTING.md", "bench/README.md", "tests/DIAGNOSES.md", "tests/FORMATS.md"]
 PAGES += [f"docs/{name}.md" for name in ("ARCHITECTURE", "DECISIONS", "DEFINITIONS", "FORMAT", "LOCKDEP", "PROMISES", "RUNTIME")]
+# Where sections are named: on pages and in what is beside them, in these folders and at the top.
+CITING = ["bench", "docs", "examples", "man", "package", "tests"]
 # The pages that are measured: all of the repository.
 MEASURED = sorted(str(page.relative_to(ROOT)) for page in ROOT.rglob("*.md") if "out" not in page.parts and ".git" not in page.parts)
 LINE_WIDTH = 100
@@ -35,6 +41,18 @@ NAME = re.compile(r"(?:\w+::)*[A-Za-z_]\w*_\w+|(?:\w+::)*(?:[A-Z]+[a-z]+)+|\w+(?
 FIELD = re.compile(r"(\w+)\.(\w+)")
 FILE = re.compile(r"[\w./-]*\w\.(?:antt|rt|py|sh|edit|md|bash|[15])")
 FOLDER = re.compile(r"(?:crates|tests|docs|bench|man|examples)/[\w./-]*\w")
+
+PAGE = r"(?P<page>(?:\w+/)*[A-Z]+\.md)"
+NAMES = r'(?P<names>"[^"\n{]{1,80}"(?:(?:,| and|, and) "[^"\n{]{1,80}")*)'
+LINK = r"(?:\]\([^)]*\))?"
+CITATIONS = [
+    re.compile(rf"{NAMES} (?:in|of) \[?{PAGE}"),
+    re.compile(rf"{PAGE}{LINK}, {NAMES}"),
+    re.compile(rf"{PAGE}{LINK}, sections? (?P<names>\d+)"),
+]
+# A line break, with what begins the next line in a comment.
+BREAK = re.compile(r"\n[ \t]*(?://[/!]?|--|#|\*)?[ \t]*")
+HEADING = re.compile(r"#+ (.*)|\*\*([^*]+?)\.?\*\*")
 
 RECORD = re.compile(r"(?:pub )?record (\w+)")
 FIELD_OF_RECORD = re.compile(r"  (?:pub )?(\w+) :")
@@ -93,6 +111,32 @@ class Code:
         return None
 
 
+def sections():
+    """Of each page, by its name without folders, what can be named in it: its headings, and the numbers of those that have one."""
+    found = {}
+    for page in MEASURED:
+        names = found.setdefault(page.split("/")[-1], set())
+        is_code = False
+        before = ""
+        for line in (ROOT / page).read_text().splitlines():
+            is_code ^= line.startswith("```")
+            heading = HEADING.match(line)
+            if heading and not is_code and (heading[1] or not before):
+                name = heading[1] or heading[2]
+                names.update((name, name.split(". ")[0]))
+            before = line
+    return found
+
+
+def named(text):
+    """The sections that a text names: of each its page and its name or number."""
+    text = BREAK.sub(" ", text)
+    for citation in CITATIONS:
+        for match in citation.finditer(text):
+            for name in re.findall(r'"([^"]+)"', match["names"]) or [match["names"]]:
+                yield match["page"].split("/")[-1], name
+
+
 def too_wide(page):
     """Of each line or row of a page that is too wide, its number and its width."""
     is_code = False
@@ -111,6 +155,16 @@ def main():
         failed += len(found)
         for what in found:
             print(f"FAILED  {what}")
+    there = sections()
+    for path, name in files():
+        folders = name.split("/")[1:-1]
+        if not folders or folders[0] in CITING:
+            for page, section in named(path.read_text(errors="ignore")):
+                is_there = section in there.get(page, ())
+                passed += is_there
+                failed += not is_there
+                if not is_there:
+                    print(f"FAILED  {name[1:]}: there is no section {section!r} in {page}")
     for page in PAGES:
         for number, line in enumerate((ROOT / page).read_text().splitlines(), 1):
             for quoted in re.findall(r"`([^`]+)`", line):
