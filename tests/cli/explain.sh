@@ -1,7 +1,7 @@
 #!/usr/bin/env bash
-# Runs `wqplan explain` for each number, each fault and each word of an answer, by number and by name, in upper and lower case, and
-# the example that it prints, whose answer has to be that number, and to standard error its diagnosis, or that fault, or a line that
-# begins with that word. The figures in an explanation have to be those of docs/FORMAT.md. Also runs it without a word, and with
+# Runs `wqplan explain` for each number, each fault, each word of an answer and each directive, by number and by name, in upper and
+# lower case, and the example that it prints, whose answer has to be that number, and to standard error its diagnosis, or that fault,
+# or a line that begins with that word, or, of a declaration with that directive, a plan. The figures in an explanation have to be those of docs/FORMAT.md. Also runs it without a word, and with
 # words that have no explanation.
 # Run it once the gate or `rt run` has built the program. The argument, if there is one, names another program.
 set -u
@@ -129,7 +129,22 @@ while IFS=: read -r word commands; do
     has "explain $word: the command of the example" '`'"$(sed -n '$s/.*wqplan \([a-z]*\).*/\1/p' commands)"'`|any' "$commands"
 done <words
 
-# All titles: those of the numbers, with their names, those of the faults, and those of the words of answers.
+# Each directive: its example has a line of it, and prints a plan.
+directives=$(sed -nE 's/^- a directive: (.*);$/\1/p' "$format" | grep -oE '`[a-z]+`' | tr -d '`')
+is 'docs/FORMAT.md has all directives' "$(grep -c '^directive: ' "$tables/directives.txt")" "$(wc -l <<<"$directives")"
+for name in $directives; do
+    run explain "$name"
+    is "explain $name" "0: $name directive" "$status: $(head -n 1 out)"
+    formed "$name" 'What to do:'
+    below 'To see it:' >commands
+    same "$name" "${name^^}"
+    has "explain $name: the example has such a line" "('|n)$name a" "$(cat commands)"
+    mkdir "example $name"
+    (cd "example $name" && PATH=$work/bin:$PATH limited bash ../commands) >out 2>err
+    has "explain $name: the example prints a plan" '^0::plan [0-9]+'$'\n' "$?:$(cat err):$(cat out)"
+done
+
+# All titles: those of the numbers, with their names, those of the faults, those of the words of answers, and those of directives.
 {
     sed -nE 's/^\| ([0-9]+) \| ([A-Z][A-Za-z]+) \|.*/\1 \2/p' "$format"
     sed -nE 's/^\| `no (5[0-9])[^|]*` \| ([A-Z][A-Za-z]+) \|.*/\1 \2/p' "$format"
@@ -137,6 +152,7 @@ done <words
 is 'docs/FORMAT.md has all numbers' "$(grep -c '^number: ' "$tables/numbers.txt")" "$(wc -l <titles)"
 sed 's/$/ fault/' <<<"$faults" >>titles
 sed 's/:.*/ answer/' words >>titles
+sed 's/$/ directive/' <<<"$directives" >>titles
 run explain
 is 'explain without a word' '0' "$status$(cat err)$(cmp out titles 2>&1)"
 
@@ -151,7 +167,7 @@ done <titles
 # k of `stuck`), the words of a title, a part of a word, and an empty word.
 sed -nE 's/^([0-9]+) .*/\1/p' titles >numbers
 for word in $(seq 0 $(($(tail -n 1 numbers) + 1)) | grep -vxFf numbers) 4294967295 4294967296 18446744073709551617 1x x ++1 '+' '1 ' ' 1' 0x1 TextTooLon TextTooLong1 reads \
-    'read fault' 'fault read' '1 TextTooLong' 'safe ' safer not lawful 'not  lawful' notlawful 'safe answer' answer '' \
+    'read fault' 'fault read' '1 TextTooLong' 'item directive' items 'safe ' safer not lawful 'not  lawful' notlawful 'safe answer' answer '' \
     $'caf\303\251' $'stuc\342\204\252'; do
     run explain "$word"
     is "explain '$word'" "2: $(cat titles)" "$status: $(tail -n +2 out)"
@@ -166,9 +182,10 @@ for words in -1 '1 2' 'read 1' --all; do
     is "explain $words" '2:' "$status:$(cat out)"
     has "explain $words: standard error" . "$(cat err)"
 done
+full=$'wqplan: <stdout>: no space left\nfault write'
 limited "$program" explain 1 >/dev/full 2>err
-is 'a full device' '3: fault write' "$?: $(cat err)"
+is 'a full device' "3: $full" "$?: $(cat err)"
 limited "$program" explain >/dev/full 2>err
-is 'all titles on a full device' '3: fault write' "$?: $(cat err)"
+is 'all titles on a full device' "3: $full" "$?: $(cat err)"
 
 counts_of explain

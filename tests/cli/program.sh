@@ -59,6 +59,12 @@ yes '' | head -c 8388609 >too_large_certificate
 # What is said of a declaration without an item, behind the name of its file.
 no_item=': note: no item is declared: is this the right file?\n'
 
+# What is said where standard output is full, and where it is closed.
+full='wqplan: <stdout>: no space left\nfault write\n'
+closed="wqplan: <stdout>: can't be written\nfault write\n"
+twice='error: `-`, which is standard input, can be only one of the files\n'
+mkfifo unread
+
 plan='plan 2\nwq 0 b\nwq 1 a\nchain 2\narc a b\n'
 printf 'item a\nitem b\nflush a b\n' >declaration
 printf 'item a # x\r\n\titem\tb\r\n\r\n# \377\r\nflush a b' >carriage_returns
@@ -375,10 +381,23 @@ unwritten() {
     limited "$program" "$@" </dev/null >/dev/full 2>err
     status=$?
     : >out
-    check "$*, standard output that is full" 3 '' 'fault write\n'
+    check "$*, standard output that is full" 3 '' "$full"
     limited "$program" "$@" </dev/null >&- 2>err
     status=$?
-    check "$*, standard output that is closed" 3 '' 'fault write\n'
+    check "$*, standard output that is closed" 3 '' "$closed"
+    unheard "$@"
+}
+
+# unheard ARG..: counts whether the command ends silently where nobody reads standard output any more, with the status of a program
+# that SIGPIPE ended.
+unheard() {
+    # (a pipe that is opened while somebody reads it)
+    exec 8<>unread 9>unread 8<&-
+    limited "$program" "$@" </dev/null >&9 2>err
+    status=$?
+    exec 9>&-
+    : >out
+    check "$*, standard output that nobody reads" 141 '' ''
 }
 
 # shows COMMAND ARGUMENT SUBJECTS: counts whether each form of the command's help has a line for the argument that speaks
@@ -387,7 +406,8 @@ shows() {
     local words found
     for words in "help $1" "$1 --help" "$1 -h"; do
         run $words </dev/null
-        found=$(grep -E "^ +[[<]$2[]>] " out | grep -oE 'declaration|standard input|circle|workqueue|step|number' |
+        # (what long help says of it is on a line of its own)
+        found=$(sed -zE 's/\n {6,}/ /g' out | grep -E "^ +[[<]$2[]>] " | grep -oE 'declaration|standard input|circle|workqueue|step|number' |
             sort -u | paste -sd, -)
         if [ "$found" = "$3" ]; then
             ok "$words: $2"
@@ -416,22 +436,34 @@ as_whole() {
     check "$form: a wrong declaration" 2 'refused 8 line 2\n' 'of 1'
     run "$command" --fast "${files[@]}" </dev/null
     check "$form: an option that isn't there" 2 '' some
+    is "$form: no way to a file with the name of an option" '' "$(grep -F -- '-- --fast' err)"
+    if [ ${#files[@]} -gt 1 ]; then
+        run "$command" - - "${files[@]:2}" <"${files[0]}"
+        check "$form: standard input twice" 2 '' "$twice"
+    fi
+    if [ ${#files[@]} -gt 2 ]; then
+        run "$command" "${files[0]}" - - <"${files[1]}"
+        check "$form: standard input twice, behind a file" 2 '' "$twice"
+    fi
 }
 
 # in_place FORM AT ARGUMENT COMMAND FILE..: what the form is given in the place of one of its files, which are counted from 0.
 in_place() {
-    local form=$1 at=$2 argument=$3 command=$4 limit=${limit_of[$3]} hint='only `plan` reads standard input; /dev/stdin names it'
+    local form=$1 at=$2 argument=$3 command=$4 limit=${limit_of[$3]}
     local files=("${@:5}") other
     other=("${files[@]}")
-    [ "$argument" != FILE ] || hint='leave FILE out to read standard input'
     for file in missing ''; do
         other[at]=$file
         run "$command" "${other[@]}" </dev/null
         check "$form: '$file' as $argument" 3 '' "wqplan: $file: no such file\nfault read\n"
     done
     other[at]=-
-    run "$command" "${other[@]}" </dev/null
-    check "$form: - as $argument" 3 '' "wqplan: -: no such file ($hint)\nfault read\n"
+    run "$command" "${other[@]}" <"${files[at]}"
+    as "$form: - as $argument"
+    run "$command" "${other[@]}" <"${longer_than[$limit]}"
+    check "$form: - as $argument, and one byte more" 2 "${refusal_of[$limit]}" 'of 0'
+    run "$command" "${other[@]}" <folder
+    check "$form: - as $argument, a folder" 3 '' 'wqplan: <stdin>: is a directory\nfault read\n'
     other[at]=folder
     run "$command" "${other[@]}" </dev/null
     check "$form: a folder as $argument" 3 '' 'wqplan: folder: is a directory\nfault read\n'
@@ -527,9 +559,26 @@ check 'a text of 1,048,576 bytes' 0 'plan 0\nchain 0\n' "largest$no_item"
 run plan < <(yes 'item a' 2>/dev/null)
 check 'a text without end' 2 'refused 1 line 0\n' 'of 0'
 
+# At a terminal what is said of an answer is above it. The answer itself is the same.
+above() {
+    python3 -B "$typed" "$1" "$program" "${@:4}" >out 2>err
+    status=$?
+    check "at a terminal: ${*:4}" "$2" "$3" ''
+}
+above 'item a\nflush a b\n' 2 '<stdin>:2:9: no item `b` is declared above this line [refused 8, `wqplan explain 8`]\n    flush a b
+            ^ write `item b` above\nrefused 8 line 2\n' plan
+above 'item a\nitem b\nflush a b\n' 0 "$plan" plan
+above '' 0 '<stdin>: note: no item is declared: is this the right file?\nplan 0\nchain 0\n' plan
+above 'plan 1\nwq 0 a b\nchain 1\n' 1 '<stdin>:2:6: `a` flushes `b`, so it should be on a higher workqueue [no 50, `wqplan explain 50`]
+    wq 0 a b\n         ^ `b` is on workqueue 0\nno 50 a b\n' check declaration -
+
 # Faults of the system.
 run plan $'mis\tsi\ang\303\251' </dev/null
 check 'a FILE that is missing, with bytes that are not printable' 3 '' 'wqplan: mis si?ng??: no such file\nfault read\n'
+cp declaration ./-
+run plan ./- </dev/null
+check 'a FILE with the name -' 0 "$plan" ''
+rm ./-
 run plan declaration/missing </dev/null
 check 'a FILE in a file' 3 '' "wqplan: declaration/missing: a part of the path isn't a directory\nfault read\n"
 run plan "$(head -c 300 /dev/zero | tr '\0' x)" </dev/null
@@ -546,7 +595,10 @@ for words in 'plan circle' 'check declaration no_circle' 'deadlock chain without
 done
 limited "$program" --help </dev/null >/dev/full 2>err
 status=$?
-check 'help on a standard output that is full' 3 '' 'fault write\n'
+check 'help on a standard output that is full' 3 '' "$full"
+unheard --help
+unheard --version
+unheard explain
 
 # Command lines.
 run </dev/null
@@ -555,6 +607,13 @@ run plant </dev/null
 check 'an unknown subcommand' 2 '' some
 run plan declaration circle </dev/null
 check 'two FILEs' 2 '' some
+# What is said of an option that isn't there: nothing of a file with its name. What it is like is said as ever.
+usage="Usage: ${program##*/} plan"
+run plan --json </dev/null
+check 'plan --json' 2 '' "error: unexpected argument '--json' found\n\n$usage [FILE]\n\nFor more information, try '--help'.\n"
+run plan --halp </dev/null
+like="error: unexpected argument '--halp' found\n\n  tip: a similar argument exists: '--help'\n"
+check 'plan --halp' 2 '' "$like\n$usage --help [FILE]\n\nFor more information, try '--help'.\n"
 for words in 'run declaration 9' 'run declaration -1' 'run declaration x' 'run declaration 2x' 'run declaration 256' \
     'run declaration 2 3' 'run declaration 1.0' 'run -- declaration -1'; do
     run $words </dev/null
@@ -574,6 +633,17 @@ for words in --help -h help "${commands[@]/#/help }" "${commands[@]/%/ --help}" 
     LC_ALL=C grep -E '.{81}|[^ -~]' help >out
     status=0
     check "$words: 80 columns" 0 '' ''
+done
+# Long help of a command has the answers of this command with their statuses, and no answer that only others have; short help has
+# none. That of the program has all.
+while IFS=$'\t' read -r command has cell; do
+    "$program" $command --help | sed -n '/Exit status:/,$p' | tr -s ' \n' '  ' >out
+    found=$(grep -cF -- "$cell" out)
+    is "$command --help: $has $cell" "$([ "$has" = has ] && echo 1 || echo 0)" "$found"
+done < <(python3 -B "$root/tests/lib/commands.py" answers)
+for command in '' "${commands[@]}"; do
+    run $command -h </dev/null
+    is "$command -h: no statuses" '' "$(grep -F status out)"
 done
 shows run HELPERS workqueue
 shows explain CODE number

@@ -3,8 +3,8 @@
 
 Usage: tests/docs/made.py [--check]
 
-Without an argument these are written again: in crates/wq_explain the explanations (src/table.rt, answers.rt) and the lists of what
-is explained (specs/Explaining.antt); in crates/wqplan what help says of commands and statuses (src/help.rt); in crates/wq_findings
+Without an argument these are written again: in crates/wq_explain the explanations (src/table.rt, words.rt) and the lists of what
+is explained (specs/Explaining.antt); in crates/wqplan what help says of commands (src/help.rt) and of statuses (src/statuses.rt); in crates/wq_findings
 the words and forms of directives (src/guess.rt, declaration.rt); the rows of the tables of docs/FORMAT.md that have them, its list
 of commands and its sentences that list directives and faults; of man/wqplan.5 DECLARATIONS, the lists of REFUSALS and OTHER
 ANSWERS, and the limits of docs/FORMAT.md in LIMITS; of man/wqplan.1 SYNOPSIS, COMMANDS, the directives, and what ends with 0 and 1;
@@ -45,6 +45,8 @@ def titled(record):
     """The name of a record, and its line in a list."""
     if "number" in record:
         return record["name"], f"{record['number']} {record['name']}"
+    if "directive" in record:
+        return record["directive"], f"{record['directive']} directive"
     return (record["fault"], f"{record['fault']} fault") if "fault" in record else (record["word"], f"{record['word']} answer")
 
 
@@ -237,6 +239,7 @@ def page(numbers, faults, words, commands, directives):
     parts.replace(r"^(?<=\| Status \| What happened \|\n\|---\|---\|\n)(?:\| [01] \|.*\n)+",
                   f"| 0 | {ends(commands, 'zero')} was printed |\n| 1 | {ends(commands, 'one')} was printed |\n")
     parts.replace(r"(?<=^- the name of a fault: ).*(?=;$)", listed([f"`{row['fault']}`" for row in faults], "or"))
+    parts.replace(r"(?<=^- a directive: ).*(?=;$)", of_directives(directives)["words"])
     forms = [f"`wqplan {form(row)}`" for row in commands]
     parts.say(r"^The commands are .*?\.(?= Each)", f"The commands are {listed(forms, 'and')}.")
     parts.say(r"^An? `\w+` line has (?:exactly|at least) .*?\.(?= Each further word)", words_needed(directives))
@@ -393,10 +396,11 @@ def manual(numbers, directives):
     return parts
 
 
-def completion(numbers, faults, words, commands):
+def completion(numbers, faults, words, directives, commands):
     """man/wqplan.bash with the commands, and with the words behind `explain`."""
     offered = [row["name"] for row in numbers] + [row["fault"] for row in faults]
     offered += [f"'{row['word']}'" if " " in row["word"] else row["word"] for row in words]
+    offered += [row["directive"] for row in directives]
     indent = " " * 12
     made = f"{indent}local codes='{' '.join(row['number'] for row in numbers)}'\n"
     kept = " ".join(offered).replace("'not lawful'", "'not\0lawful'")
@@ -420,7 +424,7 @@ def completion(numbers, faults, words, commands):
 
 
 def help_texts(commands):
-    """crates/wqplan/src/help.rt with what it says of each command, and of the exit statuses 0 and 1."""
+    """crates/wqplan/src/help.rt with what it says of each command."""
     parts = Parts("crates/wqplan/src/help.rt")
     made = ""
     for row in commands:
@@ -428,13 +432,42 @@ def help_texts(commands):
         is_short = len(name) + 1 + len(text) <= RUST_WIDTH
         made += f"/// What `{row['command']}` does.\n{name}{' ' if is_short else chr(10) + ' ' * 4}{text}\n\n"
     parts.replace(r"^/// What `plan` (?:.*\n)*?(?=/// What FILE is\.)", made)
-    statuses = [f"the answer is {ends(commands, key)}" for key in ("zero", "one")]
-    statuses[0] += "; or help or the version was printed"
-    said = ""
-    for status, text in enumerate(statuses):
-        lines = wrapped(text, HELP_WIDTH - 5).splitlines()
-        said += f"  {status}  " + "\n     ".join(lines) + "\n"
-    parts.replace(r"(?<=^Exit status:\n)(?:.*\n)*?(?=  2  )", said)
+    return parts
+
+
+def statuses_of(zero, one, two, faults):
+    """The lines about exit statuses; `one` may be empty."""
+    lines = [f"`fault {fault}`" for fault in faults]
+    said = {"0": zero, "1": one, "2": two, "3": f"a fault: the last line of standard error is {listed(lines, 'or')}"}
+    said["141"] = "nobody reads standard output any more"
+    made = "Exit status:\n"
+    for status, text in said.items():
+        if text:
+            lines = wrapped(text, HELP_WIDTH - 7).splitlines()
+            made += f"  {status:3}  " + ("\n" + " " * 7).join(lines) + "\n"
+    return made
+
+
+def statuses(commands, faults):
+    """crates/wqplan/src/statuses.rt: what long help says of exit statuses, of the program and of each command."""
+    wrong = "the command line is wrong, and standard error says how"
+    form = "the answer is `refused CODE line N`: a text isn't of its form"
+    texts = [("PROGRAM", "the program", "`wqplan COMMAND --help` has those of one command. " + statuses_of(
+        f"the answer is {ends(commands, 'zero')}; or help or the version was printed", f"the answer is {ends(commands, 'one')}",
+        f"{form}, or a plan has too many workqueues to run; or the word to explain is none that has an explanation; or {wrong}",
+        [row["fault"] for row in faults]))]
+    for row in commands:
+        one = f"the answer is {ends([row], 'one')}" if "one" in row else ""
+        named = row["faults"].split(", ") if "faults" in row else ["memory", "read", "write"]
+        said = statuses_of(f"the answer is {ends([row], 'zero')}", one, f"{row.get('two', form)}; or {wrong}", named)
+        texts.append((row["command"].upper(), f"`{row['command']}`", said))
+    made = ""
+    for name, what, said in texts:
+        explain = "" if name == "EXPLAIN" else ", `wqplan explain CODE` each number and word"
+        end = wrapped(f"docs/FORMAT.md describes the texts and the answers{explain}.", HELP_WIDTH)
+        made += f'/// Of {what}.\npub(crate) const {name}: &str = "\\\n{said}\n{end}";\n\n'
+    parts = Parts("crates/wqplan/src/statuses.rt")
+    parts.replace(r"(?<=^//! them from docs/tables/commands\.txt\.\n\n)(?:.*\n)*", made.rstrip("\n") + "\n")
     return parts
 
 
@@ -466,9 +499,10 @@ def main():
     ascending = sorted(numbers, key=lambda row: int(row["number"]))
     made = [
         explanations("crates/wq_explain/src/table.rt", ascending + faults),
-        explanations("crates/wq_explain/src/answers.rt", words),
-        explained(ascending, faults, words),
+        explanations("crates/wq_explain/src/words.rt", words + directives),
+        explained(ascending, faults, words + directives),
         help_texts(commands),
+        statuses(commands, faults),
         guesses(directives),
         findings(directives),
         page(numbers, faults, words, commands, directives),
@@ -476,7 +510,7 @@ def main():
         readme(commands),
         synopsis(commands, directives),
         manual(numbers, directives),
-        completion(ascending, faults, words, commands),
+        completion(ascending, faults, words, directives, commands),
     ]
     failed = 0
     for parts in made:

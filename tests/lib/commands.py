@@ -1,9 +1,10 @@
 #!/usr/bin/env python3
 """The commands of wqplan and their forms, by docs/tables/commands.txt: for all that goes through the commands in tests/ and bench/.
 
-    commands.py [forms]
+    commands.py [forms | answers]
 
-prints the commands, a line each, or their forms, each as `COMMAND ARGUMENT..`, for the scripts in bash. A form is a command with its
+prints the commands, a line each, or their forms, each as `COMMAND ARGUMENT..`, for the scripts in bash; or, of each command, each
+answer of any command, as `COMMAND`, `has` or `lacks`, and the answer, with a TAB between them. A form is a command with its
 arguments that are files: one that may be left out makes two forms. `explain`, none of whose arguments is a file, has no form.
 """
 
@@ -46,7 +47,24 @@ def given(texts, kind=None):
             yield name, [texts[of] for of in kinds]
 
 
+def answers_of(row):
+    """The answers of a command, with status 0 and with status 1."""
+    return [cell for key in ("zero", "one") if key in row for cell in row[key].split(", ")]
+
+
+def answers():
+    """The lines about the answers of each command."""
+    every = list(dict.fromkeys(cell for row in ROWS.values() for cell in answers_of(row)))
+    for name, row in ROWS.items():
+        own = answers_of(row)
+        yield from (f"{name}\thas\t{cell}" for cell in own)
+        # (`a plan` is in `its plan has ..`)
+        yield from (f"{name}\tlacks\t{cell}" for cell in every if cell not in own and cell != "a plan")
+
+
 def main(arguments):
+    if arguments == ["answers"]:
+        return print("\n".join(answers()))
     if arguments not in ([], ["forms"]):
         sys.exit(__doc__)
     print("\n".join([" ".join([name, *form]) for name, form in FORMS] if arguments else NAMES))

@@ -5,7 +5,8 @@
 
 ends with 0 where it has, and with 1 where it hasn't. OUT and ERR are files with what the program wrote to standard output and to
 standard error. Where OUT is a refusal, or a `no` of `check`, ERR must be its diagnosis: it names FILE, the line and the number, and
-shows the line and its marks where a line is meant. Where OUT is the answer to a declaration without an item, ERR must be the note
+shows the line and its marks where a line is meant; where that is of a declaration, up to nine further ones of the same form may follow.
+Where OUT is the answer to a declaration without an item, ERR must be the note
 that says so, with FILE; where it may be one, as `safe`, this note or nothing. Where OUT is `not lawful N` of `replay`, ERR must say so of FILE, too,
 and show the step. Where OUT is any other answer, ERR must be empty. The words and the hints of a diagnosis may be any: they aren't
 compared here. `belongs`, `meant` and `fits` do this for other scripts.
@@ -32,6 +33,11 @@ MAY_BE_NO_ITEM = re.compile(rb"safe\n|open\n|digraph [^\0]*")
 MARKED = rb"    [ -~]+\n {4,}\^+(?: [ -~]+)?\n"
 
 
+# The further mistakes of a declaration: each is a diagnosis of a line, of which a byte is meant.
+FURTHER = rb"(?:[ -~]+:%s:%s: [ -~]+ \[refused ([0-9]+), `wqplan explain \1`\]\n%s){0,9}" % (NUMBER, NUMBER, MARKED)
+HAS_FURTHER = (b"3", b"4", b"5", b"6", b"7", b"8", b"11", b"12")
+
+
 def shown(file):
     """A path as a diagnosis shows it."""
     return re.sub(rb"[^ -~]", b"?", file.replace(b"\t", b" "))
@@ -45,7 +51,8 @@ def diagnosis(word, code, line):
     """
     place = b"" if line == b"0" else b":%s:%s" % (line, NUMBER)
     head = rb"%s: [ -~]+ \[%s %s, `wqplan explain %s`\]\n" % (place, word, code, code)
-    return re.compile(head + (MARKED if place else b"(?:%s)?" % MARKED if code == b"41" else b""))
+    further = FURTHER if word == b"refused" and code in HAS_FURTHER else b""
+    return re.compile(head + (MARKED if place else b"(?:%s)?" % MARKED if code == b"41" else b"") + further)
 
 
 def note(file):

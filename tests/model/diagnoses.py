@@ -22,12 +22,16 @@
 #   declaration it may be declared below; changes are made one after the other;
 # - OTHER is the first item of the group on the line above, as it is read;
 # - the items that are on no workqueue are named in the order of their declaration, and the fourth one is `1 more`.
+#
+# Of the further mistakes of a declaration the model has no words. They must have their form, each of another line, and those that
+# a line has by itself it must have where all other lines are blank.
 
 import collections
 import dataclasses
 import os
 import pathlib
 import random
+import re
 import sys
 import tempfile
 
@@ -47,6 +51,7 @@ from declaration import (  # noqa: E402
 )
 from models import ANSWERS  # noqa: E402
 from records import records  # noqa: E402  (in tests/lib)
+from standard_error import FURTHER, HAS_FURTHER  # noqa: E402  (there, too)
 
 # How the texts behind a declaration are read.
 READERS = {
@@ -66,6 +71,7 @@ STEP = b"a step"
 COMMENTS = (b"//", b"/*", b"*", b";", b"%", b"--")
 CALLS = {
     **dict.fromkeys([b"waits", b"wait_for", b"waits_for", b"flush_work", b"cancel_work_sync"], b"did you mean `flush`?"),
+    **dict.fromkeys([b"flush_workqueue", b"drain_workqueue", b"destroy_workqueue"], b"did you mean `flushwq`?"),
     **dict.fromkeys([b"queues", b"queue_work", b"schedule_work"], b"a call that queues doesn't wait, and needs no line"),
     **dict.fromkeys([b"cancels", b"cancel_work"],
                     b"`cancel_work` doesn't wait, and needs no line: for `cancel_work_sync` write `flush`"),
@@ -180,11 +186,16 @@ def comment_hint(word):
     return b"a comment begins with `#`" if word.startswith(COMMENTS) else b""
 
 
-def kind_hint(word, form=None):
-    """(f)"""
+def kind_hint(word, form=None, is_among_directives=False):
+    """(f), and what (b) says of it."""
     if word == b"wq" and form == b"`plan K`":
         return b"this is an assignment: ask `deadlock`"
-    return b"this looks like %s: are the files in the right order?" % KINDS[word] if word in KINDS else b""
+    asked = b"it needs a file of its own" if is_among_directives else b"are the files in the right order?"
+    return b"this looks like %s: %s" % (KINDS[word], asked) if word in KINDS else b""
+
+
+def has_separator(word):
+    return b"," in word or b";" in word
 
 
 def byte_hint(line, at):
@@ -225,7 +236,8 @@ def call_hint(word, is_among_directives):
 def directive_hint(word, is_among_directives):
     """(b)"""
     alike = near(word, list(FEWEST_WORDS))
-    return (comment_hint(word) or call_hint(word, is_among_directives) or kind_hint(word) or (alike and b"did you mean `%s`?" % alike)
+    return (comment_hint(word) or call_hint(word, is_among_directives)
+            or kind_hint(word, is_among_directives=is_among_directives) or (alike and b"did you mean `%s`?" % alike)
             or b"a line begins with " + LISTED)
 
 
@@ -235,16 +247,18 @@ def name_hint(word):
         return comment_hint(word)
     if len(word) > NAME_LIMIT:
         return b"a name has at most 63 bytes"
-    if word.endswith((b",", b";")):
+    if has_separator(word):
         return b"only blanks come between names"
     return b"a name consists of letters, digits, `_`, `-` and `.`"
 
 
-def unknown_hint(word, items):
-    """(e). `items` has the line of each item of the text, in the order of the lines."""
+def unknown_hint(word, line, items):
+    """(e), of this word of a line, whose words are given. `items` has the line of each item of the text, in the order of the lines."""
     if word in items:
         return b"it is declared below, on line %d" % items[word]
     alike = near(word, list(items))
+    if not alike and line[0] in FLUSHES_WHOLE and line[2] == word != line[1]:
+        return b"`flushwq` takes an item of that workqueue, not the workqueue's name"
     return b"did you mean `%s`, line %d?" % (alike, items[alike]) if alike else b"write `item %s` above" % word
 
 
@@ -274,7 +288,7 @@ def of_item_lines(lines, code, number):
         name = next(name for name in words[1:] if name.word not in above)
         items = names_of(lines, b"item", len(lines))
         what = b"no item `%s` is declared above this line" % name.word
-        return about(name, what, unknown_hint(name.word, items))
+        return about(name, what, unknown_hint(name.word, [word.word for word in words], items))
     above = names_of(lines, b"ordered", number - 1)
     before = set()
     for name in words[1:]:
@@ -415,8 +429,12 @@ def of_bad_line(declaration, words, form, is_assignment):
     name = next(name for name in names if name.word not in declaration.group_of)
     alike = near(name.word, declaration.items)
     hint = b"did you mean `%s`?" % alike if alike else b""
-    if not alike and name.word.startswith((b"WQ_", b"__WQ_")):
+    if has_separator(name.word):
+        hint = b"only blanks come between names"
+    elif not alike and name.word.startswith((b"WQ_", b"__WQ_")):
         hint = b"flags don't belong here: put them into a comment"
+    elif not alike and name.word == b"ordered":
+        hint = b"which items are `ordered` is said in the declaration"
     return about(name, b"no item `%s` is declared" % name.word, hint)
 
 
@@ -425,6 +443,8 @@ def of_range(kind, words, at):
     keyword, number = words[0].word, words[1]
     if keyword == b"wq":
         hint = b"workqueues are numbered from 0, in order"
+        if int(number.word) < at:
+            hint = b"each workqueue has one line: add these names to the one above"
         if kind == "assignment" and at == certificate.WORKQUEUE_LIMIT:
             return about(number, b"an assignment has at most 4,096 workqueues", hint)
         return about(number, b"expected `wq %d`" % at, hint)
@@ -833,6 +853,37 @@ def show_difference(what, files, texts, wanted, found):
             print("".join(f"        {line}\n" for line in given[2].decode("latin-1").split("\n")[:-1]), end="")
 
 
+def refusal_alone(text, line):
+    """The number for which a declaration of this line alone is refused, at its place; None where it isn't."""
+    alone = b"\n" * (line - 1) + split_lines(text)[line - 1]
+    try:
+        read_declaration(alone)
+    except Refused as refused:
+        return refused.code
+    return None
+
+
+def are_further(text, first, further):
+    """Whether this may be said of further mistakes of a declaration for which it is refused with this line."""
+    if not re.fullmatch(FURTHER, further):
+        return False
+    heads = re.findall(rb"^[^ ].*?:(\d+):\d+: .*\[refused (\d+),", further, re.M)
+    lines = [int(line) for line, _ in heads]
+    by_itself = [(int(line), int(code)) for line, code in heads if code in (b"3", b"4", b"5", b"6", b"12")]
+    return len({first, *lines}) == len(lines) + 1 and all(refusal_alone(text, line) == code for line, code in by_itself)
+
+
+def agree(texts, wanted, found):
+    """Whether the program's answer, its status and what it says are the model's."""
+    if found[:2] != wanted[:2]:
+        return False
+    refused = re.fullmatch(rb"refused (\d+) line (\d+)\n", wanted[0])
+    if not refused or refused[1] not in HAS_FURTHER:
+        return found[2] == wanted[2]
+    further = found[2][len(wanted[2]):]
+    return found[2].startswith(wanted[2]) and are_further(texts[0], int(refused[2]), further)
+
+
 def compare(program, seed, count):
     """How many changed texts the program answers as the model does, and how many not."""
     from_seeds = seeds()
@@ -844,7 +895,7 @@ def compare(program, seed, count):
         numbers[int(wanted[0].split()[1]) if wanted[1] == 2 else 0] += 1
         words = [command, *(file for file in files if file != b"<stdin>")]
         found, same = ask(program, words, dict(zip(files, texts)))
-        if found == wanted and same:
+        if agree(texts, wanted, found) and same:
             passed += 1
         else:
             failed += 1

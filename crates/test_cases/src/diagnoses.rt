@@ -8,8 +8,8 @@ use crate::declarations::{PLAN_OF_TWO, TWO};
 use std::alloc::{AllocError, Allocator};
 use wq_commands::{CheckCommand, Command, Texts, Voice};
 use wq_diagnosis::{
-    CertificateKind, Diagnosing, Source, of_certificate, of_declaration, of_no, of_no_item,
-    of_too_many, of_unlawful, of_unread,
+    CertificateKind, Diagnosing, Source, of_certificate, of_declaration, of_failed, of_no,
+    of_no_item, of_too_many, of_unlawful,
 };
 
 /// What is asked to say what is wrong.
@@ -33,8 +33,8 @@ pub enum Saying {
     OfCheck,
     /// `of_unlawful` of step 3 of a run, where both items are on one workqueue.
     OfUnlawful,
-    /// `of_unread` of a file, whose name is the certificate.
-    OfUnread,
+    /// `of_failed` of a file, whose name is the certificate.
+    OfFailed,
 }
 
 /// A declaration and a certificate, what is asked of them, and what is said; nothing where nothing is wrong.
@@ -321,7 +321,7 @@ c:4:8: `log`, which runs on workqueue 0, declares no flush of `send` [not lawful
     },
     Said {
         name: "a file that isn't there",
-        saying: Saying::OfUnread,
+        saying: Saying::OfFailed,
         declaration: "",
         certificate: "two\twords\x07.wq",
         said: "wqplan: two words?.wq: no such file\n",
@@ -346,7 +346,7 @@ impl Saying {
             Saying::OfTooMany => "of too many workqueues",
             Saying::OfCheck => "of an answer of check",
             Saying::OfUnlawful => "of a step that isn't lawful",
-            Saying::OfUnread => "of a file that can't be read",
+            Saying::OfFailed => "of a file that can't be read",
         }
     }
 }
@@ -402,9 +402,9 @@ pub fn say<A: Allocator + Copy>(alloc: A, case: &Said) -> Result<Option<Vec<u8, 
         Saying::OfTooMany => Ok(Some(of_too_many(alloc, declaration)?)),
         Saying::OfCheck => say_of_check(alloc, declaration, certificate),
         Saying::OfUnlawful => of_unlawful(alloc, SEED, text, b"wq 0 send log\n", certificate, 3),
-        Saying::OfUnread => {
+        Saying::OfFailed => {
             let file = case.certificate;
-            Ok(Some(of_unread(alloc, file, "no such file")?))
+            Ok(Some(of_failed(alloc, file, "no such file")?))
         }
     }
 }

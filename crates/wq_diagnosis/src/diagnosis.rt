@@ -10,6 +10,7 @@ ghost use Rattle.wq_checker.specs.Codes.{no_code};
 ghost use Rattle.wq_checker.specs.declared.answer.No.{No};
 ghost use Rattle.wq_diagnosis.specs.Refused.{no_item_note, Diagnoses, DiagnosesNo, HasNoItem, IsFaultOfCertificate, IsNoTo, NotesNoItem, SaysIfDeclared, SaysNo, certificate_refusal, declaration_refusal, refusal_with};
 
+use crate::further::push_further;
 use std::alloc::{AllocError, Allocator};
 use wq_cert::{CertError, read_answer, read_assignment, read_run};
 use wq_checker::{No, check_answer};
@@ -35,15 +36,15 @@ pub struct Source<'a> {
 
 /// A refusal, or a `no`: the word, its number, and the line; the line is 0 where none is meant.
 #[derive(Clone, Copy)]
-struct Refusal {
-    word: &'static str,
-    code: u32,
-    line: u32,
+pub(crate) struct Refusal {
+    pub(crate) word: &'static str,
+    pub(crate) code: u32,
+    pub(crate) line: u32,
 }
 
 impl Refusal {
     /// The refusal with this number, for this line.
-    fn new(code: u32, line: u32) -> Refusal
+    pub(crate) fn new(code: u32, line: u32) -> Refusal
         ensures word { result.word.now ≡ codes "refused" }
         ensures code { result.code ≡ code }
         ensures line { result.line ≡ line }
@@ -131,7 +132,7 @@ fn put_head<A: Allocator + Copy>(
 }
 
 /// The first line.
-fn head<A: Allocator + Copy>(
+pub(crate) fn head<A: Allocator + Copy>(
     alloc: A,
     file: &str,
     place: &[u32],
@@ -148,7 +149,7 @@ fn head<A: Allocator + Copy>(
 }
 
 /// Adds the line that is meant and its marks, where bytes of it are meant.
-fn add_details<A: Allocator + Copy>(
+pub(crate) fn push_details<A: Allocator + Copy>(
     alloc: A,
     details: &mut Vec<Vec<u8, A>, A>,
     line: Option<Line<'_>>,
@@ -170,7 +171,7 @@ fn details<A: Allocator + Copy>(
     finding: Finding<'_>,
 ) -> Result<Vec<Vec<u8, A>, A>, AllocError> {
     let mut details = Vec::new(alloc);
-    add_details(alloc, &mut details, line, finding)?;
+    push_details(alloc, &mut details, line, finding)?;
     Ok(details)
 }
 
@@ -208,7 +209,7 @@ fn whole_text<A: Allocator + Copy>(
 }
 
 /// The column of a mark, from 1.
-fn column(mark: Mark) -> u32 {
+pub(crate) fn column(mark: Mark) -> u32 {
     u32::try_from(mark.at).unwrap_or(u32::MAX).saturating_add(1)
 }
 
@@ -269,9 +270,10 @@ fn no_text<'a>() -> Text<'a> {
     Text::new(b"", 0, 0).unwrap()
 }
 
-/// The diagnosis of a declaration that is refused like this.
+/// The diagnosis of a declaration that is refused like this, and below it those of its further mistakes.
 fn of_refused<A: Allocator + Copy>(
     alloc: A,
+    seed: u64,
     declaration: Source<'_>,
     refusal: Refusal,
 ) -> Result<Vec<u8, A>, AllocError>
@@ -279,22 +281,33 @@ fn of_refused<A: Allocator + Copy>(
 {
     let text = lines_of(declaration.text);
     let finding = in_declaration(alloc, &text, refusal.code, refusal.line)?;
-    let line = line_at(&text, refusal.line);
-    diagnosis(alloc, declaration.file, line, refusal, finding)
+    let what = finding.what.to_string(alloc)?;
+    let mut below = details(alloc, line_at(&text, refusal.line), finding)?;
+    push_further(alloc, seed, &mut below, declaration, refusal)?;
+    diagnosis_at(
+        alloc,
+        declaration.file,
+        refusal,
+        finding.mark,
+        &what,
+        &below,
+    )
 }
 
-/// The diagnosis of a declaration that is refused for the fault of this number on this line.
+/// The diagnosis of a declaration that is refused for the fault of this number on this line, and below it those of its further
+/// mistakes.
 ///
-/// The only error is out of memory (20).
+/// The only error is out of memory (20). The names are hashed with `seed`. Nothing that is said depends on it.
 pub fn of_refused_declaration<A: Allocator + Copy>(
     alloc: A,
+    seed: u64,
     declaration: Source<'_>,
     code: u32,
     line: u32,
 ) -> Result<Vec<u8, A>, AllocError>
     ensures { IfOk result (λ said. IsDiagnosis declaration.entry.file.now (codes "refused") code line said.items) }
 {
-    of_refused(alloc, declaration, Refusal::new(code, line))
+    of_refused(alloc, seed, declaration, Refusal::new(code, line))
 }
 
 /// Diagnoses a declaration: nothing where it is one, or else the diagnosis of its refusal.
@@ -312,7 +325,7 @@ pub fn of_declaration<A: Allocator + Copy>(
     match read_declaration(alloc, seed, declaration.text) {
         Ok(_) => Ok(None),
         Err(Stop::Refused { code, line }) => {
-            let said = of_refused(alloc, declaration, Refusal::new(code, line))?;
+            let said = of_refused(alloc, seed, declaration, Refusal::new(code, line))?;
             Ok(Some(said))
         }
         Err(Stop::OutOfMemory) => Err(AllocError),

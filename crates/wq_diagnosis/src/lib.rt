@@ -1,5 +1,5 @@
 //! Diagnoses: what standard error says of a text that is refused, in addition to the refusal; of a run with a step that isn't lawful;
-//! and of a file that can't be read.
+//! and of a file that can't be read or written.
 //!
 //! What the program relies on: a diagnosis begins with the file and the line of the refusal, has the number of the refusal on its
 //! first line, and is printable ASCII and line feeds, whatever the text holds; the reason why a step isn't lawful holds in the state.
@@ -8,17 +8,18 @@
 #![tactic(auto)]
 
 mod diagnosis;
+mod failed;
+mod further;
 mod replayed;
 mod unlawful;
-mod unread;
 mod voice;
 
 pub use diagnosis::{
     Source, of_answered_no, of_certificate, of_declaration, of_no, of_no_item,
     of_refused_certificate, of_refused_declaration, of_too_many,
 };
+pub use failed::of_failed;
 pub use replayed::of_unlawful;
 pub use unlawful::{Unlawful, reason_of};
-pub use unread::of_unread;
 pub use voice::Diagnosing;
 pub use wq_findings::CertificateKind;

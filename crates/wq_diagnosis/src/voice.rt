@@ -69,6 +69,7 @@ impl<'a> Diagnosing<'a> {
 /// The diagnosis of a declaration that is refused, or whose plan is refused by `run`.
 fn of_first<A: Allocator + Copy>(
     alloc: A,
+    seed: u64,
     declaration: Source<'_>,
     code: u32,
     line: u32,
@@ -78,7 +79,7 @@ fn of_first<A: Allocator + Copy>(
     if code == TOO_MANY && line == 0 {
         return of_too_many(alloc, declaration);
     }
-    of_refused_declaration(alloc, declaration, code, line)
+    of_refused_declaration(alloc, seed, declaration, code, line)
 }
 
 /// The diagnosis of the text that is refused.
@@ -106,7 +107,7 @@ fn of_text<A: Allocator + Copy>(
         text: texts.third(),
     };
     match which {
-        Which::Declaration => Ok(Some(of_first(alloc, declaration, code, line)?)),
+        Which::Declaration => Ok(Some(of_first(alloc, voice.seed, declaration, code, line)?)),
         Which::Certificate => of_refused_certificate(
             alloc,
             voice.seed,

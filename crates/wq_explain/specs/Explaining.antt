@@ -7,7 +7,7 @@ use Rattle.std.specs.Str.{bytes_eq}
 use Rattle.std.specs.Str.Parse.{digits_value, without_leading_plus}
 use Rattle.wq_explain.specs.declared.explain.Explained.{Explained}
 use Rattle.wq_explain.specs.declared.explain.Explained.TheVariants.{Known, Unknown}
-use Rattle.wq_explain.specs.declared.answers.TheConstants.{ANSWERS}
+use Rattle.wq_explain.specs.declared.words.TheConstants.{WORDS}
 use Rattle.wq_explain.specs.declared.table.TheConstants.{EXPLANATIONS}
 
 -- the numbers that have an explanation: those of a refused declaration, of a refused certificate, of a `no`, and of a plan that
@@ -15,8 +15,8 @@ use Rattle.wq_explain.specs.declared.table.TheConstants.{EXPLANATIONS}
 abbrev pub numbers : List ℕ
 numbers = 1 ∷ 2 ∷ 3 ∷ 4 ∷ 5 ∷ 6 ∷ 7 ∷ 8 ∷ 9 ∷ 10 ∷ 11 ∷ 12 ∷ 40 ∷ 41 ∷ 42 ∷ 43 ∷ 50 ∷ 51 ∷ 52 ∷ 53 ∷ 54 ∷ 69 ∷ []
 
--- the names that have an explanation: those of the numbers, in their order, those of the faults, and the words with which lines
--- of answers begin
+-- the names that have an explanation: those of the numbers, in their order, those of the faults, the words with which lines of
+-- answers begin, and the directives
 abbrev pub names : List (List ℕ)
 names =
     codes "TextTooLong" ∷ codes "LineTooLong" ∷ codes "BadByte" ∷ codes "UnknownWord" ∷ codes "MissingName" ∷ codes "BadName"
@@ -26,10 +26,10 @@ names =
     ∷ codes "TooManyLanes" ∷ codes "read" ∷ codes "memory" ∷ codes "thread" ∷ codes "tally" ∷ codes "write"
     ∷ codes "plan" ∷ codes "wq" ∷ codes "chain" ∷ codes "arc" ∷ codes "circle" ∷ codes "run" ∷ codes "yes" ∷ codes "no"
     ∷ codes "not lawful" ∷ codes "deadlock" ∷ codes "stuck" ∷ codes "open" ∷ codes "safe" ∷ codes "components"
-    ∷ codes "workqueues" ∷ codes "refused" ∷ codes "fault" ∷ []
+    ∷ codes "workqueues" ∷ codes "refused" ∷ codes "fault" ∷ codes "item" ∷ codes "flush" ∷ codes "flushwq" ∷ codes "ordered" ∷ []
 
--- a row of the table: the number that it explains, if it explains one; the name of the number or of the fault, or the word of an
--- answer; its line in a list; and what it means
+-- a row of the table: the number that it explains, if it explains one; the name of the number or of the fault, the word of an
+-- answer, or the directive; its line in a list; and what it means
 pub record Row : Type 0 where
   pub code : Option ℕ
   pub name : List ℕ
@@ -44,13 +44,13 @@ row_of row = record { code = row.0; name = row.1.now; title = row.2.now; meaning
 abbrev pub numbers_and_faults : List Row
 numbers_and_faults = map (λ row. record { code = row.0; name = row.1.now; title = row.2.now; meaning = row.3.now }) EXPLANATIONS
 
--- the rows of the words of answers
-abbrev pub words_of_answers : List Row
-words_of_answers = map (λ row. record { code = row.0; name = row.1.now; title = row.2.now; meaning = row.3.now }) ANSWERS
+-- the rows of the words with which lines of answers and of declarations begin
+abbrev pub words_of_texts : List Row
+words_of_texts = map (λ row. record { code = row.0; name = row.1.now; title = row.2.now; meaning = row.3.now }) WORDS
 
 -- the table
 abbrev pub explanations : List Row
-explanations = numbers_and_faults ++ words_of_answers
+explanations = numbers_and_faults ++ words_of_texts
 
 -- an explanation as it is printed: its title, an empty line, and what it means
 abbrev pub explanation_text : Row → List ℕ

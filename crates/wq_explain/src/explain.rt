@@ -4,11 +4,11 @@
 //! nothing is read. It takes time and memory in the length of the text.
 
 ghost use Rattle.std.specs.Prelude.{◌≡◌, ◌≢◌, ◌++◌, Err, IfOk, map, option_map};
-ghost use Rattle.wq_explain.specs.Explaining.{end_in, explained_end, explained_text, explanation_in, explanation_text, explanations, known_or_not, number_in, numbers_and_faults, row_of, text_in, text_or_titles, titles, unknown_text, words_of_answers};
+ghost use Rattle.wq_explain.specs.Explaining.{end_in, explained_end, explained_text, explanation_in, explanation_text, explanations, known_or_not, number_in, numbers_and_faults, row_of, text_in, text_or_titles, titles, unknown_text, words_of_texts};
 ghost use Rattle.wq_meter.specs.Meter.{count_after, WritesPrefix, WritesWhole};
 
-use crate::answers::ANSWERS;
 use crate::table::{EXPLANATIONS, Explanation, with_name, with_number};
+use crate::words::WORDS;
 use std::alloc::{AllocError, Allocator};
 use std::io::Write;
 use wq_meter::{Fault, Metered, write_text};
@@ -155,11 +155,11 @@ fn numbers_and_faults() -> &'static [Explanation]
     &EXPLANATIONS
 }
 
-/// The explanations of the words of answers.
-fn words_of_answers() -> &'static [Explanation]
-    ensures { map row_of result.now ≡ words_of_answers }
+/// The explanations of the words of texts.
+fn words_of_texts() -> &'static [Explanation]
+    ensures { map row_of result.now ≡ words_of_texts }
 {
-    &ANSWERS
+    &WORDS
 }
 
 /// All explanations.
@@ -168,7 +168,7 @@ fn all_rows<A: Allocator + Copy>(alloc: A) -> Result<Vec<Explanation, A>, AllocE
 {
     let mut rows = Vec::new(alloc);
     rows.extend_from_slice(numbers_and_faults())?;
-    rows.extend_from_slice(words_of_answers())?;
+    rows.extend_from_slice(words_of_texts())?;
     Ok(rows)
 }
 

@@ -1,15 +1,16 @@
-//! What the numbers, the faults and the words of answers that the program prints mean, and the command `explain`.
+//! What the numbers and the faults that the program prints mean, the words of its answers, and the directives; and the command
+//! `explain`.
 //!
 //! What the program relies on: the bytes written are the explanation that a word names, or the list of all explanations. The
 //! numbers, the names and their rules are those of docs/FORMAT.md. It takes time in the size of the table and of the text that is
 //! printed.
 #![tactic(auto)]
 
-mod answers;
 mod explain;
 pub mod laws;
 mod table;
+mod words;
 
-pub use answers::ANSWERS;
 pub use explain::{Explained, explain_cmd};
 pub use table::{EXPLANATIONS, Explanation};
+pub use words::WORDS;

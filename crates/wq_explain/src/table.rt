@@ -1,5 +1,5 @@
 //! The explanations: one for each number that the program prints in a refusal or in a `no`, and one for each fault.
-//! Those of the words of answers are in `answers.rt`.
+//! Those of the words of texts are in `words.rt`.
 //!
 //! docs/FORMAT.md has the rules. tests/cli/explain.sh runs each example. A search takes time in the number of rows and the length of
 //! the word.
@@ -7,7 +7,7 @@
 ghost use Rattle.std.specs.Prelude.{◌≡◌, find, option_map};
 ghost use Rattle.wq_explain.specs.Explaining.{numbered, same_name};
 
-/// An explanation: the number that the program prints, or none for a fault or a word of an answer; its name, or that of the fault, or
+/// An explanation: the number that the program prints, or none for a fault or a word of a text; its name, or that of the fault, or
 /// the word; its line in a list; and what it means. This last part says what was found, in which section of docs/FORMAT.md the rule
 /// is, shell commands, the last of which is answered like this, and how to mend it or what to do.
 pub type Explanation = (Option<u32>, &'static str, &'static str, &'static str);
@@ -554,7 +554,8 @@ const WRITE: Explanation = (
     "write fault\n",
     "\
 `fault write`, with status 3: a write to standard output failed, or took none of
-its bytes. A prefix of the answer may have been written, and never all of it.
+its bytes. The line above it says why. A prefix of the answer may have been
+written, and never all of it.
 
 The rule: docs/FORMAT.md, \"Faults and exit statuses\"
 
@@ -562,8 +563,8 @@ To see it:
     echo 'item a' | wqplan plan > /dev/full
 
 To mend it:
-Don't use what was written. See that the file system has room, and that the
-reader of a pipe stays until the end; then give the command again.
+Don't use what was written. See that the file system has room, then give the
+command again.
 ",
 );
 

@@ -4,7 +4,7 @@
 //! name is unknown, in the names of the declaration times the length of one.
 
 use crate::finding::{Finding, Found};
-use crate::guess::{foreign_hint, most_like, text_with};
+use crate::guess::{foreign_hint, has_separator, most_like, text_with};
 use crate::hint::Hint;
 use crate::names::nearest;
 use crate::placed::{find_split, find_twice, find_unplaced};
@@ -98,6 +98,15 @@ fn out_of_order<'a>(next: u32) -> What<'a> {
     }
 }
 
+/// What is wrong with the number of a `wq` line that isn't the next one: it had a line above, or it is too large.
+fn order_hint(line: &Line<'_>, next: u32) -> &'static str {
+    match number(bytes_at(line, 1)) {
+        Some(given) if given < next =>
+            "each workqueue has one line: add these names to the one above",
+        _ => "workqueues are numbered from 0, in order",
+    }
+}
+
 /// A number that is out of its range.
 fn out_of_range<'a>(line: &Line<'a>, stage: Stage) -> Finding<'a> {
     let mark = match word_at(line, 1) {
@@ -106,7 +115,7 @@ fn out_of_range<'a>(line: &Line<'a>, stage: Stage) -> Finding<'a> {
     };
     let what = match stage {
         Stage::Workqueue { next, .. } => {
-            let hint = Hint::Said("workqueues are numbered from 0, in order");
+            let hint = Hint::Said(order_hint(line, next));
             return Finding::marked(mark, out_of_order(next), hint);
         }
         Stage::Plan => "a plan has at most 4,096 workqueues",
@@ -287,10 +296,23 @@ fn no_item<'a, A: Allocator + Copy>(
     declaration: &Text<'a>,
     word: Token<'a>,
 ) -> Result<Finding<'a>, AllocError> {
-    let hint = match nearest(alloc, declaration, word.bytes)? {
-        Some(near) => Hint::Near(Quoted(near.name)),
-        None if word.bytes.starts_with(b"WQ_") || word.bytes.starts_with(b"__WQ_") => Hint::FLAG,
-        None => Hint::Nothing,
-    };
+    let hint = no_item_hint(alloc, declaration, word.bytes)?;
     Ok(Finding::marked(word.mark, What::NoItem(word.quoted()), hint))
+}
+
+/// What a word in the place of an item was most likely meant to be.
+fn no_item_hint<'a, A: Allocator + Copy>(
+    alloc: A,
+    declaration: &Text<'a>,
+    word: &[u8],
+) -> Result<Hint<'a>, AllocError> {
+    if has_separator(word) {
+        return Ok(Hint::BLANKS);
+    }
+    Ok(match nearest(alloc, declaration, word)? {
+        Some(near) => Hint::Near(Quoted(near.name)),
+        None if word.starts_with(b"WQ_") || word.starts_with(b"__WQ_") => Hint::FLAG,
+        None if word == b"ordered".as_slice() => Hint::ORDERED,
+        None => Hint::Nothing,
+    })
 }

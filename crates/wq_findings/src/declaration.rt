@@ -4,13 +4,11 @@
 //! in the names of the text times the length of one.
 
 use crate::finding::Finding;
-use crate::guess::{
-    ZERO_BYTE, begins_comment, call_hint, directive_like, encoding_hint, text_with,
-};
+use crate::guess::{Guess, ZERO_BYTE, begins_comment, encoding_hint, guess_at, has_separator};
 use crate::hint::Hint;
 use crate::names::{LineNames, declared_on, nearest};
 use crate::quoted::Quoted;
-use crate::token::{Mark, Token, bytes_at, first_mark, first_word, line_at, stands_before};
+use crate::token::{Mark, Token, bytes_at, first_mark, line_at, stands_before};
 use crate::what::What;
 use std::alloc::{AllocError, Allocator};
 use wq_commands::MAX_DECLARATION_LINE;
@@ -29,8 +27,19 @@ pub fn in_declaration<'a, A: Allocator + Copy>(
     code: u32,
     no: u32,
 ) -> Result<Finding<'a>, AllocError> {
+    in_mended(alloc, text, text, code, no)
+}
+
+/// The same of a declaration that was mended. Other lines that a hint names are among its own lines.
+pub fn in_mended<'a, A: Allocator + Copy>(
+    alloc: A,
+    text: &Text<'a>,
+    own: &Text<'a>,
+    code: u32,
+    no: u32,
+) -> Result<Finding<'a>, AllocError> {
     match line_at(text, no) {
-        Some(line) => on_line(alloc, text, &line, code),
+        Some(line) => on_line(alloc, text, own, &line, code),
         None => Ok(Finding::whole(What::Said("the declaration has more than 1,048,576 bytes"))),
     }
 }
@@ -39,14 +48,15 @@ pub fn in_declaration<'a, A: Allocator + Copy>(
 fn on_line<'a, A: Allocator + Copy>(
     alloc: A,
     text: &Text<'a>,
+    own: &Text<'a>,
     line: &Line<'a>,
     code: u32,
 ) -> Result<Finding<'a>, AllocError> {
     match code {
         4 => unknown_word(alloc, text, line),
-        8 => unknown_item(alloc, text, line),
+        8 => unknown_item(alloc, text, own, line),
         11 => grouped_twice(alloc, text, line),
-        _ => Ok(on_this_line(text, line, code)),
+        _ => Ok(on_this_line(own, line, code)),
     }
 }
 
@@ -117,34 +127,19 @@ fn unknown_word<'a, A: Allocator + Copy>(
     Ok(Finding::marked(first_mark(line), what, hint))
 }
 
-/// Whether a line of a text begins with a directive.
-fn has_directive(text: &Text<'_>) -> bool {
-    for line in text.lines() {
-        if Keyword::of(first_word(&line)).is_some() {
-            return true;
-        }
-    }
-    false
-}
-
 /// What a word that isn't a directive was most likely meant to be.
 fn directive_hint<A: Allocator + Copy>(
     alloc: A,
     text: &Text<'_>,
     word: &[u8],
 ) -> Result<Hint<'static>, AllocError> {
-    if begins_comment(word) {
-        return Ok(Hint::COMMENT);
-    }
-    if let Some(hint) = call_hint(word, has_directive(text)) {
-        return Ok(hint);
-    }
-    if let Some(text) = text_with(word) {
-        return Ok(Hint::LooksLike(text));
-    }
-    Ok(match directive_like(alloc, word)? {
-        Some(directive) => Hint::Directive(directive),
-        None => Hint::Said("a line begins with `item`, `flush`, `flushwq` or `ordered`"),
+    Ok(match guess_at(alloc, text, word)? {
+        Guess::Comment => Hint::COMMENT,
+        Guess::Call(hint) => hint,
+        Guess::OtherText(text) => Hint::LooksLike(text),
+        Guess::OtherLine(text) => Hint::OwnFile(text),
+        Guess::Directive(directive) => Hint::Directive(directive),
+        Guess::Unknown => Hint::Said("a line begins with `item`, `flush`, `flushwq` or `ordered`"),
     })
 }
 
@@ -192,7 +187,7 @@ fn is_name_byte(byte: u8) -> bool {
 }
 
 /// Whether bytes are a name.
-fn is_name(bytes: &[u8]) -> bool {
+pub(crate) fn is_name(bytes: &[u8]) -> bool {
     !bytes.is_empty() && bytes.len() <= MAX_NAME && bytes.iter().all(|byte| is_name_byte(*byte))
 }
 
@@ -202,8 +197,8 @@ fn name_hint(word: &[u8]) -> Hint<'static> {
         Hint::COMMENT
     } else if word.len() > MAX_NAME {
         Hint::Said("a name has at most 63 bytes")
-    } else if matches!(word, [.., b',' | b';']) {
-        Hint::Said("only blanks come between names")
+    } else if has_separator(word) {
+        Hint::BLANKS
     } else {
         Hint::Said("a name consists of letters, digits, `_`, `-` and `.`")
     }
@@ -238,17 +233,18 @@ fn item_twice<'a>(text: &Text<'a>, line: &Line<'a>) -> Finding<'a> {
 fn unknown_item<'a, A: Allocator + Copy>(
     alloc: A,
     text: &Text<'a>,
+    own: &Text<'a>,
     line: &Line<'a>,
 ) -> Result<Finding<'a>, AllocError> {
     let items = LineNames::above(alloc, text, Keyword::Item, line.no())?;
     match not_above(&items, line) {
-        Some(word) => undeclared(alloc, text, word),
+        Some(word) => undeclared(alloc, own, line, word),
         None => Ok(Finding::whole(What::Said("no line above declares a name of this line"))),
     }
 }
 
 /// The first name of a line that isn't among the items above.
-fn not_above<'a, A: Allocator + Copy>(
+pub(crate) fn not_above<'a, A: Allocator + Copy>(
     items: &LineNames<'a, A>,
     line: &Line<'a>,
 ) -> Option<Token<'a>> {
@@ -264,9 +260,10 @@ fn not_above<'a, A: Allocator + Copy>(
 fn undeclared<'a, A: Allocator + Copy>(
     alloc: A,
     text: &Text<'a>,
+    line: &Line<'a>,
     word: Token<'a>,
 ) -> Result<Finding<'a>, AllocError> {
-    let hint = undeclared_hint(alloc, text, word.bytes)?;
+    let hint = undeclared_hint(alloc, text, line, word.bytes)?;
     let what = What::NotAbove(Quoted(word.bytes));
     Ok(Finding::marked(word.mark, what, hint))
 }
@@ -275,6 +272,7 @@ fn undeclared<'a, A: Allocator + Copy>(
 fn undeclared_hint<'a, A: Allocator + Copy>(
     alloc: A,
     text: &Text<'a>,
+    line: &Line<'a>,
     word: &'a [u8],
 ) -> Result<Hint<'a>, AllocError> {
     if let Some(below) = declared_on(text, word) {
@@ -282,8 +280,16 @@ fn undeclared_hint<'a, A: Allocator + Copy>(
     }
     Ok(match nearest(alloc, text, word)? {
         Some(item) => Hint::NearOn(Quoted(item.name), item.line),
+        None if is_flushed_whole(line, word) => Hint::OF_WORKQUEUE,
         None => Hint::Declare(Quoted(word)),
     })
+}
+
+/// Whether a word stands for the workqueue that a `flushwq` line flushes.
+fn is_flushed_whole(line: &Line<'_>, word: &[u8]) -> bool {
+    matches!(Keyword::of(bytes_at(line, 0)), Some(Keyword::FlushWq))
+        && bytes_at(line, 2) == word
+        && bytes_at(line, 1) != word
 }
 
 /// A name on two `ordered` lines, or twice on one.

@@ -1,14 +1,16 @@
 //! What a word was most likely meant to be.
 //!
 //! `strsim` says how alike two words are, in time of the product of their lengths. Apart from that, a call takes time in the
-//! length of the word.
+//! length of the word, and `guess_at` in that of the text.
 
 use crate::hint::Hint;
 use crate::quoted::Quoted;
+use crate::token::first_word;
 use std::alloc::{AllocError, Allocator};
 use std::str;
 use strsim::osa_distance;
 use wq_decl::Keyword;
+use wq_text::Text;
 
 /// What a zero byte most likely is.
 pub(crate) const ZERO_BYTE: &str = "a zero byte: is this a text, and not UTF-16?";
@@ -92,6 +94,7 @@ pub(crate) fn call_hint(word: &[u8], is_among_directives: bool) -> Option<Hint<'
     };
     match word {
         "waits" | "wait_for" | "waits_for" | "flush_work" | "cancel_work_sync" => Some(Hint::FLUSH),
+        "flush_workqueue" | "drain_workqueue" | "destroy_workqueue" => Some(Hint::FLUSHWQ),
         "queues" | "queue_work" | "schedule_work" => Some(Hint::QUEUES),
         "cancels" | "cancel_work" => Some(Hint::CANCELS),
         "wait" if is_among_directives => Some(Hint::FLUSH),
@@ -117,6 +120,69 @@ pub(crate) fn text_with(word: &[u8]) -> Option<&'static str> {
         "refused" => Some("a refusal, written here in place of an answer"),
         _ => None,
     }
+}
+
+/// What the first word of a line of a declaration most likely is, if it isn't a directive.
+#[derive(Clone, Copy)]
+pub(crate) enum Guess {
+    /// It begins a comment in another language.
+    Comment,
+    /// A call of the kernel, and the hint for it.
+    Call(Hint<'static>),
+    /// It begins a line of such a text, and no line of this one begins with a directive.
+    OtherText(&'static str),
+    /// It begins a line of such a text, which is in the file of a declaration.
+    OtherLine(&'static str),
+    /// This directive is meant.
+    Directive(&'static str),
+    /// Nothing is known.
+    Unknown,
+}
+
+/// What the first word of a line of this declaration most likely is, if it isn't a directive.
+pub(crate) fn guess_at<A: Allocator + Copy>(
+    alloc: A,
+    text: &Text<'_>,
+    word: &[u8],
+) -> Result<Guess, AllocError> {
+    if begins_comment(word) {
+        return Ok(Guess::Comment);
+    }
+    let is_among_directives = has_directive(text);
+    if let Some(hint) = call_hint(word, is_among_directives) {
+        return Ok(Guess::Call(hint));
+    }
+    if let Some(text) = text_with(word) {
+        return Ok(other_text(text, is_among_directives));
+    }
+    Ok(match directive_like(alloc, word)? {
+        Some(directive) => Guess::Directive(directive),
+        None => Guess::Unknown,
+    })
+}
+
+/// What the first word of a line of such a text is.
+fn other_text(text: &'static str, is_among_directives: bool) -> Guess {
+    if is_among_directives {
+        Guess::OtherLine(text)
+    } else {
+        Guess::OtherText(text)
+    }
+}
+
+/// Whether a line of a text begins with a directive.
+fn has_directive(text: &Text<'_>) -> bool {
+    for line in text.lines() {
+        if Keyword::of(first_word(&line)).is_some() {
+            return true;
+        }
+    }
+    false
+}
+
+/// Whether a word has a byte in it that parts names in other languages.
+pub(crate) fn has_separator(word: &[u8]) -> bool {
+    word.iter().any(|byte| matches!(*byte, b',' | b';'))
 }
 
 /// The directive that a word was most likely meant to be.

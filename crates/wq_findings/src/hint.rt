@@ -21,6 +21,8 @@ pub enum Hint<'a> {
     Line(Stage),
     /// The text that this one looks like.
     LooksLike(&'static str),
+    /// The text that this line looks like, in the file of a declaration.
+    OwnFile(&'static str),
     /// The directive, or another first word of a line, that was most likely meant.
     Directive(&'static str),
     /// The name that was most likely meant.
@@ -47,6 +49,22 @@ impl Hint<'_> {
 
     /// The hint for a call that waits, in the place of a directive.
     pub(crate) const FLUSH: Hint<'static> = Hint::Directive("flush");
+
+    /// The hint for a call that waits for a whole workqueue, in the place of a directive.
+    pub(crate) const FLUSHWQ: Hint<'static> = Hint::Directive("flushwq");
+
+    /// The hint for a word in which names are parted by something else.
+    pub(crate) const BLANKS: Hint<'static> = Hint::Said("only blanks come between names");
+
+    /// The hint for a name behind `flushwq` that no line declares.
+    pub(crate) const OF_WORKQUEUE: Hint<'static> = Hint::Said(
+        "`flushwq` takes an item of that workqueue, not the workqueue's name",
+    );
+
+    /// The hint for the word `ordered` in the place of an item.
+    pub(crate) const ORDERED: Hint<'static> = Hint::Said(
+        "which items are `ordered` is said in the declaration",
+    );
 
     /// The hint for a call that queues, in the place of a directive.
     pub(crate) const QUEUES: Hint<'static> = Hint::Said(
@@ -87,6 +105,7 @@ impl fmt::Display for Hint<'_> {
                 f,
                 "this looks like {text}: are the files in the right order?"
             ),
+            Hint::OwnFile(text) => write!(f, "this looks like {text}: it needs a file of its own"),
             Hint::Directive(word) => write!(f, "did you mean `{word}`?"),
             Hint::Near(name) => write!(f, "did you mean `{name}`?"),
             Hint::NearOn(name, line) => write!(f, "did you mean `{name}`, line {line}?"),

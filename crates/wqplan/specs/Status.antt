@@ -1,7 +1,9 @@
 -- How a command ends, and its exit status.
-use Rattle.std.specs.Prelude.{ℕ, Result, Ok, Err}
+use Rattle.std.specs.Prelude.{ℕ, Option, Some, None, Result, Ok, Err}
+use Rattle.std.specs.declared.io.ErrorKind.{ErrorKind}
+use Rattle.std.specs.declared.io.ErrorKind.TheVariants.{BrokenPipe}
 use Rattle.wq_meter.specs.declared.fault.Fault.{Fault}
-use Rattle.wq_meter.specs.declared.fault.Fault.TheVariants.{Memory}
+use Rattle.wq_meter.specs.declared.fault.Fault.TheVariants.{Memory, Write}
 use Rattle.wq_meter.specs.declared.shell.Stopped.{Stopped}
 use Rattle.wq_meter.specs.declared.shell.Stopped.TheVariants.{Faulted, Unanswered}
 use Rattle.wq_commands.specs.declared.end.End.{End}
@@ -22,6 +24,17 @@ explain_end Unknown = Refused
 abbrev pub status_of : Result End CommandFault → ℕ
 status_of (Ok end) = exit_status end
 status_of (Err fault) = 3
+
+-- the exit status if standard output couldn't be written, for this reason if one is known: 141, as of a program that SIGPIPE ends, if
+-- nobody reads it any more, or else that of a fault
+abbrev pub unwritten_status : Option ErrorKind → ℕ
+unwritten_status (Some BrokenPipe) = 141
+unwritten_status _ = 3
+
+-- the exit status of the program, if the last write that failed, if one did, failed for this reason
+abbrev pub exit_status_of : Option ErrorKind → Result End CommandFault → ℕ
+exit_status_of failed (Err (Common Write)) = unwritten_status failed
+exit_status_of failed outcome = status_of outcome
 
 -- the end of a command, or the fault that stopped it; if a command has no answer, memory ran out
 abbrev pub end_or_common : {S : Type 0} → Result Outcome (Stopped S) → Result End CommandFault

@@ -7,7 +7,8 @@ ghost use Rattle.clap.specs.Words.{app_of, found_of, kind_of, one_of, rows_of, r
 ghost use Rattle.clap.specs.declared.error.kind.ErrorKind.TheVariants.{OutOfMemory};
 ghost use Rattle.wqplan.specs.CommandLine.{bare, check, circles, number_rule, deadlock, dot, explain, needed, plan, replay, run, spelled, wqplan, Asked, Asks, AsksFor, Calls, GivesArguments, HasFewHelpers, IsHelpers, few_read, helpers_in, checks, draws, finds, judges, replays, runs};
 
-use crate::help;
+use crate::world::INPUT;
+use crate::{help, statuses};
 use clap::error::ErrorKind;
 use clap::{Arg, ArgMatches, Command, Error, value_parser};
 use std::alloc::{AllocError, Global};
@@ -61,6 +62,38 @@ pub(crate) enum Request<'a> {
     },
 }
 
+impl Request<'_> {
+    /// Whether it has standard input in the place of more than one file, though it can be read only once.
+    pub(crate) fn repeats_input(self) -> bool {
+        let (first, second, third) = match self {
+            Request::Check {
+                declaration,
+                certificate,
+            } => (declaration, certificate, ""),
+            Request::Deadlock {
+                declaration,
+                assignment,
+            } => (declaration, assignment, ""),
+            Request::Replay {
+                declaration,
+                assignment,
+                run,
+            } => (declaration, assignment, run),
+            Request::Circles {
+                declaration,
+                assignment,
+            }
+            | Request::Dot {
+                declaration,
+                assignment,
+            } => (declaration, assignment.unwrap_or(""), ""),
+            Request::Plan { .. } | Request::Run { .. } | Request::Explain { .. } => ("", "", ""),
+        };
+        (first == INPUT && (second == INPUT || third == INPUT))
+            || (second == INPUT && third == INPUT)
+    }
+}
+
 /// The words of the command line. The first is the program's name.
 pub(crate) fn words<R: Env + AllocGlobal>(rt: &R) -> io::Result<Vec<String>> {
     let words = env::args(rt)?.collect(rt.alloc())?;
@@ -82,7 +115,7 @@ fn plan<'a>(alloc: Global) -> Result<Command<'a>, AllocError>
     let file = Arg::new(alloc, "FILE").help(help::FILE);
     Command::new(alloc, "plan")
         .about(help::PLAN)
-        .after_help(help::STATUSES)
+        .after_long_help(statuses::PLAN)
         .arg(file)
 }
 
@@ -94,7 +127,7 @@ fn check<'a>(alloc: Global) -> Result<Command<'a>, AllocError>
     let certificate = file(alloc, "CERT", help::CERT);
     Command::new(alloc, "check")
         .about(help::CHECK)
-        .after_help(help::STATUSES)
+        .after_long_help(statuses::CHECK)
         .arg(declaration)?
         .arg(certificate)
 }
@@ -107,7 +140,7 @@ fn deadlock<'a>(alloc: Global) -> Result<Command<'a>, AllocError>
     let assignment = file(alloc, "ASSIGN", help::ASSIGN);
     Command::new(alloc, "deadlock")
         .about(help::DEADLOCK)
-        .after_help(help::STATUSES)
+        .after_long_help(statuses::DEADLOCK)
         .arg(declaration)?
         .arg(assignment)
 }
@@ -121,7 +154,7 @@ fn replay<'a>(alloc: Global) -> Result<Command<'a>, AllocError>
     let run = file(alloc, "RUN", help::STEPS);
     Command::new(alloc, "replay")
         .about(help::REPLAY)
-        .after_help(help::STATUSES)
+        .after_long_help(statuses::REPLAY)
         .arg(declaration)?
         .arg(assignment)?
         .arg(run)
@@ -135,7 +168,7 @@ fn circles<'a>(alloc: Global) -> Result<Command<'a>, AllocError>
     let assignment = Arg::new(alloc, "ASSIGN").help(help::ANY_ASSIGN);
     Command::new(alloc, "circles")
         .about(help::CIRCLES)
-        .after_help(help::STATUSES)
+        .after_long_help(statuses::CIRCLES)
         .arg(declaration)?
         .arg(assignment)
 }
@@ -148,7 +181,7 @@ fn dot<'a>(alloc: Global) -> Result<Command<'a>, AllocError>
     let assignment = Arg::new(alloc, "ASSIGN").help(help::DRAWN_ASSIGN);
     Command::new(alloc, "dot")
         .about(help::DOT)
-        .after_help(help::STATUSES)
+        .after_long_help(statuses::DOT)
         .arg(declaration)?
         .arg(assignment)
 }
@@ -171,7 +204,7 @@ fn run<'a>(alloc: Global) -> Result<Command<'a>, AllocError>
     let helpers = helpers(alloc);
     Command::new(alloc, "run")
         .about(help::RUN)
-        .after_help(help::STATUSES)
+        .after_long_help(statuses::RUN)
         .arg(declaration)?
         .arg(helpers)
 }
@@ -183,7 +216,7 @@ fn explain<'a>(alloc: Global) -> Result<Command<'a>, AllocError>
     let code = Arg::new(alloc, "CODE").help(help::CODE);
     Command::new(alloc, "explain")
         .about(help::EXPLAIN)
-        .after_help(help::STATUSES)
+        .after_long_help(statuses::EXPLAIN)
         .arg(code)
 }
 
@@ -194,7 +227,7 @@ fn bare<'a>(alloc: Global) -> Command<'a>
     Command::new(alloc, "wqplan")
         .version("0.2.0")
         .about(help::PROGRAM)
-        .after_help(help::STATUSES)
+        .after_long_help(statuses::PROGRAM)
         .subcommand_required(true)
 }
 

@@ -1,17 +1,19 @@
 //! How the process ends: its exit status, and what it prints where a run has no answer.
 //!
-//! The statuses are those of docs/FORMAT.md: 0 to 2 as `End` has them, 2 for a wrong command line too, and 3 for a fault. A line
-//! that can't be written to standard error is lost, but the status says the same.
+//! The statuses are those of docs/FORMAT.md: 0 to 2 as `End` has them, 2 for a wrong command line too, 3 for a fault, and 141 where
+//! nobody reads standard output any more. A line that can't be written to standard error is lost, but the status says the same.
 
 ghost use Rattle.std.specs.Prelude.{◌≡◌, ◌≢◌, ◌⊎◌, OnOk, OnErr};
 ghost use Rattle.std.specs.IoError.{error_kind};
 ghost use Rattle.std.specs.declared.io.ErrorKind.TheVariants.{OutOfMemory as NoMemory};
 ghost use Rattle.clap.specs.Words.{kind_of};
 ghost use Rattle.clap.specs.declared.error.kind.ErrorKind.{ErrorKind};
-ghost use Rattle.wqplan.specs.Status.{status_of};
+ghost use Rattle.wqplan.specs.Status.{exit_status_of, unwritten_status};
 
+use crate::world::say_unwritten;
 use clap::Error;
 use clap::error::ErrorKind;
+use std::alloc::{AllocError, Global};
 use std::io;
 use wq_commands::{End, Fault};
 use wq_run::CommandFault;
@@ -25,6 +27,9 @@ const MISUSED: u8 = 2;
 /// The status of a fault.
 const FAULTED: u8 = 3;
 
+/// The status where nobody reads standard output any more: what a shell says of a program that SIGPIPE ended.
+const UNREAD: u8 = 141;
+
 /// Prints which fault stopped the run. The status is 3.
 fn faulted(rt: &impl Eprint, fault: CommandFault) -> u8
     ensures { result ≡ 3 }
@@ -33,14 +38,39 @@ fn faulted(rt: &impl Eprint, fault: CommandFault) -> u8
     FAULTED
 }
 
-/// The status of a command that ran.
-pub(crate) fn answered(rt: &impl Eprint, outcome: Result<End, CommandFault>) -> u8
-    ensures { result ≡ status_of outcome }
+/// The status where standard output couldn't be written, for this reason if one is known. Where nobody reads it any more, nothing is
+/// said.
+fn unwritten<R: Eprint + AllocGlobal>(rt: &R, failed: Option<io::ErrorKind>) -> u8
+    ensures { result ≡ unwritten_status failed }
+{
+    if let Some(io::ErrorKind::BrokenPipe) = failed {
+        return UNREAD;
+    }
+    say_unwritten(rt, failed);
+    faulted(rt, CommandFault::Common(Fault::Write))
+}
+
+/// The status of a command that ran, where the last write that failed, if one did, failed for this reason.
+pub(crate) fn answered<R: Eprint + AllocGlobal>(
+    rt: &R,
+    outcome: Result<End, CommandFault>,
+    failed: Option<io::ErrorKind>,
+) -> u8
+    ensures { result ≡ exit_status_of failed outcome }
 {
     match outcome {
         Ok(end) => end.status(),
+        Err(CommandFault::Common(Fault::Write)) => unwritten(rt, failed),
         Err(fault) => faulted(rt, fault),
     }
+}
+
+/// The status where the words name standard input twice.
+pub(crate) fn repeated(rt: &impl Eprint) -> u8
+    ensures { result ≡ 2 }
+{
+    let _ = rt.eprintln("error: `-`, which is standard input, can be only one of the files");
+    MISUSED
 }
 
 /// The status where the words of the command line couldn't be read.
@@ -55,31 +85,56 @@ pub(crate) fn unread(rt: &impl Eprint, error: &io::Error) -> u8
     MISUSED
 }
 
+/// What begins the tip that an option can be passed as a value.
+const TIP: &str = "\n  tip: to pass '";
+
+/// The text of a mistake in the words, without that tip: it would lead to a file with the name of the option.
+fn mistake(alloc: Global, error: &Error) -> Result<String, AllocError> {
+    let text = error.to_string(alloc)?;
+    let (before, tip) = text.split_once(TIP).unwrap_or((text.as_str(), ""));
+    let (_, behind) = tip.split_once('\n').unwrap_or(("", ""));
+    let mut left = String::from_str(alloc, before)?;
+    if !before.ends_with('\n') {
+        left.push_str("\n")?;
+    }
+    left.push_str(behind)?;
+    Ok(left)
+}
+
+/// Prints a mistake in the words.
+fn say_mistake<R: Eprint + AllocGlobal>(rt: &R, error: &Error) {
+    let alloc: Global = rt.alloc();
+    let _ = match mistake(alloc, error) {
+        Ok(text) => rt.eprint(text.as_str()),
+        Err(AllocError) => rt.eprint(error),
+    };
+}
+
 /// The status where the words ask for no command. Help or the version is printed, or else the mistake.
-pub(crate) fn unasked<R: Print + Eprint>(rt: &R, error: &Error) -> u8
+pub(crate) fn unasked<R: Print + Eprint + AllocGlobal>(rt: &R, error: &Error) -> u8
     ensures memory { kind_of error.now ≡ ErrorKind.OutOfMemory → result ≡ 3 }
     ensures shown { (kind_of error.now ≡ ErrorKind.DisplayHelp) ⊎ (kind_of error.now ≡ ErrorKind.DisplayVersion)
-        → (result ≡ 0) ⊎ (result ≡ 3) }
+        → (result ≡ 0) ⊎ ((result ≡ 3) ⊎ (result ≡ 141)) }
     ensures mistake { kind_of error.now ≢ ErrorKind.OutOfMemory → kind_of error.now ≢ ErrorKind.DisplayHelp
         → kind_of error.now ≢ ErrorKind.DisplayVersion → result ≡ 2 }
 {
     if error.kind() == ErrorKind::OutOfMemory {
         return faulted(rt, CommandFault::Common(Fault::Memory));
     }
-    let printed = error.print(rt);
     if error.use_stderr() {
+        say_mistake(rt, error);
         return MISUSED;
     }
-    shown(rt, &printed)
+    shown(rt, &error.print(rt))
 }
 
 /// The status after the attempt to print help or the version.
-fn shown(rt: &impl Eprint, printed: &io::Result<()>) -> u8
+fn shown<R: Eprint + AllocGlobal>(rt: &R, printed: &io::Result<()>) -> u8
     ensures worked { OnOk printed.now (result ≡ 0) }
-    ensures failed { OnErr printed.now (result ≡ 3) }
+    ensures failed { OnErr printed.now ((result ≡ 3) ⊎ (result ≡ 141)) }
 {
     match printed {
         Ok(()) => SHOWN,
-        Err(_) => faulted(rt, CommandFault::Common(Fault::Write)),
+        Err(error) => unwritten(rt, Some(error.kind())),
     }
 }

@@ -34,7 +34,7 @@ pub(crate) const EXPLAIN: &str =
     "Prints what a refusal, a fault or an answer means, and what to do";
 
 /// What FILE is.
-pub(crate) const FILE: &str = "The declaration. Without FILE it is read from standard input";
+pub(crate) const FILE: &str = "The declaration. Without FILE, or with `-`, standard input";
 
 /// What DECL is.
 pub(crate) const DECL: &str = "The declaration";
@@ -62,22 +62,3 @@ pub(crate) const HELPERS: &str = "Helpers of each unordered workqueue, 0 to 8; n
 /// What CODE is.
 pub(crate) const CODE: &str =
     "A number, as in `no CODE ..`, or a name. Without CODE all are listed";
-
-/// What is printed and returned, and where the formats are described.
-pub(crate) const STATUSES: &str = "\
-Each command prints one answer to standard output, or `refused CODE line N`.
-
-Exit status:
-  0  the answer is a plan, `yes ..`, `safe`, `open`, a drawing, `workqueues ..`,
-     an explanation or the titles of all; or help or the version was printed
-  1  the answer is a circle, `no ..`, a run that deadlocks, `deadlock`, `stuck`,
-     `not lawful N` or `components ..`
-  2  a refusal was printed: a text isn't of the form that it should have, or a
-     plan has too many workqueues to run; or the word to explain is none that
-     has an explanation. Or the command line is wrong; then standard error says
-     how, and nothing was read
-  3  a fault: the last line of standard error is `fault memory`, `fault read`,
-     `fault write`, `fault thread` or `fault tally`
-
-docs/FORMAT.md describes the texts and the answers, `wqplan explain CODE` each
-refusal, each `no` and each fault.";

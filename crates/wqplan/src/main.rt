@@ -13,41 +13,42 @@ mod ending;
 mod help;
 pub mod laws;
 mod performing;
+mod statuses;
 mod world;
 
 use command_line::Request;
-use performing::STDIN;
-use std::io::{self, Write};
+use std::io::{self, IsTerminal, Write};
 use std::process::ExitCode;
 use std::random::RandomSource;
 use std::rt::Files;
 use std::sync::Wait;
 use std::thread::Threads;
-use world::{NamedReader, Process};
+use world::{NamedReader, Noting, Process, STDIN};
 use wq_commands::{End, Metered};
 use wq_run::CommandFault;
 
-/// Carries out the command that is asked for, over the files and the standard streams of the process.
-///
-/// Standard output has no buffer. So what was written has left the process, and a write that the system refuses is noticed.
+/// Carries out the command that is asked for, over the files and standard input of the process, and over these writers.
 fn perform<
     'a,
-    R: Files + Input + Print + Eprint + AllocGlobal + RandomSource + Threads + Wait + Sync,
+    R: Files + Input + Eprint + AllocGlobal + RandomSource + Threads + Wait + Sync,
+    W: Write,
     E: Write,
->(rt: &'a R, request: Request<'a>, error: &mut Metered<E>) -> Result<End, CommandFault>
+>(
+    rt: &'a R,
+    request: Request<'a>,
+    above: bool,
+    writer: &mut Metered<W>,
+    error: &mut Metered<E>,
+) -> Result<End, CommandFault>
     requires few_helpers { HasFewHelpers (spelled request) }
 {
     let mut input = Metered::new(NamedReader::new(rt, STDIN, rt.reader()));
-    let mut writer = Metered::new(io::writer(rt));
-    performing::perform(
-        &Process { rt },
-        rt,
-        rt.alloc(),
-        request,
-        &mut input,
-        &mut writer,
-        error,
-    )
+    let world = Process { rt };
+    let alloc = rt.alloc();
+    if above {
+        return performing::perform_above(&world, rt, alloc, request, &mut input, writer, error);
+    }
+    performing::perform(&world, rt, alloc, request, &mut input, writer, error)
 }
 
 fn main(rt: HostRuntime) -> ExitCode {
@@ -56,9 +57,14 @@ fn main(rt: HostRuntime) -> ExitCode {
         Err(error) => return ExitCode::from(ending::unread(&rt, &error)),
     };
     let status = match command_line::parse(rt.alloc(), &words) {
+        Ok(request) if request.repeats_input() => ending::repeated(&rt),
         Ok(request) => {
+            // Standard output has no buffer. So what was written has left the process, and a write that the system refuses is noticed.
+            let mut writer = Metered::new(Noting::new(io::writer(&rt)));
             let mut error = Metered::new(rt.stderr());
-            ending::answered(&rt, perform(&rt, request, &mut error))
+            let above = rt.stdout().is_terminal() && rt.stderr().is_terminal();
+            let outcome = perform(&rt, request, above, &mut writer, &mut error);
+            ending::answered(&rt, outcome, writer.into_inner().failed())
         }
         Err(error) => ending::unasked(&rt, &error),
     };

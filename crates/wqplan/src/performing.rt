@@ -17,7 +17,7 @@ ghost use Rattle.wqplan.specs.Status.{end_or_common, explained_or_common};
 ghost use Rattle.wqplan.specs.Ended.{EndedBy, EndsAsAsked, EndsCheck, EndsCircles, EndsDeadlock, EndsDot, EndsExplain, EndsPlan, EndsReplay, EndsRun, Has, IsInputIf};
 
 use crate::command_line::Request;
-use crate::world::World;
+use crate::world::{STDIN, World, shown_name};
 use std::alloc::{AllocError, Global};
 use std::io::{self, Read, Write};
 use std::sync::Wait;
@@ -30,10 +30,8 @@ use wq_commands::{
 use wq_diagnosis::{CertificateKind, Diagnosing};
 use wq_dot::DotCommand;
 use wq_explain::{Explained, explain_cmd};
+use wq_meter::write_text;
 use wq_run::{CommandFault, RunStop, carry_out_run, end_of_run};
-
-/// The name of standard input in a diagnosis.
-pub(crate) const STDIN: &str = "<stdin>";
 
 /// Carries out a command on these readers.
 fn carry_out_on<
@@ -104,15 +102,14 @@ fn end_of_explain(ended: Result<Explained, Fault>) -> Result<End, CommandFault>
     }
 }
 
-/// Draws the seed of a command, and opens its one file. Nothing where there is no seed, or the file can't be opened. `or_input` is
-/// that of `World::open`.
-fn one_file<'a, O: World<'a>>(world: &O, path: &'a str, or_input: bool) -> Option<(u64, O::File)>
+/// Draws the seed of a command, and opens its one file. Nothing where there is no seed, or the file can't be opened.
+fn one_file<'a, O: World<'a>>(world: &O, path: &'a str) -> Option<(u64, O::File)>
     ensures ready { IfSome result (λ opened. IsReady (O.seeds world.now) (O.opens world.now) (path.now ∷ [])
         × O.opens world.now path.now (Some opened.1)) }
     ensures unready { result ≡ None → IsUnready (O.seeds world.now) (O.opens world.now) (path.now ∷ []) }
 {
     let seed = world.seed()?;
-    let file = world.open(path, or_input)?;
+    let file = world.open(path)?;
     Some((seed, file))
 }
 
@@ -126,8 +123,8 @@ fn two_files<'a, O: World<'a>>(
         × O.opens world.now first.now (Some opened.1) × O.opens world.now second.now (Some opened.2)) }
     ensures unready { result ≡ None → IsUnready (O.seeds world.now) (O.opens world.now) (first.now ∷ second.now ∷ []) }
 {
-    let (seed, one) = one_file(world, first, false)?;
-    let two = world.open(second, false)?;
+    let (seed, one) = one_file(world, first)?;
+    let two = world.open(second)?;
     Some((seed, one, two))
 }
 
@@ -145,7 +142,7 @@ fn three_files<'a, O: World<'a>>(
     ensures unready { result ≡ None → IsUnready (O.seeds world.now) (O.opens world.now) (first.now ∷ second.now ∷ third.now ∷ []) }
 {
     let (seed, one, two) = two_files(world, first, second)?;
-    let three = world.open(third, false)?;
+    let three = world.open(third)?;
     Some((seed, one, two, three))
 }
 
@@ -162,13 +159,13 @@ fn plan_file<'a, O: World<'a>, W: Write, E: Write>(
     ensures caused { EndsReady (O.seeds world.now) (O.opens world.now) (file.now ∷ []) (Unit {0}) ⊥ result }
     ensures unsaid { OnErr result (teller.new ≡ teller.old) }
 {
-    let Some((seed, declared)) = one_file(world, file, true) else {
+    let Some((seed, declared)) = one_file(world, file) else {
         return Err(CommandFault::Common(Fault::Read));
     };
     let ended = carry_out_on(
         alloc,
         &PlanCommand { seed },
-        &Diagnosing::one(seed, file),
+        &Diagnosing::one(seed, shown_name(file)),
         declared,
         io::empty(),
         io::empty(),
@@ -252,7 +249,12 @@ fn check<'a, O: World<'a>, W: Write, E: Write>(
     let ended = carry_out_on(
         alloc,
         &CheckCommand { seed },
-        &Diagnosing::two(seed, declaration, CertificateKind::Answer, certificate),
+        &Diagnosing::two(
+            seed,
+            shown_name(declaration),
+            CertificateKind::Answer,
+            shown_name(certificate),
+        ),
         declared,
         certified,
         io::empty(),
@@ -282,7 +284,12 @@ fn deadlock<'a, O: World<'a>, W: Write, E: Write>(
     let ended = carry_out_on(
         alloc,
         &DeadlockCommand { seed },
-        &Diagnosing::two(seed, declaration, CertificateKind::Assignment, assignment),
+        &Diagnosing::two(
+            seed,
+            shown_name(declaration),
+            CertificateKind::Assignment,
+            shown_name(assignment),
+        ),
         declared,
         assigned,
         io::empty(),
@@ -317,10 +324,10 @@ fn replay<'a, O: World<'a>, W: Write, E: Write>(
         &ReplayCommand { seed },
         &Diagnosing {
             seed,
-            declaration,
+            declaration: shown_name(declaration),
             kind: CertificateKind::Assignment,
-            certificate: assignment,
-            run,
+            certificate: shown_name(assignment),
+            run: shown_name(run),
         },
         declared,
         assigned,
@@ -354,7 +361,12 @@ fn assigned_circles<'a, O: World<'a>, W: Write, E: Write>(
             seed,
             assigned: true,
         },
-        &Diagnosing::two(seed, declaration, CertificateKind::Assignment, assignment),
+        &Diagnosing::two(
+            seed,
+            shown_name(declaration),
+            CertificateKind::Assignment,
+            shown_name(assignment),
+        ),
         declared,
         assigned,
         io::empty(),
@@ -377,7 +389,7 @@ fn own_circles<'a, O: World<'a>, W: Write, E: Write>(
     ensures caused { EndsReady (O.seeds world.now) (O.opens world.now) (declaration.now ∷ []) (Unit {0}) ⊥ result }
     ensures unsaid { OnErr result (teller.new ≡ teller.old) }
 {
-    let Some((seed, declared)) = one_file(world, declaration, false) else {
+    let Some((seed, declared)) = one_file(world, declaration) else {
         return Err(CommandFault::Common(Fault::Read));
     };
     let ended = carry_out_on(
@@ -386,7 +398,7 @@ fn own_circles<'a, O: World<'a>, W: Write, E: Write>(
             seed,
             assigned: false,
         },
-        &Diagnosing::one(seed, declaration),
+        &Diagnosing::one(seed, shown_name(declaration)),
         declared,
         io::empty(),
         io::empty(),
@@ -440,7 +452,12 @@ fn assigned_dot<'a, O: World<'a>, W: Write, E: Write>(
             seed,
             assigned: true,
         },
-        &Diagnosing::two(seed, declaration, CertificateKind::Assignment, assignment),
+        &Diagnosing::two(
+            seed,
+            shown_name(declaration),
+            CertificateKind::Assignment,
+            shown_name(assignment),
+        ),
         declared,
         assigned,
         io::empty(),
@@ -463,7 +480,7 @@ fn own_dot<'a, O: World<'a>, W: Write, E: Write>(
     ensures caused { EndsReady (O.seeds world.now) (O.opens world.now) (declaration.now ∷ []) (Unit {0}) ⊥ result }
     ensures unsaid { OnErr result (teller.new ≡ teller.old) }
 {
-    let Some((seed, declared)) = one_file(world, declaration, false) else {
+    let Some((seed, declared)) = one_file(world, declaration) else {
         return Err(CommandFault::Common(Fault::Read));
     };
     let ended = carry_out_on(
@@ -472,7 +489,7 @@ fn own_dot<'a, O: World<'a>, W: Write, E: Write>(
             seed,
             assigned: false,
         },
-        &Diagnosing::one(seed, declaration),
+        &Diagnosing::one(seed, shown_name(declaration)),
         declared,
         io::empty(),
         io::empty(),
@@ -544,10 +561,10 @@ fn run<'a, O: World<'a>, R: Threads + Wait + Sync, W: Write, E: Write>(
     ensures caused { EndsReady (O.seeds world.now) (O.opens world.now) (declaration.now ∷ []) (Unit {0}) (Unit {0}) result }
     ensures unsaid { OnErr result (teller.new ≡ teller.old) }
 {
-    let Some((seed, declared)) = one_file(world, declaration, false) else {
+    let Some((seed, declared)) = one_file(world, declaration) else {
         return Err(CommandFault::Common(Fault::Read));
     };
-    let voice = Diagnosing::one(seed, declaration);
+    let voice = Diagnosing::one(seed, shown_name(declaration));
     let ended = run_on(rt, alloc, seed, helpers, &voice, declared, writer, teller);
     end_of_run(ended)
 }
@@ -611,5 +628,40 @@ pub(crate) fn perform<'a, O: World<'a>, R: Threads + Wait + Sync, I: Read, W: Wr
             helpers,
         } => run(world, rt, alloc, declaration, helpers, writer, teller),
         Request::Explain { code } => explain(alloc, code, writer),
+    }
+}
+
+/// The same, but the answer is written once everything else is said: on a terminal a diagnosis is above it.
+pub(crate) fn perform_above<
+    'a,
+    O: World<'a>,
+    R: Threads + Wait + Sync,
+    I: Read,
+    W: Write,
+    E: Write,
+>(
+    world: &O,
+    rt: &R,
+    alloc: Global,
+    request: Request<'a>,
+    input: &mut Metered<I>,
+    writer: &mut Metered<W>,
+    teller: &mut Metered<E>,
+) -> Result<End, CommandFault>
+    requires few_helpers { HasFewHelpers (spelled request) }
+    ensures ended { EndedBy W.contents writer.old writer.new (EndsAsAsked (Has (O.opens world.now) O.File.Read.remaining)
+        (IsInput (I.remaining input.old.device)) (spelled request.entry)) result }
+    ensures caused { IsCaused (O.seeds world.now) (O.opens world.now) (HasFailed input.old input.new) (spelled request.entry) result }
+    ensures input { ReadsInput I.remaining input.old input.new (spelled request.entry) }
+{
+    let mut held = Metered::new(Vec::new(alloc));
+    match perform(world, rt, alloc, request, input, &mut held, teller) {
+        Ok(end) => {
+            write_text(writer, &held.into_inner())?;
+            Ok(end)
+        }
+        // There is no memory for the answer.
+        Err(CommandFault::Common(Fault::Write)) => Err(CommandFault::Common(Fault::Memory)),
+        Err(fault) => Err(fault),
     }
 }

@@ -1,4 +1,4 @@
-//! What the program asks of the system, apart from the standard streams: files by their paths, and a seed.
+//! What the program asks of the system: files by their paths, of which `-` is standard input, a seed, and where its answer goes.
 //!
 //! `perform` is proved for whatever does this. The files and the seed of a process are the only ones that the program knows; their few
 //! lines are read and tested. Where a file can't be opened, or a read of it fails, standard error names it and says why, before the
@@ -8,17 +8,20 @@ ghost use Rattle.std.specs.Io.{ReadsAtMost};
 ghost use Rattle.std.specs.Io.KnownBytes.{ReadConsumes};
 
 use std::alloc::Global;
-use std::io::{self, ErrorKind, Read};
+use std::io::{self, ErrorKind, Read, Write};
 use std::random::RandomSource;
 use std::rt::Files;
 use std::{fs, str};
-use wq_diagnosis::of_unread;
+use wq_diagnosis::of_failed;
 
-/// What is said of the path `-`, where there is no such file: most programs mean standard input by it.
-const NO_STDIN: &str = "no such file (only `plan` reads standard input; /dev/stdin names it)";
+/// The path that stands for standard input.
+pub(crate) const INPUT: &str = "-";
 
-/// The same for a command that reads standard input where no FILE is named.
-const LEAVE_OUT: &str = "no such file (leave FILE out to read standard input)";
+/// The name of standard input in a diagnosis.
+pub(crate) const STDIN: &str = "<stdin>";
+
+/// The name of standard output.
+const STDOUT: &str = "<stdout>";
 
 /// Opens files by their paths, and draws seeds.
 pub(crate) trait World<'a> {
@@ -33,9 +36,8 @@ pub(crate) trait World<'a> {
     // this seed was drawn, or nothing where there is none
     ghost seeds: { Self → Option ℕ → Type 0 };
 
-    /// Opens the file at this path. Nothing where it can't be opened. `or_input` says whether the path may be left out, and standard
-    /// input is read then.
-    fn open(&self, path: &'a str, or_input: bool) -> Option<Self::File>
+    /// Opens the file at this path. Nothing where it can't be opened.
+    fn open(&self, path: &'a str) -> Option<Self::File>
         ensures { opens self.now path.now result };
 
     /// Draws the number with which the names of a declaration are hashed. Nothing where there is none. It is drawn anew for each
@@ -50,19 +52,22 @@ pub(crate) struct Process<'a, R> {
     pub(crate) rt: &'a R,
 }
 
-impl<'a, R: Files + RandomSource + Eprint + AllocGlobal> World<'a> for Process<'a, R> {
-    type File = NamedReader<'a, R, R::File>;
+impl<'a, R: Files + Input + RandomSource + Eprint + AllocGlobal> World<'a> for Process<'a, R> {
+    type File = NamedReader<'a, R, Opened<R::File, R::Reader>>;
 
     ghost opens = { λ _ _ _. Unit {0} };
 
     ghost seeds = { λ _ _. Unit {0} };
 
-    fn open(&self, path: &'a str, or_input: bool) -> Option<NamedReader<'a, R, R::File>> {
+    fn open(&self, path: &'a str) -> Option<NamedReader<'a, R, Opened<R::File, R::Reader>>> {
         let rt: &'a R = self.rt;
+        if path == INPUT {
+            return Some(NamedReader::new(rt, STDIN, Opened::Input(rt.reader())));
+        }
         match fs::open(rt, path) {
-            Ok(file) => Some(NamedReader::new(rt, path, file)),
+            Ok(file) => Some(NamedReader::new(rt, path, Opened::File(file))),
             Err(error) => {
-                say_unread(rt, path, why_unopened(path, error.kind(), or_input));
+                say_failed(rt, path, read_reason(error.kind()));
                 None
             }
         }
@@ -73,6 +78,29 @@ impl<'a, R: Files + RandomSource + Eprint + AllocGlobal> World<'a> for Process<'
         self.rt.fill_bytes(&mut bytes).ok()?;
         Some(u64::from_le_bytes(bytes))
     }
+}
+
+/// What opening a path gives: a file, or standard input.
+#[derive(Drop)]
+pub(crate) enum Opened<F, I> {
+    /// The file at the path.
+    File(F),
+    /// Standard input.
+    Input(I),
+}
+
+impl<F: Read, I: Read> Read for Opened<F, I> {
+    fn read(&mut self, buf: &mut [u8]) -> io::Result<usize> {
+        match self {
+            Opened::File(file) => file.read(buf),
+            Opened::Input(input) => input.read(buf),
+        }
+    }
+}
+
+/// The name of the file at this path in a diagnosis.
+pub(crate) fn shown_name(path: &str) -> &str {
+    if path == INPUT { STDIN } else { path }
 }
 
 /// A reader with a name. Where a read fails, standard error has the name, and why it failed.
@@ -96,33 +124,65 @@ impl<'a, R: Eprint + AllocGlobal, I: Read> Read for NamedReader<'a, R, I> {
     fn read(&mut self, buf: &mut [u8]) -> io::Result<usize> {
         let outcome = self.input.read(buf);
         if let Err(error) = &outcome {
-            say_unread(self.rt, self.name, reason(error.kind()));
+            say_failed(self.rt, self.name, read_reason(error.kind()));
         }
         outcome
     }
 }
 
-/// Names a file that can't be opened or read, and says why.
-fn say_unread<R: Eprint + AllocGlobal>(rt: &R, file: &str, why: &str) {
+/// A writer that keeps the reason why the last write failed, if one did.
+#[derive(Drop)]
+pub(crate) struct Noting<W> {
+    output: W,
+    failed: Option<ErrorKind>,
+}
+
+impl<W> Noting<W> {
+    /// This writer, of which no write has failed.
+    pub(crate) fn new(output: W) -> Noting<W> {
+        Noting {
+            output,
+            failed: None,
+        }
+    }
+
+    /// Why the last write failed; nothing where none did, or where it took no byte.
+    pub(crate) fn failed(&self) -> Option<ErrorKind> {
+        self.failed
+    }
+}
+
+impl<W: Write> Write for Noting<W> {
+    ghost contents = { λ noting. W.contents noting.output };
+
+    fn write(&mut self, buf: &[u8]) -> io::Result<usize> {
+        let outcome = self.output.write(buf);
+        if let Err(error) = &outcome {
+            self.failed = Some(error.kind());
+        }
+        outcome
+    }
+
+    fn flush(&mut self) -> io::Result<()> {
+        self.output.flush()
+    }
+}
+
+/// Names a file that can't be opened, read or written, and says why.
+fn say_failed<R: Eprint + AllocGlobal>(rt: &R, file: &str, why: &str) {
     let alloc: Global = rt.alloc();
-    if let Ok(text) = of_unread(alloc, file, why) {
+    if let Ok(text) = of_failed(alloc, file, why) {
         let _ = rt.eprint(str::from_utf8(&text).unwrap_or(""));
     }
 }
 
-/// Why the file at this path can't be opened. `or_input` is that of `World::open`.
-fn why_unopened(path: &str, kind: ErrorKind, or_input: bool) -> &'static str {
-    if kind == ErrorKind::NotFound && path == "-" {
-        if or_input {
-            return LEAVE_OUT;
-        }
-        return NO_STDIN;
-    }
-    reason(kind)
+/// Says why standard output couldn't be written.
+pub(crate) fn say_unwritten<R: Eprint + AllocGlobal>(rt: &R, failed: Option<ErrorKind>) {
+    say_failed(rt, STDOUT, write_reason(failed));
 }
 
 /// Why an opening or a read failed, as far as the kind of the error tells.
-fn reason(kind: ErrorKind) -> &'static str {
+fn read_reason(kind: ErrorKind) -> &'static str {
     match kind {
         ErrorKind::NotFound => "no such file",
         ErrorKind::PermissionDenied => "permission denied",
@@ -132,5 +192,16 @@ fn reason(kind: ErrorKind) -> &'static str {
         ErrorKind::InvalidFilename => "the name is too long",
         ErrorKind::Interrupted => "the read was interrupted",
         _ => "can't be read",
+    }
+}
+
+/// Why a write failed, as far as the kind of the error tells.
+fn write_reason(failed: Option<ErrorKind>) -> &'static str {
+    match failed {
+        Some(ErrorKind::StorageFull) => "no space left",
+        Some(ErrorKind::QuotaExceeded) => "the disk quota is used up",
+        Some(ErrorKind::FileTooLarge) => "the file is too large",
+        Some(ErrorKind::Interrupted) => "the write was interrupted",
+        _ => "can't be written",
     }
 }

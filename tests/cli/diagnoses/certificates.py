@@ -326,7 +326,7 @@ FORMS = [
     ({"d": AB, "a": "wq 0 a, b"}, "deadlock d a", "refused 40 line 1", 2, [
         "a:1:6: no item `a,` is declared [refused 40, `wqplan explain 40`]",
         "    wq 0 a, b",
-        "         ^^ did you mean `a`?",
+        "         ^^ only blanks come between names",
     ]),
 ]
 

@@ -23,6 +23,9 @@ BYTES = [
         "d.wq:1:6: the byte 0x1B is neither TAB nor printable ASCII [refused 3, `wqplan explain 3`]",
         "    item ?[1ma?[0m",
         "         ^ a control character",
+        "d.wq:2:6: the byte 0x01 is neither TAB nor printable ASCII [refused 3, `wqplan explain 3`]",
+        "    item ?",
+        "         ^ a control character",
     ]),
     # A byte order mark, at the beginning of the text, of another line, and elsewhere.
     ({"d.wq": b"\xef\xbb\xbfitem a\n"}, "plan d.wq", "refused 3 line 1", 2, [
@@ -282,7 +285,7 @@ WORDS = [
     ({"d.wq": "item a / overwq 0 a"}, "plan d.wq", "refused 4 line 2", 2, [
         "d.wq:2:1: `overwq` isn't a directive [refused 4, `wqplan explain 4`]",
         "    overwq 0 a",
-        "    ^^^^^^ this looks like a run: are the files in the right order?",
+        "    ^^^^^^ this looks like a run: it needs a file of its own",
     ]),
     ({"d.wq": "over 0 a"}, "plan d.wq", "refused 4 line 1", 2, [
         "d.wq:1:1: `over` isn't a directive [refused 4, `wqplan explain 4`]",
@@ -314,11 +317,17 @@ WORDS = [
         "d.wq:1:1: `wait` isn't a directive [refused 4, `wqplan explain 4`]",
         "    wait a b",
         "    ^^^^ did you mean `flush`?",
+        "d.wq:2:9: no item `a` is declared above this line [refused 8, `wqplan explain 8`]",
+        "    flushwq a b",
+        "            ^ write `item a` above",
     ]),
     ({"d.wq": "wait a b / \tordered a b"}, "plan d.wq", "refused 4 line 1", 2, [
         "d.wq:1:1: `wait` isn't a directive [refused 4, `wqplan explain 4`]",
         "    wait a b",
         "    ^^^^ did you mean `flush`?",
+        "d.wq:2:10: no item `a` is declared above this line [refused 8, `wqplan explain 8`]",
+        "     ordered a b",
+        "             ^ write `item a` above",
     ]),
     ({"d.wq": "item a / queue a"}, "run d.wq", "refused 4 line 2", 2, [
         "d.wq:2:1: `queue` isn't a directive [refused 4, `wqplan explain 4`]",
@@ -333,7 +342,7 @@ WORDS = [
     ({"d.wq": "item a / start 0 a"}, "plan d.wq", "refused 4 line 2", 2, [
         "d.wq:2:1: `start` isn't a directive [refused 4, `wqplan explain 4`]",
         "    start 0 a",
-        "    ^^^^^ this looks like a run: are the files in the right order?",
+        "    ^^^^^ this looks like a run: it needs a file of its own",
     ]),
     # Other words for calls are no steps, whatever the other lines are.
     ({"d.wq": "waits a b"}, "plan d.wq", "refused 4 line 1", 2, [
@@ -496,7 +505,7 @@ FORMS = [
     ({"d.wq": "ordered a a,b c,"}, "plan d.wq", "refused 6 line 1", 2, [
         "d.wq:1:11: `a,b` isn't a name [refused 6, `wqplan explain 6`]",
         "    ordered a a,b c,",
-        "              ^^^ a name consists of letters, digits, `_`, `-` and `.`",
+        "              ^^^ only blanks come between names",
     ]),
     ({"d.wq": "flush a b // c;"}, "plan d.wq", "refused 6 line 1", 2, [
         "d.wq:1:11: `//` isn't a name [refused 6, `wqplan explain 6`]",

@@ -20,6 +20,7 @@ sys.path += [str(TESTS / "model"), str(TESTS / "lib")]
 import certificates  # noqa: E402  (beside this file)
 import declarations  # noqa: E402
 import diagnoses  # noqa: E402  (in tests/model)
+import further  # noqa: E402
 import places  # noqa: E402
 import unlawful_runs  # noqa: E402
 import usual  # noqa: E402
@@ -35,6 +36,7 @@ TABLES = [
     ("first words of declarations", declarations.WORDS),
     ("forms of directives", declarations.FORMS),
     ("items", declarations.ITEMS),
+    ("further mistakes", further.ROWS),
     ("first words of certificates", certificates.WORDS),
     ("ends of certificates", certificates.ENDS),
     ("forms of certificates", certificates.FORMS),
@@ -63,10 +65,13 @@ class Row:
         self.files = [word for word in self.words[1:] if word != "--"] or ["<stdin>"]
         self.wanted = (text_of(printed), status, "".join(line + "\n" for line in said).encode("ascii"))
 
+    def given(self):
+        """The texts of the command, in the order of its arguments."""
+        return [self.texts[os.path.normpath(file)] for file in self.files]
+
     def model(self):
         """What the model gives."""
-        texts = [self.texts[os.path.normpath(file)] for file in self.files]
-        return diagnoses.answer(self.command, [os.fsencode(file) for file in self.files], texts)
+        return diagnoses.answer(self.command, [os.fsencode(file) for file in self.files], self.given())
 
     def failed(self, what, wanted, found):
         """Says how what was found differs."""
@@ -101,9 +106,11 @@ def without_row(tables):
 
 def model_gives(row):
     found = row.model()
-    if found != row.wanted:
+    # (the model has no words for further mistakes, and so says less)
+    agrees = diagnoses.agree(row.given(), found, row.wanted)
+    if not agrees:
         row.failed("the model", row.wanted, found)
-    return found == row.wanted
+    return agrees
 
 
 def program_gives(program, row, streams="", wanted=None):
@@ -122,8 +129,8 @@ def stream_outcomes(program, row):
     yield program_gives(program, row, "2>/dev/full", (printed, status, b""))
     yield program_gives(program, row, "2>&1", (printed + said, status, b""))
     # Where the refusal can't be written, nothing is said of it.
-    yield program_gives(program, row, ">/dev/full", (b"", 3, b"fault write\n"))
-    yield program_gives(program, row, ">&-", (b"", 3, b"fault write\n"))
+    yield program_gives(program, row, ">/dev/full", (b"", 3, b"wqplan: <stdout>: no space left\nfault write\n"))
+    yield program_gives(program, row, ">&-", (b"", 3, b"wqplan: <stdout>: can't be written\nfault write\n"))
 
 
 def main(arguments):

@@ -6,7 +6,7 @@ use Rattle.wqplan.proofs.command_line.replay.Goals as goal
 
 pub returns : goal.returns
 returns c =
-    let empty : app_of c.after_help.result ≡ new_app (codes "replay") = search rules in
+    let empty : app_of c.after_long_help.result ≡ new_app (codes "replay") = search rules in
     let one : app_of c.in_ok-arg.field-0 ≡ with_rule (new_app (codes "replay")) (needed (codes "DECL")) =
     c.in_ok-arg.ensures.shape c.file-declaration.ensures.own ∙ ap₂ with_rule empty c.file-declaration.ensures.rule in
     let two : app_of c.in_ok-arg-2.field-0 ≡ with_rule (with_rule (new_app (codes "replay")) (needed (codes "DECL"))) (needed (codes "ASSIGN")) =

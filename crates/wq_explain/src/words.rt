@@ -1,4 +1,4 @@
-//! The explanations of the words with which the lines of an answer begin.
+//! The explanations of the words with which the lines of an answer begin, and of the directives.
 //!
 //! docs/FORMAT.md says what each of them means; tests/cli/explain.sh runs each example. The table in `table.rt` has the
 //! numbers and the faults.
@@ -375,8 +375,86 @@ Ask `wqplan explain NAME`.
 ",
 );
 
-/// The explanations of the words of answers, in the order of docs/FORMAT.md.
-pub static ANSWERS: [Explanation; 17] = [
+const ITEM: Explanation = (
+    None,
+    "item",
+    "item directive\n",
+    "\
+`item NAME`: the driver has a work item, and here it is called NAME. An item
+without a `flush` or `flushwq` line waits for nothing.
+
+The rule: docs/FORMAT.md, \"Directives\"
+
+To see it:
+    printf 'item a\\n' | wqplan plan
+
+What to do:
+Write an `item` line for each work item, above the other lines with its name.
+docs/GUIDE.md says which items belong into a declaration.
+",
+);
+
+const FLUSH: Explanation = (
+    None,
+    "flush",
+    "flush directive\n",
+    "\
+`flush NAME TARGET..`: while NAME runs, it may wait for each of these items, as
+by `flush_work` or `cancel_work_sync`: once for each time that TARGET is
+written.
+
+The rule: docs/FORMAT.md, \"Directives\"
+
+To see it:
+    printf 'item a\\nitem b\\nflush a b\\n' | wqplan plan
+
+What to do:
+Write each wait that the function of NAME makes, or what it calls. What only
+queues an item waits for nothing. docs/WAITS.md has waits of other kinds.
+",
+);
+
+const FLUSHWQ: Explanation = (
+    None,
+    "flushwq",
+    "flushwq directive\n",
+    "\
+`flushwq NAME ITEM`: while NAME runs, it may wait for the whole workqueue on
+which ITEM is, as by `flush_workqueue` or `drain_workqueue`, whichever items are
+on it.
+
+The rule: docs/FORMAT.md, \"Directives\"
+
+To see it:
+    printf 'item a\\nitem b\\nflushwq a b\\n' | wqplan plan
+
+What to do:
+Name an item that is on that workqueue, and not the workqueue: a declaration has
+no names of workqueues. Any of its items will do.
+",
+);
+
+const ORDERED: Explanation = (
+    None,
+    "ordered",
+    "ordered directive\n",
+    "\
+`ordered NAME..`: these items stay together on one workqueue, which runs one of
+them at a time, as one of `alloc_ordered_workqueue` does.
+
+The rule: docs/FORMAT.md, \"Directives\"
+
+To see it:
+    printf 'item a\\nitem b\\nordered a b\\n' | wqplan plan
+
+What to do:
+Write such a line where the driver relies on it that no two of these items run
+at once. An assignment doesn't say which workqueues are ordered.
+",
+);
+
+/// The explanations of the words of answers and of the directives, in the order of docs/FORMAT.md.
+pub static WORDS: [Explanation; 21] = [
     PLAN, WQ, CHAIN, ARC, CIRCLE, RUN, YES, NO, NOT_LAWFUL, DEADLOCK, STUCK, OPEN, SAFE,
-    COMPONENTS, WORKQUEUES, REFUSED, FAULT,
+    COMPONENTS, WORKQUEUES, REFUSED, FAULT, ITEM, FLUSH, FLUSHWQ, ORDERED,
 ];

@@ -1,4 +1,4 @@
-//! What standard error says of a file that can't be opened or read.
+//! What standard error says of a file that can't be opened, read or written.
 //!
 //! The form is that of "Faults and exit statuses" in docs/FORMAT.md. It takes the time and the memory of the line.
 
@@ -10,7 +10,7 @@ use std::alloc::{AllocError, Allocator};
 use wq_lines::put;
 
 /// The line without its end, as it is before each byte is shown.
-fn unread_line<A: Allocator + Copy>(
+fn failed_line<A: Allocator + Copy>(
     alloc: A,
     file: &str,
     why: &str,
@@ -25,17 +25,17 @@ fn unread_line<A: Allocator + Copy>(
     Ok(line)
 }
 
-/// The line that names a file which can't be opened or read, and says why. Each byte of it is shown as one of a diagnosis is.
+/// The line that names a file which can't be opened, read or written, and says why. Each byte of it is shown as one of a diagnosis is.
 ///
 /// The only error is out of memory (20).
-pub fn of_unread<A: Allocator + Copy>(
+pub fn of_failed<A: Allocator + Copy>(
     alloc: A,
     file: &str,
     why: &str,
 ) -> Result<Vec<u8, A>, AllocError>
     ensures { IfOk result (λ said. said.items ≡ shown_lines ((((codes "wqplan: " ++ file.now) ++ codes ": ") ++ why.now) ∷ [])) }
 {
-    let line = unread_line(alloc, file, why)?;
+    let line = failed_line(alloc, file, why)?;
     let mut said = Vec::new(alloc);
     put_line(alloc, &mut said, &line)?;
     Ok(said)

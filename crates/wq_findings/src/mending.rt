@@ -1,0 +1,324 @@
+//! A declaration with a refused line mended, so that what would be refused next can be told.
+//!
+//! A line is mended as the hint says, or else taken out. Where nobody can say whether a line that is taken out declares an item,
+//! nothing that depends on the items is told from then on. It takes time in the length of the text, and memory for another one.
+
+use crate::declaration::{is_name, not_above};
+use crate::guess::{Guess, begins_comment, encoding_hint, guess_at, text_with};
+use crate::hint::Hint;
+use crate::names::{LineNames, declared_on};
+use crate::token::{Mark, bytes_at, first_word, line_at, word_at};
+use std::alloc::{AllocError, Allocator};
+use wq_decl::Keyword;
+use wq_text::{Line, Text};
+
+/// What becomes of the lines of a text.
+#[derive(Clone, Copy)]
+enum Mend<'a> {
+    /// The line of this number is taken out.
+    Out(u32),
+    /// Each line with this first word is taken out.
+    EachOut(&'a [u8]),
+    /// Each line of another text is taken out.
+    OtherLinesOut,
+    /// Each line with this first word begins with this directive.
+    EachBegins(&'a [u8], &'static str),
+    /// Of the line of this number only this part is left.
+    Part(u32, Mark),
+    /// The line of the first number declares this item, and that of the second one is taken out.
+    Declares(u32, &'a [u8], u32),
+}
+
+/// What is left of a line that is mended.
+#[derive(Clone, Copy)]
+enum Left<'a> {
+    /// Nothing.
+    Nothing,
+    /// These bytes.
+    Bytes(&'a [u8]),
+    /// This directive, and then these bytes.
+    Begun(&'static str, &'a [u8]),
+}
+
+/// A line with its first word replaced by a directive.
+fn begun<'a>(line: &Line<'a>, directive: &'static str) -> Left<'a> {
+    let behind = match word_at(line, 0) {
+        Some(word) => word.mark.at.saturating_add(word.mark.len),
+        None => 0,
+    };
+    Left::Begun(directive, line.bytes().get(behind..).unwrap_or(b""))
+}
+
+/// This part of a line.
+fn part<'a>(line: &Line<'a>, mark: Mark) -> Left<'a> {
+    let end = mark.at.saturating_add(mark.len);
+    Left::Bytes(line.bytes().get(mark.at..end).unwrap_or(b""))
+}
+
+impl<'a> Mend<'a> {
+    /// What is left of this line; none where it stays as it is.
+    fn left_of(self, line: &Line<'a>) -> Option<Left<'a>> {
+        let (no, word) = (line.no(), first_word(line));
+        match self {
+            Mend::Out(out) if no == out => Some(Left::Nothing),
+            Mend::EachOut(first) if word == first => Some(Left::Nothing),
+            Mend::OtherLinesOut if is_of_other_text(word) => Some(Left::Nothing),
+            Mend::EachBegins(first, directive) if word == first => Some(begun(line, directive)),
+            Mend::Part(meant, mark) if no == meant => Some(part(line, mark)),
+            Mend::Declares(meant, name, _) if no == meant => Some(Left::Begun("item ", name)),
+            Mend::Declares(_, _, below) if no == below => Some(Left::Nothing),
+            _ => None,
+        }
+    }
+}
+
+impl<'a> Mend<'a> {
+    /// What becomes of the lines of which the hints are.
+    fn of_own(self) -> Mend<'a> {
+        match self {
+            Mend::Declares(meant, _, _) => Mend::Out(meant),
+            other => other,
+        }
+    }
+}
+
+/// Whether a line that begins with this word is one of another text.
+fn is_of_other_text(word: &[u8]) -> bool {
+    Keyword::of(word).is_none() && text_with(word).is_some()
+}
+
+/// Adds what is left of a line.
+fn put_left<A: Allocator + Copy>(out: &mut Vec<u8, A>, left: Left<'_>) -> Result<(), AllocError> {
+    match left {
+        Left::Nothing => Ok(()),
+        Left::Bytes(bytes) => out.extend_from_slice(bytes),
+        Left::Begun(directive, bytes) => {
+            out.extend_from_slice(directive.as_bytes())?;
+            out.extend_from_slice(bytes)
+        }
+    }
+}
+
+/// A text that was mended.
+#[derive(Drop)]
+pub struct Mended<A: Allocator> {
+    /// The text that is read again.
+    pub text: Vec<u8, A>,
+    /// The same without items that no line of the text was to declare. Hints are of these lines.
+    pub own: Vec<u8, A>,
+}
+
+/// What is mended in a declaration, one refused line after the other.
+#[derive(Drop)]
+pub struct Mending<A: Allocator> {
+    /// The numbers of the lines that were mended.
+    lines: Vec<u32, A>,
+    /// Whether the lines that are left declare all items.
+    knows_items: bool,
+}
+
+impl<A: Allocator + Copy> Mending<A> {
+    /// Nothing is mended yet.
+    pub fn new(alloc: A) -> Mending<A> {
+        Mending {
+            lines: Vec::new(alloc),
+            knows_items: true,
+        }
+    }
+
+    /// Whether a refusal with this number holds however the lines before were mended.
+    pub fn can_tell(&self, code: u32) -> bool {
+        match code {
+            3 | 4 | 5 | 6 | 12 => true,
+            7 | 8 | 11 => self.knows_items,
+            _ => false,
+        }
+    }
+
+    /// Whether this line was mended.
+    pub fn has(&self, no: u32) -> bool {
+        self.lines.iter().any(|line| *line == no)
+    }
+
+    /// The text with the line mended for which it is refused with this number, and the same of its own lines. Nothing where no one can
+    /// say what would be refused next.
+    ///
+    /// The only error is out of memory (20).
+    pub fn mended(
+        &mut self,
+        alloc: A,
+        text: &Text<'_>,
+        own: &Text<'_>,
+        code: u32,
+        no: u32,
+    ) -> Result<Option<Mended<A>>, AllocError> {
+        let Some(line) = line_at(text, no) else {
+            return Ok(None);
+        };
+        let mend = if self.has(no) {
+            Some(self.out(&line))
+        } else {
+            self.mend_of(alloc, text, &line, code)?
+        };
+        match mend {
+            Some(mend) => Ok(Some(self.rewritten(alloc, text, own, mend)?)),
+            None => Ok(None),
+        }
+    }
+
+    /// How this line is mended, for which the text is refused with this number.
+    fn mend_of<'a>(
+        &mut self,
+        alloc: A,
+        text: &Text<'a>,
+        line: &Line<'a>,
+        code: u32,
+    ) -> Result<Option<Mend<'a>>, AllocError> {
+        match code {
+            3 => Ok(self.of_bytes(line)),
+            4 => self.of_first_word(alloc, text, line),
+            5 | 7 | 11 => Ok(Some(self.out_for(line, code))),
+            6 => Ok(Some(self.of_bad_name(line))),
+            8 => of_unknown_item(alloc, text, line),
+            12 => Ok(Some(self.of_extra_word(line))),
+            _ => Ok(None),
+        }
+    }
+
+    /// Takes this line out, which may declare an item unless it has another directive.
+    fn out<'a>(&mut self, line: &Line<'a>) -> Mend<'a> {
+        match Keyword::of(first_word(line)) {
+            Some(Keyword::Flush | Keyword::FlushWq | Keyword::Ordered) => {}
+            Some(Keyword::Item) | None => self.knows_items = false,
+        }
+        Mend::Out(line.no())
+    }
+
+    /// The same for a line that is refused with this number. An item that is declared twice is declared without it.
+    fn out_for<'a>(&mut self, line: &Line<'a>, code: u32) -> Mend<'a> {
+        if code == 7 {
+            return Mend::Out(line.no());
+        }
+        self.out(line)
+    }
+
+    /// A line with bytes that no line may have. Where it is UTF-16, so is the text.
+    fn of_bytes<'a>(&mut self, line: &Line<'a>) -> Option<Mend<'a>> {
+        let bytes = line.bytes();
+        if line.content().iter().any(|byte| *byte == 0) {
+            return None;
+        }
+        match (encoding_hint(bytes), bytes) {
+            (Some(_), [0xEF, ..]) => {
+                let len = bytes.len().saturating_sub(3);
+                Some(Mend::Part(line.no(), Mark { at: 3, len }))
+            }
+            (Some(_), _) => None,
+            (None, _) => Some(self.out(line)),
+        }
+    }
+
+    /// A line whose first word isn't a directive. Others with this word are mended as it is.
+    fn of_first_word<'a>(
+        &mut self,
+        alloc: A,
+        text: &Text<'a>,
+        line: &Line<'a>,
+    ) -> Result<Option<Mend<'a>>, AllocError> {
+        let word = first_word(line);
+        Ok(match guess_at(alloc, text, word)? {
+            Guess::Call(Hint::Directive(directive)) | Guess::Directive(directive) => {
+                Some(Mend::EachBegins(word, directive))
+            }
+            Guess::Comment | Guess::Call(_) => Some(Mend::EachOut(word)),
+            Guess::OtherLine(_) => Some(Mend::OtherLinesOut),
+            Guess::OtherText(_) => None,
+            Guess::Unknown => {
+                self.knows_items = false;
+                Some(Mend::EachOut(word))
+            }
+        })
+    }
+
+    /// A line with a word that isn't a name. Where an `item` line has one with a comma or a semicolon behind it, that is left out.
+    fn of_bad_name<'a>(&mut self, line: &Line<'a>) -> Mend<'a> {
+        match (Keyword::of(first_word(line)), word_at(line, 1)) {
+            (Some(Keyword::Item), Some(word)) => match word.bytes {
+                [name @ .., b',' | b';'] if is_name(name) => {
+                    let len = word.mark.at.saturating_add(name.len());
+                    Mend::Part(line.no(), Mark { at: 0, len })
+                }
+                _ => self.out(line),
+            },
+            _ => self.out(line),
+        }
+    }
+
+    /// A line with a word too many. Where a comment in another language begins there, it is left out.
+    fn of_extra_word<'a>(&mut self, line: &Line<'a>) -> Mend<'a> {
+        match (Keyword::of(first_word(line)), word_at(line, 2)) {
+            (Some(Keyword::Item), Some(word)) if begins_comment(word.bytes) => {
+                let len = word.mark.at;
+                Mend::Part(line.no(), Mark { at: 0, len })
+            }
+            _ => self.out(line),
+        }
+    }
+
+    /// The text and its own lines with these lines mended, whose numbers are noted.
+    fn rewritten(
+        &mut self,
+        alloc: A,
+        text: &Text<'_>,
+        own: &Text<'_>,
+        mend: Mend<'_>,
+    ) -> Result<Mended<A>, AllocError> {
+        for line in text.lines() {
+            if mend.left_of(&line).is_some() {
+                self.lines.push(line.no())?;
+            }
+        }
+        Ok(Mended {
+            text: rewritten(alloc, text, mend)?,
+            own: rewritten(alloc, own, mend.of_own())?,
+        })
+    }
+}
+
+/// A text with these lines mended.
+fn rewritten<A: Allocator + Copy>(
+    alloc: A,
+    text: &Text<'_>,
+    mend: Mend<'_>,
+) -> Result<Vec<u8, A>, AllocError> {
+    let bytes = text.bytes();
+    let mut out = Vec::new(alloc);
+    let mut copied = 0;
+    for line in text.lines() {
+        let Some(left) = mend.left_of(&line) else {
+            continue;
+        };
+        let span = line.span();
+        out.extend_from_slice(bytes.get(copied..span.start as usize).unwrap_or(b""))?;
+        put_left(&mut out, left)?;
+        copied = span.end as usize;
+    }
+    out.extend_from_slice(bytes.get(copied..).unwrap_or(b""))?;
+    Ok(out)
+}
+
+/// A line with a name that isn't declared above: it declares the item in place of the line below that does, if there is one.
+fn of_unknown_item<'a, A: Allocator + Copy>(
+    alloc: A,
+    text: &Text<'a>,
+    line: &Line<'a>,
+) -> Result<Option<Mend<'a>>, AllocError> {
+    let items = LineNames::above(alloc, text, Keyword::Item, line.no())?;
+    Ok(match not_above(&items, line) {
+        Some(word) => {
+            let below = declared_on(text, word.bytes).unwrap_or(0);
+            Some(Mend::Declares(line.no(), word.bytes, below))
+        }
+        None => None,
+    })
+}
