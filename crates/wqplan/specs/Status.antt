@@ -36,6 +36,11 @@ abbrev pub exit_status_of : Option ErrorKind → Result End CommandFault → ℕ
 exit_status_of failed (Err (Common Write)) = unwritten_status failed
 exit_status_of failed outcome = status_of outcome
 
+-- what stops a command whose answer is held in memory, where that can't take the answer
+abbrev pub unheld : CommandFault → CommandFault
+unheld (Common Write) = Common Memory
+unheld fault = fault
+
 -- the end of a command, or the fault that stopped it; if a command has no answer, memory ran out
 abbrev pub end_or_common : {S : Type 0} → Result Outcome (Stopped S) → Result End CommandFault
 end_or_common (Ok outcome) = Ok outcome.end

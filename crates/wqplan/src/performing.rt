@@ -13,7 +13,7 @@ ghost use Rattle.wq_commands.specs.Answer.{Answers};
 ghost use Rattle.wq_run.specs.Running.{RunsTexts};
 ghost use Rattle.wqplan.specs.CommandLine.{HasFewHelpers, plans, spelled};
 ghost use Rattle.wqplan.specs.Cause.{EndsAlone, EndsReady, IsCaused, IsReady, IsUnready, ReadsInput};
-ghost use Rattle.wqplan.specs.Status.{end_or_common, explained_or_common};
+ghost use Rattle.wqplan.specs.Status.{end_or_common, explained_or_common, unheld};
 ghost use Rattle.wqplan.specs.Ended.{EndedBy, EndsAsAsked, EndsCheck, EndsCircles, EndsDeadlock, EndsDot, EndsExplain, EndsPlan, EndsReplay, EndsRun, Has, IsInputIf};
 
 use crate::command_line::Request;
@@ -660,8 +660,19 @@ pub(crate) fn perform_above<
             write_text(writer, &held.into_inner())?;
             Ok(end)
         }
-        // There is no memory for the answer.
-        Err(CommandFault::Common(Fault::Write)) => Err(CommandFault::Common(Fault::Memory)),
-        Err(fault) => Err(fault),
+        Err(fault) => Err(unheld(fault)),
+    }
+}
+
+/// What stops a command whose answer is held in memory: where that can't take the answer, memory ran out.
+fn unheld(fault: CommandFault) -> CommandFault
+    ensures { result ≡ unheld fault }
+{
+    match fault {
+        CommandFault::Common(Fault::Write) => CommandFault::Common(Fault::Memory),
+        CommandFault::Common(Fault::Read) => CommandFault::Common(Fault::Read),
+        CommandFault::Common(Fault::Memory) => CommandFault::Common(Fault::Memory),
+        CommandFault::Thread => CommandFault::Thread,
+        CommandFault::Tally => CommandFault::Tally,
     }
 }

@@ -328,6 +328,27 @@ FORMS = [
         "    wq 0 a, b",
         "         ^^ only blanks come between names",
     ]),
+    ({"d": AB, "a": "wq 0 a,b"}, "deadlock d a", "refused 40 line 1", 2, [
+        "a:1:6: no item `a,b` is declared [refused 40, `wqplan explain 40`]",
+        "    wq 0 a,b",
+        "         ^^^ only blanks come between names",
+    ]),
+    ({"d": AB, "p": "plan 2 / wq 0 a; / wq 1 b / chain 2 / arc b a"}, "check d p", "refused 40 line 2", 2, [
+        "p:2:6: no item `a;` is declared [refused 40, `wqplan explain 40`]",
+        "    wq 0 a;",
+        "         ^^ only blanks come between names",
+    ]),
+    # What is said of items in the declaration, in the place of one; not so where an item's name is like it.
+    ({"d": AB, "a": "wq 0 ordered a / wq 1 b"}, "deadlock d a", "refused 40 line 1", 2, [
+        "a:1:6: no item `ordered` is declared [refused 40, `wqplan explain 40`]",
+        "    wq 0 ordered a",
+        "         ^^^^^^^ which items are `ordered` is said in the declaration",
+    ]),
+    ({"d": "item ordere", "a": "wq 0 ordered"}, "deadlock d a", "refused 40 line 1", 2, [
+        "a:1:6: no item `ordered` is declared [refused 40, `wqplan explain 40`]",
+        "    wq 0 ordered",
+        "         ^^^^^^^ did you mean `ordere`?",
+    ]),
 ]
 
 # Assignments of only `wq` lines, with a line that isn't one. Where items are missing it is said beside them (41), and else the text
@@ -497,6 +518,17 @@ OTHERS = [
         "a:1:4: expected `wq 0` [refused 43, `wqplan explain 43`]",
         "    wq 1 b",
         "       ^ workqueues are numbered from 0, in order",
+    ]),
+    # A workqueue on a second line.
+    ({"d": AB, "a": "wq 0 a / wq 0 b"}, "deadlock d a", "refused 43 line 2", 2, [
+        "a:2:4: expected `wq 1` [refused 43, `wqplan explain 43`]",
+        "    wq 0 b",
+        "       ^ each workqueue has one line: add these names to the one above",
+    ]),
+    ({"d": AB, "p": "plan 3 / wq 0 a / wq 1 / wq 0 b"}, "check d p", "refused 43 line 4", 2, [
+        "p:4:4: expected `wq 2` [refused 43, `wqplan explain 43`]",
+        "    wq 0 b",
+        "       ^ each workqueue has one line: add these names to the one above",
     ]),
     ({"d": AB, "p": "plan 2 / wq 0 b / wq 10 a"}, "check d p", "refused 43 line 3", 2, [
         "p:3:4: expected `wq 1` [refused 43, `wqplan explain 43`]",

@@ -297,6 +297,38 @@ WORDS = [
         "    finish 0 a",
         "    ^^^^^^ this looks like a run: are the files in the right order?",
     ]),
+    # The same among directives, before or behind it.
+    ({"d.wq": "item a / item b / flush a b / wq 0 b / wq 1 a"}, "plan d.wq", "refused 4 line 4", 2, [
+        "d.wq:4:1: `wq` isn't a directive [refused 4, `wqplan explain 4`]",
+        "    wq 0 b",
+        "    ^^ this looks like a plan or an assignment: it needs a file of its own",
+    ]),
+    ({"d.wq": "wq 0 a / item a"}, "plan d.wq", "refused 4 line 1", 2, [
+        "d.wq:1:1: `wq` isn't a directive [refused 4, `wqplan explain 4`]",
+        "    wq 0 a",
+        "    ^^ this looks like a plan or an assignment: it needs a file of its own",
+    ]),
+    ({"d.wq": "item a / refused 4 line 1"}, "plan d.wq", "refused 4 line 2", 2, [
+        "d.wq:2:1: `refused` isn't a directive [refused 4, `wqplan explain 4`]",
+        "    refused 4 line 1",
+        "    ^^^^^^^ this looks like a refusal, written here in place of an answer: it needs a file of its own",
+    ]),
+    # Calls that wait for a workqueue.
+    ({"d.wq": "item a / item b / flush_workqueue a b"}, "plan d.wq", "refused 4 line 3", 2, [
+        "d.wq:3:1: `flush_workqueue` isn't a directive [refused 4, `wqplan explain 4`]",
+        "    flush_workqueue a b",
+        "    ^^^^^^^^^^^^^^^ did you mean `flushwq`?",
+    ]),
+    ({"d.wq": "drain_workqueue a a / item a"}, "plan d.wq", "refused 4 line 1", 2, [
+        "d.wq:1:1: `drain_workqueue` isn't a directive [refused 4, `wqplan explain 4`]",
+        "    drain_workqueue a a",
+        "    ^^^^^^^^^^^^^^^ did you mean `flushwq`?",
+    ]),
+    ({"d.wq": "item a / destroy_workqueue a a"}, "plan d.wq", "refused 4 line 2", 2, [
+        "d.wq:2:1: `destroy_workqueue` isn't a directive [refused 4, `wqplan explain 4`]",
+        "    destroy_workqueue a a",
+        "    ^^^^^^^^^^^^^^^^^ did you mean `flushwq`?",
+    ]),
     # Calls in the place of directives. Three of them are steps of a run, too: what they are is told by the other lines.
     ({"d.wq": "item a / item b / wait a b"}, "plan d.wq", "refused 4 line 3", 2, [
         "d.wq:3:1: `wait` isn't a directive [refused 4, `wqplan explain 4`]",
@@ -542,6 +574,33 @@ FORMS = [
 
 # 7, 8, 11: items that are declared twice, or not above, or are on two `ordered` lines.
 ITEMS = [
+    # The name of a workqueue where `flushwq` wants one of its items; not so where the first name isn't declared, either, or where one
+    # may have been meant.
+    ({"d.wq": "item a / flushwq a nfsiod"}, "plan d.wq", "refused 8 line 2", 2, [
+        "d.wq:2:11: no item `nfsiod` is declared above this line [refused 8, `wqplan explain 8`]",
+        "    flushwq a nfsiod",
+        "              ^^^^^^ `flushwq` takes an item of that workqueue, not the workqueue's name",
+    ]),
+    ({"d.wq": "flushwq send nfsiod"}, "plan d.wq", "refused 8 line 1", 2, [
+        "d.wq:1:9: no item `send` is declared above this line [refused 8, `wqplan explain 8`]",
+        "    flushwq send nfsiod",
+        "            ^^^^ write `item send` above",
+    ]),
+    ({"d.wq": "flushwq send send"}, "plan d.wq", "refused 8 line 1", 2, [
+        "d.wq:1:9: no item `send` is declared above this line [refused 8, `wqplan explain 8`]",
+        "    flushwq send send",
+        "            ^^^^ write `item send` above",
+    ]),
+    ({"d.wq": "item send / flushwq send sned"}, "plan d.wq", "refused 8 line 2", 2, [
+        "d.wq:2:14: no item `sned` is declared above this line [refused 8, `wqplan explain 8`]",
+        "    flushwq send sned",
+        "                 ^^^^ did you mean `send`, line 1?",
+    ]),
+    ({"d.wq": "item a / flushwq a b / item b"}, "plan d.wq", "refused 8 line 2", 2, [
+        "d.wq:2:11: no item `b` is declared above this line [refused 8, `wqplan explain 8`]",
+        "    flushwq a b",
+        "              ^ it is declared below, on line 3",
+    ]),
     ({"d.wq": "# two / item log / item a / item\tlog # again"}, "plan d.wq", "refused 7 line 4", 2, [
         "d.wq:4:6: the item `log` is declared twice [refused 7, `wqplan explain 7`]",
         "    item log # again",

@@ -2,9 +2,10 @@ use Rattle.std.proofs.Common.{◌≡◌, ℕ, inl, inr, Result, Ok, Err, OnOk, O
 use Rattle.std.specs.Prelude.{◌⊎◌}
 use Rattle.wqplan.proofs.ending.unasked.Goals as goal
 
-zero_or_three : {T E : Type 0} (r : Result T E) (status : ℕ) → OnOk r (status ≡ 0) → OnErr r (status ≡ 3) → (status ≡ 0) ⊎ (status ≡ 3)
-zero_or_three (Ok x) status worked failed = inl worked
-zero_or_three (Err e) status worked failed = inr failed
+by_result : {T E : Type 0} (r : Result T E) (status : ℕ) → OnOk r (status ≡ 0) → OnErr r ((status ≡ 3) ⊎ (status ≡ 141))
+    → (status ≡ 0) ⊎ ((status ≡ 3) ⊎ (status ≡ 141))
+by_result (Ok x) status worked failed = inl worked
+by_result (Err e) status worked failed = inr failed
 
 pub returns-clause-shown : goal.returns-clause-shown
-returns-clause-shown g c = λ _. zero_or_three _ _ c.shown.ensures.worked c.shown.ensures.failed
+returns-clause-shown g c = λ _. by_result _ _ c.shown.ensures.worked c.shown.ensures.failed
