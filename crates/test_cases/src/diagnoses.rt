@@ -92,6 +92,20 @@ d:2:1: `cancel` isn't a directive [refused 4, `wqplan explain 4`]
 ",
     },
     Said {
+        name: "two mistakes",
+        saying: Saying::OfDeclaration,
+        declaration: "itme a\nflush a b\n",
+        certificate: "",
+        said: "\
+d:1:1: `itme` isn't a directive [refused 4, `wqplan explain 4`]
+    itme a
+    ^^^^ did you mean `item`?
+d:2:9: no item `b` is declared above this line [refused 8, `wqplan explain 8`]
+    flush a b
+            ^ write `item b` above
+",
+    },
+    Said {
         name: "nothing wrong with a declaration",
         saying: Saying::OfDeclaration,
         declaration: TWO,

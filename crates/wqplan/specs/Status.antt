@@ -1,7 +1,5 @@
 -- How a command ends, and its exit status.
-use Rattle.std.specs.Prelude.{ℕ, Option, Some, None, Result, Ok, Err}
-use Rattle.std.specs.declared.io.ErrorKind.{ErrorKind}
-use Rattle.std.specs.declared.io.ErrorKind.TheVariants.{BrokenPipe}
+use Rattle.std.specs.Prelude.{ℕ, Result, Ok, Err}
 use Rattle.wq_meter.specs.declared.fault.Fault.{Fault}
 use Rattle.wq_meter.specs.declared.fault.Fault.TheVariants.{Memory, Write}
 use Rattle.wq_meter.specs.declared.shell.Stopped.{Stopped}
@@ -14,6 +12,8 @@ use Rattle.wq_commands.specs.End.{exit_status}
 use Rattle.wq_commands.specs.declared.end.End.TheVariants.{Good, Refused}
 use Rattle.wq_explain.specs.declared.explain.Explained.{Explained}
 use Rattle.wq_explain.specs.declared.explain.Explained.TheVariants.{Known, Unknown}
+use Rattle.wqplan.specs.declared.world.Unwritten.{Unwritten}
+use Rattle.wqplan.specs.declared.world.Unwritten.TheVariants.{Failed, Unread}
 
 -- `explain` ends well if its word has an explanation, or if it has no word
 abbrev pub explain_end : Explained → End
@@ -25,16 +25,16 @@ abbrev pub status_of : Result End CommandFault → ℕ
 status_of (Ok end) = exit_status end
 status_of (Err fault) = 3
 
--- the exit status if standard output couldn't be written, for this reason if one is known: 141, as of a program that SIGPIPE ends, if
--- nobody reads it any more, or else that of a fault
-abbrev pub unwritten_status : Option ErrorKind → ℕ
-unwritten_status (Some BrokenPipe) = 141
-unwritten_status _ = 3
+-- the exit status if standard output couldn't be written for this reason: 141, as of a program that SIGPIPE ends, if nobody reads it
+-- any more, or else that of a fault
+abbrev pub unwritten_status : Unwritten → ℕ
+unwritten_status Unread = 141
+unwritten_status (Failed why) = 3
 
--- the exit status of the program, if the last write that failed, if one did, failed for this reason
-abbrev pub exit_status_of : Option ErrorKind → Result End CommandFault → ℕ
-exit_status_of failed (Err (Common Write)) = unwritten_status failed
-exit_status_of failed outcome = status_of outcome
+-- the exit status of the program; if standard output couldn't be written, this is the reason
+abbrev pub exit_status_of : Unwritten → Result End CommandFault → ℕ
+exit_status_of why (Err (Common Write)) = unwritten_status why
+exit_status_of why outcome = status_of outcome
 
 -- what stops a command whose answer is held in memory, where that can't take the answer
 abbrev pub unheld : CommandFault → CommandFault

@@ -10,7 +10,7 @@ ghost use Rattle.clap.specs.Words.{kind_of};
 ghost use Rattle.clap.specs.declared.error.kind.ErrorKind.{ErrorKind};
 ghost use Rattle.wqplan.specs.Status.{exit_status_of, unwritten_status};
 
-use crate::world::say_unwritten;
+use crate::world::{Unwritten, say_unwritten};
 use clap::Error;
 use clap::error::ErrorKind;
 use std::alloc::{AllocError, Global};
@@ -38,30 +38,36 @@ fn faulted(rt: &impl Eprint, fault: CommandFault) -> u8
     FAULTED
 }
 
-/// The status where standard output couldn't be written, for this reason if one is known. Where nobody reads it any more, nothing is
-/// said.
-fn unwritten<R: Eprint + AllocGlobal>(rt: &R, failed: Option<io::ErrorKind>) -> u8
-    ensures { result ≡ unwritten_status failed }
+/// The status where standard output couldn't be written for this reason. Where nobody reads it any more, nothing is said.
+fn unwritten<R: Eprint + AllocGlobal>(rt: &R, why: Unwritten) -> u8
+    ensures { result ≡ unwritten_status why }
 {
-    if let Some(io::ErrorKind::BrokenPipe) = failed {
-        return UNREAD;
+    match why {
+        Unwritten::Unread => UNREAD,
+        Unwritten::Failed(why) => {
+            say_unwritten(rt, why);
+            faulted(rt, CommandFault::Common(Fault::Write))
+        }
     }
-    say_unwritten(rt, failed);
-    faulted(rt, CommandFault::Common(Fault::Write))
 }
 
-/// The status of a command that ran, where the last write that failed, if one did, failed for this reason.
+/// The status of a command that ran. Where standard output couldn't be written, this is the reason.
 pub(crate) fn answered<R: Eprint + AllocGlobal>(
     rt: &R,
     outcome: Result<End, CommandFault>,
-    failed: Option<io::ErrorKind>,
+    why: Unwritten,
 ) -> u8
-    ensures { result ≡ exit_status_of failed outcome }
+    ensures { result ≡ exit_status_of why outcome }
 {
     match outcome {
         Ok(end) => end.status(),
-        Err(CommandFault::Common(Fault::Write)) => unwritten(rt, failed),
-        Err(fault) => faulted(rt, fault),
+        Err(CommandFault::Common(Fault::Write)) => unwritten(rt, why),
+        Err(CommandFault::Common(Fault::Read)) => faulted(rt, CommandFault::Common(Fault::Read)),
+        Err(CommandFault::Common(Fault::Memory)) => {
+            faulted(rt, CommandFault::Common(Fault::Memory))
+        }
+        Err(CommandFault::Thread) => faulted(rt, CommandFault::Thread),
+        Err(CommandFault::Tally) => faulted(rt, CommandFault::Tally),
     }
 }
 
@@ -135,6 +141,6 @@ fn shown<R: Eprint + AllocGlobal>(rt: &R, printed: &io::Result<()>) -> u8
 {
     match printed {
         Ok(()) => SHOWN,
-        Err(error) => unwritten(rt, Some(error.kind())),
+        Err(error) => unwritten(rt, Unwritten::by(Some(error.kind()))),
     }
 }

@@ -64,7 +64,7 @@ fn main(rt: HostRuntime) -> ExitCode {
             let mut error = Metered::new(rt.stderr());
             let above = rt.stdout().is_terminal() && rt.stderr().is_terminal();
             let outcome = perform(&rt, request, above, &mut writer, &mut error);
-            ending::answered(&rt, outcome, writer.into_inner().failed())
+            ending::answered(&rt, outcome, writer.into_inner().unwritten())
         }
         Err(error) => ending::unasked(&rt, &error),
     };

@@ -146,9 +146,9 @@ impl<W> Noting<W> {
         }
     }
 
-    /// Why the last write failed; nothing where none did, or where it took no byte.
-    pub(crate) fn failed(&self) -> Option<ErrorKind> {
-        self.failed
+    /// Why the last write failed, if one did.
+    pub(crate) fn unwritten(&self) -> Unwritten {
+        Unwritten::by(self.failed)
     }
 }
 
@@ -177,8 +177,8 @@ fn say_failed<R: Eprint + AllocGlobal>(rt: &R, file: &str, why: &str) {
 }
 
 /// Says why standard output couldn't be written.
-pub(crate) fn say_unwritten<R: Eprint + AllocGlobal>(rt: &R, failed: Option<ErrorKind>) {
-    say_failed(rt, STDOUT, write_reason(failed));
+pub(crate) fn say_unwritten<R: Eprint + AllocGlobal>(rt: &R, why: &str) {
+    say_failed(rt, STDOUT, why);
 }
 
 /// Why an opening or a read failed, as far as the kind of the error tells.
@@ -195,13 +195,25 @@ fn read_reason(kind: ErrorKind) -> &'static str {
     }
 }
 
-/// Why a write failed, as far as the kind of the error tells.
-fn write_reason(failed: Option<ErrorKind>) -> &'static str {
-    match failed {
-        Some(ErrorKind::StorageFull) => "no space left",
-        Some(ErrorKind::QuotaExceeded) => "the disk quota is used up",
-        Some(ErrorKind::FileTooLarge) => "the file is too large",
-        Some(ErrorKind::Interrupted) => "the write was interrupted",
-        _ => "can't be written",
+/// Why standard output couldn't be written.
+#[derive(Clone, Copy)]
+pub(crate) enum Unwritten {
+    /// Nobody reads it any more.
+    Unread,
+    /// The system had another reason, in these words.
+    Failed(&'static str),
+}
+
+impl Unwritten {
+    /// What an error of this kind says, or that a write took no byte.
+    pub(crate) fn by(failed: Option<ErrorKind>) -> Unwritten {
+        match failed {
+            Some(ErrorKind::BrokenPipe) => Unwritten::Unread,
+            Some(ErrorKind::StorageFull) => Unwritten::Failed("no space left"),
+            Some(ErrorKind::QuotaExceeded) => Unwritten::Failed("the disk quota is used up"),
+            Some(ErrorKind::FileTooLarge) => Unwritten::Failed("the file is too large"),
+            Some(ErrorKind::Interrupted) => Unwritten::Failed("the write was interrupted"),
+            _ => Unwritten::Failed("can't be written"),
+        }
     }
 }
