@@ -80,7 +80,7 @@ pub(crate) fn push_further<A: Allocator + Copy>(
             return Ok(());
         }
         tell(alloc, lines, declaration.file, &mended, refusal)?;
-        told += 1;
+        told = told.saturating_add(1);
     }
     Ok(())
 }
