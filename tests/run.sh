@@ -38,7 +38,7 @@ docs     completion   docs/completion.py
 docs     citations    docs/citations.py
 cli      install      cli/install.sh
 cli      package      cli/package.sh WQPLAN
-lib      dot          lib/dot_texts.py | lib/dot_drawn.py
+lib      dot          lib/dot_texts.py | lib/dot_drawn.py | lib/dot_laid.py
 cli      outlives     cli/outlives.sh
 edits    edits_test   edits/edits_test.sh
 cli      program      cli/program.sh WQPLAN

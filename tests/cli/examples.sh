@@ -123,9 +123,11 @@ plan_is_least() {
     done
 }
 
-# arrows LOOK: those of the file `out` that look so, whatever their heads, as `arc` lines, sorted.
+# arrows LOOK: those of the file `out` that look so, whatever their heads, as `arc` lines, sorted. An arrow that is drawn from its
+# target is returned to its item.
 arrows() {
-    sed -nE "s/^  \"([^\"]*)\" -> \"([^\"]*)\" \[$1(, arrowhead=odiamond)?\];$/arc \1 \2/p" out | LC_ALL=C sort
+    sed -nE "s/^  \"([^\"]*)\" -> \"([^\"]*)\" \[$1\]( \[arrowhead=odiamond\])?;$/arc \1 \2/p
+        s/^  \"([^\"]*)\" -> \"([^\"]*)\" \[$1\] \[dir=back(, arrowtail=odiamond)?\];$/arc \2 \1/p" out | LC_ALL=C sort
 }
 
 # boxes FILE: the items on each workqueue of a drawing, or of a file with `wq` lines, sorted.
@@ -146,7 +148,7 @@ draws() {
     run dot "$@"
     is "$name: dot" 0 "$status"
     is "$name: what is drawn" "$counts" "$(python3 -B "$reader" out | sed 's/^out: //')"
-    is "$name: the red arrows" "$wanted" "$(arrows color=red)"
+    is "$name: the red arrows" "$wanted" "$(arrows 'color=red, style=bold')"
     cp out drawing
     if [ $# -eq 1 ] && [ "${counts%% *}" = plan ]; then
         run plan "$1"
@@ -168,9 +170,9 @@ plan_is_least dm-snapshot
 run deadlock dm-snapshot.wq dm-snapshot.assign
 ends 'dm-snapshot: the kernel' 0 safe
 hangs 'dm-snapshot: one kcopyd' dm-snapshot.wq dm-snapshot.merged.assign 14
-draws dm-snapshot 'plan 3: items 6, workqueues 3, arrows 3, red 0, bold 2' dm-snapshot.wq
+draws dm-snapshot 'plan of 3 workqueues, 2 waits in bold: items 6, workqueues 3, arrows 3, red 0, bold 2' dm-snapshot.wq
 draws 'dm-snapshot: the kernel' 'safe: items 6, workqueues 6, arrows 3, red 0, bold 0' dm-snapshot.wq dm-snapshot.assign
-draws 'dm-snapshot: one kcopyd' 'components 1: items 6, workqueues 3, arrows 3, red 1, bold 0' \
+draws 'dm-snapshot: one kcopyd' 'can hang, 1 wait in red: items 6, workqueues 3, arrows 3, red 1, bold 0' \
     dm-snapshot.wq dm-snapshot.merged.assign
 
 # dm-integrity: six workqueues, safe; without dm-integrity-offload it hangs.
@@ -181,7 +183,7 @@ plan_is_least dm-integrity
 run deadlock dm-integrity.wq dm-integrity.assign
 ends 'dm-integrity: the kernel' 0 safe
 hangs 'dm-integrity: without dm-integrity-offload' dm-integrity.wq dm-integrity.merged.assign 20
-draws dm-integrity 'plan 3: items 8, workqueues 3, arrows 13, red 0, bold 2' dm-integrity.wq
+draws dm-integrity 'plan of 3 workqueues, 2 waits in bold: items 8, workqueues 3, arrows 13, red 0, bold 2' dm-integrity.wq
 
 # nvmet-tcp: a circle, so that every assignment hangs: the kernel's, one workqueue for all, and one for each item. The
 # last is the one whose run stands behind the circle. Without the flush of nvmet-wq it needs three: the release of a queue waits
@@ -196,7 +198,7 @@ hangs 'nvmet-tcp: one workqueue' nvmet-tcp.wq one.assign
 awk '$1 == "item" { print "wq", lanes++, $2 }' nvmet-tcp.wq >own.assign
 hangs 'nvmet-tcp: a workqueue for each item' nvmet-tcp.wq own.assign
 is 'nvmet-tcp: the run behind the circle' "$(cat hangs.run)" "$(sed -n '/^run/,$p' nvmet-tcp.answer)"
-draws nvmet-tcp 'components 1: items 12, workqueues 12, arrows 16, red 2, bold 0' nvmet-tcp.wq
+draws nvmet-tcp 'every assignment can hang, 2 waits in red: items 12, workqueues 12, arrows 16, red 2, bold 0' nvmet-tcp.wq
 grep -v 'flushwq tcp.c:1923' nvmet-tcp.wq >nvmet-tcp.noflush.wq
 answers nvmet-tcp.noflush 'plan 3' nvmet_tcp_release_queue_work nvmet_tcp_io_work nvmet_file_buffered_io_work
 plan_is_least nvmet-tcp.noflush
@@ -211,11 +213,11 @@ plan_is_least nvme-auth
 hangs 'nvme-auth: the kernel' nvme-auth.wq nvme-auth.assign 8
 run deadlock nvme-auth.wq nvme-auth.later.assign
 ends 'nvme-auth: a later kernel' 0 safe
-draws nvme-auth 'plan 3: items 4, workqueues 3, arrows 4, red 0, bold 2' nvme-auth.wq
+draws nvme-auth 'plan of 3 workqueues, 2 waits in bold: items 4, workqueues 3, arrows 4, red 0, bold 2' nvme-auth.wq
 { cat nvme-auth.wq && echo 'flush auth_work dhchap_auth_work connect_work'; } >nvme-auth.pool.wq
 run plan nvme-auth.pool.wq
 begins 'nvme-auth: plan, with a pool of buffers' 1 'circle 2'
-draws 'nvme-auth: the kernel' 'components 1: items 4, workqueues 2, arrows 4, red 2, bold 0' nvme-auth.wq nvme-auth.assign
+draws 'nvme-auth: the kernel' 'can hang, 2 waits in red: items 4, workqueues 2, arrows 4, red 2, bold 0' nvme-auth.wq nvme-auth.assign
 draws 'nvme-auth: a later kernel' 'safe: items 4, workqueues 3, arrows 4, red 0, bold 0' nvme-auth.wq nvme-auth.later.assign
 
 # md: one workqueue for all arrays, which hangs where an array has arrays for disks; one for each array doesn't. The kernel's own
@@ -234,8 +236,8 @@ run replay md.wq md.assign shorter.run
 ends "md: the kernel's order, before the upper array waits" 0 open
 run deadlock md.wq md.perarray.assign
 ends 'md: a workqueue for each array' 0 safe
-draws md 'plan 2: items 4, workqueues 2, arrows 4, red 0, bold 1' md.wq
-draws 'md: the kernel' 'components 1: items 4, workqueues 1, arrows 4, red 4, bold 0' md.wq md.assign
+draws md 'plan of 2 workqueues, 1 wait in bold: items 4, workqueues 2, arrows 4, red 0, bold 1' md.wq
+draws 'md: the kernel' 'can hang, 4 waits in red: items 4, workqueues 1, arrows 4, red 4, bold 0' md.wq md.assign
 
 # rbd: two ordered groups, five workqueues and the system's, safe.
 counts rbd 13 39 8 6
@@ -244,7 +246,7 @@ without_cancel rbd 3
 plan_is_least rbd
 run deadlock rbd.wq rbd.assign
 ends 'rbd: the kernel' 0 safe
-draws rbd 'plan 3: items 13, workqueues 3, arrows 39, red 0, bold 2' rbd.wq
+draws rbd 'plan of 3 workqueues, 2 waits in bold: items 13, workqueues 3, arrows 39, red 0, bold 2' rbd.wq
 draws 'rbd: the kernel' 'safe: items 13, workqueues 6, arrows 39, red 0, bold 0' rbd.wq rbd.assign
 
 # xfs: twelve workqueues, safe; six are enough, with and without the two that have no rescuer. Where there is no free block, an
@@ -255,7 +257,7 @@ without_cancel xfs 6
 plan_is_least xfs
 run deadlock xfs.wq xfs.assign
 ends 'xfs: the kernel' 0 safe
-draws xfs 'plan 6: items 13, workqueues 6, arrows 42, red 0, bold 5' xfs.wq
+draws xfs 'plan of 6 workqueues, 5 waits in bold: items 13, workqueues 6, arrows 42, red 0, bold 5' xfs.wq
 grep -vE '^[^#]*(xfs_flush_inodes_worker|xfs_log_worker|xlog_discard_endio_work)' xfs.wq >xfs.rescuers.wq
 answers xfs.rescuers 'plan 6' xfs_blockgc_worker iomap_dio_complete_work xfs_end_io xfs_btree_split_worker xlog_cil_push_work \
     xlog_ioend_work

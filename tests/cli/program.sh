@@ -174,6 +174,10 @@ check 'circles: no byte at all' 0 'safe\n' "empty$no_item"
 
 # Drawings. What is drawn has status 0, also where it is a circle.
 
+# What marks mean, as printf spells it, behind `bold` or `red`.
+bold='bold\\\\lBold: the chain that needs so many workqueues.\\\\l'
+red='red\\\\lRed: while memory is short, a worker may wait for work\\\\lthat only it, or one that waits for it, can do.\\\\l'
+
 # drawing TITLE LINE..: a drawing with these lines between its head and its end.
 drawing() {
     local title=$1
@@ -189,21 +193,23 @@ drawing() {
 # box NUMBER ITEM..: the lines of a workqueue with these items, to be put behind two spaces.
 box() {
     echo "subgraph \"cluster wq $1\" {"
-    echo "    graph [label=\"wq $1\", style=filled, color=gray92];"
+    echo "    graph [label=\"\", style=filled, color=gray92]; \"wq $1\" [shape=plaintext, style=\"\", fontsize=14];"
     printf '    "%s";\n' "${@:2}"
     echo '  }'
 }
 
-drawn_plan="$(drawing 'plan 3' "$(box 0 c)" "$(box 1 b)" "$(box 2 a)" '"a" -> "b" [style=bold];' '"b" -> "c" [style=bold];')\n"
+drawn_plan="$(drawing "plan of 3 workqueues, 2 waits in $bold" "$(box 0 c)" "$(box 1 b)" "$(box 2 a)" \
+    '"a" -> "b" [style=bold];' '"b" -> "c" [style=bold];')\n"
 drawn_safe="$(drawing safe "$(box 0 c)" "$(box 1 b)" "$(box 2 a)" '"a" -> "b";' '"b" -> "c";')\n"
-drawn_circle="$(drawing 'components 1' "$(box 0 a c)" "$(box 1 b)" '"a" -> "b" [color=red];' '"b" -> "c" [color=red];')\n"
-drawn_loop="$(drawing 'components 1' "$(box 0 a)" '"a" -> "a" [color=red];')\n"
+drawn_circle="$(drawing "can hang, 2 waits in $red" "$(box 0 a c)" "$(box 1 b)" \
+    '"a" -> "b" [color=red, style=bold];' '"b" -> "c" [color=red, style=bold];')\n"
+drawn_loop="$(drawing "every assignment can hang, 1 wait in $red" "$(box 0 a)" '"a" -> "a" [color=red, style=bold];')\n"
 run dot chain </dev/null
 check 'dot: a plan' 0 "$drawn_plan" ''
 run dot circle </dev/null
 check 'dot: a declaration that has no plan' 0 "$drawn_loop" ''
 run dot empty </dev/null
-check 'dot: no byte at all' 0 "$(drawing 'plan 0')\n" "empty$no_item"
+check 'dot: no byte at all' 0 "$(drawing 'plan of 0 workqueues')\n" "empty$no_item"
 run dot chain lanes </dev/null
 check 'dot: the flushes on circles' 0 "$drawn_circle" ''
 run dot chain safe_lanes </dev/null
@@ -545,7 +551,7 @@ check 'circles: an assignment without an item' 2 'refused 41 line 0\n' 'of 2'
 run dot chain without_c </dev/null
 check 'dot: an assignment without an item' 2 'refused 41 line 0\n' 'of 2'
 run dot largest </dev/null
-check 'dot: a text of 1,048,576 bytes' 0 "$(drawing 'plan 0')\n" "largest$no_item"
+check 'dot: a text of 1,048,576 bytes' 0 "$(drawing 'plan of 0 workqueues')\n" "largest$no_item"
 run replay refused without_c unlawful </dev/null
 check 'replay: a wrong declaration before a wrong assignment' 2 'refused 8 line 2\n' 'of 1'
 run replay chain without_c too_large_certificate </dev/null

@@ -11,34 +11,50 @@ import dataclasses
 import re
 import sys
 
+# What is drawn in words, and what its marks mean.
+WAITS = r", (?:1 wait|(?:[2-9]|[1-9][0-9]+) waits) in "
+WORDS = re.compile(rf"plan of (?:1 workqueue|(?:0|[2-9]|[1-9][0-9]+) workqueues)(?:{WAITS}bold)?"
+                   rf"|safe|(?:every assignment )?can hang{WAITS}red")
+LEGENDS = {
+    "bold": r"\lBold: the chain that needs so many workqueues.\l",
+    "red": r"\lRed: while memory is short, a worker may wait for work\lthat only it, or one that waits for it, can do.\l",
+}
 HEAD = [
     rb'digraph wqplan \{',
-    rb'  graph \[label="(plan (?:0|[1-9][0-9]*)|safe|components [1-9][0-9]*)", labelloc=t, labeljust=l, rankdir=LR,'
-    rb' nodesep=0\.15, ranksep=1, fontname="sans-serif"\];',
+    rb'  graph \[label="([^"\\]*)((?:\\l[^"\\]*)*)", labelloc=t, labeljust=l, rankdir=LR, nodesep=0\.15, ranksep=1,'
+    rb' fontname="sans-serif"\];',
     rb'  node \[shape=box, style=filled, fillcolor=white, height=0\.3, fontname="sans-serif", fontsize=12\];',
     rb'  edge \[arrowsize=0\.7\];',
 ]
 NAME = rb'"([A-Za-z0-9_.-]{1,63})"'
 WORKQUEUE = rb'  subgraph "cluster wq (0|[1-9][0-9]*)" \{'
-WORKQUEUE_LOOKS = rb'    graph \[label="wq (0|[1-9][0-9]*)", style=filled, color=gray92\];'
+WORKQUEUE_LOOKS = (rb'    graph \[label="", style=filled, color=gray92\];'
+                   rb' "wq (0|[1-9][0-9]*)" \[shape=plaintext, style="", fontsize=14\];')
 ITEM = rb'    ' + NAME + rb';'
 ORDERED = rb'    subgraph "cluster ordered ([A-Za-z0-9_.-]{1,63})" \{'
-ORDERED_LOOKS = rb'      graph \[label="ordered", style=dashed, color=black\];'
+ORDERED_LOOKS = (rb'      graph \[label="", style=dashed, color=black\];'
+                 rb' "ordered ([A-Za-z0-9_.-]{1,63})" \[label="ordered", shape=plaintext, style=""\];')
 MEMBER = rb'      ' + NAME + rb';'
 END_OF_ORDERED = rb'    \}'
 END_OF_WORKQUEUE = rb'  \}'
 END = rb'\}'
 
-# How an arrow looks: its colour, and whether it waits for a whole workqueue.
-LOOKS = {
-    b"": ("black", False),
-    b" [color=red]": ("red", False),
-    b" [style=bold]": ("bold", False),
-    b" [arrowhead=odiamond]": ("black", True),
-    b" [color=red, arrowhead=odiamond]": ("red", True),
-    b" [style=bold, arrowhead=odiamond]": ("bold", True),
+# How an arrow looks: its colour; and its head: whether it is drawn from its target, and whether it waits for a whole workqueue.
+LOOKS = {b"": "black", b" [color=red, style=bold]": "red", b" [style=bold]": "bold"}
+HEADS = {
+    b"": (False, False),
+    b" [arrowhead=odiamond]": (False, True),
+    b" [dir=back]": (True, False),
+    b" [dir=back, arrowtail=odiamond]": (True, True),
 }
-ARROW = rb'  ' + NAME + rb' -> ' + NAME + rb'(' + b"|".join(map(re.escape, LOOKS)) + rb');'
+
+
+def one_of(texts):
+    """A pattern of these texts."""
+    return rb'(' + b"|".join(map(re.escape, texts)) + rb')'
+
+
+ARROW = rb'  ' + NAME + rb' -> ' + NAME + one_of(LOOKS) + one_of(HEADS) + rb';'
 
 
 class NotADrawing(Exception):
@@ -91,9 +107,19 @@ class Reader:
         return match
 
 
+def read_head(reader):
+    """TITLE, without its legend."""
+    match = [reader.take(line, "the line of the head that stands here") for line in HEAD][1]
+    words, legend = match[1].decode(), match[2].decode()
+    reader.must(WORDS.fullmatch(words), "TITLE has other words", 2)
+    reader.must(legend == LEGENDS.get(words.rpartition(" in ")[2], ""), "TITLE has another legend", 2)
+    return words
+
+
 def read_ordered(reader, box):
     """The names of a group of several items, whose first line was taken."""
-    reader.take(ORDERED_LOOKS, "how an ordered group looks")
+    looks = reader.take(ORDERED_LOOKS, "how an ordered group looks")
+    reader.must(looks[1].decode() == box, "this isn't the name of the ordered group")
     names = []
     while match := reader.may_take(MEMBER):
         names.append(match[1].decode())
@@ -133,13 +159,29 @@ def read_workqueues(reader):
 
 
 def read_arrows(reader, items):
-    """The arrows, each between items."""
-    arrows = []
+    """The arrows, each between items. Those that are drawn from their targets are returned to their items."""
+    arrows, turned = [], []
     while match := reader.may_take(ARROW):
-        item, target = match[1].decode(), match[2].decode()
-        reader.must(item in items and target in items, "an end of this arrow is no item")
-        arrows.append((item, target, *LOOKS[match[3]]))
+        one, other = match[1].decode(), match[2].decode()
+        reader.must(one in items and other in items, "an end of this arrow is no item")
+        colour, (back, whole) = LOOKS[match[3]], HEADS[match[4]]
+        arrows.append((other, one, colour, whole) if back else (one, other, colour, whole))
+        turned.append(back)
+    must_be_turned(reader, arrows, turned)
     return arrows
+
+
+def must_be_turned(reader, arrows, turned):
+    """Of arrows that go both ways between two items, those that are turned are all those of one of the two."""
+    ways = {}
+    for (item, target, colour, _), back in zip(arrows, turned):
+        ways.setdefault((item, target), set()).add(back)
+        reader.must(colour == "red" or not back, "an arrow is drawn from its target, and isn't red")
+    for (item, target), backs in ways.items():
+        reader.must(len(backs) == 1, "arrows of one item and one target are drawn from either")
+        other = ways.get((target, item)) if item != target else None
+        reader.must((True in backs) ^ (True in other) if other else True not in backs,
+                    "arrows that go both ways aren't drawn from the same item, or others from their targets")
 
 
 def must_be_plan(reader, drawing, count):
@@ -157,24 +199,24 @@ def must_be_plan(reader, drawing, count):
                 "a bold arrow doesn't begin at the group where the one before it ends")
 
 
+PLANNED = re.compile("plan of ([0-9]+) ")
+
+
 def must_fit_title(reader, drawing):
     """What TITLE says fits the workqueues and the colours."""
-    red, bold = drawing.coloured("red"), drawing.coloured("bold")
-    word, *number = drawing.title.split(" ")
-    if word == "components":
-        reader.must(len(red) >= int(number[0]), "there are fewer red arrows than components")
-    else:
-        reader.must(not red, "an arrow is red, and there is no circle")
-    if word == "plan":
-        must_be_plan(reader, drawing, int(number[0]))
-    else:
-        reader.must(not bold, "an arrow is bold, and no plan is drawn")
+    planned = PLANNED.match(drawing.title)
+    for colour in ("red", "bold"):
+        said = re.search(f", ([0-9]+) waits? in {colour}", drawing.title)
+        reader.must(len(drawing.coloured(colour)) == (int(said[1]) if said else 0),
+                    f"TITLE has another number of {colour} arrows")
+    if planned:
+        must_be_plan(reader, drawing, int(planned[1]))
 
 
 def read(text):
     """The drawing that the text, bytes, holds. Raises NotADrawing where it holds none."""
     reader = Reader(text)
-    title = [reader.take(line, "the line of the head that stands here") for line in HEAD][1][1].decode()
+    title = read_head(reader)
     workqueues = read_workqueues(reader)
     drawing = Drawing(title, workqueues, [])
     drawing.arrows = read_arrows(reader, drawing.workqueue_of())

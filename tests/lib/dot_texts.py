@@ -9,69 +9,72 @@ import sys
 sys.dont_write_bytecode = True
 import dot  # noqa: E402  (beside this file)
 
-PLAN = b"""\
-digraph wqplan {
-  graph [label="plan 3", labelloc=t, labeljust=l, rankdir=LR, nodesep=0.15, ranksep=1, fontname="sans-serif"];
+PLAN = rb"""digraph wqplan {
+  graph [label="plan of 3 workqueues, 2 waits in bold\lBold: the chain that needs so many workqueues.\l", labelloc=t, labeljust=l, rankdir=LR, nodesep=0.15, ranksep=1, fontname="sans-serif"];
   node [shape=box, style=filled, fillcolor=white, height=0.3, fontname="sans-serif", fontsize=12];
   edge [arrowsize=0.7];
   subgraph "cluster wq 0" {
-    graph [label="wq 0", style=filled, color=gray92];
+    graph [label="", style=filled, color=gray92]; "wq 0" [shape=plaintext, style="", fontsize=14];
     "a";
     "7";
   }
   subgraph "cluster wq 1" {
-    graph [label="wq 1", style=filled, color=gray92];
+    graph [label="", style=filled, color=gray92]; "wq 1" [shape=plaintext, style="", fontsize=14];
     subgraph "cluster ordered b.x" {
-      graph [label="ordered", style=dashed, color=black];
+      graph [label="", style=dashed, color=black]; "ordered b.x" [label="ordered", shape=plaintext, style=""];
       "b.x";
       "d-d";
     }
     "c_c";
   }
   subgraph "cluster wq 2" {
-    graph [label="wq 2", style=filled, color=gray92];
+    graph [label="", style=filled, color=gray92]; "wq 2" [shape=plaintext, style="", fontsize=14];
     "node";
   }
   "c_c" -> "a";
   "d-d" -> "7" [style=bold];
   "d-d" -> "7" [arrowhead=odiamond];
-  "node" -> "b.x" [style=bold, arrowhead=odiamond];
+  "node" -> "b.x" [style=bold] [arrowhead=odiamond];
 }
 """
-CIRCLE = b"""\
-digraph wqplan {
-  graph [label="components 1", labelloc=t, labeljust=l, rankdir=LR, nodesep=0.15, ranksep=1, fontname="sans-serif"];
+CIRCLE = rb"""digraph wqplan {
+  graph [label="can hang, 4 waits in red\lRed: while memory is short, a worker may wait for work\lthat only it, or one that waits for it, can do.\l", labelloc=t, labeljust=l, rankdir=LR, nodesep=0.15, ranksep=1, fontname="sans-serif"];
   node [shape=box, style=filled, fillcolor=white, height=0.3, fontname="sans-serif", fontsize=12];
   edge [arrowsize=0.7];
   subgraph "cluster wq 0" {
-    graph [label="wq 0", style=filled, color=gray92];
+    graph [label="", style=filled, color=gray92]; "wq 0" [shape=plaintext, style="", fontsize=14];
   }
   subgraph "cluster wq 1" {
-    graph [label="wq 1", style=filled, color=gray92];
+    graph [label="", style=filled, color=gray92]; "wq 1" [shape=plaintext, style="", fontsize=14];
     "a";
     "b";
   }
-  "a" -> "b" [color=red];
-  "b" -> "b" [color=red, arrowhead=odiamond];
+  "a" -> "b" [color=red, style=bold];
+  "b" -> "b" [color=red, style=bold] [arrowhead=odiamond];
+  "a" -> "b" [color=red, style=bold] [dir=back];
+  "a" -> "b" [color=red, style=bold] [dir=back, arrowtail=odiamond];
 }
 """
-EMPTY = b"""\
-digraph wqplan {
-  graph [label="plan 0", labelloc=t, labeljust=l, rankdir=LR, nodesep=0.15, ranksep=1, fontname="sans-serif"];
+EMPTY = rb"""digraph wqplan {
+  graph [label="plan of 0 workqueues", labelloc=t, labeljust=l, rankdir=LR, nodesep=0.15, ranksep=1, fontname="sans-serif"];
   node [shape=box, style=filled, fillcolor=white, height=0.3, fontname="sans-serif", fontsize=12];
   edge [arrowsize=0.7];
 }
 """
 
+# How workqueue 1 looks.
+LOOKS_OF_1 = b'    graph [label="", style=filled, color=gray92]; "wq 1" [shape=plaintext, style="", fontsize=14];\n'
+
 # The text, and what is drawn.
 GOOD = [
     (PLAN, dot.Drawing(
-        "plan 3", [[["a"], ["7"]], [["b.x", "d-d"], ["c_c"]], [["node"]]],
+        "plan of 3 workqueues, 2 waits in bold", [[["a"], ["7"]], [["b.x", "d-d"], ["c_c"]], [["node"]]],
         [("c_c", "a", "black", False), ("d-d", "7", "bold", False), ("d-d", "7", "black", True),
          ("node", "b.x", "bold", True)])),
-    (CIRCLE, dot.Drawing("components 1", [[], [["a"], ["b"]]], [("a", "b", "red", False), ("b", "b", "red", True)])),
-    (EMPTY, dot.Drawing("plan 0", [], [])),
-    (EMPTY.replace(b"plan 0", b"safe"), dot.Drawing("safe", [], [])),
+    (CIRCLE, dot.Drawing("can hang, 4 waits in red", [[], [["a"], ["b"]]],
+                         [("a", "b", "red", False), ("b", "b", "red", True), ("b", "a", "red", False), ("b", "a", "red", True)])),
+    (EMPTY, dot.Drawing("plan of 0 workqueues", [], [])),
+    (EMPTY.replace(b"plan of 0 workqueues", b"safe"), dot.Drawing("safe", [], [])),
 ]
 
 # The text, what in it is replaced by what, and the line at fault. Where each line has its form, that is the last line that was
@@ -80,11 +83,26 @@ BROKEN = [
     # The head.
     (PLAN, b"digraph wqplan {", b"digraph plan {", 1),
     (PLAN, b"digraph wqplan {", b"strict digraph wqplan {", 1),
-    (PLAN, b"plan 3", b"plan 03", 2),
-    (PLAN, b"plan 3", b"plan", 2),
-    (PLAN, b"plan 3", b"plan 3 ", 2),
-    (PLAN, b"plan 3", b"circle 3", 2),
-    (CIRCLE, b"components 1", b"components 0", 2),
+    (PLAN, b"plan of 3", b"plan of 03", 2),
+    (PLAN, b"plan of 3", b"plan of", 2),
+    (PLAN, b"plan of 3", b"plan 3", 2),
+    (PLAN, b"plan of 3", b"circle of 3", 2),
+    (PLAN, b"3 workqueues,", b"3 workqueue,", 2),
+    (PLAN, b"3 workqueues,", b"1 workqueues,", 2),
+    (PLAN, b"2 waits in bold", b"2 waits", 2),
+    (PLAN, b"2 waits in bold", b"2 wait in bold", 2),
+    (PLAN, b"2 waits in bold", b"0 waits in bold", 2),
+    (PLAN, b"2 waits in bold", b"2 waits in red", 2),
+    (PLAN, rb"\lBold: the chain that needs so many workqueues.\l", b"", 2),
+    (PLAN, rb"workqueues.\l", b"workqueues.", 2),
+    (PLAN, rb"workqueues.\l", rb"workqueues.\l\l", 2),
+    (PLAN, rb"Bold:", rb"Red:", 2),
+    (CIRCLE, b", 4 waits in red", b"", 2),
+    (CIRCLE, b"can hang", b"safe", 2),
+    (CIRCLE, rb"\lthat", b" that", 2),
+    (CIRCLE, rb"can do.\l", b"can do.\n", 2),
+    (EMPTY, b"plan of 0 workqueues", b"can hang", 2),
+    (EMPTY, b"workqueues\"", rb'workqueues\lBold: the chain that needs so many workqueues.\l"', 2),
     (PLAN, b"labelloc=t, ", b"", 2),
     (PLAN, b"rankdir=LR, ", b"rankdir=LR, newrank=true, ", 2),
     (PLAN, b"ranksep=1,", b"ranksep=2,", 2),
@@ -96,10 +114,13 @@ BROKEN = [
     (PLAN, b'"cluster wq 1"', b'"cluster wq 01"', 10),
     (PLAN, b'"cluster wq 0"', b'"cluster wq 1"', 5),
     (PLAN, b'"cluster wq 0"', b'cluster_0', 5),
-    (PLAN, b'label="wq 1"', b'label="wq 0"', 11),
-    (PLAN, b'    graph [label="wq 1", style=filled, color=gray92];\n', b"", 11),
-    (PLAN, b'"wq 2", style', b'"wq 2", rank=same, style', 20),
-    (PLAN, b'"wq 2", style=filled, color=gray92', b'"wq 2", style=filled, color=gray', 20),
+    (PLAN, b'"wq 1" [', b'"wq 0" [', 11),
+    (PLAN, LOOKS_OF_1, b"", 11),
+    (PLAN, LOOKS_OF_1, LOOKS_OF_1.replace(b'label=""', b'label="wq 1"'), 11),
+    (PLAN, LOOKS_OF_1, LOOKS_OF_1.replace(b'style=filled', b'rank=same, style=filled'), 11),
+    (PLAN, LOOKS_OF_1, LOOKS_OF_1.replace(b"gray92", b"gray"), 11),
+    (PLAN, LOOKS_OF_1, LOOKS_OF_1.replace(b"plaintext", b"box"), 11),
+    (PLAN, LOOKS_OF_1, LOOKS_OF_1.replace(b' "wq 1" [shape=plaintext, style="", fontsize=14];', b""), 11),
     (PLAN, b'    "node";\n  }\n', b'    "node";\n', 22),
     (PLAN, b'    "node";\n  }\n', b'    "node";\n  }\n  }\n', 23),
     # Items.
@@ -127,16 +148,28 @@ BROKEN = [
     (PLAN, b'      "b.x";\n      "d-d";\n', b'      "d-d";\n      "b.x";\n', 16),
     (PLAN, b'      "b.x";\n', b'    "b.x";\n', 14),
     (PLAN, b'      "d-d";\n    }\n', b'      "d-d";\n  }\n', 16),
-    (PLAN, b'"cluster ordered b.x"', b'"cluster ordered c_c"', 16),
+    (PLAN, b'"cluster ordered b.x"', b'"cluster ordered c_c"', 13),
+    (PLAN, b' "ordered b.x"', b' "ordered c_c"', 13),
+    (PLAN.replace(b' "ordered b.x"', b' "ordered c_c"'), b'"cluster ordered b.x"', b'"cluster ordered c_c"', 16),
+    (PLAN, b'[label="ordered", ', b'[', 13),
     (PLAN, b'style=dashed', b'style=dotted', 13),
-    (PLAN, b'      graph [label="ordered", style=dashed, color=black];\n', b'', 13),
+    (PLAN, b'      graph [label="", style=dashed, color=black];', b'     ', 13),
     # Arrows.
     (PLAN, b'  "c_c" -> "a";\n', b'  "c_c" -> "z";\n', 23),
     (PLAN, b'  "c_c" -> "a";\n', b'  "z" -> "a";\n', 23),
     (PLAN, b'  "c_c" -> "a";\n', b'  "c_c" -- "a";\n', 23),
     (PLAN, b'  "c_c" -> "a";\n', b'  "c_c"->"a";\n', 23),
     (PLAN, b'  "c_c" -> "a";\n', b'  "c_c" -> "a" [color=blue];\n', 23),
-    (PLAN, b'  "c_c" -> "a";\n', b'  "c_c" -> "a" [color=red, style=bold];\n', 23),
+    (PLAN, b'  "c_c" -> "a";\n', b'  "c_c" -> "a" [color=red];\n', 23),
+    (PLAN, b'  "c_c" -> "a";\n', b'  "c_c" -> "a" [style=bold, color=red];\n', 23),
+    (PLAN, b'  "c_c" -> "a";\n', b'  "c_c" -> "a" [dir=both];\n', 23),
+    (PLAN, b'  "c_c" -> "a";\n', b'  "a" -> "c_c" [dir=back];\n', 26),
+    (CIRCLE, b'"a" -> "b" [color=red, style=bold] [dir=back];', b'"b" -> "a" [color=red, style=bold];', 16),
+    (CIRCLE, b'  "a" -> "b" [color=red, style=bold];\n', b'', 15),
+    (CIRCLE, b'  "a" -> "b" [color=red, style=bold];\n', b'  "b" -> "a" [color=red, style=bold] [dir=back];\n', 16),
+    (CIRCLE, b'"b" -> "b" [color=red, style=bold]', b'"b" -> "b" [color=red, style=bold] [dir=back]', 14),
+    (CIRCLE, b' [dir=back, arrowtail=odiamond]', b' [dir=back, arrowhead=odiamond]', 16),
+    (CIRCLE, b' [dir=back, arrowtail=odiamond]', b' [arrowtail=odiamond]', 16),
     (PLAN, b'  "c_c" -> "a";\n', b'  "c_c" -> "a" -> "7";\n', 23),
     (PLAN, b'  "c_c" -> "a";\n', b'  "c_c" -> "a"\n', 23),
     (PLAN, b'  "c_c" -> "a";\n', b'  "c_c" -> "a" [];\n', 23),
@@ -146,7 +179,7 @@ BROKEN = [
     (PLAN, b'"7" [arrowhead=odiamond]', b'"7" [color=redarrowhead=odiamond]', 25),
     (PLAN, b'"7" [arrowhead=odiamond]', b'"7" [arrowhead=odiamond, arrowhead=odiamond]', 25),
     (PLAN, b'"7" [arrowhead=odiamond]', b'"7" [color=red][arrowhead=odiamond]', 25),
-    (CIRCLE, b'  "b" -> "b" [color=red, arrowhead=odiamond];\n', b'  subgraph "cluster wq 2" {\n', 14),
+    (CIRCLE, b'  "b" -> "b" [color=red, style=bold] [arrowhead=odiamond];\n', b'  subgraph "cluster wq 2" {\n', 14),
     (CIRCLE, b'    "b";\n  }\n', b'    "b";\n  }\n  "a" -> "a";\n  "c";\n', 14),
     # The end.
     (EMPTY, b"}\n", b"", 5),
@@ -156,22 +189,23 @@ BROKEN = [
     (EMPTY, b"}\n", b"}\n#\n", 6),
     (EMPTY, b"}\n", b"}\n#", 6),
     # TITLE, the boxes and the colours.
-    (EMPTY, b"plan 0", b"plan 1", 5),
-    (EMPTY, b"plan 0", b"components 1", 5),
-    (PLAN, b"plan 3", b"plan 4", 27),
-    (PLAN, b"plan 3", b"safe", 27),
-    (PLAN, b"plan 3", b"components 1", 27),
-    (CIRCLE, b"components 1", b"components 3", 15),
-    (CIRCLE, b"components 1", b"safe", 15),
-    (CIRCLE, b"components 1", b"plan 2", 15),
+    (EMPTY, b"0 workqueues", b"1 workqueue", 5),
+    (PLAN, b"plan of 3", b"plan of 4", 27),
+    (PLAN, b"2 waits", b"1 wait", 27),
+    (PLAN, b"2 waits", b"3 waits", 27),
+    (CIRCLE, b"4 waits", b"3 waits", 17),
+    (CIRCLE, b"4 waits", b"5 waits", 17),
+    (EMPTY, b"plan of 0 workqueues", CIRCLE.split(b'"')[1].replace(b"4 waits", b"1 wait"), 5),
+    (CIRCLE, CIRCLE.split(b'"')[1], b"safe", 17),
+    (CIRCLE, CIRCLE.split(b'"')[1], PLAN.split(b'"')[1], 17),
     (PLAN, b'"d-d" -> "7" [style=bold]', b'"d-d" -> "7"', 27),
-    (PLAN, b'"d-d" -> "7" [style=bold]', b'"d-d" -> "7" [color=red]', 27),
+    (PLAN, b'"d-d" -> "7" [style=bold]', b'"d-d" -> "7" [color=red, style=bold]', 27),
     (PLAN, b'"d-d" -> "7" [style=bold]', b'"c_c" -> "7" [style=bold]', 27),
     (PLAN, b'"c_c" -> "a"', b'"c_c" -> "a" [style=bold]', 27),
     (PLAN, b'"c_c" -> "a"', b'"a" -> "c_c"', 27),
     (PLAN, b'"c_c" -> "a"', b'"a" -> "7"', 27),
-    (EMPTY.replace(b"plan 0", b"plan 1"), b"}\n",
-     b'  subgraph "cluster wq 0" {\n    graph [label="wq 0", style=filled, color=gray92];\n  }\n}\n', 8),
+    (EMPTY.replace(b"0 workqueues", b"1 workqueue"), b"}\n",
+     b'  subgraph "cluster wq 0" {\n' + LOOKS_OF_1.replace(b"wq 1", b"wq 0") + b"  }\n}\n", 8),
 ]
 
 

@@ -66,13 +66,16 @@ DRAWING = (
     r'digraph wqplan \{\n  graph \[label="(TITLE)", labelloc=t, labeljust=l, rankdir=LR,'
     r' nodesep=0\.15, ranksep=1, fontname="sans-serif"\];\n  node \[shape=box, style=filled,'
     r' fillcolor=white, height=0\.3, fontname="sans-serif", fontsize=12\];\n  edge \[arrowsize=0\.7\];\n'
-    r'(  subgraph "cluster wq N" \{\n    graph \[label="wq N", style=filled,'
-    r' color=gray92\];\n(    "Z";\n|    subgraph "cluster ordered Z" \{\n      graph'
-    r' \[label="ordered", style=dashed, color=black\];\n(      "Z";\n)+    \}\n)*  \}\n)*'
-    r'(  "Z" -> "Z"( \[(LOOK|(LOOK, )?arrowhead=odiamond)\])?;\n)*\}\n'
+    r'(  subgraph "cluster wq N" \{\n    graph \[label="", style=filled, color=gray92\];'
+    r' "wq N" \[shape=plaintext, style="", fontsize=14\];\n(    "Z";\n|    subgraph "cluster ordered Z" \{\n'
+    r'      graph \[label="", style=dashed, color=black\]; "ordered Z" \[label="ordered", shape=plaintext, style=""\];\n'
+    r'(      "Z";\n)+    \}\n)*  \}\n)*'
+    r'(  "Z" -> "Z"( \[LOOK\])?( \[(arrowhead=odiamond|dir=back(, arrowtail=odiamond)?)\])?;\n)*\}\n'
 )
-
-
+PLANNED = (r"plan of (1 workqueue|N workqueues)"
+           r"(, (1 wait|N waits) in bold\\lBold: the chain that needs so many workqueues\.\\l)?")
+HANGING = (r"(every assignment )?can hang, (1 wait|N waits) in red\\lRed: while memory is short, a worker may wait for work"
+           r"\\lthat only it, or one that waits for it, can do\.\\l")
 NO_LOOK = "(?!)"
 
 
@@ -122,8 +125,8 @@ COMMANDS = {
     "dot": (
         make_circles.limit_dot_cases,
         lambda seed, number: make_circles.random_circles_case(f"{seed} dot", number),
-        [("plans", 0, drawing("plan N", "style=bold")), ("safe", 0, drawing("safe", NO_LOOK)),
-         ("components", 0, drawing("components N", "color=red"))]
+        [("plans", 0, drawing(PLANNED, "style=bold")), ("safe", 0, drawing("safe", NO_LOOK)),
+         ("components", 0, drawing(HANGING, "color=red, style=bold"))]
         + DECLARATION_REFUSALS + CERTIFICATE_REFUSALS[1:],
     ),
     "run": (

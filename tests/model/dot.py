@@ -9,7 +9,7 @@ sys.dont_write_bytecode = True
 import certificate  # noqa: E402  (beside this file)
 import declaration  # noqa: E402
 import plan  # noqa: E402
-from circles import arcs_on_circles, circles_text, own_workqueues, read_texts  # noqa: E402
+from circles import arcs_on_circles, own_workqueues, read_texts  # noqa: E402
 from command_line import answer_texts  # noqa: E402
 from declaration import Refused  # noqa: E402
 
@@ -23,12 +23,19 @@ HEAD = [
 ]
 WORKQUEUE = [
     b'  subgraph "cluster wq %b" {',
-    b'    graph [label="wq %b", style=filled, color=gray92];',
+    b'    graph [label="", style=filled, color=gray92]; "wq %b" [shape=plaintext, style="", fontsize=14];',
 ]
 ORDERED = [
     b'    subgraph "cluster ordered %b" {',
-    b'      graph [label="ordered", style=dashed, color=black];',
+    b'      graph [label="", style=dashed, color=black];'
+    b' "ordered %b" [label="ordered", shape=plaintext, style=""];',
 ]
+LEGEND = {
+    b"bold": rb"\lBold: the chain that needs so many workqueues.\l",
+    b"red": rb"\lRed: while memory is short, a worker may wait for work\l"
+           rb"that only it, or one that waits for it, can do.\l",
+}
+LOOKS = {b"bold": [b"style=bold"], b"red": [b"color=red", b"style=bold"]}
 
 
 def followed(declared, printed):
@@ -39,8 +46,18 @@ def followed(declared, printed):
     return [least[tuple(line.split(b" ")[1:])] for line in printed.split(b"\n") if line.startswith(b"arc ")]
 
 
+def counted(number, thing):
+    """So many things."""
+    return b"%d %b%b" % (number, thing, b"" if number == 1 else b"s")
+
+
+def title(words, mark, places):
+    """TITLE: what is drawn, and how many waits are marked."""
+    return words + (b", %b in %b%b" % (counted(len(places), b"wait"), mark, LEGEND[mark]) if places else b"")
+
+
 def drawn(declared, assignment, declaration_text):
-    """What is drawn: the assignment, TITLE, and the places of the red and of the bold flushes.
+    """What is drawn: the assignment, TITLE, the mark of flushes, and the places of those that have it.
 
     `assignment` is None where no ASSIGN is named.
     """
@@ -48,16 +65,18 @@ def drawn(declared, assignment, declaration_text):
     if assignment is None and not arcs:
         printed, _ = plan.answer(declaration_text)
         planned = certificate.read_assignment(printed, declared)
-        return planned, printed.split(b"\n")[0], [], followed(declared, printed)
+        bold = followed(declared, printed)
+        return planned, title(b"plan of " + counted(planned.count, b"workqueue"), b"bold", bold), b"bold", bold
     red = [place for places in arcs for place in places]
-    return assignment or own_workqueues(declared), circles_text(declared, arcs)[0], red, []
+    words = b"safe" if not red else b"every assignment can hang" if assignment is None else b"can hang"
+    return assignment or own_workqueues(declared), title(words, b"red", red), b"red", red
 
 
 def group_lines(members):
     """A group."""
     if len(members) == 1:
         return [b'    "%b";' % members[0]]
-    lines = [ORDERED[0] % members[0], ORDERED[1]]
+    lines = [line % members[0] for line in ORDERED]
     return lines + [b'      "%b";' % name for name in members] + [b"    }"]
 
 
@@ -69,19 +88,34 @@ def workqueue_lines(number, groups):
     return lines + [b"  }"]
 
 
-def dot_text(declared, assignment, title, red, bold):
-    """The text. `red` and `bold` are places."""
+def turned_ends(declared):
+    """The pairs of an item and its target of which the target is drawn first."""
+    number = {name: at for at, name in enumerate(declared.items)}
+    pairs = set(declared.flushes)
+    return {(item, target) for item, target in pairs if number[target] < number[item] and (target, item) in pairs}
+
+
+def arrow_line(ends, turned, whole, look):
+    """The flush of an item and its target. `look` is a list of attributes."""
+    head = [b"dir=back"] if turned else []
+    if whole:
+        head.append(b"arrowtail=odiamond" if turned else b"arrowhead=odiamond")
+    attributes = b"".join(b" [%b]" % b", ".join(marks) for marks in (look, head) if marks)
+    return b'  "%b" -> "%b"%b;' % (*(ends[::-1] if turned else ends), attributes)
+
+
+def dot_text(declared, assignment, words, mark, places):
+    """The text. `words` is TITLE, and the flushes at these places have this mark."""
     groups = [[] for _ in range(assignment.count)]
     for members in declared.groups:
         groups[assignment.workqueue_of[members[0]]].append(members)
-    looks = {**dict.fromkeys(red, b"color=red"), **dict.fromkeys(bold, b"style=bold")}
-    heads = dict.fromkeys(declaration.FLUSHES_WHOLE, b"arrowhead=odiamond")
-    lines = [HEAD[0], HEAD[1] % title, *HEAD[2:]]
+    lines = [HEAD[0], HEAD[1] % words, *HEAD[2:]]
     for number in range(assignment.count):
         lines += workqueue_lines(number, groups[number])
-    for place, (item, target) in enumerate(declared.flushes):
-        look = b", ".join(filter(None, [looks.get(place), heads.get(declared.directive_of[place])]))
-        lines.append(b'  "%b" -> "%b"%b;' % (item, target, look and b" [%b]" % look))
+    turned, marked = turned_ends(declared), set(places)
+    for place, ends in enumerate(declared.flushes):
+        whole = declared.directive_of[place] in declaration.FLUSHES_WHOLE
+        lines.append(arrow_line(ends, ends in turned, whole, LOOKS[mark] if place in marked else []))
     return [*lines, b"}"]
 
 

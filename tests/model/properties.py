@@ -679,12 +679,12 @@ def look_at_dot(*texts):
         return
     drawing = READER.read(printed)
     declared, assignment = read_case(texts)
-    lines, bold = circled.split(b"\n"), []
+    word, bold = "safe" if of_circles == 0 else "every" if len(texts) == 1 else "can", []
     if len(texts) == 1 and of_circles == 0:
         planned, _ = plan.answer(*texts)
         assignment = certificate.read_assignment(planned, declared)
-        lines, bold = planned.split(b"\n"), printed_arcs(planned)
-    demand(drawing.title.encode() == lines[0], "TITLE is the first line of the answer")
+        word, bold = "plan", printed_arcs(planned)
+    demand(drawing.title.split(" ")[0] == word, "TITLE says what plan or circles prints")
     groups = [[] for _ in range(assignment.count)]
     for members in declared.groups:
         groups[assignment.workqueue_of[members[0]]].append(members)

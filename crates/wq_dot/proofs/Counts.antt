@@ -43,10 +43,10 @@ record TellsItems (p : List ℕ → Bool) (names : List (List ℕ)) (s : ℕ →
   single : (j : ℕ) → p (single_line names j) ≡ s j
   member : (j : ℕ) → p (member_line names j) ≡ s j
   ordered_first : (name : List ℕ) → p (codes "    subgraph \"cluster ordered " ++ name ++ codes "\" {") ≡ false
-  ordered_second : p (codes "      graph [label=\"ordered\", style=dashed, color=black];") ≡ false
+  ordered_second : (name : List ℕ) → p (codes "      graph [label=\"\", style=dashed, color=black]; \"ordered " ++ name ++ codes "\" [label=\"ordered\", shape=plaintext, style=\"\"];") ≡ false
   ordered_last : p (codes "    }") ≡ false
   first : (digits : List ℕ) → p (codes "  subgraph \"cluster wq " ++ digits ++ codes "\" {") ≡ false
-  second : (digits : List ℕ) → p (codes "    graph [label=\"wq " ++ digits ++ codes "\", style=filled, color=gray92];") ≡ false
+  second : (digits : List ℕ) → p (codes "    graph [label=\"\", style=filled, color=gray92]; \"wq " ++ digits ++ codes "\" [shape=plaintext, style=\"\", fontsize=14];") ≡ false
   last : p (codes "  }") ≡ false
 
 module _ (p : List ℕ → Bool) (names : List (List ℕ)) (s : ℕ → Bool) (h : TellsItems p names s) where
@@ -78,8 +78,8 @@ module _ (p : List ℕ → Bool) (names : List (List ℕ)) (s : ℕ → Bool) (h
   count-group [] = refl
   count-group (i ∷ []) = ap (λ (b : Bool). 0 + one_if b) (h.single i)
   count-group (i ∷ j ∷ ks) =
-      count-box (codes "    subgraph \"cluster ordered " ++ name_of names i ++ codes "\" {") (codes "      graph [label=\"ordered\", style=dashed, color=black];") (codes "    }") (map (member_line names) (i ∷ j ∷ ks))
-      (h.ordered_first (name_of names i)) h.ordered_second h.ordered_last
+      count-box (codes "    subgraph \"cluster ordered " ++ name_of names i ++ codes "\" {") (codes "      graph [label=\"\", style=dashed, color=black]; \"ordered " ++ name_of names i ++ codes "\" [label=\"ordered\", shape=plaintext, style=\"\"];") (codes "    }") (map (member_line names) (i ∷ j ∷ ks))
+      (h.ordered_first (name_of names i)) (h.ordered_second (name_of names i)) h.ordered_last
       ∙ count-members (i ∷ j ∷ ks)
 
   module _ (group_of : List ℕ) where
@@ -94,7 +94,7 @@ module _ (p : List ℕ → Bool) (names : List (List ℕ)) (s : ℕ → Bool) (h
 
     count-workqueue : (a : Assignment) (q : ℕ) → count_by p (workqueue_box_lines names group_of a q) ≡ sum_by of_group (groups_on a q)
     count-workqueue a q =
-        count-box (codes "  subgraph \"cluster wq " ++ decimal q ++ codes "\" {") (codes "    graph [label=\"wq " ++ decimal q ++ codes "\", style=filled, color=gray92];") (codes "  }")
+        count-box (codes "  subgraph \"cluster wq " ++ decimal q ++ codes "\" {") (codes "    graph [label=\"\", style=filled, color=gray92]; \"wq " ++ decimal q ++ codes "\" [shape=plaintext, style=\"\", fontsize=14];") (codes "  }")
         (flat_map (λ k. group_lines names (items_at group_of k)) (groups_on a q)) (h.first (decimal q)) (h.second (decimal q)) h.last
         ∙ count-groups (groups_on a q)
 
@@ -141,7 +141,7 @@ TellsItems-line names i = record {
   single = λ j. or-false (named_as names i j);
   member = λ j. refl;
   ordered_first = λ name. refl;
-  ordered_second = refl;
+  ordered_second = λ name. refl;
   ordered_last = refl;
   first = λ digits. refl;
   second = λ digits. refl;
@@ -184,7 +184,7 @@ TellsItems-arrow names = record {
   single = λ j. refl;
   member = λ j. refl;
   ordered_first = λ name. refl;
-  ordered_second = refl;
+  ordered_second = λ name. refl;
   ordered_last = refl;
   first = λ digits. refl;
   second = λ digits. refl;

@@ -1,5 +1,6 @@
 -- The answer to a declaration and an assignment, or to only a declaration: a drawing.
-use Rattle.std.specs.Prelude.{◌≡◌, ◌⊎◌, Bool, false, true, ℕ, zero, suc, List, ◌++◌, length, codes, decimal, MatchResult}
+use Rattle.std.specs.Prelude.{◌≡◌, ◌⊎◌, ◌==◌, cond, if◌then◌else◌, Bool, false, true, ℕ, List, [], ◌++◌, codes, decimal, MatchResult}
+use Rattle.wq_lines.specs.LineText.{spaced}
 use Rattle.wq_items.specs.Chain.{HasCircle}
 use Rattle.wq_items.specs.Table.{flush_count}
 use Rattle.wq_groups.specs.Declaration.{GroupWaits}
@@ -22,48 +23,62 @@ use Rattle.wq_circles.specs.Components.{AreComponents}
 use Rattle.wq_dot.specs.declared.look.FlushLook.{FlushLook}
 use Rattle.wq_dot.specs.declared.look.FlushLook.TheVariants.{Red, Bold}
 use Rattle.wq_dot.specs.Drawing.{drawing_text}
-use Rattle.wq_dot.specs.Flushes.{all_arcs, looks_of}
+use Rattle.wq_dot.specs.Flushes.{all_arcs, looks_of, marked}
 
 -- ---- titles
 
--- `plan K`
-abbrev pub plan_title : ℕ → List ℕ
-plan_title workqueues = codes "plan " ++ decimal workqueues
+-- a space, a number and what there are so many of: ` 1 wait`, ` 2 waits`
+abbrev pub counted : ℕ → List ℕ → List ℕ
+counted n thing = spaced (decimal n) ++ codes " " ++ thing ++ cond (n == 1) [] (codes "s")
 
--- `safe`, or `components N` if there are any
-abbrev pub components_title : ℕ → List ℕ
-components_title zero = codes "safe"
-components_title (suc others) = codes "components " ++ decimal (suc others)
+-- what is said of so many bold waits, and the legend, each line of which ends with `\l`, as Graphviz wants it
+abbrev pub bold_text : ℕ → List ℕ
+bold_text n = if n == 0 then [] else codes "," ++ counted n (codes "wait") ++ codes " in bold\\lBold: the chain that needs so many workqueues.\\l"
+
+-- `plan of K workqueues`, and what is said of the bold waits
+abbrev pub plan_title : ℕ → ℕ → List ℕ
+plan_title workqueues bold = codes "plan of" ++ counted workqueues (codes "workqueue") ++ bold_text bold
+
+-- the legend of red waits
+abbrev pub red_legend : List ℕ
+red_legend = codes "\\lRed: while memory is short, a worker may wait for work\\lthat only it, or one that waits for it, can do.\\l"
+
+-- `safe` if no wait is red, else what hangs, the number of red waits and their legend
+abbrev pub circles_title : List ℕ → ℕ → List ℕ
+circles_title hanging n = if n == 0 then codes "safe" else hanging ++ codes "," ++ counted n (codes "wait") ++ codes " in red" ++ red_legend
 
 -- ---- drawings
 
--- the drawing of what is declared, on the workqueues of this assignment; the flushes of these arcs have this look, and the
--- others are plain
-abbrev pub drawing_of : Declared → Assignment → List ℕ → FlushLook → List WaitArc → List ℕ
-drawing_of s a title look arcs = drawing_text s.table s.partition a title (looks_of (flush_count s.table.waits) look arcs)
+-- how the flushes of what is declared look: those of these arcs have this look, and the others are plain
+abbrev pub declared_looks : Declared → FlushLook → List WaitArc → List FlushLook
+declared_looks s look arcs = looks_of (flush_count s.table.waits) look arcs
+
+-- the drawing of what is declared, on the workqueues of this assignment, with these looks; the title is made of their number of marks
+abbrev pub drawing_of : Declared → Assignment → (ℕ → List ℕ) → List FlushLook → List ℕ
+drawing_of s a title looks = drawing_text s.table s.partition a (title (marked looks)) looks
 
 -- the plan is drawn; the flushes along the chain of its plan text are bold
 pub record DrawsPlan (s : Declared) (out : List ℕ) : Type 0 where
   pub assignment : Assignment
   pub plan : IsPlan (declared_waits s) assignment
-  pub drawn : out ≡ drawing_of s assignment (plan_title assignment.lanes) Bold (chain_of (group_graph (declared_waits s)) assignment.lane_of_group)
+  pub drawn : out ≡ drawing_of s assignment (plan_title assignment.lanes) (declared_looks s Bold (chain_of (group_graph (declared_waits s)) assignment.lane_of_group))
 
--- an assignment is drawn; the flushes that are on a circle are red
-pub record DrawsCircles (s : Declared) (a : Assignment) (out : List ℕ) : Type 0 where
+-- an assignment is drawn; the flushes that are on a circle are red, and if there are any, this is what hangs
+pub record DrawsCircles (s : Declared) (a : Assignment) (hanging out : List ℕ) : Type 0 where
   pub components : List (List WaitArc)
   pub are : AreComponents (declared_waits s) a components
-  pub drawn : out ≡ drawing_of s a (components_title (length components)) Red (all_arcs components)
+  pub drawn : out ≡ drawing_of s a (circles_title hanging) (declared_looks s Red (all_arcs components))
 
 -- the groups of a declaration are drawn: on the workqueues of their plan or, if they wait in a circle, each on its own
 -- workqueue
 abbrev pub DrawsGroups : Declared → List ℕ → Type 0
-DrawsGroups s out = DrawsPlan s out ⊎ (HasCircle (GroupWaits (declared_waits s)) s.partition.groups × DrawsCircles s (own_lanes s.partition.groups) out)
+DrawsGroups s out = DrawsPlan s out ⊎ (HasCircle (GroupWaits (declared_waits s)) s.partition.groups × DrawsCircles s (own_lanes s.partition.groups) (codes "every assignment can hang") out)
 
 -- ---- answers
 
 -- the answer to an assignment of a declaration's groups
 abbrev pub DrawsAssigned : Declared → Assignment → End → List ℕ → Type 0
-DrawsAssigned s a end out = (end ≡ Good) × DrawsCircles s a out
+DrawsAssigned s a end out = (end ≡ Good) × DrawsCircles s a (codes "can hang") out
 
 -- the answer to the text of an assignment of a declaration, or its refusal
 abbrev pub DrawsDeclared : Declared → List ℕ → End → List ℕ → Type 0

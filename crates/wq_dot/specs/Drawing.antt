@@ -1,6 +1,6 @@
 -- Drawings: the text for Graphviz that shows the items in their groups and workqueues, and the flushes between them, line by
 -- line.
-use Rattle.std.specs.Prelude.{ℕ, ◌==◌, ◌&&◌, Bool, true, false, List, [], ◌∷◌, ◌++◌, length, map, flat_map, filter, slice_index_or, codes, decimal}
+use Rattle.std.specs.Prelude.{ℕ, ◌==◌, ◌&&◌, nat_lt, cond, Bool, true, false, List, [], ◌∷◌, ◌++◌, length, map, flat_map, filter, slice_index_or, codes, decimal}
 use Rattle.std.specs.List.{list_any, range_with_len}
 use Rattle.wq_items.specs.declared.target.Target.{Target}
 use Rattle.wq_items.specs.Table.{Table, items_at, targets_of}
@@ -33,11 +33,12 @@ single_line names i = codes "    \"" ++ name_of names i ++ codes "\";"
 abbrev pub member_line : List (List ℕ) → ℕ → List ℕ
 member_line names i = codes "      \"" ++ name_of names i ++ codes "\";"
 
--- a group of several items, of which this one is the first: a box within the workqueue's box, with a line for each item
+-- a group of several items, of which this one is the first: a box within the workqueue's box, with the word `ordered` and a line
+-- for each item
 abbrev pub group_box_lines : List (List ℕ) → ℕ → List ℕ → List (List ℕ)
 group_box_lines names first members =
     (codes "    subgraph \"cluster ordered " ++ name_of names first ++ codes "\" {")
-    ∷ codes "      graph [label=\"ordered\", style=dashed, color=black];"
+    ∷ (codes "      graph [label=\"\", style=dashed, color=black]; \"ordered " ++ name_of names first ++ codes "\" [label=\"ordered\", shape=plaintext, style=\"\"];")
     ∷ (map (member_line names) members ++ (codes "    }" ∷ []))
 
 -- the lines of a group with these items
@@ -52,11 +53,11 @@ group_lines names (first ∷ second ∷ others) = group_box_lines names first (f
 abbrev pub groups_on : Assignment → ℕ → List ℕ
 groups_on a q = filter (λ g. group_lane a g == q) (range_with_len 0 (length a.lane_of_group))
 
--- workqueue q with these groups: its three lines, with those of the groups before the third one
+-- workqueue q with these groups: its three lines, with those of the groups before the third one; the second one has its label
 abbrev pub box_lines : List (List ℕ) → List ℕ → ℕ → List ℕ → List (List ℕ)
 box_lines names group_of q own =
     (codes "  subgraph \"cluster wq " ++ decimal q ++ codes "\" {")
-    ∷ (codes "    graph [label=\"wq " ++ decimal q ++ codes "\", style=filled, color=gray92];")
+    ∷ (codes "    graph [label=\"\", style=filled, color=gray92]; \"wq " ++ decimal q ++ codes "\" [shape=plaintext, style=\"\", fontsize=14];")
     ∷ (flat_map (λ g. group_lines names (items_at group_of g)) own ++ (codes "  }" ∷ []))
 
 -- the lines of workqueue q with its groups
@@ -69,19 +70,35 @@ workqueue_box_lines names group_of a q = box_lines names group_of q (groups_on a
 abbrev pub is_whole_at : List (List Target) → WaitArc → Bool
 is_whole_at waits flush = list_any (λ (t : Target). (t.place == flush.place) && t.whole) (targets_of waits flush.src)
 
--- the mark of an arrow; that of a flush of a whole workqueue also has another head
-abbrev pub mark_text : FlushLook → Bool → List ℕ
-mark_text Plain false = []
-mark_text Plain true = codes " [arrowhead=odiamond]"
-mark_text Red false = codes " [color=red]"
-mark_text Red true = codes " [color=red, arrowhead=odiamond]"
-mark_text Bold false = codes " [style=bold]"
-mark_text Bold true = codes " [style=bold, arrowhead=odiamond]"
+-- the flush is drawn from its target: a flush goes the other way too, and that one is of the item that was declared first
+abbrev pub is_turned : List (List Target) → WaitArc → Bool
+is_turned waits flush = nat_lt flush.dst flush.src && list_any (λ (t : Target). t.item == flush.src) (targets_of waits flush.dst)
 
--- a flush with this look: `"NAME" -> "TARGET";`, after two spaces, with its mark before the semicolon
+-- the line and the colour of an arrow
+abbrev pub look_text : FlushLook → List ℕ
+look_text Plain = []
+look_text Red = codes " [color=red, style=bold]"
+look_text Bold = codes " [style=bold]"
+
+-- the head of an arrow that is drawn from its target or not, of a flush of a whole workqueue or not
+abbrev pub head_text : Bool → Bool → List ℕ
+head_text false false = []
+head_text false true = codes " [arrowhead=odiamond]"
+head_text true false = codes " [dir=back]"
+head_text true true = codes " [dir=back, arrowtail=odiamond]"
+
+-- an arrow between two items: `"NAME" -> "NAME"`, after two spaces
+abbrev pub ends_text : List (List ℕ) → ℕ → ℕ → List ℕ
+ends_text names one other = codes "  \"" ++ name_of names one ++ codes "\" -> \"" ++ name_of names other ++ codes "\""
+
+-- a flush with this look, with its marks before the semicolon
 abbrev pub arrow_line : List (List ℕ) → List (List Target) → FlushLook → WaitArc → List ℕ
 arrow_line names waits look flush =
-    codes "  \"" ++ name_of names flush.src ++ codes "\" -> \"" ++ name_of names flush.dst ++ codes "\"" ++ mark_text look (is_whole_at waits flush) ++ codes ";"
+    let turned = is_turned waits flush in
+    ends_text names (cond turned flush.dst flush.src) (cond turned flush.src flush.dst)
+    ++ look_text look
+    ++ head_text turned (is_whole_at waits flush)
+    ++ codes ";"
 
 -- the line of a flush, with the look that is at its place
 abbrev pub flush_line : List (List ℕ) → List (List Target) → List FlushLook → WaitArc → List ℕ

@@ -1,9 +1,9 @@
 -- How the flushes of a drawing look: those of some arcs have a mark, and the others have none.
-use Rattle.std.specs.Prelude.{ℕ, ◌<◌, ◌==◌, List, map, flat_map, fold, cond, slice_set}
-use Rattle.std.specs.List.{All, list_any, range_with_len}
+use Rattle.std.specs.Prelude.{ℕ, ◌<◌, ◌==◌, Bool, true, false, List, map, flat_map, fold, cond, slice_set}
+use Rattle.std.specs.List.{All, count_by, list_any, range_with_len}
 use Rattle.wq_graph.specs.declared.arc.WaitArc.{WaitArc}
 use Rattle.wq_dot.specs.declared.look.FlushLook.{FlushLook}
-use Rattle.wq_dot.specs.declared.look.FlushLook.TheVariants.{Plain}
+use Rattle.wq_dot.specs.declared.look.FlushLook.TheVariants.{Plain, Red, Bold}
 
 -- how the flush at this place looks, if the flushes of these arcs have this look
 abbrev pub look_at : FlushLook → List WaitArc → ℕ → FlushLook
@@ -16,6 +16,16 @@ looks_of n look arcs = map (look_at look arcs) (range_with_len 0 n)
 -- the arcs of all components, one component after another
 abbrev pub all_arcs : List (List WaitArc) → List WaitArc
 all_arcs components = flat_map (λ (arcs : List WaitArc). arcs) components
+
+-- a look that isn't plain
+abbrev pub is_marked : FlushLook → Bool
+is_marked Plain = false
+is_marked Red = true
+is_marked Bold = true
+
+-- how many of these looks aren't plain
+abbrev pub marked : List FlushLook → ℕ
+marked looks = count_by is_marked looks
 
 -- ---- how they are marked, arc by arc
 

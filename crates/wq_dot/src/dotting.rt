@@ -3,10 +3,8 @@
 //! The rule is that of "The command `dot`" in docs/FORMAT.md. It takes the time and the memory of reading the texts, of the plan,
 //! of the components and of the drawing.
 
-ghost use Rattle.std.specs.Prelude.{◌≡◌, IfOk, None, length, map};
-ghost use Rattle.std.specs.List.{All};
+ghost use Rattle.std.specs.Prelude.{◌≡◌, IfOk, None, codes, length, map};
 ghost use Rattle.wq_items.specs.Chain.{HasCircle};
-ghost use Rattle.wq_items.specs.Table.{flush_count};
 ghost use Rattle.wq_groups.specs.Declaration.{GroupWaits, declaration_of};
 ghost use Rattle.wq_core.specs.Wiring.{own_lanes};
 ghost use Rattle.wq_plan.specs.Solve.{IsPlanned, Solves};
@@ -14,13 +12,11 @@ ghost use Rattle.wq_cert.specs.Texts.{assignment_of_text};
 ghost use Rattle.wq_commands.specs.declared.why.Which.TheVariants.{Certificate};
 ghost use Rattle.wq_commands.specs.Why.{SaysFault, SaysAssigned, SaysDeclared};
 ghost use Rattle.wq_circles.specs.Components.{AreComponents};
-ghost use Rattle.wq_dot.specs.declared.look.FlushLook.{FlushLook};
-ghost use Rattle.wq_dot.specs.Flushes.{AreMarkable, all_arcs};
-ghost use Rattle.wq_dot.specs.Dotting.{DrawsAssigned, DrawsCircles, DrawsDeclared, DrawsGroups, DrawsOwn, DrawsPlan, DrawsTexts, Draws, OwnDraws, drawing_of};
+ghost use Rattle.wq_dot.specs.Dotting.{DrawsAssigned, DrawsCircles, DrawsDeclared, DrawsGroups, DrawsOwn, DrawsPlan, DrawsTexts, Draws, OwnDraws};
 
 use crate::drawing::drawing_text;
-use crate::flushes::{bold_flushes, red_flushes};
-use crate::titles::{components_title, plan_title};
+use crate::flushes::{bold_flushes, marked, red_flushes};
+use crate::titles::{circles_title, plan_title};
 use std::alloc::{AllocError, Allocator};
 use wq_cert::{CertError, read_assignment};
 use wq_circles::components;
@@ -30,44 +26,6 @@ use wq_graph::WaitArc;
 use wq_groups::{Assignment, Groups};
 use wq_items::ItemTable;
 use wq_plan::{Answer, solve};
-
-/// The drawing of an assignment with this title, in which the flushes of this chain are bold.
-fn draw_bold<A: Allocator + Copy>(
-    alloc: A,
-    table: &ItemTable<'_, A>,
-    groups: &Groups<A>,
-    assignment: &Assignment<A>,
-    title: &[u8],
-    chain: &[WaitArc],
-) -> Result<Vec<u8, A>, AllocError>
-    requires grouped { length groups.now.group_of ≡ length table.now.names }
-    requires assigned { length assignment.now.lane_of_group ≡ groups.now.groups }
-    requires places { AreMarkable (flush_count table.now.waits) chain.now }
-    ensures { IfOk result (λ text. text.items
-        ≡ drawing_of (record { table = table.now; partition = groups.now }) assignment.now title.now FlushLook.Bold chain.now) }
-{
-    let looks = bold_flushes(alloc, table, chain)?;
-    drawing_text(alloc, table, groups, assignment, title, looks.as_slice())
-}
-
-/// The drawing of an assignment with this title, in which the flushes of these components are red.
-fn draw_red<A: Allocator + Copy>(
-    alloc: A,
-    table: &ItemTable<'_, A>,
-    groups: &Groups<A>,
-    assignment: &Assignment<A>,
-    title: &[u8],
-    components: &[Vec<WaitArc, A>],
-) -> Result<Vec<u8, A>, AllocError>
-    requires grouped { length groups.now.group_of ≡ length table.now.names }
-    requires assigned { length assignment.now.lane_of_group ≡ groups.now.groups }
-    requires places { All (AreMarkable (flush_count table.now.waits)) (map (λ l. l.items) components.now) }
-    ensures { IfOk result (λ text. text.items ≡ drawing_of (record { table = table.now; partition = groups.now }) assignment.now
-        title.now FlushLook.Red (all_arcs (map (λ l. l.items) components.now))) }
-{
-    let looks = red_flushes(alloc, table, components)?;
-    drawing_text(alloc, table, groups, assignment, title, looks.as_slice())
-}
 
 /// The drawing of the plan of a table's items, with the chain that `solve` gave with it.
 fn draw_plan<A: Allocator + Copy>(
@@ -83,52 +41,67 @@ fn draw_plan<A: Allocator + Copy>(
 {
     // What holds of every table and of all groups.
     let _items = table.len();
+    let _flushes = table.flushes();
     let _groups = groups.len();
-    let title = plan_title(alloc, assignment.lanes())?;
-    draw_bold(alloc, table, groups, assignment, title.as_slice(), chain)
-}
-
-/// The drawing of an assignment with these components.
-fn draw_components<A: Allocator + Copy>(
-    alloc: A,
-    table: &ItemTable<'_, A>,
-    groups: &Groups<A>,
-    assignment: &Assignment<A>,
-    components: &[Vec<WaitArc, A>],
-) -> Result<Vec<u8, A>, AllocError>
-    requires grouped { length groups.now.group_of ≡ length table.now.names }
-    requires assigned { length assignment.now.lane_of_group ≡ groups.now.groups }
-    requires found { AreComponents (declaration_of table.now groups.now) assignment.now (map (λ l. l.items) components.now) }
-    ensures { IfOk result (λ text. DrawsCircles (record { table = table.now; partition = groups.now }) assignment.now text.items) }
-{
-    // What holds of every table, of all groups and of every assignment.
-    let _items = table.len();
-    let _groups = groups.len();
-    let _lanes = assignment.lanes();
-    let title = components_title(alloc, components)?;
-    draw_red(
+    let looks = bold_flushes(alloc, table, chain)?;
+    let title = plan_title(alloc, assignment.lanes(), marked(looks.as_slice()))?;
+    drawing_text(
         alloc,
         table,
         groups,
         assignment,
         title.as_slice(),
-        components,
+        looks.as_slice(),
     )
 }
 
-/// The drawing of an assignment, with those flushes marked that lie on a circle.
+/// The drawing of an assignment with these components. `hanging` says what hangs if there are any.
+fn draw_components<A: Allocator + Copy>(
+    alloc: A,
+    table: &ItemTable<'_, A>,
+    groups: &Groups<A>,
+    assignment: &Assignment<A>,
+    hanging: &[u8],
+    components: &[Vec<WaitArc, A>],
+) -> Result<Vec<u8, A>, AllocError>
+    requires grouped { length groups.now.group_of ≡ length table.now.names }
+    requires assigned { length assignment.now.lane_of_group ≡ groups.now.groups }
+    requires found { AreComponents (declaration_of table.now groups.now) assignment.now (map (λ l. l.items) components.now) }
+    ensures { IfOk result (λ text.
+        DrawsCircles (record { table = table.now; partition = groups.now }) assignment.now hanging.now text.items) }
+{
+    // What holds of every table, of all groups and of every assignment.
+    let _items = table.len();
+    let _flushes = table.flushes();
+    let _groups = groups.len();
+    let _lanes = assignment.lanes();
+    let looks = red_flushes(alloc, table, components)?;
+    let title = circles_title(alloc, hanging, marked(looks.as_slice()))?;
+    drawing_text(
+        alloc,
+        table,
+        groups,
+        assignment,
+        title.as_slice(),
+        looks.as_slice(),
+    )
+}
+
+/// The drawing of an assignment, with those flushes marked that lie on a circle. `hanging` says what hangs if there are any.
 fn draw_circles<A: Allocator + Copy>(
     alloc: A,
     table: &ItemTable<'_, A>,
     groups: &Groups<A>,
     assignment: &Assignment<A>,
+    hanging: &[u8],
 ) -> Result<Vec<u8, A>, AllocError>
     requires grouped { length groups.now.group_of ≡ length table.now.names }
     requires assigned { length assignment.now.lane_of_group ≡ groups.now.groups }
-    ensures { IfOk result (λ text. DrawsCircles (record { table = table.now; partition = groups.now }) assignment.now text.items) }
+    ensures { IfOk result (λ text.
+        DrawsCircles (record { table = table.now; partition = groups.now }) assignment.now hanging.now text.items) }
 {
     let components = components(alloc, table, groups, assignment)?;
-    draw_components(alloc, table, groups, assignment, &components)
+    draw_components(alloc, table, groups, assignment, hanging, &components)
 }
 
 /// The drawing of groups, each of which has a workqueue of its own.
@@ -139,10 +112,17 @@ fn draw_own_lanes<A: Allocator + Copy>(
 ) -> Result<Vec<u8, A>, AllocError>
     requires { length groups.now.group_of ≡ length table.now.names }
     ensures { IfOk result (λ text.
-        DrawsCircles (record { table = table.now; partition = groups.now }) (own_lanes groups.now.groups) text.items) }
+        DrawsCircles (record { table = table.now; partition = groups.now }) (own_lanes groups.now.groups)
+        (codes "every assignment can hang") text.items) }
 {
     let assignment = own_lanes(alloc, groups)?;
-    draw_circles(alloc, table, groups, &assignment)
+    draw_circles(
+        alloc,
+        table,
+        groups,
+        &assignment,
+        b"every assignment can hang",
+    )
 }
 
 /// The drawing of groups with this answer.
@@ -187,7 +167,7 @@ fn draw_assigned<A: Allocator + Copy>(
     ensures answer { IfOk result (λ a. DrawsAssigned (record { table = table.now; partition = groups.now }) assignment.now a.end a.text.items) }
     ensures why { IfOk result (λ a. a.why ≡ None) }
 {
-    let text = draw_circles(alloc, table, groups, assignment)?;
+    let text = draw_circles(alloc, table, groups, assignment, b"can hang")?;
     Ok(Answered::plain(End::Good, text))
 }
 

@@ -3,16 +3,24 @@
 //! The rule is that of "The command `dot`" in docs/FORMAT.md. A flush is identified by its place. So if several have the same
 //! item and target, only the one that is meant is marked. It takes time and memory in the number of flushes.
 
-ghost use Rattle.std.specs.Prelude.{◌≡◌, ◌<◌, length, map, flat_map, IfOk};
+ghost use Rattle.std.specs.Prelude.{◌≡◌, ◌<◌, ◌^◌, length, map, flat_map, IfOk};
 ghost use Rattle.std.specs.List.{All};
 ghost use Rattle.wq_items.specs.Table.{flush_count};
 ghost use Rattle.wq_dot.specs.declared.look.FlushLook.{FlushLook};
-ghost use Rattle.wq_dot.specs.Flushes.{AreMarkable, all_arcs, looks_of, with_marks};
+ghost use Rattle.wq_dot.specs.Flushes.{AreMarkable, all_arcs, looks_of, marked, with_marks};
 
 use crate::look::FlushLook;
 use std::alloc::{AllocError, Allocator};
 use wq_graph::WaitArc;
 use wq_items::ItemTable;
+
+/// How many of these looks aren't plain.
+pub(crate) fn marked(looks: &[FlushLook]) -> u32
+    requires { length looks.now < 2 ^ 32 }
+    ensures { result ≡ marked looks.now }
+{
+    looks.iter().filter(|look| look.is_marked()).count() as u32
+}
 
 /// Gives the flushes of these arcs this look.
 fn mark(looks: &mut [FlushLook], arcs: &[WaitArc], look: FlushLook)

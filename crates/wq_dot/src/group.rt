@@ -54,7 +54,12 @@ fn put_ordered<A: Allocator + Copy>(
     put(out, b"\" {\n")?;
     put(
         out,
-        b"      graph [label=\"ordered\", style=dashed, color=black];\n",
+        b"      graph [label=\"\", style=dashed, color=black]; \"ordered ",
+    )?;
+    put(out, table.name(first))?;
+    put(
+        out,
+        b"\" [label=\"ordered\", shape=plaintext, style=\"\"];\n",
     )?;
     for item in members {
         put_member(out, table, *item)?;

@@ -30,9 +30,12 @@ pub(crate) fn put_workqueue<A: Allocator + Copy>(
     put(out, b"  subgraph \"cluster wq")?;
     put_number(out, u32::from(number))?;
     put(out, b"\" {\n")?;
-    put(out, b"    graph [label=\"wq")?;
+    put(
+        out,
+        b"    graph [label=\"\", style=filled, color=gray92]; \"wq",
+    )?;
     put_number(out, u32::from(number))?;
-    put(out, b"\", style=filled, color=gray92];\n")?;
+    put(out, b"\" [shape=plaintext, style=\"\", fontsize=14];\n")?;
     for group in own {
         put_group(out, table, groups.members(GroupId::new(*group as u16)))?;
     }

@@ -18,12 +18,20 @@ digraph wqplan {
 """
 BOX = """\
   subgraph "cluster wq %d" {
-    graph [label="wq %d", style=filled, color=gray92];
+    graph [label="", style=filled, color=gray92]; "wq %d" [shape=plaintext, style="", fontsize=14];
 """
 ORDERED = """\
     subgraph "cluster ordered %s" {
-      graph [label="ordered", style=dashed, color=black];
+      graph [label="", style=dashed, color=black]; "ordered %s" [label="ordered", shape=plaintext, style=""];
 """
+ONE_BOLD = r"1 wait in bold\lBold: the chain that needs so many workqueues.\l"
+BOLD = r"%d waits in bold\lBold: the chain that needs so many workqueues.\l"
+RED_LEGEND = (r"\lRed: while memory is short, a worker may wait for work\l"
+              r"that only it, or one that waits for it, can do.\l")
+ONE_RED = "1 wait in red" + RED_LEGEND
+RED = "%d waits in red" + RED_LEGEND
+HANGS = "can hang, " + RED
+EVERY_HANGS = "every assignment can hang, " + RED
 
 
 def group(names):
@@ -31,7 +39,7 @@ def group(names):
     first, *others = names.split()
     if not others:
         return f'    "{first}";\n'
-    return ORDERED % first + "".join(f'      "{name}";\n' for name in names.split()) + "    }\n"
+    return ORDERED % (first, first) + "".join(f'      "{name}";\n' for name in names.split()) + "    }\n"
 
 
 def drawing(title, boxes, arrows):
@@ -45,19 +53,18 @@ def drawing(title, boxes, arrows):
     return (text + "}\n").encode()
 
 
-OF_PLAN = b"""\
-digraph wqplan {
-  graph [label="plan 2", labelloc=t, labeljust=l, rankdir=LR, nodesep=0.15, ranksep=1, fontname="sans-serif"];
+OF_PLAN = rb"""digraph wqplan {
+  graph [label="plan of 2 workqueues, 1 wait in bold\lBold: the chain that needs so many workqueues.\l", labelloc=t, labeljust=l, rankdir=LR, nodesep=0.15, ranksep=1, fontname="sans-serif"];
   node [shape=box, style=filled, fillcolor=white, height=0.3, fontname="sans-serif", fontsize=12];
   edge [arrowsize=0.7];
   subgraph "cluster wq 0" {
-    graph [label="wq 0", style=filled, color=gray92];
+    graph [label="", style=filled, color=gray92]; "wq 0" [shape=plaintext, style="", fontsize=14];
     "a";
   }
   subgraph "cluster wq 1" {
-    graph [label="wq 1", style=filled, color=gray92];
+    graph [label="", style=filled, color=gray92]; "wq 1" [shape=plaintext, style="", fontsize=14];
     subgraph "cluster ordered b" {
-      graph [label="ordered", style=dashed, color=black];
+      graph [label="", style=dashed, color=black]; "ordered b" [label="ordered", shape=plaintext, style=""];
       "b";
       "d";
     }
@@ -68,37 +75,37 @@ digraph wqplan {
   "d" -> "a";
 }
 """
-OF_CIRCLE = b"""\
-digraph wqplan {
-  graph [label="components 1", labelloc=t, labeljust=l, rankdir=LR, nodesep=0.15, ranksep=1, fontname="sans-serif"];
+OF_CIRCLE = rb"""digraph wqplan {
+  graph [label="can hang, 2 waits in red\lRed: while memory is short, a worker may wait for work\lthat only it, or one that waits for it, can do.\l", labelloc=t, labeljust=l, rankdir=LR, nodesep=0.15, ranksep=1, fontname="sans-serif"];
   node [shape=box, style=filled, fillcolor=white, height=0.3, fontname="sans-serif", fontsize=12];
   edge [arrowsize=0.7];
   subgraph "cluster wq 0" {
-    graph [label="wq 0", style=filled, color=gray92];
+    graph [label="", style=filled, color=gray92]; "wq 0" [shape=plaintext, style="", fontsize=14];
   }
   subgraph "cluster wq 1" {
-    graph [label="wq 1", style=filled, color=gray92];
+    graph [label="", style=filled, color=gray92]; "wq 1" [shape=plaintext, style="", fontsize=14];
     "a";
     "c";
   }
   subgraph "cluster wq 2" {
-    graph [label="wq 2", style=filled, color=gray92];
+    graph [label="", style=filled, color=gray92]; "wq 2" [shape=plaintext, style="", fontsize=14];
     "b";
   }
-  "a" -> "b" [color=red];
-  "b" -> "c" [color=red];
+  "a" -> "b" [color=red, style=bold];
+  "b" -> "c" [color=red, style=bold];
 }
 """
 
-EMPTY = drawing("plan 0", [], [])
-LOOPED = drawing("components 1", [["a"]], ["a a [color=red]"])
-PLANNED = drawing("plan 3", [["c"], ["b"], ["a"]], ["a b [style=bold]", "b c [style=bold]"])
+EMPTY = drawing("plan of 0 workqueues", [], [])
+LOOPED = drawing("every assignment can hang, " + ONE_RED, [["a"]], ["a a [color=red, style=bold]"])
+PLANNED = drawing("plan of 3 workqueues, " + BOLD % 2, [["c"], ["b"], ["a"]], ["a b [style=bold]", "b c [style=bold]"])
 SAFE = drawing("safe", [["c"], ["b"], ["a"]], ["a b", "b c"])
-CROSSED = drawing("components 1", [["a d"], ["b c"]], ["a b [color=red]", "c d [color=red]"])
-TWO = drawing(
-    "components 2", [["a"], ["b"], ["c"], ["d"]],
-    ["d c [color=red]", "a b [color=red]", "c d [color=red]", "b a [color=red]", "b c"],
-)
+CROSSED = drawing(EVERY_HANGS % 2, [["a d"], ["b c"]], ["a b [color=red, style=bold]", "c d [color=red, style=bold]"])
+# Of two arrows that go both ways, one is drawn from its target.
+TWO_BOXES = [["a"], ["b"], ["c"], ["d"]]
+TWO_ARROWS = ["c d [color=red, style=bold] [dir=back]", "a b [color=red, style=bold]", "c d [color=red, style=bold]",
+              "a b [color=red, style=bold] [dir=back]", "b c"]
+TWO = drawing(EVERY_HANGS % 4, TWO_BOXES, TWO_ARROWS)
 
 # 300 items, each of which flushes the next one: more workqueues than a runtime has.
 ROW = " / ".join(
@@ -107,13 +114,13 @@ ROW = " / ".join(
 )
 ROW_ARROWS = ["i%d i%d" % (number, number + 1) for number in range(299)]
 ROW_PLANNED = drawing(
-    "plan 300", [["i%d" % (299 - number)] for number in range(300)],
+    "plan of 300 workqueues, " + BOLD % 299, [["i%d" % (299 - number)] for number in range(300)],
     [f"{arrow} [style=bold]" for arrow in ROW_ARROWS],
 )
 ONE_WQ = "wq 0 " + " ".join("i%d" % number for number in range(300))
 ROW_ON_ONE = drawing(
-    "components 1", [["i%d" % number for number in range(300)]],
-    [f"{arrow} [color=red]" for arrow in ROW_ARROWS],
+    HANGS % 299, [["i%d" % number for number in range(300)]],
+    [f"{arrow} [color=red, style=bold]" for arrow in ROW_ARROWS],
 )
 
 LONG = "n" * 63
@@ -122,7 +129,7 @@ LONG = "n" * 63
 OWN = [
     ("", EMPTY),
     ("# nothing", EMPTY),
-    ("item 7", drawing("plan 1", [["7"]], [])),
+    ("item 7", drawing("plan of 1 workqueue", [["7"]], [])),
     (ITEMS + " / ordered d b / flush c a / flush d a a", OF_PLAN),
     (LOOP, LOOPED),
     (CHAIN, PLANNED),
@@ -130,34 +137,39 @@ OWN = [
     (TWO_CIRCLES, TWO),
     (ROW, ROW_PLANNED),
     # Other spellings of a declaration that is drawn above.
-    (b"# x\r\n\titem  7 # y\r\n\r\n", drawing("plan 1", [["7"]], [])),
+    (b"# x\r\n\titem  7 # y\r\n\r\n", drawing("plan of 1 workqueue", [["7"]], [])),
     (b"item a\nitem b # \xff\nitem c\nflush b c\nflush a b", drawing(
-        "plan 3", [["c"], ["b"], ["a"]], ["b c [style=bold]", "a b [style=bold]"])),
+        "plan of 3 workqueues, " + BOLD % 2, [["c"], ["b"], ["a"]], ["b c [style=bold]", "a b [style=bold]"])),
     # A flush that leads past the next lower workqueue is on no longest chain.
     ("item a / item b / item c / flush a b c / flush b c", drawing(
-        "plan 3", [["c"], ["b"], ["a"]], ["a b [style=bold]", "a c", "b c [style=bold]"])),
+        "plan of 3 workqueues, " + BOLD % 2, [["c"], ["b"], ["a"]], ["a b [style=bold]", "a c", "b c [style=bold]"])),
     # A group of one item isn't marked, though it is on an `ordered` line.
-    ("item a / item b / ordered b", drawing("plan 1", [["a", "b"]], [])),
+    ("item a / item b / ordered b", drawing("plan of 1 workqueue", [["a", "b"]], [])),
     # Groups come by their numbers, and the items of each in the order of their declaration.
-    ("item a / item b / item c / item d / ordered d b / ordered c a", drawing("plan 1", [["a c", "b d"]], [])),
+    ("item a / item b / item c / item d / ordered d b / ordered c a", drawing("plan of 1 workqueue", [["a c", "b d"]], [])),
     # Names that Graphviz knows or would read as numbers, and the longest one.
     (f"item node / item -1.5 / item subgraph / item {LONG} / ordered {LONG} subgraph / flush node -1.5 {LONG}", drawing(
-        "plan 2", [["-1.5", f"subgraph {LONG}"], ["node"]], ["node -1.5 [style=bold]", f"node {LONG}"])),
+        "plan of 2 workqueues, " + ONE_BOLD, [["-1.5", f"subgraph {LONG}"], ["node"]], ["node -1.5 [style=bold]", f"node {LONG}"])),
     # Both arrows of a flush that is declared twice are red.
     ("item a / item b / item c / flush a b b c / flush b a", drawing(
-        "components 1", [["a"], ["b"], ["c"]],
-        ["a b [color=red]", "a b [color=red]", "a c", "b a [color=red]"])),
+        EVERY_HANGS % 3, [["a"], ["b"], ["c"]],
+        ["a b [color=red, style=bold]", "a b [color=red, style=bold]", "a c", "a b [color=red, style=bold] [dir=back]"])),
     # Waits for a whole workqueue have heads of their own, whatever they look like beside.
     ("item a / item b / item c / flushwq a b / flush b c / flushwq b c / flushwq a c", drawing(
-        "plan 3", [["c"], ["b"], ["a"]],
-        ["a b [style=bold, arrowhead=odiamond]", "b c [style=bold]", "b c [arrowhead=odiamond]",
+        "plan of 3 workqueues, " + BOLD % 2, [["c"], ["b"], ["a"]],
+        ["a b [style=bold] [arrowhead=odiamond]", "b c [style=bold]", "b c [arrowhead=odiamond]",
          "a c [arrowhead=odiamond]"])),
     ("item a / item b / item c / flushwq a b / flush b a / flushwq c a", drawing(
-        "components 1", [["a"], ["b"], ["c"]],
-        ["a b [color=red, arrowhead=odiamond]", "b a [color=red]", "c a [arrowhead=odiamond]"])),
+        EVERY_HANGS % 2, [["a"], ["b"], ["c"]],
+        ["a b [color=red, style=bold] [arrowhead=odiamond]", "a b [color=red, style=bold] [dir=back]",
+         "c a [arrowhead=odiamond]"])),
+    ("item a / item b / flush a b / flushwq b a / flush b b a", drawing(
+        EVERY_HANGS % 4, [["a"], ["b"]],
+        ["a b [color=red, style=bold]", "a b [color=red, style=bold] [dir=back, arrowtail=odiamond]",
+         "b b [color=red, style=bold]", "a b [color=red, style=bold] [dir=back]"])),
     # A flush within a group.
     ("item a / item b / ordered b a / flush a b / flush b b", drawing(
-        "components 1", [["a b"]], ["a b [color=red]", "b b [color=red]"])),
+        EVERY_HANGS % 2, [["a b"]], ["a b [color=red, style=bold]", "b b [color=red, style=bold]"])),
 ]
 
 # A declaration, and assignments of it, each with the drawing.
@@ -170,23 +182,24 @@ ASSIGNED = [
         ("wq 0 / wq 1 a c / wq 2 b", OF_CIRCLE),
         # Only one of the two flushes is within a workqueue.
         ("wq 0 a b / wq 1 c / wq 2", drawing(
-            "components 1", [["a", "b"], ["c"], []], ["a b [color=red]", "b c"])),
+            "can hang, " + ONE_RED, [["a", "b"], ["c"], []], ["a b [color=red, style=bold]", "b c"])),
     ]),
     ("item a / item b / item c / flushwq a b / flush c a", [
         ("wq 0 a / wq 1 b / wq 2 c", drawing("safe", [["a"], ["b"], ["c"]], ["a b [arrowhead=odiamond]", "c a"])),
         ("wq 0 a / wq 1 b c", drawing(
-            "components 1", [["a"], ["b", "c"]], ["a b [color=red, arrowhead=odiamond]", "c a [color=red]"])),
+            HANGS % 2, [["a"], ["b", "c"]],
+            ["a b [color=red, style=bold] [arrowhead=odiamond]", "c a [color=red, style=bold]"])),
     ]),
     # The workqueues of a plan, with another title, and no chain.
     (ITEMS + " / ordered d b / flush c a / flush d a a", [
         ("wq 0 a / wq 1 b d c", drawing("safe", [["a"], ["b d", "c"]], ["c a", "d a", "d a"])),
-        ("wq 0 c a / wq 1 d b", drawing("components 1", [["a", "c"], ["b d"]], ["c a [color=red]", "d a", "d a"])),
+        ("wq 0 c a / wq 1 d b", drawing(
+            "can hang, " + ONE_RED, [["a", "c"], ["b d"]], ["c a [color=red, style=bold]", "d a", "d a"])),
     ]),
     (TWO_CIRCLES, [
-        ("wq 0 a / wq 1 b / wq 2 c / wq 3 d", TWO),
+        ("wq 0 a / wq 1 b / wq 2 c / wq 3 d", drawing(HANGS % 4, TWO_BOXES, TWO_ARROWS)),
         ("wq 0 a b c d", drawing(
-            "components 1", [["a", "b", "c", "d"]],
-            ["d c [color=red]", "a b [color=red]", "c d [color=red]", "b a [color=red]", "b c [color=red]"])),
+            HANGS % 5, [["a", "b", "c", "d"]], [*TWO_ARROWS[:4], "b c [color=red, style=bold]"])),
     ]),
     ("", [
         ("", drawing("safe", [], [])),
@@ -206,7 +219,7 @@ REFUSALS = [
     ("item a", "wq 01 a", "refused 40 line 1"),
     # What `dot` prints is no assignment: its first line ends the `wq` lines, of which there is none.
     ("", EMPTY, "refused 40 line 1"),
-    ("item 7", drawing("plan 1", [["7"]], []), "refused 41 line 0"),
+    ("item 7", drawing("plan of 1 workqueue", [["7"]], []), "refused 41 line 0"),
     # The declaration before the assignment.
     ("item a / flush a b", "wq 1", "refused 8 line 2"),
 ]

@@ -316,16 +316,29 @@ def drawing(title, *lines):
     ])
 
 
+def in_bold(waits):
+    """The end of the title of a drawing with these bold waits."""
+    return rf", {waits} in bold\lBold: the chain that needs so many workqueues.\l"
+
+
+def in_red(waits):
+    """The end of the title of a drawing with these red waits."""
+    return (rf", {waits} in red\lRed: while memory is short, a worker may wait for work\l"
+            r"that only it, or one that waits for it, can do.\l")
+
+
 def box(number, *lines):
     """The lines of a workqueue, with these for its groups."""
     return [f'  subgraph "cluster wq {number}" {{',
-            f'    graph [label="wq {number}", style=filled, color=gray92];', *lines, "  }"]
+            f'    graph [label="", style=filled, color=gray92]; "wq {number}" [shape=plaintext, style="", fontsize=14];',
+            *lines, "  }"]
 
 
 def ordered(*names):
     """The lines of a group of several items."""
     return [f'    subgraph "cluster ordered {names[0]}" {{',
-            '      graph [label="ordered", style=dashed, color=black];',
+            f'      graph [label="", style=dashed, color=black]; "ordered {names[0]}"'
+            ' [label="ordered", shape=plaintext, style=""];',
             *[f'      "{name}";' for name in names], "    }"]
 
 
@@ -333,28 +346,28 @@ def ordered(*names):
 # lowest-numbered one on workqueue 1, so the chain begins there, and of the two flushes of `a` by `d` it follows the first one.
 R_BOXES = [*box(0, '    "c";'), *box(1, '    "b";'), *box(2, '    "a";')]
 DOTS = [
-    ("", drawing("plan 0")),
-    ("item 7", drawing("plan 1", *box(0, '    "7";'))),
+    ("", drawing("plan of 0 workqueues")),
+    ("item 7", drawing("plan of 1 workqueue", *box(0, '    "7";'))),
     (ITEMS + " / ordered d b / flush c a / flush d a a",
-     drawing("plan 2", *box(0, '    "a";'), *box(1, *ordered("b", "d"), '    "c";'),
+     drawing("plan of 2 workqueues" + in_bold("1 wait"), *box(0, '    "a";'), *box(1, *ordered("b", "d"), '    "c";'),
              '  "c" -> "a";', '  "d" -> "a" [style=bold];', '  "d" -> "a";')),
-    (S, drawing("components 1", *box(0, '    "a";'), '  "a" -> "a" [color=red];')),
-    (R, drawing("plan 3", *R_BOXES, '  "a" -> "b" [style=bold];', '  "b" -> "c" [style=bold];')),
-    (T, drawing("components 1", *box(0, *ordered("a", "d")), *box(1, *ordered("b", "c")),
-                '  "a" -> "b" [color=red];', '  "c" -> "d" [color=red];')),
-    (D, drawing("components 2", *box(0, '    "a";'), *box(1, '    "b";'), *box(2, '    "c";'),
-                *box(3, '    "d";'), '  "d" -> "c" [color=red];', '  "a" -> "b" [color=red];',
-                '  "c" -> "d" [color=red];', '  "b" -> "a" [color=red];', '  "b" -> "c";')),
+    (S, drawing("every assignment can hang" + in_red("1 wait"), *box(0, '    "a";'), '  "a" -> "a" [color=red, style=bold];')),
+    (R, drawing("plan of 3 workqueues" + in_bold("2 waits"), *R_BOXES, '  "a" -> "b" [style=bold];', '  "b" -> "c" [style=bold];')),
+    (T, drawing("every assignment can hang" + in_red("2 waits"), *box(0, *ordered("a", "d")), *box(1, *ordered("b", "c")),
+                '  "a" -> "b" [color=red, style=bold];', '  "c" -> "d" [color=red, style=bold];')),
+    (D, drawing("every assignment can hang" + in_red("4 waits"), *box(0, '    "a";'), *box(1, '    "b";'), *box(2, '    "c";'),
+                *box(3, '    "d";'), '  "c" -> "d" [color=red, style=bold] [dir=back];', '  "a" -> "b" [color=red, style=bold];',
+                '  "c" -> "d" [color=red, style=bold];', '  "a" -> "b" [color=red, style=bold] [dir=back];', '  "b" -> "c";')),
     (R, "plan 3 / wq 0 c / wq 1 b / wq 2 a / chain 3 / arc a b / arc b c",
      drawing("safe", *R_BOXES, '  "a" -> "b";', '  "b" -> "c";')),
     (R, "wq 0 / wq 1 c a / wq 2 b",
-     drawing("components 1", *box(0), *box(1, '    "a";', '    "c";'), *box(2, '    "b";'),
-             '  "a" -> "b" [color=red];', '  "b" -> "c" [color=red];')),
-    (W, drawing("plan 3", *box(0, '    "b";'), *box(1, '    "a";'), *box(2, '    "c";'),
-                '  "a" -> "b" [style=bold, arrowhead=odiamond];', '  "c" -> "a" [style=bold];')),
+     drawing("can hang" + in_red("2 waits"), *box(0), *box(1, '    "a";', '    "c";'), *box(2, '    "b";'),
+             '  "a" -> "b" [color=red, style=bold];', '  "b" -> "c" [color=red, style=bold];')),
+    (W, drawing("plan of 3 workqueues" + in_bold("2 waits"), *box(0, '    "b";'), *box(1, '    "a";'), *box(2, '    "c";'),
+                '  "a" -> "b" [style=bold] [arrowhead=odiamond];', '  "c" -> "a" [style=bold];')),
     (W, "wq 0 a / wq 1 b c",
-     drawing("components 1", *box(0, '    "a";'), *box(1, '    "b";', '    "c";'),
-             '  "a" -> "b" [color=red, arrowhead=odiamond];', '  "c" -> "a" [color=red];')),
+     drawing("can hang" + in_red("2 waits"), *box(0, '    "a";'), *box(1, '    "b";', '    "c";'),
+             '  "a" -> "b" [color=red, style=bold] [arrowhead=odiamond];', '  "c" -> "a" [color=red, style=bold];')),
     (W, "wq 0 a / wq 1 b / wq 2 c",
      drawing("safe", *box(0, '    "a";'), *box(1, '    "b";'), *box(2, '    "c";'),
              '  "a" -> "b" [arrowhead=odiamond];', '  "c" -> "a";')),

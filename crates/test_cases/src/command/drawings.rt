@@ -7,15 +7,16 @@ use wq_commands::End;
 /// The drawing of the plan of `TWO`.
 const DRAWN_PLAN: &str = "\
 digraph wqplan {
-  graph [label=\"plan 2\", labelloc=t, labeljust=l, rankdir=LR, nodesep=0.15, ranksep=1, fontname=\"sans-serif\"];
+  graph [label=\"plan of 2 workqueues, 1 wait in bold\
+\\lBold: the chain that needs so many workqueues.\\l\", labelloc=t, labeljust=l, rankdir=LR, nodesep=0.15, ranksep=1, fontname=\"sans-serif\"];
   node [shape=box, style=filled, fillcolor=white, height=0.3, fontname=\"sans-serif\", fontsize=12];
   edge [arrowsize=0.7];
   subgraph \"cluster wq 0\" {
-    graph [label=\"wq 0\", style=filled, color=gray92];
+    graph [label=\"\", style=filled, color=gray92]; \"wq 0\" [shape=plaintext, style=\"\", fontsize=14];
     \"b\";
   }
   subgraph \"cluster wq 1\" {
-    graph [label=\"wq 1\", style=filled, color=gray92];
+    graph [label=\"\", style=filled, color=gray92]; \"wq 1\" [shape=plaintext, style=\"\", fontsize=14];
     \"a\";
   }
   \"a\" -> \"b\" [style=bold];
@@ -25,27 +26,29 @@ digraph wqplan {
 /// The drawing of `GROUPED`, each group on a workqueue of its own.
 const DRAWN_GROUPS: &str = "\
 digraph wqplan {
-  graph [label=\"components 1\", labelloc=t, labeljust=l, rankdir=LR, nodesep=0.15, ranksep=1, fontname=\"sans-serif\"];
+  graph [label=\"every assignment can hang, 2 waits in red\
+\\lRed: while memory is short, a worker may wait for work\\lthat only it, or one that waits for it, can do.\
+\\l\", labelloc=t, labeljust=l, rankdir=LR, nodesep=0.15, ranksep=1, fontname=\"sans-serif\"];
   node [shape=box, style=filled, fillcolor=white, height=0.3, fontname=\"sans-serif\", fontsize=12];
   edge [arrowsize=0.7];
   subgraph \"cluster wq 0\" {
-    graph [label=\"wq 0\", style=filled, color=gray92];
+    graph [label=\"\", style=filled, color=gray92]; \"wq 0\" [shape=plaintext, style=\"\", fontsize=14];
     subgraph \"cluster ordered a\" {
-      graph [label=\"ordered\", style=dashed, color=black];
+      graph [label=\"\", style=dashed, color=black]; \"ordered a\" [label=\"ordered\", shape=plaintext, style=\"\"];
       \"a\";
       \"d\";
     }
   }
   subgraph \"cluster wq 1\" {
-    graph [label=\"wq 1\", style=filled, color=gray92];
+    graph [label=\"\", style=filled, color=gray92]; \"wq 1\" [shape=plaintext, style=\"\", fontsize=14];
     subgraph \"cluster ordered b\" {
-      graph [label=\"ordered\", style=dashed, color=black];
+      graph [label=\"\", style=dashed, color=black]; \"ordered b\" [label=\"ordered\", shape=plaintext, style=\"\"];
       \"b\";
       \"c\";
     }
   }
-  \"a\" -> \"b\" [color=red];
-  \"c\" -> \"d\" [color=red];
+  \"a\" -> \"b\" [color=red, style=bold];
+  \"c\" -> \"d\" [color=red, style=bold];
 }
 ";
 
@@ -56,14 +59,14 @@ digraph wqplan {
   node [shape=box, style=filled, fillcolor=white, height=0.3, fontname=\"sans-serif\", fontsize=12];
   edge [arrowsize=0.7];
   subgraph \"cluster wq 0\" {
-    graph [label=\"wq 0\", style=filled, color=gray92];
+    graph [label=\"\", style=filled, color=gray92]; \"wq 0\" [shape=plaintext, style=\"\", fontsize=14];
     \"b\";
   }
   subgraph \"cluster wq 1\" {
-    graph [label=\"wq 1\", style=filled, color=gray92];
+    graph [label=\"\", style=filled, color=gray92]; \"wq 1\" [shape=plaintext, style=\"\", fontsize=14];
   }
   subgraph \"cluster wq 2\" {
-    graph [label=\"wq 2\", style=filled, color=gray92];
+    graph [label=\"\", style=filled, color=gray92]; \"wq 2\" [shape=plaintext, style=\"\", fontsize=14];
     \"a\";
   }
   \"a\" -> \"b\";
@@ -73,20 +76,22 @@ digraph wqplan {
 /// The drawing of `CHAIN` on `LANES`.
 const DRAWN_LANES: &str = "\
 digraph wqplan {
-  graph [label=\"components 1\", labelloc=t, labeljust=l, rankdir=LR, nodesep=0.15, ranksep=1, fontname=\"sans-serif\"];
+  graph [label=\"can hang, 2 waits in red\
+\\lRed: while memory is short, a worker may wait for work\\lthat only it, or one that waits for it, can do.\
+\\l\", labelloc=t, labeljust=l, rankdir=LR, nodesep=0.15, ranksep=1, fontname=\"sans-serif\"];
   node [shape=box, style=filled, fillcolor=white, height=0.3, fontname=\"sans-serif\", fontsize=12];
   edge [arrowsize=0.7];
   subgraph \"cluster wq 0\" {
-    graph [label=\"wq 0\", style=filled, color=gray92];
+    graph [label=\"\", style=filled, color=gray92]; \"wq 0\" [shape=plaintext, style=\"\", fontsize=14];
     \"a\";
     \"c\";
   }
   subgraph \"cluster wq 1\" {
-    graph [label=\"wq 1\", style=filled, color=gray92];
+    graph [label=\"\", style=filled, color=gray92]; \"wq 1\" [shape=plaintext, style=\"\", fontsize=14];
     \"b\";
   }
-  \"a\" -> \"b\" [color=red];
-  \"b\" -> \"c\" [color=red];
+  \"a\" -> \"b\" [color=red, style=bold];
+  \"b\" -> \"c\" [color=red, style=bold];
 }
 ";
 

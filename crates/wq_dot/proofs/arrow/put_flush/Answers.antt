@@ -1,27 +1,39 @@
-use Rattle.std.proofs.Common.{◌≡◌, ◌++◌, [], sym, refl, ap, ◌∙◌}
+use Rattle.std.proofs.Common.{◌≡◌, ◌++◌, ◌<◌, Bool, true, false, cond, ℕ, List, length, sym, refl, ap, ap₂, subst, ◌∙◌}
 use Rattle.std.specs.Prelude.{codes}
-use Rattle.std.proofs.lemmas.Option.{get_or_from_slice_get}
 use Rattle.std.proofs.lemmas.Result.{on_ok_weaker}
-use Rattle.wq_cert.specs.PlanText.{name_of}
-use Rattle.wq_dot.specs.Drawing.{is_whole_at, mark_text}
+use Rattle.wq_dot.specs.Drawing.{ends_text, head_text, is_turned, is_whole_at, look_text}
 use Rattle.wq_dot.proofs.Pieces.{put_more, put_end}
 use Rattle.wq_dot.proofs.arrow.put_flush.Goals as goal
+
+-- one of two items is an item if both are
+one_of : (n : ℕ) (turned : Bool) (one other : ℕ) → one < n → other < n → cond turned one other < n
+one_of n true one other is or = is
+one_of n false one other is or = or
+
+pub put_ends-requires-clause-one : goal.put_ends-requires-clause-one
+put_ends-requires-clause-one g c =
+    let n = length c.args.table.now.names in
+    subst (λ i. i < n) (sym c.tail.ensures) (one_of n c.is_turned-turned.result c.args.flush.dst c.args.flush.src c.requires.target c.requires.item)
+
+pub put_ends-requires-clause-other : goal.put_ends-requires-clause-other
+put_ends-requires-clause-other g c =
+    let n = length c.args.table.now.names in
+    subst (λ i. i < n) (sym c.tip.ensures) (one_of n c.is_turned-turned.result c.args.flush.src c.args.flush.dst c.requires.item c.requires.target)
 
 pub returns : goal.returns
 returns g c =
     let names = c.args.table.now.names in
+    let waits = c.args.table.now.waits in
+    let flush = c.args.flush in
     let out = c.args.out.now.items in
-    let item = name_of names c.args.flush.src in
-    let target = name_of names c.args.flush.dst in
-    let look = mark_text c.args.look (is_whole_at c.args.table.now.waits c.args.flush) in
-    let item_is : c.name.result.now ≡ item = sym (get_or_from_slice_get names c.args.flush.src c.name.result.now [] c.name.ensures) in
-    let target_is : c.name-2.result.now ≡ target = sym (get_or_from_slice_get names c.args.flush.dst c.name-2.result.now [] c.name-2.ensures) in
-    let front = codes "  \"" in
-    let to = codes "\" -> \"" in
-    let quote = codes "\"" in
-    let h2 = put_more out front _ item _ _ c.in_ok-put.ensures.added c.in_ok-put-2.ensures.added item_is in
-    let h3 = put_more out (front ++ item) _ to _ _ h2 c.in_ok-put-3.ensures.added refl in
-    let h4 = put_more out (front ++ item ++ to) _ target _ _ h3 c.in_ok-put-4.ensures.added target_is in
-    let h5 = put_more out (front ++ item ++ to ++ target) _ quote _ _ h4 c.in_ok-put-5.ensures.added refl in
-    let h6 = put_more out (front ++ item ++ to ++ target ++ quote) _ look _ _ h5 c.in_ok-put-6.ensures.added (c.mark_text.ensures ∙ ap (mark_text c.args.look) c.is_whole.ensures) in
-    on_ok_weaker c.put-7.result (λ e. put_end out (front ++ item ++ to ++ target ++ quote ++ look) (codes ";") _ _ h6 e) c.put-7.ensures.added
+    let turned = is_turned waits flush in
+    let is : c.is_turned-turned.result ≡ turned = c.is_turned-turned.ensures in
+    let ends = ends_text names (cond turned flush.dst flush.src) (cond turned flush.src flush.dst) in
+    let look = look_text c.args.look in
+    let head = head_text turned (is_whole_at waits flush) in
+    let one_is = c.tail.ensures ∙ ap (λ (b : Bool). cond b flush.dst flush.src) is in
+    let other_is = c.tip.ensures ∙ ap (λ (b : Bool). cond b flush.src flush.dst) is in
+    let h1 : c.put_ends.new.out.items ≡ out ++ ends = c.in_ok-put_ends.ensures ∙ ap₂ (λ (i j : ℕ). out ++ ends_text names i j) one_is other_is in
+    let h2 = put_more out ends _ look _ _ h1 c.in_ok-put.ensures.added c.look_text.ensures in
+    let h3 = put_more out (ends ++ look) _ head _ _ h2 c.in_ok-put-2.ensures.added (c.head_text.ensures ∙ ap₂ head_text is c.is_whole.ensures) in
+    on_ok_weaker c.put-3.result (λ e. put_end out (ends ++ look ++ head) (codes ";") _ _ h3 e) c.put-3.ensures.added

@@ -36,11 +36,11 @@ returns g c =
     let digits = decimal c.args.number in
     let lines : ℕ → List (List ℕ) = λ k. group_lines names (items_at group_of k) in
     let first : List ℕ = codes "  subgraph \"cluster wq " ++ digits ++ codes "\" {" in
-    let second : List ℕ = codes "    graph [label=\"wq " ++ digits ++ codes "\", style=filled, color=gray92];" in
+    let second : List ℕ = codes "    graph [label=\"\", style=filled, color=gray92]; \"wq " ++ digits ++ codes "\" [shape=plaintext, style=\"\", fontsize=14];" in
     let h2 = put_more out (codes "  subgraph \"cluster wq") _ (spaced digits) _ _ c.in_ok-put.ensures.added c.in_ok-put_number.ensures.added (ap (λ (n : ℕ). spaced (decimal n)) c.from.ensures) in
     let h3 = put_end out (codes "  subgraph \"cluster wq" ++ spaced digits) (codes "\" {") _ _ h2 c.in_ok-put-2.ensures.added in
-    let k2 = put_more opened (codes "    graph [label=\"wq") _ (spaced digits) _ _ c.in_ok-put-3.ensures.added c.in_ok-put_number-2.ensures.added (ap (λ (n : ℕ). spaced (decimal n)) c.from-2.ensures) in
-    let k3 = put_end opened (codes "    graph [label=\"wq" ++ spaced digits) (codes "\", style=filled, color=gray92];") _ _ k2 c.in_ok-put-4.ensures.added in
+    let k2 = put_more opened (codes "    graph [label=\"\", style=filled, color=gray92]; \"wq") _ (spaced digits) _ _ c.in_ok-put-3.ensures.added c.in_ok-put_number-2.ensures.added (ap (λ (n : ℕ). spaced (decimal n)) c.from-2.ensures) in
+    let k3 = put_end opened (codes "    graph [label=\"\", style=filled, color=gray92]; \"wq" ++ spaced digits) (codes "\" [shape=plaintext, style=\"\", fontsize=14];") _ _ k2 c.in_ok-put-4.ensures.added in
     let h4 : c.put-4.new.out.items ≡ out ++ (ended first ++ ended second) = put_line out (ended first) (ended second) _ _ h3 k3 in
     let filled = text_of-all lines c.put-4.new.out.items c.loop-group.out.items own c.loop-group.group-index (omega (arith, c.loop-group-test.false, c.loop-group.auto.group-index-end)) c.loop-group.invariant in
     on_ok_weaker c.put-5.result (λ e. box_closed out first second (codes "  }") (flat_map lines own) _ _ _ h4 filled e) c.put-5.ensures.added
