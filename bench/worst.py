@@ -236,6 +236,8 @@ def declarations():
     yield "2,046 wait for the last of 2,048", declaration(ITEMS, waiting())
     yield "3,094 wait for the last of a group of 1,000", waiting_for_group()
     yield "3,094 wait for the whole workqueue of a group of 1,000", waiting_for_group("flushwq")
+    half = FLUSHES // 2
+    yield "half wait for one, which waits as often", declaration(ITEMS, [(0, 1)] * half + [(2 + i % (ITEMS - 2), 0) for i in range(half)])
     yield "groups of two, a chain of them", declaration(ITEMS, [(i, (i + 2) % ITEMS) for i in range(ITEMS - 2) for _ in range(4)], [[i, i + 1] for i in range(0, ITEMS, 2)])
 
 
@@ -249,6 +251,9 @@ def texts():
     yield "lines of spaces", (" " * MOST_LINE + "\n") * (MOST_DECLARATION // (MOST_LINE + 1))
     many = "flush 0" + " 1" * ((MOST_LINE - 7) // 2) + "\n"
     yield "long lines of short names", "item 0\nitem 1\n" + many * (FLUSHES // many.count(" 1"))
+    comment = " # " + "&" * 256 + "\n"
+    many = "flush 0" + " 1" * ((MOST_LINE - 6 - len(comment)) // 2)
+    yield "flushes with comments", "item 0\nitem 1\n" + (many + comment) * (FLUSHES // many.count(" 1"))
     yield "an unknown name at the end", declaration(ITEMS, falling(4)) + "flush 0 unknown\n"
     yield "a wrong byte at the end", declaration(ITEMS, falling(4)) + "\x7f\n"
 
@@ -289,6 +294,8 @@ def cases(program, folder, write, most_run=MOST_CERTIFICATE):
     for name, text in texts():
         path = write(text)
         yield "plan", name, [path]
+        if "comments" in name:
+            yield "dot", name, [path]
     path = write(declaration(ITEMS, [(0, 1), (1, 0)]))
     circle_alone = program.answer("plan", folder, path).partition("run ")[0]
     plan_alone = program.answer("plan", folder, write(declaration(ITEMS, [])))

@@ -31,7 +31,9 @@ picture() {
     }
 }
 
-picture nvme-auth nvme-auth.wq nvme-auth.assign
+picture nvme-auth nvme-auth.wq
+picture nvme-auth.kernel nvme-auth.wq nvme-auth.assign
 picture dm-snapshot dm-snapshot.wq
 picture dm-snapshot.merged dm-snapshot.wq dm-snapshot.merged.assign
 picture rbd rbd.wq
+picture nvmet-tcp.kernel nvmet-tcp.wq nvmet-tcp.assign

@@ -54,7 +54,10 @@ def one_of(texts):
     return rb'(' + b"|".join(map(re.escape, texts)) + rb')'
 
 
-ARROW = rb'  ' + NAME + rb' -> ' + NAME + one_of(LOOKS) + one_of(HEADS) + rb';'
+# The comment of the line that declares the flush, of 256 bytes at most.
+TOOLTIP = rb'(?: \[edgetooltip="((?:[ !#-%\'-\[\]-~]|\\"|\\\\|&amp;){1,256})"\])?'
+ARROW = rb'  ' + NAME + rb' -> ' + NAME + one_of(LOOKS) + one_of(HEADS) + TOOLTIP + rb';'
+ESCAPED = re.compile(rb'\\(.)|&amp;')
 
 
 class NotADrawing(Exception):
@@ -68,6 +71,7 @@ class Drawing:
     title: str
     workqueues: list  # by number, each as its groups, each of these as the names of its items
     arrows: list  # in order, each as the names of its item and of its target, `black`, `red` or `bold`, and whether it is whole
+    comments: list = dataclasses.field(default_factory=list)  # of each arrow, empty if it has none
 
     def workqueue_of(self):
         """By the name of an item, the number of its workqueue."""
@@ -160,15 +164,16 @@ def read_workqueues(reader):
 
 def read_arrows(reader, items):
     """The arrows, each between items. Those that are drawn from their targets are returned to their items."""
-    arrows, turned = [], []
+    arrows, turned, comments = [], [], []
     while match := reader.may_take(ARROW):
         one, other = match[1].decode(), match[2].decode()
         reader.must(one in items and other in items, "an end of this arrow is no item")
         colour, (back, whole) = LOOKS[match[3]], HEADS[match[4]]
         arrows.append((other, one, colour, whole) if back else (one, other, colour, whole))
         turned.append(back)
+        comments.append(ESCAPED.sub(lambda found: found[1] or b"&", match[5] or b"").decode())
     must_be_turned(reader, arrows, turned)
-    return arrows
+    return arrows, comments
 
 
 def must_be_turned(reader, arrows, turned):
@@ -219,7 +224,7 @@ def read(text):
     title = read_head(reader)
     workqueues = read_workqueues(reader)
     drawing = Drawing(title, workqueues, [])
-    drawing.arrows = read_arrows(reader, drawing.workqueue_of())
+    drawing.arrows, drawing.comments = read_arrows(reader, drawing.workqueue_of())
     reader.take(END, "a workqueue in front of all arrows, an arrow, or the end")
     reader.must(reader.at == len(reader.lines), "a line stands behind the end", reader.at + 1)
     must_fit_title(reader, drawing)

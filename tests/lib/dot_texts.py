@@ -33,8 +33,8 @@ PLAN = rb"""digraph wqplan {
   }
   "c_c" -> "a";
   "d-d" -> "7" [style=bold];
-  "d-d" -> "7" [arrowhead=odiamond];
-  "node" -> "b.x" [style=bold] [arrowhead=odiamond];
+  "d-d" -> "7" [arrowhead=odiamond] [edgetooltip="a \"b\" \\ &amp; c"];
+  "node" -> "b.x" [style=bold] [arrowhead=odiamond] [edgetooltip="#"];
 }
 """
 CIRCLE = rb"""digraph wqplan {
@@ -52,9 +52,9 @@ CIRCLE = rb"""digraph wqplan {
   "a" -> "b" [color=red, style=bold];
   "b" -> "b" [color=red, style=bold] [arrowhead=odiamond];
   "a" -> "b" [color=red, style=bold] [dir=back];
-  "a" -> "b" [color=red, style=bold] [dir=back, arrowtail=odiamond];
+  "a" -> "b" [color=red, style=bold] [dir=back, arrowtail=odiamond] [edgetooltip="%s"];
 }
-"""
+""".replace(b"%s", b"&amp;" * 256)
 EMPTY = rb"""digraph wqplan {
   graph [label="plan of 0 workqueues", labelloc=t, labeljust=l, rankdir=LR, nodesep=0.15, ranksep=1, fontname="sans-serif"];
   node [shape=box, style=filled, fillcolor=white, height=0.3, fontname="sans-serif", fontsize=12];
@@ -70,9 +70,11 @@ GOOD = [
     (PLAN, dot.Drawing(
         "plan of 3 workqueues, 2 waits in bold", [[["a"], ["7"]], [["b.x", "d-d"], ["c_c"]], [["node"]]],
         [("c_c", "a", "black", False), ("d-d", "7", "bold", False), ("d-d", "7", "black", True),
-         ("node", "b.x", "bold", True)])),
+         ("node", "b.x", "bold", True)],
+        ["", "", 'a "b" \\ & c', "#"])),
     (CIRCLE, dot.Drawing("can hang, 4 waits in red", [[], [["a"], ["b"]]],
-                         [("a", "b", "red", False), ("b", "b", "red", True), ("b", "a", "red", False), ("b", "a", "red", True)])),
+                         [("a", "b", "red", False), ("b", "b", "red", True), ("b", "a", "red", False), ("b", "a", "red", True)],
+                         ["", "", "", "&" * 256])),
     (EMPTY, dot.Drawing("plan of 0 workqueues", [], [])),
     (EMPTY.replace(b"plan of 0 workqueues", b"safe"), dot.Drawing("safe", [], [])),
 ]
@@ -181,6 +183,18 @@ BROKEN = [
     (PLAN, b'"7" [arrowhead=odiamond]', b'"7" [color=red][arrowhead=odiamond]', 25),
     (CIRCLE, b'  "b" -> "b" [color=red, style=bold] [arrowhead=odiamond];\n', b'  subgraph "cluster wq 2" {\n', 14),
     (CIRCLE, b'    "b";\n  }\n', b'    "b";\n  }\n  "a" -> "a";\n  "c";\n', 14),
+    # Tooltips.
+    (PLAN, b'edgetooltip="#"', b'edgetooltip=""', 26),
+    (PLAN, b'edgetooltip="#"', b'tooltip="#"', 26),
+    (PLAN, b'edgetooltip="#"', b'edgetooltip="&"', 26),
+    (PLAN, b'edgetooltip="#"', b'edgetooltip="&lt;"', 26),
+    (PLAN, b'edgetooltip="#"', b'edgetooltip="\\"', 26),
+    (PLAN, b'edgetooltip="#"', b'edgetooltip="\\n"', 26),
+    (PLAN, b'edgetooltip="#"', b'edgetooltip=""""', 26),
+    (PLAN, b'edgetooltip="#"', b'edgetooltip="\t"', 26),
+    (PLAN, b'edgetooltip="#"', b'edgetooltip="\xc3\xa4"', 26),
+    (PLAN, b' [arrowhead=odiamond] [edgetooltip="#"]', b' [edgetooltip="#"] [arrowhead=odiamond]', 26),
+    (CIRCLE, b"&amp;" * 256, b"&amp;" * 257, 16),
     # The end.
     (EMPTY, b"}\n", b"", 5),
     (EMPTY, b"}\n", b"}", 5),

@@ -70,7 +70,8 @@ DRAWING = (
     r' "wq N" \[shape=plaintext, style="", fontsize=14\];\n(    "Z";\n|    subgraph "cluster ordered Z" \{\n'
     r'      graph \[label="", style=dashed, color=black\]; "ordered Z" \[label="ordered", shape=plaintext, style=""\];\n'
     r'(      "Z";\n)+    \}\n)*  \}\n)*'
-    r'(  "Z" -> "Z"( \[LOOK\])?( \[(arrowhead=odiamond|dir=back(, arrowtail=odiamond)?)\])?;\n)*\}\n'
+    r'(  "Z" -> "Z"( \[LOOK\])?( \[(arrowhead=odiamond|dir=back(, arrowtail=odiamond)?)\])?'
+    r'( \[edgetooltip="([ !#-%\'-\[\]-~]|\\"|\\\\|&amp;)+"\])?;\n)*\}\n'
 )
 PLANNED = (r"plan of (1 workqueue|N workqueues)"
            r"(, (1 wait|N waits) in bold\\lBold: the chain that needs so many workqueues\.\\l)?")

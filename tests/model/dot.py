@@ -37,6 +37,10 @@ LEGEND = {
 }
 LOOKS = {b"bold": [b"style=bold"], b"red": [b"color=red", b"style=bold"]}
 
+# What is shown of a comment: how many bytes, and how some of them.
+SHOWN = 256
+ESCAPES = {b'"'[0]: rb'\"', b"\\"[0]: rb"\\", b"&"[0]: b"&amp;", b"\t"[0]: b" "}
+
 
 def followed(declared, printed):
     """The places of the flushes that the chain of a plan text follows."""
@@ -95,17 +99,32 @@ def turned_ends(declared):
     return {(item, target) for item, target in pairs if number[target] < number[item] and (target, item) in pairs}
 
 
-def arrow_line(ends, turned, whole, look):
+def comments(declaration_text):
+    """By the place of each flush the comment of its line."""
+    for line in declaration.split_lines(declaration_text):
+        words = declaration.split_words(line)
+        if words and words[0] in declaration.FLUSHES:
+            shown = line[len(declaration.before_comment(line)):].lstrip(b"# \t")[:SHOWN]
+            yield from [shown] * len(words[2:])
+
+
+def tooltip(comment):
+    """A comment as an attribute, with its escapes."""
+    shown = b"".join(ESCAPES.get(byte, b"%c" % byte if 32 <= byte < 127 else b"?") for byte in comment)
+    return [b'edgetooltip="%b"' % shown] if comment else []
+
+
+def arrow_line(ends, turned, whole, look, comment):
     """The flush of an item and its target. `look` is a list of attributes."""
     head = [b"dir=back"] if turned else []
     if whole:
         head.append(b"arrowtail=odiamond" if turned else b"arrowhead=odiamond")
-    attributes = b"".join(b" [%b]" % b", ".join(marks) for marks in (look, head) if marks)
+    attributes = b"".join(b" [%b]" % b", ".join(marks) for marks in (look, head, tooltip(comment)) if marks)
     return b'  "%b" -> "%b"%b;' % (*(ends[::-1] if turned else ends), attributes)
 
 
-def dot_text(declared, assignment, words, mark, places):
-    """The text. `words` is TITLE, and the flushes at these places have this mark."""
+def dot_text(declared, assignment, words, mark, places, said):
+    """The text. `words` is TITLE, the flushes at these places have this mark, and `said` are the comments of all, by place."""
     groups = [[] for _ in range(assignment.count)]
     for members in declared.groups:
         groups[assignment.workqueue_of[members[0]]].append(members)
@@ -113,9 +132,9 @@ def dot_text(declared, assignment, words, mark, places):
     for number in range(assignment.count):
         lines += workqueue_lines(number, groups[number])
     turned, marked = turned_ends(declared), set(places)
-    for place, ends in enumerate(declared.flushes):
+    for place, (ends, comment) in enumerate(zip(declared.flushes, said, strict=True)):
         whole = declared.directive_of[place] in declaration.FLUSHES_WHOLE
-        lines.append(arrow_line(ends, ends in turned, whole, LOOKS[mark] if place in marked else []))
+        lines.append(arrow_line(ends, ends in turned, whole, LOOKS[mark] if place in marked else [], comment))
     return [*lines, b"}"]
 
 
@@ -125,7 +144,7 @@ def answer(declaration_text, assignment_text=None):
         declared, assignment = read_texts(declaration_text, assignment_text)
     except Refused as refused:
         return refused.answer()
-    lines = dot_text(declared, *drawn(declared, assignment, declaration_text))
+    lines = dot_text(declared, *drawn(declared, assignment, declaration_text), comments(declaration_text))
     return b"".join(line + b"\n" for line in lines), 0
 
 

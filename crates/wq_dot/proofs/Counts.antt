@@ -112,13 +112,13 @@ module _ (p : List ℕ → Bool) (names : List (List ℕ)) (s : ℕ → Bool) (h
       ∙ sum_by-parts (λ i. one_if (s i)) (λ i. slice_index r.group_of i) r.groups items in_group
 
 -- the parts of a drawing
-count-drawing : (p : List ℕ → Bool) (t : Table) (r : Partition) (a : Assignment) (title : List ℕ) (looks : List FlushLook) → count_by p (head_lines title) ≡ 0 → p (codes "}") ≡ false
-    → count_by p (drawing_lines t r a title looks)
-    ≡ count_by p (flat_map (workqueue_box_lines t.names r.group_of a) (range_with_len 0 a.lanes)) + count_by p (map (flush_line t.names t.waits looks) (arcs_by_place t.waits r.group_of))
-count-drawing p t r a title looks head end =
+count-drawing : (p : List ℕ → Bool) (t : Table) (r : Partition) (a : Assignment) (title : List ℕ) (looks : List FlushLook) (comments : List (List ℕ)) → count_by p (head_lines title) ≡ 0 → p (codes "}") ≡ false
+    → count_by p (drawing_lines t r a title looks comments)
+    ≡ count_by p (flat_map (workqueue_box_lines t.names r.group_of a) (range_with_len 0 a.lanes)) + count_by p (map (flush_line t.names t.waits looks comments) (arcs_by_place t.waits r.group_of))
+count-drawing p t r a title looks comments head end =
     let w : List ℕ → ℕ = λ line. one_if (p line) in
     let workqueues : List (List ℕ) = flat_map (workqueue_box_lines t.names r.group_of a) (range_with_len 0 a.lanes) in
-    let arrows : List (List ℕ) = map (flush_line t.names t.waits looks) (arcs_by_place t.waits r.group_of) in
+    let arrows : List (List ℕ) = map (flush_line t.names t.waits looks comments) (arcs_by_place t.waits r.group_of) in
     let none : w (codes "}") ≡ 0 = ap one_if end in
     omega (
       arith,
@@ -164,18 +164,18 @@ named_as-is t table i j item other =
       ]
     ]
 
-pub one_line_each : (t : Table) (r : Partition) (a : Assignment) (title : List ℕ) (looks : List FlushLook) (i : ℕ) → IsTable t → IsPartition r → length r.group_of ≡ length t.names → IsAssignment r.groups a → i < length t.names
-    → count_by (is_line_of t.names i) (drawing_lines t r a title looks) ≡ 1
-one_line_each t r a title looks i table partition long assigned item =
+pub one_line_each : (t : Table) (r : Partition) (a : Assignment) (title : List ℕ) (looks : List FlushLook) (comments : List (List ℕ)) (i : ℕ) → IsTable t → IsPartition r → length r.group_of ≡ length t.names → IsAssignment r.groups a → i < length t.names
+    → count_by (is_line_of t.names i) (drawing_lines t r a title looks comments) ≡ 1
+one_line_each t r a title looks comments i table partition long assigned item =
     let p : List ℕ → Bool = is_line_of t.names i in
     let arcs : List WaitArc = arcs_by_place t.waits r.group_of in
-    let arrows : count_by p (map (flush_line t.names t.waits looks) arcs) ≡ 0 = sum_by-map (λ line. one_if (p line)) (flush_line t.names t.waits looks) arcs ∙ sum_by-zero arcs in
+    let arrows : count_by p (map (flush_line t.names t.waits looks comments) arcs) ≡ 0 = sum_by-map (λ line. one_if (p line)) (flush_line t.names t.waits looks comments) arcs ∙ sum_by-zero arcs in
     let items : count_by (named_as t.names i) (range_with_len 0 (length r.group_of)) ≡ 1 =
     sum_by-same (λ j. one_if (named_as t.names i j)) (λ j. one_if (i == j)) (range_with_len 0 (length r.group_of)) (
     All-range (λ j. one_if (named_as t.names i j) ≡ one_if (i == j)) (length r.group_of) (λ j below. ap one_if (named_as-is t table i j item (omega (arith, below, long))))
     )
     ∙ spot 1 i (length r.group_of) (omega (arith, item, long)) in
-    omega (arith, count-drawing p t r a title looks refl refl, count-workqueues p t.names (named_as t.names i) (TellsItems-line t.names i) r a partition assigned, items, arrows)
+    omega (arith, count-drawing p t r a title looks comments refl refl, count-workqueues p t.names (named_as t.names i) (TellsItems-line t.names i) r a partition assigned, items, arrows)
 
 -- ---- the arrow of a flush
 
@@ -191,14 +191,14 @@ TellsItems-arrow names = record {
   last = refl;
 }
 
-pub one_arrow_each : (t : Table) (r : Partition) (a : Assignment) (title : List ℕ) (looks : List FlushLook) → IsTable t → IsPartition r → IsAssignment r.groups a → count_by is_arrow (drawing_lines t r a title looks) ≡ flush_count t.waits
-one_arrow_each t r a title looks table partition assigned =
+pub one_arrow_each : (t : Table) (r : Partition) (a : Assignment) (title : List ℕ) (looks : List FlushLook) (comments : List (List ℕ)) → IsTable t → IsPartition r → IsAssignment r.groups a → count_by is_arrow (drawing_lines t r a title looks comments) ≡ flush_count t.waits
+one_arrow_each t r a title looks comments table partition assigned =
     let arcs : List WaitArc = arcs_by_place t.waits r.group_of in
-    let arrows : count_by is_arrow (map (flush_line t.names t.waits looks) arcs) ≡ length arcs = sum_by-map (λ line. one_if (is_arrow line)) (flush_line t.names t.waits looks) arcs ∙ sum_by-ones arcs in
+    let arrows : count_by is_arrow (map (flush_line t.names t.waits looks comments) arcs) ≡ length arcs = sum_by-map (λ line. one_if (is_arrow line)) (flush_line t.names t.waits looks comments) arcs ∙ sum_by-ones arcs in
     let items : count_by (λ (j : ℕ). false) (range_with_len 0 (length r.group_of)) ≡ 0 = sum_by-zero (range_with_len 0 (length r.group_of)) in
     omega (
       arith,
-      count-drawing is_arrow t r a title looks refl refl,
+      count-drawing is_arrow t r a title looks comments refl refl,
       count-workqueues is_arrow t.names (λ j. false) (TellsItems-arrow t.names) r a partition assigned,
       items,
       arrows,

@@ -8,4 +8,5 @@ pub mod Counts
 pub mod Marked
 pub mod Placed
 pub mod Taking
+pub mod WithinLimits
 mod OneDrawing

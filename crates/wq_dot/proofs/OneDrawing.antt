@@ -1,5 +1,5 @@
 -- A declaration has one drawing, and so has an assignment.
-use Rattle.std.proofs.Common.{◌≡◌, ◌⊎◌, Bool, false, true, inl, inr, ℕ, List, sym, ap, ◌∙◌}
+use Rattle.std.proofs.Common.{◌≡◌, Bool, false, true, inl, inr, ℕ, List, sym, ap, ◌∙◌}
 use Rattle.std.specs.Prelude.{codes}
 use Rattle.wq_items.specs.Chain.{HasCircle}
 use Rattle.wq_groups.specs.Declaration.{GroupWaits}
@@ -20,42 +20,43 @@ use Rattle.wq_circles.proofs.Safe.{AreComponents-unique}
 use Rattle.wq_dot.specs.declared.look.FlushLook.TheVariants.{Red, Bold}
 use Rattle.wq_dot.specs.Dotting.{circles_title, declared_looks, drawing_of, plan_title, Draws, DrawsAssigned, DrawsCircles, DrawsDeclared, DrawsGroups, DrawsOwn, DrawsPlan, DrawsTexts, OwnDraws}
 use Rattle.wq_dot.specs.Flushes.{all_arcs}
+use Rattle.wq_dot.specs.Tooltips.{comments_of}
 
-module _ (s : Declared) where
-  DrawsPlan-unique : (out printed : List ℕ) → DrawsPlan s out → DrawsPlan s printed → out ≡ printed
+module _ (s : Declared) (comments : List (List ℕ)) where
+  DrawsPlan-unique : (out printed : List ℕ) → DrawsPlan s comments out → DrawsPlan s comments printed → out ≡ printed
   DrawsPlan-unique out printed one two =
       let same : one.assignment ≡ two.assignment = IsPlan-unique (declared_waits s) one.assignment two.assignment one.plan two.plan in
-      one.drawn ∙ ap (λ (a : Assignment). drawing_of s a (plan_title a.lanes) (declared_looks s Bold (chain_of (group_graph (declared_waits s)) a.lane_of_group))) same ∙ sym two.drawn
+      one.drawn ∙ ap (λ (a : Assignment). drawing_of s a (plan_title a.lanes) (declared_looks s Bold (chain_of (group_graph (declared_waits s)) a.lane_of_group)) comments) same ∙ sym two.drawn
 
-  DrawsCircles-unique : (a : Assignment) (hanging out printed : List ℕ) → DrawsCircles s a hanging out → DrawsCircles s a hanging printed → out ≡ printed
+  DrawsCircles-unique : (a : Assignment) (hanging out printed : List ℕ) → DrawsCircles s comments a hanging out → DrawsCircles s comments a hanging printed → out ≡ printed
   DrawsCircles-unique a hanging out printed one two =
       let same : one.components ≡ two.components = AreComponents-unique (declared_waits s) a one.components two.components one.are two.are in
-      one.drawn ∙ ap (λ (components : List (List WaitArc)). drawing_of s a (circles_title hanging) (declared_looks s Red (all_arcs components))) same ∙ sym two.drawn
+      one.drawn ∙ ap (λ (components : List (List WaitArc)). drawing_of s a (circles_title hanging) (declared_looks s Red (all_arcs components)) comments) same ∙ sym two.drawn
 
   -- what has a plan has no circle
-  not_both : (out : List ℕ) → DrawsPlan s out → ¬ HasCircle (GroupWaits (declared_waits s)) s.partition.groups
+  not_both : (out : List ℕ) → DrawsPlan s comments out → ¬ HasCircle (GroupWaits (declared_waits s)) s.partition.groups
   not_both out drawn = IsPlan-no_circle (declared_waits s) drawn.assignment drawn.plan
 
-  DrawsGroups-unique : (out printed : List ℕ) → DrawsGroups s out → DrawsGroups s printed → out ≡ printed
+  DrawsGroups-unique : (out printed : List ℕ) → DrawsGroups s comments out → DrawsGroups s comments printed → out ≡ printed
   DrawsGroups-unique out printed (inl one) (inl two) = DrawsPlan-unique out printed one two
   DrawsGroups-unique out printed (inl one) (inr two) = absurd (not_both out one two.0)
   DrawsGroups-unique out printed (inr one) (inl two) = absurd (not_both printed two one.0)
   DrawsGroups-unique out printed (inr one) (inr two) = DrawsCircles-unique (own_lanes s.partition.groups) (codes "every assignment can hang") out printed one.1 two.1
 
-  DrawsDeclared-unique : (text : List ℕ) (end other : End) (out printed : List ℕ) → DrawsDeclared s text end out → DrawsDeclared s text other printed → (end ≡ other) × (out ≡ printed)
+  DrawsDeclared-unique : (text : List ℕ) (end other : End) (out printed : List ℕ) → DrawsDeclared s comments text end out → DrawsDeclared s comments text other printed → (end ≡ other) × (out ≡ printed)
   DrawsDeclared-unique text end other out printed =
-      MatchResult-unique (assignment_of_text s.table.names s.partition text) (DrawsAssigned s) (λ fault. PrintsRefusal (cert_refusal fault)) end other out printed
+      MatchResult-unique (assignment_of_text s.table.names s.partition text) (DrawsAssigned s comments) (λ fault. PrintsRefusal (cert_refusal fault)) end other out printed
       (λ a is one two. (one.0 ∙ sym two.0, DrawsCircles-unique a (codes "can hang") out printed one.1 two.1)) (λ fault. PrintsRefusal-unique (cert_refusal fault) end other out printed)
 
 pub Draws-unique : (declared text : List ℕ) (end other : End) (out printed : List ℕ) → Draws declared text end out → Draws declared text other printed → (end ≡ other) × (out ≡ printed)
 Draws-unique declared text end other out printed =
-    MatchResult-unique (declaration declared) (λ s. DrawsDeclared s text) PrintsRefusal end other out printed
-    (λ s is. DrawsDeclared-unique s text end other out printed) (λ r. PrintsRefusal-unique r end other out printed)
+    MatchResult-unique (declaration declared) (λ s. DrawsDeclared s (comments_of declared) text) PrintsRefusal end other out printed
+    (λ s is. DrawsDeclared-unique s (comments_of declared) text end other out printed) (λ r. PrintsRefusal-unique r end other out printed)
 
 pub OwnDraws-unique : (declared : List ℕ) (end other : End) (out printed : List ℕ) → OwnDraws declared end out → OwnDraws declared other printed → (end ≡ other) × (out ≡ printed)
 OwnDraws-unique declared end other out printed =
-    MatchResult-unique (declaration declared) DrawsOwn PrintsRefusal end other out printed
-    (λ s is one two. (one.0 ∙ sym two.0, DrawsGroups-unique s out printed one.1 two.1)) (λ r. PrintsRefusal-unique r end other out printed)
+    MatchResult-unique (declaration declared) (λ s. DrawsOwn s (comments_of declared)) PrintsRefusal end other out printed
+    (λ s is one two. (one.0 ∙ sym two.0, DrawsGroups-unique s (comments_of declared) out printed one.1 two.1)) (λ r. PrintsRefusal-unique r end other out printed)
 
 pub DrawsTexts-unique : (assigned : Bool) → HasOneAnswer (DrawsTexts assigned)
 DrawsTexts-unique true texts one other out printed first second =

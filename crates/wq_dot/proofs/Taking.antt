@@ -1,7 +1,8 @@
 -- The text that was read, and the text that there was: the answer to the prefix that was read is the answer to the text.
-use Rattle.std.proofs.Common.{◌≡◌, Bool, false, true, ℕ, ◌+◌, List, Result, subst}
+use Rattle.std.proofs.Common.{◌≡◌, Bool, false, true, ℕ, ◌+◌, inl, inr, List, length, Result, Ok, Err, refl, sym, subst, ◌∙◌, arith}
 use Rattle.std.specs.Prelude.{MatchResult, take}
-use Rattle.std.proofs.lemmas.Result.{MatchResult-weaker}
+use Rattle.std.proofs.lemmas.Bool.{cases_lt}
+use Rattle.std.proofs.lemmas.List.{take_all}
 use Rattle.wq_text.specs.Refusal.{Refusal}
 use Rattle.wq_groups.specs.Assignment.{Assignment}
 use Rattle.wq_meter.specs.Shell.{Given, kept}
@@ -13,27 +14,49 @@ use Rattle.wq_commands.specs.declared.end.End.{End}
 use Rattle.wq_commands.specs.declared.why.Outcome.{Outcome}
 use Rattle.wq_commands.specs.Answer.{PrintsRefusal}
 use Rattle.wq_commands.specs.Declaration.{Declared, declaration, max_declaration}
-use Rattle.wq_commands.proofs.AnswerLemmas.{declaration-take}
+use Rattle.wq_commands.proofs.AnswerLemmas.{declaration-take, too_long}
 use Rattle.wq_commands.proofs.CommandLemmas.{SaysAssigned-take, SaysDeclared-take}
+use Rattle.wq_dot.specs.Tooltips.{comments_of}
 use Rattle.wq_dot.specs.Dotting.{DrawsAssigned, DrawsDeclared, DrawsOwn, DrawsTexts, Draws, OwnDraws, dot_limits}
 
 -- ---- answers to prefixes
 
+-- what is a declaration was read to its end
+kept_whole : (text : List ℕ) (s : Declared) → declaration text ≡ Ok s → take (max_declaration + 1) text ≡ text
+kept_whole text s is = elim (cases_lt max_declaration (length text)) [
+  | inl long ↦ absurd (let never : Err (record { code = 1; line = 0 }) ≡ Ok s = sym (too_long text long) ∙ is in cc)
+  | inr short ↦ take_all (max_declaration + 1) text (omega (arith, short))
+]
+
 module _ (end : End) (out : List ℕ) where
-  DrawsDeclared-take : (text : List ℕ) (s : Declared) → DrawsDeclared s (take (max_certificate + 1) text) end out → DrawsDeclared s text end out
-  DrawsDeclared-take text s answer =
-      subst (λ (r : Result Assignment CertError). MatchResult r (λ a. DrawsAssigned s a end out) (λ fault. PrintsRefusal (cert_refusal fault) end out))
+  DrawsDeclared-take : (text : List ℕ) (comments : List (List ℕ)) (s : Declared) → DrawsDeclared s comments (take (max_certificate + 1) text) end out → DrawsDeclared s comments text end out
+  DrawsDeclared-take text comments s answer =
+      subst (λ (r : Result Assignment CertError). MatchResult r (λ a. DrawsAssigned s comments a end out) (λ fault. PrintsRefusal (cert_refusal fault) end out))
       (text_reading-take (assignment_reading s.table.names s.partition) text) answer
+
+  -- the answer to a declaration of this result, whose comments are those of these bytes
+  abbrev DrawsRead : List ℕ → List ℕ → Result Declared Refusal → Type 0
+  DrawsRead bytes text d = MatchResult d (λ s. DrawsDeclared s (comments_of bytes) text end out) (λ r. PrintsRefusal r end out)
+
+  DrawsRead-whole : (declared text : List ℕ) (d : Result Declared Refusal) → declaration declared ≡ d → DrawsRead (take (max_declaration + 1) declared) (take (max_certificate + 1) text) d → DrawsRead declared text d
+  DrawsRead-whole declared text (Ok s) is drawn =
+      DrawsDeclared-take text (comments_of declared) s (subst (λ (bytes : List ℕ). DrawsDeclared s (comments_of bytes) (take (max_certificate + 1) text) end out) (kept_whole declared s is) drawn)
+  DrawsRead-whole declared text (Err r) is refused = refused
 
   pub Draws-take : (declared text : List ℕ) → Draws (take (max_declaration + 1) declared) (take (max_certificate + 1) text) end out → Draws declared text end out
   Draws-take declared text answer =
-      MatchResult-weaker (declaration declared)
-      (subst (λ (d : Result Declared Refusal). MatchResult d (λ s. DrawsDeclared s (take (max_certificate + 1) text) end out) (λ r. PrintsRefusal r end out)) (declaration-take declared) answer)
-      (DrawsDeclared-take text) (λ r refused. refused)
+      DrawsRead-whole declared text (declaration declared) refl
+      (subst (DrawsRead (take (max_declaration + 1) declared) (take (max_certificate + 1) text)) (declaration-take declared) answer)
+
+  abbrev OwnDrawsRead : List ℕ → Result Declared Refusal → Type 0
+  OwnDrawsRead bytes d = MatchResult d (λ s. DrawsOwn s (comments_of bytes) end out) (λ r. PrintsRefusal r end out)
+
+  OwnDrawsRead-whole : (declared : List ℕ) (d : Result Declared Refusal) → declaration declared ≡ d → OwnDrawsRead (take (max_declaration + 1) declared) d → OwnDrawsRead declared d
+  OwnDrawsRead-whole declared (Ok s) is drawn = subst (λ (bytes : List ℕ). DrawsOwn s (comments_of bytes) end out) (kept_whole declared s is) drawn
+  OwnDrawsRead-whole declared (Err r) is refused = refused
 
   pub OwnDraws-take : (declared : List ℕ) → OwnDraws (take (max_declaration + 1) declared) end out → OwnDraws declared end out
-  OwnDraws-take declared answer =
-      subst (λ (d : Result Declared Refusal). MatchResult d (λ s. DrawsOwn s end out) (λ r. PrintsRefusal r end out)) (declaration-take declared) answer
+  OwnDraws-take declared answer = OwnDrawsRead-whole declared (declaration declared) refl (subst (OwnDrawsRead (take (max_declaration + 1) declared)) (declaration-take declared) answer)
 
 -- ---- the command
 

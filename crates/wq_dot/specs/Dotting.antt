@@ -22,6 +22,7 @@ use Rattle.wq_commands.specs.Why.{SaysAssigned, SaysDeclared}
 use Rattle.wq_circles.specs.Components.{AreComponents}
 use Rattle.wq_dot.specs.declared.look.FlushLook.{FlushLook}
 use Rattle.wq_dot.specs.declared.look.FlushLook.TheVariants.{Red, Bold}
+use Rattle.wq_dot.specs.Tooltips.{comments_of}
 use Rattle.wq_dot.specs.Drawing.{drawing_text}
 use Rattle.wq_dot.specs.Flushes.{all_arcs, looks_of, marked}
 
@@ -53,49 +54,50 @@ circles_title hanging n = if n == 0 then codes "safe" else hanging ++ codes "," 
 abbrev pub declared_looks : Declared → FlushLook → List WaitArc → List FlushLook
 declared_looks s look arcs = looks_of (flush_count s.table.waits) look arcs
 
--- the drawing of what is declared, on the workqueues of this assignment, with these looks; the title is made of their number of marks
-abbrev pub drawing_of : Declared → Assignment → (ℕ → List ℕ) → List FlushLook → List ℕ
-drawing_of s a title looks = drawing_text s.table s.partition a (title (marked looks)) looks
+-- the drawing of what is declared, on the workqueues of this assignment, with these looks and comments; the title is made of the
+-- number of looks that are marked
+abbrev pub drawing_of : Declared → Assignment → (ℕ → List ℕ) → List FlushLook → List (List ℕ) → List ℕ
+drawing_of s a title looks comments = drawing_text s.table s.partition a (title (marked looks)) looks comments
 
 -- the plan is drawn; the flushes along the chain of its plan text are bold
-pub record DrawsPlan (s : Declared) (out : List ℕ) : Type 0 where
+pub record DrawsPlan (s : Declared) (comments : List (List ℕ)) (out : List ℕ) : Type 0 where
   pub assignment : Assignment
   pub plan : IsPlan (declared_waits s) assignment
-  pub drawn : out ≡ drawing_of s assignment (plan_title assignment.lanes) (declared_looks s Bold (chain_of (group_graph (declared_waits s)) assignment.lane_of_group))
+  pub drawn : out ≡ drawing_of s assignment (plan_title assignment.lanes) (declared_looks s Bold (chain_of (group_graph (declared_waits s)) assignment.lane_of_group)) comments
 
 -- an assignment is drawn; the flushes that are on a circle are red, and if there are any, this is what hangs
-pub record DrawsCircles (s : Declared) (a : Assignment) (hanging out : List ℕ) : Type 0 where
+pub record DrawsCircles (s : Declared) (comments : List (List ℕ)) (a : Assignment) (hanging out : List ℕ) : Type 0 where
   pub components : List (List WaitArc)
   pub are : AreComponents (declared_waits s) a components
-  pub drawn : out ≡ drawing_of s a (circles_title hanging) (declared_looks s Red (all_arcs components))
+  pub drawn : out ≡ drawing_of s a (circles_title hanging) (declared_looks s Red (all_arcs components)) comments
 
--- the groups of a declaration are drawn: on the workqueues of their plan or, if they wait in a circle, each on its own
+-- the groups of a declaration are drawn, with the comments of its flushes: on the workqueues of their plan or, if they wait in a circle, each on its own
 -- workqueue
-abbrev pub DrawsGroups : Declared → List ℕ → Type 0
-DrawsGroups s out = DrawsPlan s out ⊎ (HasCircle (GroupWaits (declared_waits s)) s.partition.groups × DrawsCircles s (own_lanes s.partition.groups) (codes "every assignment can hang") out)
+abbrev pub DrawsGroups : Declared → List (List ℕ) → List ℕ → Type 0
+DrawsGroups s comments out = DrawsPlan s comments out ⊎ (HasCircle (GroupWaits (declared_waits s)) s.partition.groups × DrawsCircles s comments (own_lanes s.partition.groups) (codes "every assignment can hang") out)
 
 -- ---- answers
 
 -- the answer to an assignment of a declaration's groups
-abbrev pub DrawsAssigned : Declared → Assignment → End → List ℕ → Type 0
-DrawsAssigned s a end out = (end ≡ Good) × DrawsCircles s a (codes "can hang") out
+abbrev pub DrawsAssigned : Declared → List (List ℕ) → Assignment → End → List ℕ → Type 0
+DrawsAssigned s comments a end out = (end ≡ Good) × DrawsCircles s comments a (codes "can hang") out
 
 -- the answer to the text of an assignment of a declaration, or its refusal
-abbrev pub DrawsDeclared : Declared → List ℕ → End → List ℕ → Type 0
-DrawsDeclared s text end out =
-    MatchResult (assignment_of_text s.table.names s.partition text) (λ a. DrawsAssigned s a end out) (λ fault. PrintsRefusal (cert_refusal fault) end out)
+abbrev pub DrawsDeclared : Declared → List (List ℕ) → List ℕ → End → List ℕ → Type 0
+DrawsDeclared s comments text end out =
+    MatchResult (assignment_of_text s.table.names s.partition text) (λ a. DrawsAssigned s comments a end out) (λ fault. PrintsRefusal (cert_refusal fault) end out)
 
 -- the answer to the texts of a declaration and an assignment: a refusal of the declaration comes first
 abbrev pub Draws : List ℕ → List ℕ → End → List ℕ → Type 0
-Draws declared text end out = MatchResult (declaration declared) (λ s. DrawsDeclared s text end out) (λ r. PrintsRefusal r end out)
+Draws declared text end out = MatchResult (declaration declared) (λ s. DrawsDeclared s (comments_of declared) text end out) (λ r. PrintsRefusal r end out)
 
 -- the answer to the groups of a declaration
-abbrev pub DrawsOwn : Declared → End → List ℕ → Type 0
-DrawsOwn s end out = (end ≡ Good) × DrawsGroups s out
+abbrev pub DrawsOwn : Declared → List (List ℕ) → End → List ℕ → Type 0
+DrawsOwn s comments end out = (end ≡ Good) × DrawsGroups s comments out
 
 -- the answer to only the text of a declaration
 abbrev pub OwnDraws : List ℕ → End → List ℕ → Type 0
-OwnDraws declared end out = MatchResult (declaration declared) (λ s. DrawsOwn s end out) (λ r. PrintsRefusal r end out)
+OwnDraws declared end out = MatchResult (declaration declared) (λ s. DrawsOwn s (comments_of declared) end out) (λ r. PrintsRefusal r end out)
 
 -- ---- the command, with an assignment or without one
 

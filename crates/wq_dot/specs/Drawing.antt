@@ -11,6 +11,7 @@ use Rattle.wq_graph.specs.Graph.{arcs_by_place}
 use Rattle.wq_dot.specs.declared.look.FlushLook.{FlushLook}
 use Rattle.wq_dot.specs.declared.look.FlushLook.TheVariants.{Plain, Red, Bold}
 use Rattle.wq_cert.specs.PlanText.{name_of}
+use Rattle.wq_dot.specs.Tooltips.{tooltip_text}
 
 -- ---- the head
 
@@ -91,27 +92,28 @@ head_text true true = codes " [dir=back, arrowtail=odiamond]"
 abbrev pub ends_text : List (List ℕ) → ℕ → ℕ → List ℕ
 ends_text names one other = codes "  \"" ++ name_of names one ++ codes "\" -> \"" ++ name_of names other ++ codes "\""
 
--- a flush with this look, with its marks before the semicolon
-abbrev pub arrow_line : List (List ℕ) → List (List Target) → FlushLook → WaitArc → List ℕ
-arrow_line names waits look flush =
+-- a flush with this look and this comment, with its marks before the semicolon
+abbrev pub arrow_line : List (List ℕ) → List (List Target) → FlushLook → List ℕ → WaitArc → List ℕ
+arrow_line names waits look comment flush =
     let turned = is_turned waits flush in
     ends_text names (cond turned flush.dst flush.src) (cond turned flush.src flush.dst)
     ++ look_text look
     ++ head_text turned (is_whole_at waits flush)
+    ++ tooltip_text comment
     ++ codes ";"
 
--- the line of a flush, with the look that is at its place
-abbrev pub flush_line : List (List ℕ) → List (List Target) → List FlushLook → WaitArc → List ℕ
-flush_line names waits looks flush = arrow_line names waits (slice_index_or looks flush.place Plain) flush
+-- the line of a flush, with the look and the comment that are at its place
+abbrev pub flush_line : List (List ℕ) → List (List Target) → List FlushLook → List (List ℕ) → WaitArc → List ℕ
+flush_line names waits looks comments flush = arrow_line names waits (slice_index_or looks flush.place Plain) (slice_index_or comments flush.place []) flush
 
 -- ---- the text
 
 -- all lines: the head, each workqueue from 0 up, each flush in order of place, and the end
-abbrev pub drawing_lines : Table → Partition → Assignment → List ℕ → List FlushLook → List (List ℕ)
-drawing_lines t p a title looks =
+abbrev pub drawing_lines : Table → Partition → Assignment → List ℕ → List FlushLook → List (List ℕ) → List (List ℕ)
+drawing_lines t p a title looks comments =
     head_lines title
     ++ flat_map (workqueue_box_lines t.names p.group_of a) (range_with_len 0 a.lanes)
-    ++ map (flush_line t.names t.waits looks) (arcs_by_place t.waits p.group_of)
+    ++ map (flush_line t.names t.waits looks comments) (arcs_by_place t.waits p.group_of)
     ++ (codes "}" ∷ [])
 
 -- a line with its LF
@@ -119,5 +121,5 @@ abbrev pub ended : List ℕ → List ℕ
 ended line = line ++ (10 ∷ [])
 
 -- the text of the drawing
-abbrev pub drawing_text : Table → Partition → Assignment → List ℕ → List FlushLook → List ℕ
-drawing_text t p a title looks = flat_map ended (drawing_lines t p a title looks)
+abbrev pub drawing_text : Table → Partition → Assignment → List ℕ → List FlushLook → List (List ℕ) → List ℕ
+drawing_text t p a title looks comments = flat_map ended (drawing_lines t p a title looks comments)

@@ -1,5 +1,6 @@
 pub use Rattle.wq_plan.specs.Plan
 pub use Rattle.wq_circles.specs.Components
+pub mod Tooltips
 pub mod Drawing
 pub mod Laws
 pub mod Flushes

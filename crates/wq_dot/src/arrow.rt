@@ -10,6 +10,7 @@ ghost use Rattle.wq_items.specs.declared.target.Target.{Target};
 ghost use Rattle.wq_dot.specs.Drawing.{arrow_line, ended, ends_text, head_text, is_turned, is_whole_at, look_text};
 
 use crate::look::FlushLook;
+use crate::tooltip::put_tooltip;
 use std::alloc::{AllocError, Allocator};
 use wq_graph::WaitArc;
 use wq_items::{ItemId, ItemTable, Target};
@@ -101,20 +102,22 @@ fn put_ends<A: Allocator + Copy>(
     put(out, b"\"")
 }
 
-/// Adds the line of a flush with this look.
+/// Adds the line of a flush with this look and this comment.
 pub(crate) fn put_flush<A: Allocator + Copy>(
     out: &mut Vec<u8, A>,
     table: &ItemTable<'_, A>,
     flush: WaitArc,
     look: FlushLook,
+    comment: &[u8],
 ) -> Result<(), AllocError>
     requires item { flush.src < length table.now.names }
     requires target { flush.dst < length table.now.names }
-    ensures { OnOk result (out.new.items ≡ out.old.items ++ ended (arrow_line table.now.names table.now.waits look flush)) }
+    ensures { OnOk result (out.new.items ≡ out.old.items ++ ended (arrow_line table.now.names table.now.waits look comment.now flush)) }
 {
     let turned = is_turned(table, &flush);
     put_ends(out, table, tail(&flush, turned), tip(&flush, turned))?;
     put(out, look_text(look))?;
     put(out, head_text(turned, is_whole(table, flush)))?;
+    put_tooltip(out, comment)?;
     put(out, b";\n")
 }

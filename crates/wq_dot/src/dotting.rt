@@ -9,11 +9,15 @@ ghost use Rattle.wq_groups.specs.Declaration.{GroupWaits, declaration_of};
 ghost use Rattle.wq_core.specs.Wiring.{own_lanes};
 ghost use Rattle.wq_plan.specs.Solve.{IsPlanned, Solves};
 ghost use Rattle.wq_cert.specs.Texts.{assignment_of_text};
+ghost use Rattle.wq_text.specs.Limits.{limit_fault};
+ghost use Rattle.wq_commands.specs.Declaration.{max_declaration, max_declaration_line};
 ghost use Rattle.wq_commands.specs.declared.why.Which.TheVariants.{Certificate};
 ghost use Rattle.wq_commands.specs.Why.{SaysFault, SaysAssigned, SaysDeclared};
 ghost use Rattle.wq_circles.specs.Components.{AreComponents};
+ghost use Rattle.wq_dot.specs.Tooltips.{comments_of};
 ghost use Rattle.wq_dot.specs.Dotting.{DrawsAssigned, DrawsCircles, DrawsDeclared, DrawsGroups, DrawsOwn, DrawsPlan, DrawsTexts, Draws, OwnDraws};
 
+use crate::comments::comments;
 use crate::drawing::drawing_text;
 use crate::flushes::{bold_flushes, marked, red_flushes};
 use crate::titles::{circles_title, plan_title};
@@ -32,12 +36,13 @@ fn draw_plan<A: Allocator + Copy>(
     alloc: A,
     table: &ItemTable<'_, A>,
     groups: &Groups<A>,
+    comments: &[&[u8]],
     assignment: &Assignment<A>,
     chain: &[WaitArc],
 ) -> Result<Vec<u8, A>, AllocError>
     requires grouped { length groups.now.group_of ≡ length table.now.names }
     requires planned { IsPlanned (declaration_of table.now groups.now) assignment.now chain.now }
-    ensures { IfOk result (λ text. DrawsPlan (record { table = table.now; partition = groups.now }) text.items) }
+    ensures { IfOk result (λ text. DrawsPlan (record { table = table.now; partition = groups.now }) (map (λ c. c.now) comments.now) text.items) }
 {
     // What holds of every table and of all groups.
     let _items = table.len();
@@ -52,6 +57,7 @@ fn draw_plan<A: Allocator + Copy>(
         assignment,
         title.as_slice(),
         looks.as_slice(),
+        comments,
     )
 }
 
@@ -60,6 +66,7 @@ fn draw_components<A: Allocator + Copy>(
     alloc: A,
     table: &ItemTable<'_, A>,
     groups: &Groups<A>,
+    comments: &[&[u8]],
     assignment: &Assignment<A>,
     hanging: &[u8],
     components: &[Vec<WaitArc, A>],
@@ -68,7 +75,7 @@ fn draw_components<A: Allocator + Copy>(
     requires assigned { length assignment.now.lane_of_group ≡ groups.now.groups }
     requires found { AreComponents (declaration_of table.now groups.now) assignment.now (map (λ l. l.items) components.now) }
     ensures { IfOk result (λ text.
-        DrawsCircles (record { table = table.now; partition = groups.now }) assignment.now hanging.now text.items) }
+        DrawsCircles (record { table = table.now; partition = groups.now }) (map (λ c. c.now) comments.now) assignment.now hanging.now text.items) }
 {
     // What holds of every table, of all groups and of every assignment.
     let _items = table.len();
@@ -84,6 +91,7 @@ fn draw_components<A: Allocator + Copy>(
         assignment,
         title.as_slice(),
         looks.as_slice(),
+        comments,
     )
 }
 
@@ -92,16 +100,25 @@ fn draw_circles<A: Allocator + Copy>(
     alloc: A,
     table: &ItemTable<'_, A>,
     groups: &Groups<A>,
+    comments: &[&[u8]],
     assignment: &Assignment<A>,
     hanging: &[u8],
 ) -> Result<Vec<u8, A>, AllocError>
     requires grouped { length groups.now.group_of ≡ length table.now.names }
     requires assigned { length assignment.now.lane_of_group ≡ groups.now.groups }
     ensures { IfOk result (λ text.
-        DrawsCircles (record { table = table.now; partition = groups.now }) assignment.now hanging.now text.items) }
+        DrawsCircles (record { table = table.now; partition = groups.now }) (map (λ c. c.now) comments.now) assignment.now hanging.now text.items) }
 {
     let components = components(alloc, table, groups, assignment)?;
-    draw_components(alloc, table, groups, assignment, hanging, &components)
+    draw_components(
+        alloc,
+        table,
+        groups,
+        comments,
+        assignment,
+        hanging,
+        &components,
+    )
 }
 
 /// The drawing of groups, each of which has a workqueue of its own.
@@ -109,10 +126,11 @@ fn draw_own_lanes<A: Allocator + Copy>(
     alloc: A,
     table: &ItemTable<'_, A>,
     groups: &Groups<A>,
+    comments: &[&[u8]],
 ) -> Result<Vec<u8, A>, AllocError>
     requires { length groups.now.group_of ≡ length table.now.names }
     ensures { IfOk result (λ text.
-        DrawsCircles (record { table = table.now; partition = groups.now }) (own_lanes groups.now.groups)
+        DrawsCircles (record { table = table.now; partition = groups.now }) (map (λ c. c.now) comments.now) (own_lanes groups.now.groups)
         (codes "every assignment can hang") text.items) }
 {
     let assignment = own_lanes(alloc, groups)?;
@@ -120,6 +138,7 @@ fn draw_own_lanes<A: Allocator + Copy>(
         alloc,
         table,
         groups,
+        comments,
         &assignment,
         b"every assignment can hang",
     )
@@ -130,15 +149,18 @@ fn draw_answer<A: Allocator + Copy>(
     alloc: A,
     table: &ItemTable<'_, A>,
     groups: &Groups<A>,
+    comments: &[&[u8]],
     answer: &Answer<A>,
 ) -> Result<Vec<u8, A>, AllocError>
     requires grouped { length groups.now.group_of ≡ length table.now.names }
     requires solved { Solves (declaration_of table.now groups.now) answer.now }
-    ensures { IfOk result (λ text. DrawsGroups (record { table = table.now; partition = groups.now }) text.items) }
+    ensures { IfOk result (λ text. DrawsGroups (record { table = table.now; partition = groups.now }) (map (λ c. c.now) comments.now) text.items) }
 {
     match answer {
-        Answer::Plan { assignment, chain } => draw_plan(alloc, table, groups, assignment, chain),
-        Answer::Circle { .. } => draw_own_lanes(alloc, table, groups),
+        Answer::Plan { assignment, chain } => draw_plan(
+            alloc, table, groups, comments, assignment, chain,
+        ),
+        Answer::Circle { .. } => draw_own_lanes(alloc, table, groups, comments),
     }
 }
 
@@ -147,12 +169,13 @@ fn draw_groups<A: Allocator + Copy>(
     alloc: A,
     table: &ItemTable<'_, A>,
     groups: &Groups<A>,
+    comments: &[&[u8]],
 ) -> Result<Vec<u8, A>, AllocError>
     requires { length groups.now.group_of ≡ length table.now.names }
-    ensures { IfOk result (λ text. DrawsGroups (record { table = table.now; partition = groups.now }) text.items) }
+    ensures { IfOk result (λ text. DrawsGroups (record { table = table.now; partition = groups.now }) (map (λ c. c.now) comments.now) text.items) }
 {
     let answer = solve(alloc, table, groups)?;
-    draw_answer(alloc, table, groups, &answer)
+    draw_answer(alloc, table, groups, comments, &answer)
 }
 
 /// The answer to an assignment of these groups.
@@ -160,14 +183,15 @@ fn draw_assigned<A: Allocator + Copy>(
     alloc: A,
     table: &ItemTable<'_, A>,
     groups: &Groups<A>,
+    comments: &[&[u8]],
     assignment: &Assignment<A>,
 ) -> Result<Answered<A>, AllocError>
     requires grouped { length groups.now.group_of ≡ length table.now.names }
     requires assigned { length assignment.now.lane_of_group ≡ groups.now.groups }
-    ensures answer { IfOk result (λ a. DrawsAssigned (record { table = table.now; partition = groups.now }) assignment.now a.end a.text.items) }
+    ensures answer { IfOk result (λ a. DrawsAssigned (record { table = table.now; partition = groups.now }) (map (λ c. c.now) comments.now) assignment.now a.end a.text.items) }
     ensures why { IfOk result (λ a. a.why ≡ None) }
 {
-    let text = draw_circles(alloc, table, groups, assignment, b"can hang")?;
+    let text = draw_circles(alloc, table, groups, comments, assignment, b"can hang")?;
     Ok(Answered::plain(End::Good, text))
 }
 
@@ -176,12 +200,13 @@ fn draw_unassigned<A: Allocator + Copy>(
     alloc: A,
     table: &ItemTable<'_, A>,
     groups: &Groups<A>,
+    comments: &[&[u8]],
 ) -> Result<Answered<A>, AllocError>
     requires { length groups.now.group_of ≡ length table.now.names }
-    ensures answer { IfOk result (λ a. DrawsOwn (record { table = table.now; partition = groups.now }) a.end a.text.items) }
+    ensures answer { IfOk result (λ a. DrawsOwn (record { table = table.now; partition = groups.now }) (map (λ c. c.now) comments.now) a.end a.text.items) }
     ensures why { IfOk result (λ a. a.why ≡ None) }
 {
-    let text = draw_groups(alloc, table, groups)?;
+    let text = draw_groups(alloc, table, groups, comments)?;
     Ok(Answered::plain(End::Good, text))
 }
 
@@ -190,17 +215,18 @@ fn draw_declared<A: Allocator + Copy>(
     alloc: A,
     table: &ItemTable<'_, A>,
     groups: &Groups<A>,
+    comments: &[&[u8]],
     text: &[u8],
 ) -> Result<Answered<A>, AllocError>
     requires { length groups.now.group_of ≡ length table.now.names }
-    ensures answer { IfOk result (λ a. DrawsDeclared (record { table = table.now; partition = groups.now }) text.now a.end a.text.items) }
+    ensures answer { IfOk result (λ a. DrawsDeclared (record { table = table.now; partition = groups.now }) (map (λ c. c.now) comments.now) text.now a.end a.text.items) }
     ensures why { IfOk result (λ a. SaysFault Certificate (assignment_of_text table.now.names groups.now text.now) a.why) }
 {
     // What holds of all groups.
     let _groups = groups.len();
     match read_assignment(alloc, text, table, groups) {
         Ok(assignment) => {
-            let answer = draw_assigned(alloc, table, groups, &assignment);
+            let answer = draw_assigned(alloc, table, groups, comments, &assignment);
             // Written as a call, so that the proof has one step for it.
             drop(assignment);
             answer
@@ -208,6 +234,41 @@ fn draw_declared<A: Allocator + Copy>(
         Err(CertError::OutOfMemory) => Err(AllocError),
         Err(fault) => { Answered::refused(alloc, Which::Certificate, fault.code(), fault.line()) }
     }
+}
+
+/// The answer to the text of an assignment of these groups, whose declaration has this text.
+fn draw_commented<A: Allocator + Copy>(
+    alloc: A,
+    table: &ItemTable<'_, A>,
+    groups: &Groups<A>,
+    declared: &[u8],
+    text: &[u8],
+) -> Result<Answered<A>, AllocError>
+    requires grouped { length groups.now.group_of ≡ length table.now.names }
+    requires limits { limit_fault max_declaration max_declaration_line declared.now ≡ None }
+    ensures answer { IfOk result (λ a.
+        DrawsDeclared (record { table = table.now; partition = groups.now }) (comments_of declared.now) text.now a.end a.text.items) }
+    ensures why { IfOk result (λ a. SaysFault Certificate (assignment_of_text table.now.names groups.now text.now) a.why) }
+{
+    let comments = comments(alloc, declared)?;
+    draw_declared(alloc, table, groups, &comments, text)
+}
+
+/// The answer to these groups without an assignment, whose declaration has this text.
+fn draw_own_commented<A: Allocator + Copy>(
+    alloc: A,
+    table: &ItemTable<'_, A>,
+    groups: &Groups<A>,
+    declared: &[u8],
+) -> Result<Answered<A>, AllocError>
+    requires grouped { length groups.now.group_of ≡ length table.now.names }
+    requires limits { limit_fault max_declaration max_declaration_line declared.now ≡ None }
+    ensures answer { IfOk result (λ a.
+        DrawsOwn (record { table = table.now; partition = groups.now }) (comments_of declared.now) a.end a.text.items) }
+    ensures why { IfOk result (λ a. a.why ≡ None) }
+{
+    let comments = comments(alloc, declared)?;
+    draw_unassigned(alloc, table, groups, &comments)
 }
 
 /// The answer to the texts of a declaration and an assignment.
@@ -222,7 +283,7 @@ fn draw_both<A: Allocator + Copy>(
 {
     match read_declaration(alloc, seed, text) {
         Ok(declared) => {
-            let answer = draw_declared(alloc, &declared.table, &declared.groups, assigned);
+            let answer = draw_commented(alloc, &declared.table, &declared.groups, text, assigned);
             drop(declared);
             answer
         }
@@ -244,7 +305,7 @@ fn draw_own<A: Allocator + Copy>(
 {
     match read_declaration(alloc, seed, text) {
         Ok(declared) => {
-            let answer = draw_unassigned(alloc, &declared.table, &declared.groups);
+            let answer = draw_own_commented(alloc, &declared.table, &declared.groups, text);
             drop(declared);
             answer
         }

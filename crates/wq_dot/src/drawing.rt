@@ -3,11 +3,12 @@
 //! The format is that of "The command `dot`" in docs/FORMAT.md. Drawing takes time and memory in the number of items, groups,
 //! workqueues and flushes, and in the length of the text.
 
-ghost use Rattle.std.specs.Prelude.{◌≡◌, length, IfOk};
+ghost use Rattle.std.specs.Prelude.{◌≡◌, length, map, IfOk};
 ghost use Rattle.wq_items.specs.Table.{flush_count};
 ghost use Rattle.wq_dot.specs.Drawing.{drawing_text};
 
 use crate::arrow::put_flush;
+use crate::comments::comment_at;
 use crate::group_lanes::lanes_of_groups;
 use crate::head::put_head;
 use crate::look::FlushLook;
@@ -20,7 +21,7 @@ use wq_items::ItemTable;
 use wq_lines::put;
 
 /// The drawing of a table's items on the workqueues of an assignment, with this title. `looks` says how each flush looks, in
-/// order of place.
+/// order of place, and `comments` what its tooltip says: nothing if there is no comment at its place.
 ///
 /// The groups are those of the table's items, and each has a workqueue. The only error is out of memory (20).
 pub fn drawing_text<A: Allocator + Copy>(
@@ -30,11 +31,12 @@ pub fn drawing_text<A: Allocator + Copy>(
     assignment: &Assignment<A>,
     title: &[u8],
     looks: &[FlushLook],
+    comments: &[&[u8]],
 ) -> Result<Vec<u8, A>, AllocError>
     requires grouped { length groups.now.group_of ≡ length table.now.names }
     requires assigned { length assignment.now.lane_of_group ≡ groups.now.groups }
     requires looks { length looks.now ≡ flush_count table.now.waits }
-    ensures { IfOk result (λ text. text.items ≡ drawing_text table.now groups.now assignment.now title.now looks.now) }
+    ensures { IfOk result (λ text. text.items ≡ drawing_text table.now groups.now assignment.now title.now looks.now (map (λ c. c.now) comments.now)) }
 {
     let workqueues = assignment.lanes();
     let lanes = lanes_of_groups(alloc, assignment, groups.len())?;
@@ -46,7 +48,13 @@ pub fn drawing_text<A: Allocator + Copy>(
         put_workqueue(&mut out, table, groups, number, by_workqueue.places(number))?;
     }
     for flush in &flushes {
-        put_flush(&mut out, table, *flush, looks[flush.place as usize])?;
+        put_flush(
+            &mut out,
+            table,
+            *flush,
+            looks[flush.place as usize],
+            comment_at(comments, flush.place),
+        )?;
     }
     put(&mut out, b"}\n")?;
     Ok(out)

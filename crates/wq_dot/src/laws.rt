@@ -32,19 +32,19 @@ pub fn drawings_have_one_answer()
     ensures command { (assigned : Bool) → HasOneAnswer (DrawsTexts assigned) }
 {}
 
-/// Each item has exactly one line, whatever the title and the looks.
+/// Each item has exactly one line, whatever the title, the looks and the comments.
 pub fn each_item_has_one_line()
-    ensures { (t : Table) (p : Partition) (a : Assignment) (title : List ℕ) (looks : List FlushLook) (i : ℕ) →
+    ensures { (t : Table) (p : Partition) (a : Assignment) (title : List ℕ) (looks : List FlushLook) (comments : List (List ℕ)) (i : ℕ) →
         IsTable t → IsPartition p → length p.group_of ≡ length t.names → IsAssignment p.groups a → i < length t.names →
-        count_by (is_line_of t.names i) (drawing_lines t p a title looks) ≡ 1 }
+        count_by (is_line_of t.names i) (drawing_lines t p a title looks comments) ≡ 1 }
 {}
 
 /// Each flush has exactly one arrow: there are as many arrows as flushes, each of a declared flush, and their places are 0, 1, 2
 /// and so on.
 pub fn each_flush_has_one_arrow()
-    ensures arrows { (t : Table) (p : Partition) (a : Assignment) (title : List ℕ) (looks : List FlushLook) →
+    ensures arrows { (t : Table) (p : Partition) (a : Assignment) (title : List ℕ) (looks : List FlushLook) (comments : List (List ℕ)) →
         IsTable t → IsPartition p → IsAssignment p.groups a →
-        count_by is_arrow (drawing_lines t p a title looks) ≡ flush_count t.waits }
+        count_by is_arrow (drawing_lines t p a title looks comments) ≡ flush_count t.waits }
     ensures declared { (t : Table) (p : Partition) → IsTable t → All (IsArc t.waits p.group_of) (arcs_by_place t.waits p.group_of) }
     ensures places { (t : Table) (p : Partition) → IsTable t →
         map (λ (a : WaitArc). a.place) (arcs_by_place t.waits p.group_of) ≡ range_with_len 0 (flush_count t.waits) }

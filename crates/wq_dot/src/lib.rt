@@ -2,13 +2,14 @@
 //!
 //! What the layer above relies on: the bytes written are the drawing of the bytes read, or their refusal. A drawing is that of
 //! the plan, with the flushes that the chain of its plan text follows, or of an assignment, with those that lie on a circle. The
-//! text for Graphviz is the definition `drawing_text` of the items, the groups, the assignment, the title and the looks of the
-//! flushes, byte by byte. The rule is that of "The command `dot`" in docs/FORMAT.md. It takes the time of reading the texts, of
+//! text for Graphviz is the definition `drawing_text` of the items, the groups, the assignment, the title, and the looks and
+//! comments of the flushes, byte by byte. The rule is that of "The command `dot`" in docs/FORMAT.md. It takes the time of reading the texts, of
 //! the plan, of the components, of the drawing, and of writing it; a drawing takes time and memory in the number of items,
 //! groups, workqueues and flushes, and in the length of its text.
 #![tactic(auto)]
 
 mod arrow;
+mod comments;
 mod dot;
 mod dotting;
 mod drawing;
@@ -19,6 +20,7 @@ mod head;
 pub mod laws;
 mod look;
 mod titles;
+mod tooltip;
 mod workqueue;
 
 pub use dot::{DotCommand, dot_cmd, own_dot_cmd};

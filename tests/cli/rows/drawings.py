@@ -167,6 +167,22 @@ OWN = [
         EVERY_HANGS % 4, [["a"], ["b"]],
         ["a b [color=red, style=bold]", "a b [color=red, style=bold] [dir=back, arrowtail=odiamond]",
          "b b [color=red, style=bold]", "a b [color=red, style=bold] [dir=back]"])),
+    # The comment of a line is the tooltip of each of its flushes, with escapes; those of other lines are none.
+    (b'# of nothing\nitem a # of an item\nitem b\n\nitem c\nflush a b c #  two\t"of" them \\ & <more>\nordered c # c\n'
+     b"flushwq b c # \xc3\xa4 \x01\x7f\n", drawing(
+         "plan of 3 workqueues, " + BOLD % 2, [["c"], ["b"], ["a"]],
+         [r'a b [style=bold] [edgetooltip="two \"of\" them \\ &amp; <more>"]',
+          r'a c [edgetooltip="two \"of\" them \\ &amp; <more>"]',
+          'b c [style=bold] [arrowhead=odiamond] [edgetooltip="?? ??"]'])),
+    # A comment begins behind its `#`, perhaps several, and blanks; it may be empty, and have another `#`.
+    (b"item a\r\nflush a a#b # c \r\nflush a a ## # \td\r\nflush a a #\r\nflush a a # \t##\r\nflush a a\r\nflush a a # \x0b", drawing(
+        EVERY_HANGS % 6, [["a"]],
+        [f"a a [color=red, style=bold]{tooltip}" for tooltip in (
+            ' [edgetooltip="b # c "]', ' [edgetooltip="d"]', "", "", "", ' [edgetooltip="?"]')])),
+    # No more than 256 bytes of it are shown.
+    ("item a / flush a a # " + "x" * 256 + " / flush a a # " + "&" * 4000 + " / flush a a # " + "y" * 257, drawing(
+        EVERY_HANGS % 3, [["a"]],
+        [f'a a [color=red, style=bold] [edgetooltip="{shown * 256}"]' for shown in ("x", "&amp;", "y")])),
     # A flush within a group.
     ("item a / item b / ordered b a / flush a b / flush b b", drawing(
         EVERY_HANGS % 2, [["a b"]], ["a b [color=red, style=bold]", "b b [color=red, style=bold]"])),

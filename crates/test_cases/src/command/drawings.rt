@@ -95,6 +95,23 @@ digraph wqplan {
 }
 ";
 
+/// The drawing of an item that waits for itself twice, on lines with comments.
+const DRAWN_COMMENTS: &str = "\
+digraph wqplan {
+  graph [label=\"every assignment can hang, 2 waits in red\
+\\lRed: while memory is short, a worker may wait for work\\lthat only it, or one that waits for it, can do.\
+\\l\", labelloc=t, labeljust=l, rankdir=LR, nodesep=0.15, ranksep=1, fontname=\"sans-serif\"];
+  node [shape=box, style=filled, fillcolor=white, height=0.3, fontname=\"sans-serif\", fontsize=12];
+  edge [arrowsize=0.7];
+  subgraph \"cluster wq 0\" {
+    graph [label=\"\", style=filled, color=gray92]; \"wq 0\" [shape=plaintext, style=\"\", fontsize=14];
+    \"a\";
+  }
+  \"a\" -> \"a\" [color=red, style=bold] [edgetooltip=\"file.c:1 \\\"why\\\" \\\\ &amp; ??\"];
+  \"a\" -> \"a\" [color=red, style=bold] [arrowhead=odiamond] [edgetooltip=\"another\"];
+}
+";
+
 pub(crate) const DRAWINGS: &[Case] = &[
     Case {
         name: "a drawing of a plan",
@@ -110,6 +127,14 @@ pub(crate) const DRAWINGS: &[Case] = &[
         texts: &[GROUPED],
         end: End::Good,
         answer: DRAWN_GROUPS,
+        said: "",
+    },
+    Case {
+        name: "a drawing with comments",
+        command: PlainCommand::OwnDot,
+        texts: &["item a # an item\nflush a a # file.c:1 \"why\" \\ & é\nflushwq a a #another\n"],
+        end: End::Good,
+        answer: DRAWN_COMMENTS,
         said: "",
     },
     Case {

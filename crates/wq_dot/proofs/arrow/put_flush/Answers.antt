@@ -1,7 +1,8 @@
-use Rattle.std.proofs.Common.{◌≡◌, ◌++◌, ◌<◌, Bool, true, false, cond, ℕ, List, length, sym, refl, ap, ap₂, subst, ◌∙◌}
+use Rattle.std.proofs.Common.{◌≡◌, ◌++◌, ◌<◌, Bool, true, false, cond, ℕ, length, sym, refl, ap, ap₂, subst, ◌∙◌}
 use Rattle.std.specs.Prelude.{codes}
 use Rattle.std.proofs.lemmas.Result.{on_ok_weaker}
 use Rattle.wq_dot.specs.Drawing.{ends_text, head_text, is_turned, is_whole_at, look_text}
+use Rattle.wq_dot.specs.Tooltips.{tooltip_text}
 use Rattle.wq_dot.proofs.Pieces.{put_more, put_end}
 use Rattle.wq_dot.proofs.arrow.put_flush.Goals as goal
 
@@ -36,4 +37,6 @@ returns g c =
     let h1 : c.put_ends.new.out.items ≡ out ++ ends = c.in_ok-put_ends.ensures ∙ ap₂ (λ (i j : ℕ). out ++ ends_text names i j) one_is other_is in
     let h2 = put_more out ends _ look _ _ h1 c.in_ok-put.ensures.added c.look_text.ensures in
     let h3 = put_more out (ends ++ look) _ head _ _ h2 c.in_ok-put-2.ensures.added (c.head_text.ensures ∙ ap₂ head_text is c.is_whole.ensures) in
-    on_ok_weaker c.put-3.result (λ e. put_end out (ends ++ look ++ head) (codes ";") _ _ h3 e) c.put-3.ensures.added
+    let tooltip = tooltip_text c.args.comment.now in
+    let h4 = put_more out (ends ++ look ++ head) _ tooltip _ _ h3 c.in_ok-put_tooltip.ensures refl in
+    on_ok_weaker c.put-3.result (λ e. put_end out (ends ++ look ++ head ++ tooltip) (codes ";") _ _ h4 e) c.put-3.ensures.added

@@ -1,5 +1,5 @@
 use Rattle.std.proofs.lemmas.Result.{IfOk-weaker}
-use Rattle.std.proofs.Common.{◌≡◌, List, ℕ, false}
+use Rattle.std.proofs.Common.{List, ℕ, false}
 use Rattle.wq_meter.specs.Meter.{WritesWhole}
 use Rattle.wq_dot.specs.DotInput.{OwnDotInput}
 use Rattle.wq_commands.proofs.CommandLemmas.{ended_with, stopped_by, only_first}

@@ -49,6 +49,6 @@ returns g c =
     (λ text drawn. record {
       components = components;
       are = c.requires.found;
-      drawn = drawn ∙ ap₂ (λ (t : List ℕ) (l : List FlushLook). drawing_text s.table s.partition a t l) title looks;
+      drawn = drawn ∙ ap₂ (λ (t : List ℕ) (l : List FlushLook). drawing_text s.table s.partition a t l (map (λ v. v.now) c.args.comments.now)) title looks;
     })
     c.drawing_text.ensures

@@ -1,4 +1,4 @@
-use Rattle.std.proofs.Common.{ℕ, List, length, ap, subst, ◌∙◌}
+use Rattle.std.proofs.Common.{ℕ, List, length, map, ap, subst, ◌∙◌}
 use Rattle.std.specs.Prelude.{codes}
 use Rattle.std.proofs.lemmas.List.FromFn.{length-range_with_len}
 use Rattle.std.proofs.lemmas.Result.{IfOk-weaker}
@@ -17,4 +17,4 @@ returns g c =
     let s : Declared = record { table = c.args.table.now; partition = c.args.groups.now } in
     let hanging : List ℕ = codes "every assignment can hang" in
     IfOk-weaker c.draw_circles.result _ _
-    (λ text drawn. subst (λ (a : Assignment). DrawsCircles s a hanging text.items) c.in_ok-assignment.ensures.lanes drawn) c.draw_circles.ensures
+    (λ text drawn. subst (λ (a : Assignment). DrawsCircles s (map (λ v. v.now) c.args.comments.now) a hanging text.items) c.in_ok-assignment.ensures.lanes drawn) c.draw_circles.ensures

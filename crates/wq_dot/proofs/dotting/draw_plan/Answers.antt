@@ -1,4 +1,4 @@
-use Rattle.std.proofs.Common.{ℕ, List, length, ap, ap₂, ◌∙◌, arith}
+use Rattle.std.proofs.Common.{ℕ, List, length, map, ap, ap₂, ◌∙◌, arith}
 use Rattle.std.proofs.lemmas.List.FromFn.{length-map-range_with_len}
 use Rattle.std.proofs.lemmas.Result.{IfOk-weaker}
 use Rattle.wq_items.specs.Table.{flush_count}
@@ -49,6 +49,6 @@ returns g c =
       plan = c.requires.planned.plan;
       drawn =
           drawn
-          ∙ ap₂ (λ (t : List ℕ) (l : List FlushLook). drawing_text s.table s.partition a t l) title looks
-          ∙ ap (λ (l : List WaitArc). drawing_of s a (plan_title a.lanes) (declared_looks s Bold l)) c.requires.planned.longest;
+          ∙ ap₂ (λ (t : List ℕ) (l : List FlushLook). drawing_text s.table s.partition a t l (map (λ v. v.now) c.args.comments.now)) title looks
+          ∙ ap (λ (l : List WaitArc). drawing_of s a (plan_title a.lanes) (declared_looks s Bold l) (map (λ v. v.now) c.args.comments.now)) c.requires.planned.longest;
     }) c.drawing_text.ensures

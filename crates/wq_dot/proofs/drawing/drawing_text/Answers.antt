@@ -1,12 +1,13 @@
 use Rattle.std.proofs.Common.{◌≡◌, ◌<◌, ◌++◌, ℕ, List, length, map, sym, ap, subst, ◌∙◌, arith}
-use Rattle.std.specs.Prelude.{codes, flat_map}
+use Rattle.std.specs.Prelude.{codes, flat_map, slice_index_or}
 use Rattle.std.specs.List.{All, range_with_len}
 use Rattle.std.proofs.lemmas.List.{take_all}
 use Rattle.std.proofs.lemmas.List.FromFn.{length-map-range_with_len}
 use Rattle.wq_items.proofs.TableLemmas.{range_with_len-push}
 use Rattle.wq_buckets.specs.Places.{places_of, buckets_of}
 use Rattle.wq_graph.specs.declared.arc.WaitArc.{WaitArc}
-use Rattle.wq_dot.specs.Drawing.{box_lines, flush_line, head_lines, workqueue_box_lines}
+use Rattle.wq_dot.specs.declared.look.FlushLook.TheVariants.{Plain}
+use Rattle.wq_dot.specs.Drawing.{arrow_line, box_lines, ended, flush_line, head_lines, workqueue_box_lines}
 use Rattle.wq_dot.proofs.Arrows.{IsDrawable-at}
 use Rattle.wq_dot.proofs.Lines.{text_of, text_of-more, text_of-line, text_of-whole}
 use Rattle.wq_dot.proofs.Workqueues.{groups_on-below, groups_on-bucket}
@@ -61,14 +62,20 @@ put_flush-requires-clause-target g c = (
 
 pub loop-flush-preserved : goal.loop-flush-preserved
 loop-flush-preserved g c =
-    text_of-line (flush_line c.args.table.now.names c.args.table.now.waits c.args.looks.now) c.loop-number.out.items c.loop-flush.out.items _ c.deref-flush-items.result.now c.loop-flush.flush-index c.flush-item.result c.loop-flush-test.true
-    c.flush-item.is c.loop-flush.invariant c.in_ok-put_flush.ensures
+    let names = c.args.table.now.names in
+    let waits = c.args.table.now.waits in
+    let flush = c.flush-item.result in
+    let look = slice_index_or c.args.looks.now flush.place Plain in
+    text_of-line (flush_line names waits c.args.looks.now (map (λ v. v.now) c.args.comments.now)) c.loop-number.out.items c.loop-flush.out.items _ c.deref-flush-items.result.now c.loop-flush.flush-index c.flush-item.result c.loop-flush-test.true
+    c.flush-item.is c.loop-flush.invariant
+    (c.in_ok-put_flush.ensures ∙ ap (λ (b : List ℕ). c.loop-flush.out.items ++ ended (arrow_line names waits look b flush)) c.comment_at.ensures)
 
 pub returns : goal.returns
 returns g c =
     let t = c.args.table.now in
     let a = c.args.assignment.now in
     let looks = c.args.looks.now in
+    let comments = map (λ v. v.now) c.args.comments.now in
     let group_of = c.args.groups.now.group_of in
     let number = c.loop-number.number in
     let drawn = c.deref-flush-items.result.now in
@@ -77,6 +84,6 @@ returns g c =
     let all : number ≡ a.lanes = omega (arith, c.loop-number-test.false, c.loop-number.auto.number-end, c.lanes-workqueues.ensures.lanes) in
     let boxes = c.loop-number.invariant ∙ ap (λ (n : ℕ). out ++ text_of (flat_map workqueues (range_with_len 0 n))) all in
     let arcs = take_all c.loop-flush.flush-index drawn (omega (arith, c.loop-flush-test.false, c.loop-flush.auto.flush-index-end)) ∙ c.deref-flush-items.ensures.value ∙ c.in_ok-flushes.ensures.arcs in
-    let arrows = c.loop-flush.invariant ∙ ap (λ (l : List WaitArc). c.loop-number.out.items ++ text_of (map (flush_line t.names t.waits looks) l)) arcs in
+    let arrows = c.loop-flush.invariant ∙ ap (λ (l : List WaitArc). c.loop-number.out.items ++ text_of (map (flush_line t.names t.waits looks comments) l)) arcs in
     let head = c.in_ok-put_head.ensures ∙ ap (λ (o : List ℕ). o ++ text_of (head_lines c.args.title.now)) c.new-out.ensures.items in
-    text_of-whole (head_lines c.args.title.now) (flat_map workqueues (range_with_len 0 a.lanes)) (map (flush_line t.names t.waits looks) _) (codes "}") _ _ _ _ head boxes arrows c.in_ok-put.ensures.added
+    text_of-whole (head_lines c.args.title.now) (flat_map workqueues (range_with_len 0 a.lanes)) (map (flush_line t.names t.waits looks comments) _) (codes "}") _ _ _ _ head boxes arrows c.in_ok-put.ensures.added

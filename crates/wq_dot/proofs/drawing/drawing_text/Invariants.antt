@@ -11,4 +11,4 @@ invariant-loop-number g l = l.out.items ≡ l.initial.out.items ++ text_of (flat
 
 -- these, and the flushes so far
 abbrev pub invariant-loop-flush : goal.invariant-loop-flush
-invariant-loop-flush g l = l.out.items ≡ l.initial.out.items ++ text_of (map (flush_line l.table.names l.table.waits l.looks) (take l.flush-index l.flush-items))
+invariant-loop-flush g l = l.out.items ≡ l.initial.out.items ++ text_of (map (flush_line l.table.names l.table.waits l.looks (map (λ v. v.now) l.comments)) (take l.flush-index l.flush-items))
