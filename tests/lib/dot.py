@@ -17,7 +17,8 @@ WORDS = re.compile(rf"plan of (?:1 workqueue|(?:0|[2-9]|[1-9][0-9]+) workqueues)
                    rf"|safe|(?:every assignment )?can hang{WAITS}red")
 LEGENDS = {
     "bold": r"\lBold: the chain that needs so many workqueues.\l",
-    "red": r"\lRed: while memory is short, a worker may wait for work\lthat only it, or one that waits for it, can do.\l",
+    "red": r"\lRed: while memory is short, a worker may wait for work"
+           r"\lthat only it, or one that waits for it, can do.\l",
 }
 HEAD = [
     rb'digraph wqplan \{',
@@ -39,7 +40,7 @@ END_OF_ORDERED = rb'    \}'
 END_OF_WORKQUEUE = rb'  \}'
 END = rb'\}'
 
-# How an arrow looks: its colour; and its head: whether it is drawn from its target, and whether it waits for a whole workqueue.
+# How an arrow looks: its colour; and its head: whether it is drawn from its target, and whether it is of a whole workqueue.
 LOOKS = {b"": "black", b" [color=red, style=bold]": "red", b" [style=bold]": "bold"}
 HEADS = {
     b"": (False, False),

@@ -28,6 +28,7 @@ SECONDS = 60  # for one drawing
 NEAR = 1.5  # points: arrows that are nearer lie on one another
 MOST = 2 / 3  # of the way of an arrow
 CROWDED = 0.03  # of the random drawings may have such arrows
+AROUND = [(across, up) for across in (-1, 0, 1) for up in (-1, 0, 1)]
 
 Label = collections.namedtuple("Label", "words left bottom right top")
 Arrow = collections.namedtuple("Arrow", "item target way")
@@ -43,6 +44,12 @@ def curve(points):
             before = 1 - after
             weights = (before ** 3, 3 * before ** 2 * after, 3 * before * after ** 2, after ** 3)
             yield tuple(sum(weight * point[axis] for weight, point in zip(weights, ends)) for axis in (0, 1))
+
+
+def way_of(edge):
+    """The points on the curves of an arrow."""
+    curves = [operation["points"] for operation in edge["_draw_"] if operation["op"] == "b"]
+    return [point for points in curves for point in curve(points)]
 
 
 def labels_of(part):
@@ -64,10 +71,7 @@ def laid(drawing):
     parts = graph.get("objects", [])
     names = {part["_gvid"]: part["name"] for part in parts}
     labels = [(part.get("name"), label) for part in [graph, *parts] for label in labels_of(part)]
-    arrows = [Arrow(names[edge["tail"]], names[edge["head"]],
-                    [point for operation in edge["_draw_"] if operation["op"] == "b" for point in curve(operation["points"])])
-              for edge in graph.get("edges", [])]
-    return labels, arrows
+    return labels, [Arrow(names[edge["tail"]], names[edge["head"]], way_of(edge)) for edge in graph.get("edges", [])]
 
 
 def crosses(arrow, label):
@@ -79,10 +83,9 @@ def share_on(one, other):
     """Which part of the way of an arrow lies on another one."""
     cells = collections.defaultdict(list)
     for x, y in other.way:
-        cells[x // NEAR, y // NEAR].append((x, y))
-    near = sum(any(math.dist((x, y), point) < NEAR
-                   for across in (-1, 0, 1) for up in (-1, 0, 1) for point in cells.get((x // NEAR + across, y // NEAR + up), ()))
-               for x, y in one.way)
+        for across, up in AROUND:
+            cells[x // NEAR + across, y // NEAR + up].append((x, y))
+    near = sum(any(math.dist((x, y), point) < NEAR for point in cells.get((x // NEAR, y // NEAR), ())) for x, y in one.way)
     return near / len(one.way)
 
 
@@ -127,7 +130,8 @@ def self_test():
     """What is wrong with this script: it must see the faults of two drawings that were made to have them."""
     head = b'digraph { rankdir=LR; ranksep=1; node [shape=box]; '
     labels, arrows = laid(head + b'a -> c; b -> d; subgraph cluster { label="a long label of this box"; c; } }')
-    through = arrows[0]._replace(way=[(label.left + 1, label.bottom + 1) for _, label in labels if label.words.startswith("a ")])
+    label = next(label for _, label in labels if label.words.startswith("a "))
+    through = arrows[0]._replace(way=[(label.left + 1, label.bottom + 1)])
     if not list(crossed(labels, [through])) or list(crossed(labels, arrows[1:])):
         yield "an arrow through a label isn't seen, or one is seen that isn't there"
     labels, arrows = laid(head + b'a -> b; b -> a [dir=back]; a -> b }')
@@ -146,7 +150,7 @@ def has_graphviz():
 def main(seed="1", count="120"):
     """The exit status."""
     if not has_graphviz():
-        print("dot: skipped how arrows are laid: there is no program dot, and apt-get install graphviz doesn't bring it")
+        print("dot: skipped how arrows are laid: there is no program dot, and apt-get doesn't bring graphviz")
         return 0
     faults = list(self_test())
     cases = dict(examples())

@@ -124,7 +124,7 @@ def arrow_line(ends, turned, whole, look, comment):
 
 
 def dot_text(declared, assignment, words, mark, places, said):
-    """The text. `words` is TITLE, the flushes at these places have this mark, and `said` are the comments of all, by place."""
+    """The text. `words` is TITLE, the flushes at these places have this mark, and `said` are the comments by place."""
     groups = [[] for _ in range(assignment.count)]
     for members in declared.groups:
         groups[assignment.workqueue_of[members[0]]].append(members)
