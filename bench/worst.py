@@ -241,11 +241,14 @@ def declarations():
     yield "groups of two, a chain of them", declaration(ITEMS, [(i, (i + 2) % ITEMS) for i in range(ITEMS - 2) for _ in range(4)], [[i, i + 1] for i in range(0, ITEMS, 2)])
 
 
+COLLIDING = "names that collide for the seed 0"
+
+
 def texts():
     """Declarations that are long rather than hard."""
     lines = declaration(ITEMS, falling(3), name=long)[:MOST_DECLARATION]
     yield "the longest names", lines[:lines.rindex("\n") + 1]
-    yield "names that collide for the seed 0", collisions.declaration(ITEMS, FLUSHES)
+    yield COLLIDING, collisions.declaration(ITEMS, FLUSHES)
     yield "empty lines alone", "\n" * MOST_DECLARATION
     yield "comments alone", ("#" * MOST_LINE + "\n") * (MOST_DECLARATION // (MOST_LINE + 1))
     yield "lines of spaces", (" " * MOST_LINE + "\n") * (MOST_DECLARATION // (MOST_LINE + 1))
@@ -296,6 +299,15 @@ def cases(program, folder, write, most_run=MOST_CERTIFICATE):
         yield "plan", name, [path]
         if "comments" in name:
             yield "dot", name, [path]
+        if name == COLLIDING:
+            plan = program.answer("plan", folder, path)
+            queues = write("".join(line for line in plan.splitlines(True) if line.startswith("wq")))
+            steps = [line.replace("item", "queue") for line in text.splitlines(True) if line.startswith("item")]
+            yield "check", name, [path, write(plan)]
+            yield "replay", name, [path, queues, write(f"run {len(steps)}\n" + "".join(steps))]
+            yield "run", name, [path]
+            for command in "deadlock", "circles", "dot":
+                yield command, name, [path, queues]
     path = write(declaration(ITEMS, [(0, 1), (1, 0)]))
     circle_alone = program.answer("plan", folder, path).partition("run ")[0]
     plan_alone = program.answer("plan", folder, write(declaration(ITEMS, [])))
