@@ -18,7 +18,7 @@
 #     edits      all wrong bodies of tests/edits, which takes hours, and the script that tries them
 #
 # wqplan is the one at crates/wqplan/out or, where there is none, the one that install.sh built in ~/.cache/wqplan or
-# $XDG_CACHE_HOME/wqplan; test_runtime and example_rdisk are at crates/NAME/out. The variables WQPLAN, TEST_RUNTIME and
+# $XDG_CACHE_HOME/wqplan, or else the one on the PATH; test_runtime and example_rdisk are at crates/NAME/out. The variables WQPLAN, TEST_RUNTIME and
 # EXAMPLE_RDISK name others, as in `WQPLAN=/tmp/wqplan bash tests/run.sh cli model`. The gate doesn't heed them.
 #
 # What the toolchain says of a crate has the seconds since the start beside it. At the end come when each crate was proved,
@@ -112,6 +112,7 @@ status=0
 
 # The other programs: the gate's, or for the parts the wqplan that is installed.
 installed=${XDG_CACHE_HOME:-${HOME-}/.cache}/wqplan/crates/wqplan/out/wqplan
+[ -x "$installed" ] || installed=$(command -v wqplan)
 if [ ${#asked[@]} -gt 0 ] && [ ! -x crates/wqplan/out/wqplan ] && [ -x "$installed" ]; then
     : "${programs[WQPLAN]:=$installed}"
 fi
