@@ -1,0 +1,240 @@
+"""What a kernel is asked, and whether it does what the model says: cases, their commands for the module (module/main.c has the list), and
+how their outcomes are judged."""
+
+import dataclasses
+
+import guest
+import model
+
+# How a workqueue is made, by the letter of its kind: its arguments of the module's command `wq` behind KIND, and in words.
+KINDS = {
+    "p": ("per CPU", "p"),
+    "u": ("WQ_UNBOUND", "u"),
+    "o": ("ordered", "o"),
+    "1": ("per CPU, max_active 1", "p"),
+}
+
+WORDS = {"w": "wait", "W": "waitwq"}
+
+
+@dataclasses.dataclass
+class Setting:
+    """A declaration and an assignment, and how its workqueues are made."""
+
+    declaration: object
+    assignment: object
+    kinds: list  # by workqueue, its letter
+    without_rescuer: frozenset = frozenset()  # workqueues
+
+    def commands(self):
+        for workqueue, kind in enumerate(self.kinds):
+            rescuer = 0 if workqueue in self.without_rescuer else 1
+            yield f"wq {KINDS[kind][1]} {rescuer}{' 1' if kind == '1' else ''}"
+        for item in self.declaration.items:
+            yield f"item {self.assignment.workqueue_of[item]}"
+
+    def number_of(self, item):
+        return self.declaration.items.index(item)
+
+    def workqueues_with_rescuer(self):
+        return [workqueue for workqueue in range(self.assignment.count) if workqueue not in self.without_rescuer]
+
+
+class Case:
+    """A case. `judge` says in words what is otherwise than the model says, or nothing."""
+
+    def __init__(self, name, setting):
+        self.name, self.setting = name, setting
+        self.outcome = None  # a guest.Outcome, once a guest has run it
+
+    def who_ran(self):
+        """Who executed its items: of each execution R, N or ?."""
+        return [by for letter, _, _, by in self.outcome.events if letter == "s"]
+
+    def ended(self):
+        """Whether all items are finished."""
+        return self.outcome.states["end"][0]
+
+    def judge(self, machine=model.State, only_rescuers=True):
+        if self.outcome is None or "end" not in self.outcome.states:
+            return "the guest printed no result"
+        if only_rescuers and set(self.who_ran()) - {"R"}:
+            return "an item was executed by somebody else than its workqueue's rescuer"
+        try:
+            return self.compare(machine)
+        except NotLawful as step:
+            return f"step {step} isn't lawful by the model"
+
+    def differs(self, word, expected):
+        """Whether the state that the module printed at this word isn't this one."""
+        done, where = self.outcome.states[word]
+        if where == expected and done == (not expected):
+            return ""
+        return f"the model has {self.shown(expected)}; the kernel {self.shown(where)}"
+
+    def shown(self, where):
+        return "; ".join(self.lines(where)) or "all items finished"
+
+    def lines(self, where):
+        """Where items are, in words."""
+        items = self.setting.declaration.items
+        for number, item in enumerate(items):
+            at = where.get(number, "")
+            if "p" in at:
+                yield f"{item.decode()} is pending on workqueue {self.setting.assignment.workqueue_of[item]}"
+            if "r" in at:
+                wait = at.partition("r")[2]
+                line = f"{item.decode()} runs on workqueue {self.setting.assignment.workqueue_of[item]}"
+                if wait:
+                    target = items[int(wait[1:].rstrip("~"))].decode()
+                    line += f", and waits for {'the workqueue of ' if wait[0] == 'W' else ''}{target}"
+                    line += ", but doesn't sleep" if "~" in wait else ""
+                yield line
+
+
+class NotLawful(Exception):
+    """A step isn't lawful by the machine that a case is judged by."""
+
+
+class FreeCase(Case):
+    """All items are queued once, in this order, and each makes its declared waits by itself."""
+
+    def __init__(self, name, setting, order, cpus=None):
+        super().__init__(name, setting)
+        self.order = order
+        self.cpus = cpus or {}  # by item, the CPU on which it is queued, where it isn't any
+        self.is_exact = len(set(self.cpus.values())) <= 1
+
+    def setup(self):
+        yield "free"
+        yield from self.setting.commands()
+        declaration = self.setting.declaration
+        for (item, target), directive in zip(declaration.flushes, declaration.directive_of):
+            yield f"does {self.setting.number_of(item)} {directive.decode()} {self.setting.number_of(target)}"
+
+    def commands(self):
+        words = [str(self.setting.number_of(item)) + (f"@{self.cpus[item]}" if item in self.cpus else "") for item in self.order]
+        yield "queueall " + " ".join(words)
+        yield "end"
+
+    def expected(self, machine=model.State):
+        """Where the items are in the end."""
+        state = machine(self.setting.declaration, self.setting.assignment)
+        for item in self.order:
+            state.make((b"queue", None, item))
+        model.make_as_declared(state, self.setting.workqueues_with_rescuer())
+        return model.where_items_are(state)
+
+    def compare(self, machine):
+        expected = self.expected(machine)
+        # With entries on the lists of several CPUs the order of queueing is one among several: only `safe` says how that ends.
+        if expected and not self.is_exact:
+            return ""
+        return self.differs("end", expected)
+
+
+class DrivenCase(Case):
+    """The steps of a run are made one by one."""
+
+    def __init__(self, name, setting, steps):
+        super().__init__(name, setting)
+        self.steps = steps
+
+    def setup(self):
+        yield "driven"
+        yield from self.setting.commands()
+
+    def commands(self):
+        on = {}
+        for word, workqueue, name in self.steps:
+            item = name
+            if word == b"start":
+                on[workqueue] = name
+            elif workqueue is not None:
+                item = on[workqueue]
+            words = [word.decode().removesuffix("wq") if word == b"overwq" else word.decode(), str(self.setting.number_of(item))]
+            if word in (b"wait", b"waitwq"):
+                words.append(str(self.setting.number_of(name)))
+            yield " ".join(words)
+        yield "state run"
+        yield "end"
+
+    def states(self, machine=model.State):
+        """The state before the first step, and after each one."""
+        state = machine(self.setting.declaration, self.setting.assignment)
+        yield state
+        for number, step in enumerate(self.steps, 1):
+            if not state.may(step):
+                raise NotLawful(number)
+            state.make(step)
+            yield state
+
+    def compare(self, machine):
+        overs = [model.overs_of(state) for state in self.states(machine)]
+        why = self.compare_events(overs)
+        if why:
+            return why
+        *_, state = self.states(machine)
+        expected = model.where_items_are(state)
+        # Where the run ends stuck, nothing happens either when each item may start as soon as its rescuer is idle.
+        return self.differs("run", expected) or (self.differs("end", expected) if state.is_stuck() else "")
+
+    def compare_events(self, overs):
+        """Each step happens; and no wait is over before it may be. `overs` has the waits that may be, before the steps and after each."""
+        made = 0
+        items = self.setting.declaration.items
+        for letter, number, _, _ in self.outcome.events:
+            if letter == "!":
+                return f"step {number} ({self.step(number)}) doesn't happen in the kernel"
+            if letter == "|":
+                made = number
+            # It is noted between the marks of two steps: it belongs to the state that the first left, or the second.
+            if letter == "o" and made <= len(self.steps) and items[number] not in set().union(*overs[made:made + 2]):
+                return f"after step {made} the wait of {items[number].decode()} is over in the kernel, and may not be by the model"
+        return ""
+
+    def step(self, number):
+        word, workqueue, name = self.steps[number - 1]
+        return b" ".join([word, name] if workqueue is None else [word, b"%d" % workqueue, name]).decode()
+
+
+# Guests --------------------------------------------------------------------------------------------------------------------------
+
+# So many cases in one guest: each keeps its workqueues, and their rescuers, to its end.
+MOST_CASES = 400
+
+WEATHERS = {
+    "short": "no worker can be created, and all that exist sleep",
+    "free": "no worker can be created, and two of each pool are free",
+    "plenty": "workers can be created",
+}
+
+
+def weather_commands(weather):
+    if weather == "plenty":
+        return []
+    return ["threads-max 1", "short" if weather == "short" else "free 2"]
+
+
+def commands_of(cases, weather):
+    """The commands for a guest."""
+    lines = []
+    for number, case in enumerate(cases):
+        how, *setup = case.setup()
+        lines += [f"case {number} {how}", *setup]
+    lines += ["blockers", *weather_commands(weather)]
+    for number, case in enumerate(cases):
+        lines += [f"at {number}", *case.commands()]
+    return "".join(line + "\n" for line in lines)
+
+
+def run(kernel, cases, cpus=1, weather="short"):
+    """Has guests run the cases, which keep their outcomes. The consoles are handed back."""
+    consoles = []
+    for first in range(0, len(cases), MOST_CASES):
+        part = cases[first:first + MOST_CASES]
+        outcomes, console = guest.run(kernel, commands_of(part, weather), cpus)
+        consoles.append(console)
+        for number, case in enumerate(part):
+            case.outcome = outcomes.get(number)
+    return consoles

@@ -1,0 +1,120 @@
+"""Boots a kernel with the module and a list of commands, in QEMU, and hands back what the module printed.
+
+Neither KVM nor root nor a network is needed. The time of the guest is that of its instructions (-icount): a clock that a busy host
+neither slows nor hastens. While nothing runs in the guest its clock goes on to the next timer at once (sleep=off). So what the guest
+does, and when it is taken to hang, is the same each time.
+"""
+
+import os
+import re
+import subprocess
+import tempfile
+
+import packages
+
+# The guest's clock goes on by 2 to the power of this many nanoseconds with each instruction.
+ICOUNT_SHIFT = 5
+MEMORY = "1024M"
+# A guest that takes so many seconds of the host has a fault. It's no measure of what hangs in it.
+SECONDS = 3600
+BOOT = ("console=ttyS0 panic=-1 loglevel=5 rdinit=/init nokaslr mitigations=off workqueue.watchdog_thresh=0 "
+        "printk.devkmsg=on random.trust_cpu=on")
+
+
+class Fault(Exception):
+    """The guest didn't do what it was told."""
+
+
+# The guest's files ---------------------------------------------------------------------------------------------------------------
+
+
+def archive(files):
+    """An archive in the form of `cpio -H newc` of these files: by its path, of each its mode and its bytes.
+
+    (Documentation/driver-api/early-userspace/buffer-format.rst)
+    """
+    parts = []
+    for number, (path, (mode, data)) in enumerate([*files.items(), ("TRAILER!!!", (0, b""))], 1):
+        name = path.encode() + b"\0"
+        fields = [number, mode, 0, 0, 1, 0, len(data), 0, 0, 0, 0, len(name), 0]
+        head = b"070701" + b"".join(b"%08x" % field for field in fields) + name
+        parts += [head, b"\0" * (-len(head) % 4), data, b"\0" * (-len(data) % 4)]
+    return b"".join(parts)
+
+
+def files_of(kernel, commands):
+    """The files of the guest."""
+    program, folder, text = 0o100755, 0o040755, 0o100644
+    files = {name: (folder, b"") for name in ("bin", "dev", "proc")}
+    files["bin/busybox"] = program, packages.busybox().read_bytes()
+    files["init"] = program, (packages.HERE / "init").read_bytes()
+    files["wqjudge.ko"] = text, kernel.module().read_bytes()
+    files["commands"] = text, commands.encode()
+    return files
+
+
+# The guest -----------------------------------------------------------------------------------------------------------------------
+
+
+def console_of(kernel, commands, cpus=1):
+    """All that the guest writes to its console."""
+    words, environment = packages.qemu()
+    with tempfile.TemporaryDirectory(prefix="wqjudge.") as folder:
+        initrd = os.path.join(folder, "initrd")
+        with open(initrd, "wb") as file:
+            file.write(archive(files_of(kernel, commands)))
+        words = [
+            *words, "-accel", "tcg,thread=single", "-icount", f"shift={ICOUNT_SHIFT},sleep=off", "-rtc", "clock=vm", "-seed", "1",
+            "-machine", "pc", "-cpu", "max", "-smp", str(cpus), "-m", MEMORY, "-nodefaults", "-no-user-config", "-display", "none",
+            "-no-reboot", "-serial", "stdio", "-kernel", str(kernel.image), "-initrd", initrd, "-append", BOOT,
+        ]
+        try:
+            ended = subprocess.run(words, stdin=subprocess.DEVNULL, stdout=subprocess.PIPE, stderr=subprocess.STDOUT,
+                                   timeout=SECONDS, env={**os.environ, **environment})
+        except OSError as error:
+            raise packages.Missing(f"{words[0]}: {error.strerror}") from error
+        except subprocess.TimeoutExpired as late:
+            raise Fault(f"the guest took more than {SECONDS} s") from late
+    return ended.stdout.decode("latin-1").replace("\r", "")
+
+
+class Outcome:
+    """What the module printed of a case."""
+
+    def __init__(self):
+        self.states = {}  # by its word, whether all was done, and where each unfinished item is: pr, and the wait
+        self.events = []  # each as the letter, the item, the argument or None, who runs it
+
+
+EVENT = re.compile(r"([a-zA-Z|!])(\d+)(?:\.(\d+))?([RN?])?")
+
+
+def read_outcomes(console):
+    """The outcomes by the number of their case, and the module's other lines."""
+    outcomes, parts, others = {}, {}, []
+    for line in re.findall(r"^(?:\[[ .0-9]+\] )?wqjudge: (.*)$", console, re.MULTILINE):
+        word, *rest = line.split()
+        if word not in ("part", "state", "events"):
+            others.append(line)
+            continue
+        outcome = outcomes.setdefault(int(rest[0]), Outcome())
+        if word == "part":
+            parts.setdefault((rest[0], rest[1]), []).extend(rest[2:])
+        elif word == "state":
+            items = [item.split(":") for item in parts.pop((rest[0], rest[1]), []) + rest[3:]]
+            outcome.states[rest[1]] = rest[2] == "done", {int(number): where for number, where in items}
+        else:
+            for event in rest[1:]:
+                letter, item, argument, by = EVENT.fullmatch(event).groups()
+                outcome.events.append((letter, int(item), int(argument) if argument else None, by))
+    return outcomes, others
+
+
+def run(kernel, commands, cpus=1):
+    """The outcomes of a guest with these commands, and its console. Raises Fault where it didn't carry out all of them."""
+    console = console_of(kernel, commands + "bye\n", cpus)
+    outcomes, others = read_outcomes(console)
+    faults = [line for line in others if line.startswith("error")]
+    if faults or others[-1:] != ["bye"]:
+        raise Fault(f"{faults[0] if faults else 'the guest ended early'}\n{console[-3000:]}")
+    return outcomes, console

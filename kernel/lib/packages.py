@@ -1,0 +1,260 @@
+"""Brings what the judge needs into a cache, from packages of Debian: a kernel with its headers, for which the module is built, a shell
+for the guest, and QEMU where there is none on the PATH. Nothing is installed.
+
+The cache is ~/.cache/wqplan-kernel, or wqplan-kernel in $XDG_CACHE_HOME. Packages come by `apt-get download`, or from the folder that
+$WQJUDGE_DEBS names, which apt then isn't asked for.
+"""
+
+import functools
+import hashlib
+import os
+import pathlib
+import re
+import shutil
+import subprocess
+import tempfile
+
+HERE = pathlib.Path(__file__).resolve().parent
+MODULE = HERE.parent / "module"
+SERIES = ("6.1", "6.12")
+
+# How long a program may take: apt-get and make have much to do on a busy machine.
+SECONDS = 1800
+
+
+class Missing(Exception):
+    """Something that the judge needs can't be had. The text says what, and what would help."""
+
+
+def cache():
+    base = os.environ.get("XDG_CACHE_HOME") or os.path.join(os.path.expanduser("~"), ".cache")
+    place = pathlib.Path(base) / "wqplan-kernel"
+    place.mkdir(parents=True, exist_ok=True)
+    return place
+
+
+def output_of(words, **given):
+    """What a program prints. Raises Missing where there is no such program, or it fails."""
+    try:
+        ended = subprocess.run(words, stdin=subprocess.DEVNULL, stdout=subprocess.PIPE, stderr=subprocess.PIPE, text=True,
+                               timeout=SECONDS, **given)
+    except OSError as error:
+        raise Missing(f"{words[0]}: {error.strerror}") from error
+    if ended.returncode != 0:
+        raise Missing(f"`{' '.join(map(str, words))}` failed:\n{(ended.stdout + ended.stderr).strip()}")
+    return ended.stdout
+
+
+# Packages ----------------------------------------------------------------------------------------------------------------------------
+
+
+def named_folder():
+    """The folder that has the packages, or None where apt is asked."""
+    folder = os.environ.get("WQJUDGE_DEBS")
+    return pathlib.Path(folder) if folder else None
+
+
+def order_of(version):
+    """A key by which versions are sorted: numbers as numbers."""
+    return [int(part) if part.isdigit() else 0 for part in re.split(r"[^0-9]+", version)]
+
+
+def known_packages(prefix):
+    """The names of all packages that begin so, as far as apt or the folder knows any."""
+    folder = named_folder()
+    if folder:
+        return sorted({path.name.split("_")[0] for path in folder.glob(f"{prefix}*.deb")})
+    return sorted(output_of(["apt-cache", "pkgnames", prefix]).split())
+
+
+def newest_release(series):
+    """What `uname -r` says of the newest kernel of a series that there is, as 6.1.0-56-cloud-amd64."""
+    pattern = re.compile(rf"linux-image-({re.escape(series)}\.[0-9].*-cloud-amd64)(-unsigned)?")
+    found = {match[1] for name in known_packages(f"linux-image-{series}.") if (match := pattern.fullmatch(name))}
+    if not found:
+        where = named_folder() or "the lists of apt (`apt-get update` fetches them)"
+        raise Missing(f"there is no linux-image-{series}.*-cloud-amd64 in {where}")
+    return max(found, key=order_of)
+
+
+def fetch(name, into):
+    """The file of a package, downloaded into a folder."""
+    folder = named_folder()
+    if folder:
+        found = sorted(folder.glob(f"{name}_*.deb"))
+        if not found:
+            raise Missing(f"there is no {name}_*.deb in {folder}")
+        return found[-1]
+    output_of(["apt-get", "download", "-q", name], cwd=into)
+    # (apt writes a colon of a version as %3a)
+    return next(iter(into.glob(f"{name}_*.deb")))
+
+
+def unpack(package, root, *only):
+    """Unpacks a package, or of it the paths that fit these patterns alone."""
+    root.mkdir(parents=True, exist_ok=True)
+    if not only:
+        output_of(["dpkg-deb", "-x", package, root])
+        return
+    patterns = " ".join(f"'{pattern}'" for pattern in only)
+    output_of(["bash", "-c", f"set -o pipefail; dpkg-deb --fsys-tarfile \"$1\" | tar -x -C \"$2\" --wildcards {patterns}", "bash",
+               package, root])
+
+
+def made(place, make):
+    """A folder of the cache, made by `make` where it isn't there. A half-made one is never taken for it."""
+    if not place.exists():
+        place.parent.mkdir(parents=True, exist_ok=True)
+        with tempfile.TemporaryDirectory(prefix="making.", dir=cache()) as folder:
+            under_way = pathlib.Path(folder) / "it"
+            under_way.mkdir()
+            make(under_way)
+            try:
+                under_way.rename(place)
+            except OSError:  # another judge was faster
+                if not place.exists():
+                    raise
+    return place
+
+
+# The kernel and the module -----------------------------------------------------------------------------------------------------------
+
+
+class Kernel:
+    """A kernel of the cache: its image, and the module for it."""
+
+    def __init__(self, series, release):
+        self.series, self.release = series, release
+        self.place = cache() / release
+
+    @property
+    def image(self):
+        return self.place / "boot" / f"vmlinuz-{self.release}"
+
+    @property
+    def version(self):
+        """Which Linux it is, as 6.1.192. The package's name says 6.1.0-56 of it."""
+        found = re.search(rb"#1 SMP.* Debian (\d+\.\d+\.\d+)", self.banner())
+        return found[1].decode() if found else self.release
+
+    def banner(self):
+        """The version text in the head of the image (Documentation/x86/boot.rst, kernel_version)."""
+        head = self.image.read_bytes()[:65536]
+        at = int.from_bytes(head[0x20E:0x210], "little") + 0x200
+        return head[at:head.index(b"\0", at)]
+
+    def headers(self):
+        return self.place / "usr" / "src" / f"linux-headers-{self.release}"
+
+    def module(self):
+        """The module, built for this kernel from the sources as they are now."""
+        sources = sorted(path for path in MODULE.iterdir() if path.suffix in (".c", ".h") or path.name == "Makefile")
+        sources = [path for path in sources if not path.name.endswith(".mod.c")]
+        said = hashlib.sha256(b"".join(path.name.encode() + path.read_bytes() for path in sources)).hexdigest()[:16]
+
+        def build(place):
+            for source in sources:
+                shutil.copy(source, place)
+            output_of(["make", "-C", place, f"HEADERS={self.headers()}", *self.compiler()])
+
+        return made(self.place / f"module-{said}", build) / "wqjudge.ko"
+
+    def compiler(self):
+        """What to say to make where the compiler that Debian built the kernel with isn't there."""
+        named = re.search(r"^CC = .*?(gcc\S*)$", (self.headers() / ".kernelvariables").read_text(), re.MULTILINE)
+        return [] if named and shutil.which(named[1]) else ["CC=gcc"]
+
+
+def fetch_kernel(release, place):
+    """Downloads a kernel and its headers, and unpacks them."""
+    with tempfile.TemporaryDirectory() as folder:
+        folder = pathlib.Path(folder)
+        names = known_packages(f"linux-image-{release}")
+        image = f"linux-image-{release}"
+        unpack(fetch(image if image in names else f"{image}-unsigned", folder), place, "./boot/vmlinuz-*")
+        headers = f"linux-headers-{release}"
+        unpack(fetch(headers, folder), place)
+        common = re.sub(r"-cloud-amd64$", "-common", headers)
+        unpack(fetch(common, folder), place)
+        unpack(fetch(kbuild_of(release, place), folder), place)
+    # The makefiles of Debian's headers name each other by the places where they are installed.
+    for makefile in place.glob("usr/src/linux-headers-*/Makefile"):
+        text = makefile.read_text()
+        makefile.write_text(re.sub(r"(?<=include )/usr/src/", f"{cache() / release}/usr/src/", text))
+    # Without this nobody needs pahole: no types for BPF are made of the module.
+    for image in place.glob("usr/src/linux-headers-*/vmlinux"):
+        image.unlink()
+
+
+def kbuild_of(release, place):
+    """The package of the build's programs: the links in the headers lead to its folder."""
+    link = os.readlink(place / "usr" / "src" / f"linux-headers-{release}" / "scripts")
+    return re.search(r"linux-kbuild-[^/]+", link)[0]
+
+
+def kernels(series):
+    """The kernels of a series, the one to be taken first: the newest that there is, then those of the cache, newest first.
+
+    Raises Missing where there is none at all.
+    """
+    if series not in SERIES:
+        raise Missing(f"the series {series} isn't known: the module is for {' and '.join(SERIES)}")
+    pattern = re.compile(rf"{re.escape(series)}\..*-cloud-amd64")
+    cached = sorted((path.name for path in cache().iterdir() if pattern.fullmatch(path.name)), key=order_of, reverse=True)
+    try:
+        newest = newest_release(series)
+        made(cache() / newest, functools.partial(fetch_kernel, newest))
+    except Missing:
+        if not cached:
+            raise
+        newest = cached[0]
+    return [Kernel(series, release) for release in [newest, *(name for name in cached if name != newest)]]
+
+
+# The shell and the machine -----------------------------------------------------------------------------------------------------------
+
+
+def busybox():
+    """A shell that needs no library."""
+
+    def make(place):
+        with tempfile.TemporaryDirectory() as folder:
+            unpack(fetch("busybox-static", pathlib.Path(folder)), place)
+
+    root = made(cache() / "busybox", make)
+    return next(path for path in (root / "bin" / "busybox", root / "usr" / "bin" / "busybox") if path.exists())
+
+
+def needed_by(name):
+    """A package and all that it needs that isn't installed."""
+    told = output_of(["apt-cache", "depends", "--recurse", "--no-recommends", "--no-suggests", "--no-conflicts", "--no-breaks",
+                      "--no-replaces", "--no-enhances", name])
+    names = {line for line in told.splitlines() if line and line[0] not in " <|" and ":" not in line}
+    installed = output_of(["dpkg-query", "-W", "-f", "${db:Status-Abbrev} ${Package}\n"]).splitlines()
+    installed = {line.split()[-1] for line in installed if line.startswith("ii")}
+    return sorted((names - installed) | {name})
+
+
+def qemu():
+    """The words that start QEMU, without its arguments, and what they need in the environment."""
+    found = shutil.which("qemu-system-x86_64")
+    if found:
+        return [found], {}
+
+    def make(place):
+        if named_folder():
+            packages = sorted(named_folder().glob("*.deb"))
+            if not any(path.name.startswith("qemu-system-x86_") for path in packages):
+                raise Missing(f"there is no qemu-system-x86_64 on the PATH, and no qemu-system-x86_*.deb in {named_folder()}")
+            for path in packages:
+                if not path.name.startswith("linux-"):
+                    unpack(path, place)
+            return
+        with tempfile.TemporaryDirectory() as folder:
+            for name in needed_by("qemu-system-x86"):
+                unpack(fetch(name, pathlib.Path(folder)), place)
+
+    root = made(cache() / "qemu", make)
+    libraries = ":".join(str(root / folder) for folder in ("usr/lib/x86_64-linux-gnu", "lib/x86_64-linux-gnu"))
+    firmware = [word for folder in ("usr/share/qemu", "usr/share/seabios") for word in ("-L", str(root / folder))]
+    return [str(root / "usr/bin/qemu-system-x86_64"), *firmware], {"LD_LIBRARY_PATH": libraries}
