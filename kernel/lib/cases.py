@@ -39,13 +39,20 @@ class Setting:
     def workqueues_with_rescuer(self):
         return [workqueue for workqueue in range(self.assignment.count) if workqueue not in self.without_rescuer]
 
+    def start(self, machine, helpers):
+        """The machine at its start. A workqueue that executes one item at a time has no helper, whatever the declaration says."""
+        state = machine(self.declaration, self.assignment, helpers)
+        state.ordered |= {workqueue for workqueue, kind in enumerate(self.kinds) if kind in "o1"}
+        return state
+
 
 class Case:
     """A case. `judge` says in words what is otherwise than the model says, or nothing."""
 
     def __init__(self, name, setting):
         self.name, self.setting = name, setting
-        self.outcome = None  # a guest.Outcome, once a guest has run it
+        self.weather = None
+        self.outcome = None  # a guest.Outcome, once a guest has run it in this weather
 
     def who_ran(self):
         """Who executed its items: of each execution R, N or ?."""
@@ -55,10 +62,10 @@ class Case:
         """Whether all items are finished."""
         return self.outcome.states["end"][0]
 
-    def judge(self, machine=model.State, only_rescuers=True):
+    def judge(self, machine=model.State):
         if self.outcome is None or "end" not in self.outcome.states:
             return "the guest printed no result"
-        if only_rescuers and set(self.who_ran()) - {"R"}:
+        if set(self.who_ran()) - {"R"} and self.weather == "short":
             return "an item was executed by somebody else than its workqueue's rescuer"
         try:
             return self.compare(machine)
@@ -119,16 +126,18 @@ class FreeCase(Case):
 
     def expected(self, machine=model.State):
         """Where the items are in the end."""
-        state = machine(self.setting.declaration, self.setting.assignment)
+        state = self.setting.start(machine, HELPERS[self.weather])
         for item in self.order:
             state.make((b"queue", None, item))
-        model.make_as_declared(state, self.setting.workqueues_with_rescuer())
+        able = range(self.setting.assignment.count) if self.weather == "plenty" else self.setting.workqueues_with_rescuer()
+        model.make_as_declared(state, able)
         return model.where_items_are(state)
 
     def compare(self, machine):
         expected = self.expected(machine)
-        # With entries on the lists of several CPUs the order of queueing is one among several: only `safe` says how that ends.
-        if expected and not self.is_exact:
+        # With entries on the lists of several CPUs the order of queueing is one among several, and how many workers are free for whom
+        # isn't known: then only `safe` says how it ends.
+        if expected and (not self.is_exact or self.weather == "free"):
             return ""
         return self.differs("end", expected)
 
@@ -161,7 +170,7 @@ class DrivenCase(Case):
 
     def states(self, machine=model.State):
         """The state before the first step, and after each one."""
-        state = machine(self.setting.declaration, self.setting.assignment)
+        state = self.setting.start(machine, 0)
         yield state
         for number, step in enumerate(self.steps, 1):
             if not state.may(step):
@@ -210,6 +219,10 @@ WEATHERS = {
 }
 
 
+# How many helpers each workqueue has that isn't ordered: with enough memory as many as anybody needs.
+HELPERS = {"short": 0, "free": 0, "plenty": 8}
+
+
 def weather_commands(weather):
     if weather == "plenty":
         return []
@@ -236,5 +249,5 @@ def run(kernel, cases, cpus=1, weather="short"):
         outcomes, console = guest.run(kernel, commands_of(part, weather), cpus)
         consoles.append(console)
         for number, case in enumerate(part):
-            case.outcome = outcomes.get(number)
+            case.weather, case.outcome = weather, outcomes.get(number)
     return consoles

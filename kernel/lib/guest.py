@@ -1,8 +1,9 @@
 """Boots a kernel with the module and a list of commands, in QEMU, and hands back what the module printed.
 
-Neither KVM nor root nor a network is needed. The time of the guest is that of its instructions (-icount): a clock that a busy host
-neither slows nor hastens. While nothing runs in the guest its clock goes on to the next timer at once (sleep=off). So what the guest
-does, and when it is taken to hang, is the same each time.
+Neither KVM nor root nor a network is needed. With one CPU the time of the guest is that of its instructions (-icount): a clock that a
+busy host neither slows nor hastens. While nothing runs in the guest its clock goes on to the next timer at once (sleep=off). So what the
+guest does is the same each time. With two CPUs QEMU 7.2 doesn't boot a guest so, and it has the host's clock; what counts as hung is told
+in looks of the module, not in time (module/cases.c, `happens`).
 """
 
 import os
@@ -16,7 +17,7 @@ import packages
 ICOUNT_SHIFT = 5
 MEMORY = "1024M"
 # A guest that takes so many seconds of the host has a fault. It's no measure of what hangs in it.
-SECONDS = 3600
+SECONDS = 900
 BOOT = ("console=ttyS0 panic=-1 loglevel=5 rdinit=/init nokaslr mitigations=off workqueue.watchdog_thresh=0 "
         "printk.devkmsg=on random.trust_cpu=on")
 
@@ -63,9 +64,9 @@ def console_of(kernel, commands, cpus=1):
         initrd = os.path.join(folder, "initrd")
         with open(initrd, "wb") as file:
             file.write(archive(files_of(kernel, commands)))
+        clock = ["-icount", f"shift={ICOUNT_SHIFT},sleep=off", "-rtc", "clock=vm"] if cpus == 1 else []
         words = [
-            *words, "-accel", "tcg,thread=single", "-icount", f"shift={ICOUNT_SHIFT},sleep=off", "-rtc", "clock=vm", "-seed", "1",
-            "-machine", "pc", "-cpu", "max", "-smp", str(cpus), "-m", MEMORY, "-nodefaults", "-no-user-config", "-display", "none",
+            *words, "-accel", "tcg,thread=single", *clock, "-seed", "1", "-machine", "pc", "-cpu", "max", "-smp", str(cpus), "-m", MEMORY, "-nodefaults", "-no-user-config", "-display", "none",
             "-no-reboot", "-serial", "stdio", "-kernel", str(kernel.image), "-initrd", initrd, "-append", BOOT,
         ]
         try:
@@ -74,7 +75,7 @@ def console_of(kernel, commands, cpus=1):
         except OSError as error:
             raise packages.Missing(f"{words[0]}: {error.strerror}") from error
         except subprocess.TimeoutExpired as late:
-            raise Fault(f"the guest took more than {SECONDS} s") from late
+            raise Fault(f"the guest took more than {SECONDS} s:\n{(late.stdout or b'').decode('latin-1')[-3000:]}") from late
     return ended.stdout.decode("latin-1").replace("\r", "")
 
 

@@ -62,7 +62,7 @@ static void note(struct judged_case *c, char what, int item, int arg, char by)
 	unsigned long flags;
 
 	spin_lock_irqsave(&c->lock, flags);
-	c->last = jiffies;
+	c->happened++;
 	if (c->nevents < MAX_EVENTS)
 		c->events[c->nevents++] = (struct event){ .what = what, .by = by, .item = item, .arg = arg };
 	spin_unlock_irqrestore(&c->lock, flags);
@@ -301,11 +301,6 @@ int add_act(struct item *it, enum deed deed, int arg)
 	return 0;
 }
 
-void begin_case(struct judged_case *c)
-{
-	c->last = jiffies;
-}
-
 /*
  * The items that go by themselves act from now on. All are queued before: so which of them end, where they wait in a circle, doesn't
  * depend on the order in which the rescuers run.
@@ -341,8 +336,19 @@ void cancel_item(struct item *it)
 
 /* ---- driven steps -------------------------------------------------------------------------------------------------------------- */
 
-#define happens(c, condition) \
-	(wait_event_timeout((c)->news, condition, msecs_to_jiffies(step_ms)) > 0)
+/*
+ * How long nothing has to happen until it counts as not happening is told in looks, LOOK_MS apart, and not by a clock: a guest whose host
+ * does something else for seconds is behind by one look, not by seconds. Between two looks all that can run in the guest does.
+ */
+#define happens(c, condition)									\
+({												\
+	int left_ = looks;									\
+	bool met_;										\
+												\
+	while (!(met_ = (condition)) && left_-- > 0)						\
+		wait_event_timeout((c)->news, condition, msecs_to_jiffies(LOOK_MS));		\
+	met_;											\
+})
 
 static bool sleeps(struct task_struct *task)
 {
@@ -357,7 +363,7 @@ static bool waits_asleep(struct item *it)
 	for (i = 0; i < 2; i++) {
 		if (READ_ONCE(it->doing) != WAITS || !sleeps(it->task))
 			return false;
-		msleep(20);
+		msleep(LOOK_MS);
 	}
 	return READ_ONCE(it->doing) == WAITS && sleeps(it->task);
 }
@@ -365,7 +371,7 @@ static bool waits_asleep(struct item *it)
 /* The item makes a wait. It happens when the wait sleeps, or is over already. */
 static bool step_wait(struct item *it, enum deed deed, int target)
 {
-	unsigned long end = jiffies + msecs_to_jiffies(step_ms);
+	int left = looks;
 
 	if (READ_ONCE(it->next.deed) != NOTHING)
 		return false;
@@ -373,9 +379,9 @@ static bool step_wait(struct item *it, enum deed deed, int target)
 	smp_store_release(&it->next.deed, deed);
 	wake_up_all(&it->c->news);
 	while (READ_ONCE(it->next.deed) != NOTHING && !waits_asleep(it)) {
-		if (time_after(jiffies, end))
+		if (left-- == 0)
 			return false;
-		msleep(20);
+		msleep(LOOK_MS);
 	}
 	return true;
 }
@@ -465,13 +471,19 @@ static bool all_done(struct judged_case *c)
 	return true;
 }
 
-/* Waits until all is done, or until nothing has happened for hang_ms. The answer is whether all is done. */
+/* Waits until all is done, or until nothing has happened in so many looks. The answer is whether all is done. */
 static bool settle(struct judged_case *c)
 {
+	int left = looks, seen = READ_ONCE(c->happened);
+
 	while (!all_done(c)) {
-		if (time_after(jiffies, READ_ONCE(c->last) + msecs_to_jiffies(hang_ms)))
+		if (READ_ONCE(c->happened) != seen) {
+			seen = READ_ONCE(c->happened);
+			left = looks;
+		} else if (left-- == 0) {
 			return false;
-		msleep(20);
+		}
+		msleep(LOOK_MS);
 	}
 	return true;
 }
@@ -513,7 +525,6 @@ void end_case(struct judged_case *c)
 {
 	WRITE_ONCE(c->all_open, true);
 	wake_up_all(&c->news);
-	c->last = jiffies;
 	print_state(c, "end");
 	print_events(c);
 	/* A driven work function that runs because it was told nothing doesn't hang: now it returns. */

@@ -29,7 +29,7 @@
  *   queue I, cancel I, start I, wait I T, waitwq I T, over I, finish I
  *				steps of a driven case, as docs/FORMAT.md has them. Each is waited for
  *   drain I T, cancelsync I T	item I, which is driven and runs, calls drain_workqueue() or cancel_work_sync()
- *   settle			waits until all is done, or nothing has happened for hang_ms
+ *   settle			waits until all is done, or nothing has happened in 75 looks, 20 ms apart
  *   sleep MS
  *   state WORD			settles, and prints where the items are
  *   end			opens all gates, settles, prints where the items are, and all that happened
@@ -44,12 +44,9 @@
 #include <linux/uaccess.h>
 #include "wqjudge.h"
 
-int hang_ms = 1500;
-module_param(hang_ms, int, 0444);
-MODULE_PARM_DESC(hang_ms, "a case in which nothing has happened for so long hangs");
-int step_ms = 2500;
-module_param(step_ms, int, 0444);
-MODULE_PARM_DESC(step_ms, "a driven step that hasn't happened after so long doesn't happen");
+int looks = 75;
+module_param(looks, int, 0444);
+MODULE_PARM_DESC(looks, "what hasn't happened after so many looks, 20 ms apart, doesn't happen");
 
 #define MAX_CASES	4096
 #define MAX_LINE	4096
@@ -98,7 +95,6 @@ static int do_at(int number)
 	if (number < 0 || number >= MAX_CASES || !cases[number])
 		return -EINVAL;
 	current_case = cases[number];
-	begin_case(current_case);
 	return 0;
 }
 

@@ -12,7 +12,9 @@
 #define MAX_ACTS	64	/* of an item that goes by itself */
 #define MAX_EVENTS	4096	/* of a case */
 
-extern int hang_ms, step_ms;
+#define LOOK_MS		20
+
+extern int looks;
 
 /* A workqueue, and what its rescuer's thread is called: nothing, if it has none. */
 struct queue {
@@ -85,7 +87,7 @@ struct judged_case {
 
 	spinlock_t lock;		/* of what follows */
 	wait_queue_head_t news;
-	unsigned long last;		/* when something happened last, in jiffies */
+	int happened;			/* how often something did */
 	int nevents;
 	struct event events[MAX_EVENTS];
 };
@@ -99,7 +101,6 @@ int add_item(struct judged_case *c, int queue);
 int add_act(struct item *it, enum deed deed, int arg);
 void queue_item(struct item *it, int cpu);
 void cancel_item(struct item *it);
-void begin_case(struct judged_case *c);
 void begin_acts(struct judged_case *c);
 int drive(struct judged_case *c, const char *step, int item, int target);
 void print_state(struct judged_case *c, const char *word);
