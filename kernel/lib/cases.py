@@ -49,8 +49,9 @@ class Setting:
 class Case:
     """A case. `judge` says in words what is otherwise than the model says, or nothing."""
 
-    def __init__(self, name, setting):
+    def __init__(self, name, setting, must=None):
         self.name, self.setting = name, setting
+        self.must = must  # "end" or "hang", where wqplan says so
         self.weather = None
         self.outcome = None  # a guest.Outcome, once a guest has run it in this weather
 
@@ -68,9 +69,13 @@ class Case:
         if set(self.who_ran()) - {"R"} and self.weather == "short":
             return "an item was executed by somebody else than its workqueue's rescuer"
         try:
-            return self.compare(machine)
+            why = self.compare(machine)
         except NotLawful as step:
             return f"step {step} isn't lawful by the model"
+        ends = "end" if self.ended() else "hang"
+        if not why and self.must not in (None, ends):
+            return f"wqplan says that it must {self.must}; kernel and model have {self.shown(self.outcome.states['end'][1])}"
+        return why
 
     def differs(self, word, expected):
         """Whether the state that the module printed at this word isn't this one."""
@@ -106,8 +111,8 @@ class NotLawful(Exception):
 class FreeCase(Case):
     """All items are queued once, in this order, and each makes its declared waits by itself."""
 
-    def __init__(self, name, setting, order, cpus=None):
-        super().__init__(name, setting)
+    def __init__(self, name, setting, order, cpus=None, must=None):
+        super().__init__(name, setting, must)
         self.order = order
         self.cpus = cpus or {}  # by item, the CPU on which it is queued, where it isn't any
         self.is_exact = len(set(self.cpus.values())) <= 1
@@ -145,8 +150,8 @@ class FreeCase(Case):
 class DrivenCase(Case):
     """The steps of a run are made one by one."""
 
-    def __init__(self, name, setting, steps):
-        super().__init__(name, setting)
+    def __init__(self, name, setting, steps, must=None):
+        super().__init__(name, setting, must)
         self.steps = steps
 
     def setup(self):
@@ -221,6 +226,10 @@ WEATHERS = {
 
 # How many helpers each workqueue has that isn't ordered: with enough memory as many as anybody needs.
 HELPERS = {"short": 0, "free": 0, "plenty": 8}
+
+
+# What kernel.threads-max is lifted to again.
+MANY_THREADS = 5000
 
 
 def weather_commands(weather):

@@ -15,7 +15,7 @@
  *   does I DEED ARG		what item I does by itself, in a case that is free: `enum deed` in wqjudge.h, in lower case
  *   blockers			makes the items that will keep workers busy
  *
- * Then comes the weather. Before `short` and `free` the guest has to lower kernel.threads-max; before `plenty` it has to lift it again:
+ * Then comes the weather. Before `short` and `free` the guest has to lower kernel.threads-max; after `plenty` it has to lift it again:
  *
  *   short			all workers sleep, and it is looked whether that is so
  *   free N			the same, but N workers of each pool can execute work

@@ -230,10 +230,14 @@ int free_workers(int count)
 	return 0;
 }
 
+/* The blockers that are left on the lists are taken off: they would have workers created for them. */
 int end_shortage(void)
 {
 	int i, k;
 
+	for (i = 0; i < nplaces; i++)
+		for (k = 0; k < NBLOCKERS; k++)
+			cancel_work(&places[i]->blockers[k].work);
 	WRITE_ONCE(all_released, true);
 	wake_up_all(&release);
 	for (i = 0; i < nplaces; i++)

@@ -1,0 +1,101 @@
+"""wqplan, and the cases that its answers make."""
+
+import os
+import pathlib
+import subprocess
+import tempfile
+
+import cases
+import model
+import packages
+
+ROOT = pathlib.Path(__file__).resolve().parents[2]
+SECONDS = 600
+
+LETTERS = {"per-cpu": "p", "unbound": "u", "mixed": "puo1"}
+
+
+class Refusal(Exception):
+    """wqplan gave no answer. It holds what it said, and its status."""
+
+    def __init__(self, said, status):
+        super().__init__(said)
+        self.said, self.status = said, status
+
+
+def wqplan():
+    """The program: that of $WQPLAN, of this clone, on the PATH, or installed by install.sh."""
+    cache = os.environ.get("XDG_CACHE_HOME") or os.path.expanduser("~/.cache")
+    built = "crates/wqplan/out/wqplan"
+    for path in (os.environ.get("WQPLAN"), ROOT / built, *(f"{folder}/wqplan" for folder in os.get_exec_path()),
+                 f"{cache}/wqplan/{built}"):
+        if path and os.access(path, os.X_OK):
+            return path
+    raise packages.Missing("there is no wqplan: build it, or name it by the variable WQPLAN")
+
+
+def ask(command, *texts):
+    """The answer of a command to texts: bytes, or the paths of files. Raises Refusal where there is none."""
+    with tempfile.TemporaryDirectory(prefix="wqjudge.") as folder:
+        words = []
+        for number, text in enumerate(texts):
+            if isinstance(text, bytes):
+                path = os.path.join(folder, str(number))
+                with open(path, "wb") as file:
+                    file.write(text)
+                text = path
+            words.append(text)
+        ended = subprocess.run([wqplan(), command, *words], stdin=subprocess.DEVNULL, stdout=subprocess.PIPE, stderr=subprocess.PIPE,
+                               timeout=SECONDS)
+    if ended.returncode not in (0, 1):
+        raise Refusal((ended.stdout + ended.stderr).decode("latin-1"), ended.returncode)
+    return ended.stdout
+
+
+def plan_of(declaration):
+    """The plan text of a declaration, or None where it has no plan."""
+    answer = ask("plan", declaration)
+    return answer if answer.startswith(b"plan ") else None
+
+
+class Asked:
+    """A declaration and an assignment, what `wqplan deadlock` says of them, and the cases by which a kernel is asked the same."""
+
+    def __init__(self, name, texts, letters, choose, without_rescuer=()):
+        self.name, self.choose = name, choose
+        self.texts = [text if isinstance(text, bytes) else pathlib.Path(text).read_bytes() for text in texts]
+        answer = ask("deadlock", *texts)
+        self.declaration = model.read_declaration(self.texts[0])
+        self.assignment = model.read_assignment(self.texts[1], self.declaration)
+        self.is_safe = answer == b"safe\n"
+        self.steps = [] if self.is_safe else model.read_run(answer, self.declaration)
+        # The workqueue of a group of several items is ordered.
+        ordered = {self.assignment.workqueue_of[group[0]] for group in self.declaration.groups if len(group) > 1}
+        kinds = ["o" if workqueue in ordered else choose.choice(letters) for workqueue in range(self.assignment.count)]
+        self.setting = cases.Setting(self.declaration, self.assignment, kinds, frozenset(without_rescuer))
+
+    def free_case(self, name, order, cpus):
+        """On several CPUs an item of a safe assignment is queued on any, and of an unsafe one on the first."""
+        on = {item: self.choose.randrange(cpus) if self.is_safe else 0 for item in order} if cpus > 1 else None
+        must = "end" if self.is_safe and not self.setting.without_rescuer else None
+        return cases.FreeCase(f"{self.name}{name}", self.setting, order, on, must)
+
+    def free_cases(self, orders, cpus):
+        """The items are queued in the order of declaration, or of the printed run, and in random ones."""
+        if self.is_safe:
+            order, name = self.declaration.items, "queued in the order of declaration"
+        else:
+            order, name = [item for word, _, item in self.steps if word == b"queue"], "queued in the run's order"
+        yield self.free_case(name, order, cpus)
+        for number in range(1, orders + 1):
+            yield self.free_case(f"random order {number}", self.choose.sample(order, len(order)), cpus)
+
+    def driven_case(self, name="driven by the run", steps=None):
+        """The printed run, or another one."""
+        return cases.DrivenCase(f"{self.name}{name}", self.setting, steps or self.steps, None if steps else "hang")
+
+    def cases(self, orders, cpus=1, weather="short"):
+        """The printed run, driven, while rescuers are alone; and the free cases."""
+        if self.steps and weather == "short" and not self.setting.without_rescuer:
+            yield self.driven_case()
+        yield from self.free_cases(orders, cpus)
