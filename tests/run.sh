@@ -15,6 +15,7 @@
 #     cli        what the program prints, its diagnoses, the examples, install.sh: with wqplan
 #     model      the program against a model that was written from docs/FORMAT.md alone: with wqplan
 #     runtime    books, runtimes and rescuers: with test_runtime
+#     kernel     the workqueue code of two series of Linux, in QEMU, where that and packages of Debian can be had: with wqplan
 #     edits      all wrong bodies of tests/edits, which takes hours, and the script that tries them
 #
 # wqplan is the one at crates/wqplan/out or, where there is none, the one that install.sh built in ~/.cache/wqplan or
@@ -52,6 +53,7 @@ model    model        model/properties.py | model/compare.py WQPLAN | model/sear
 runtime  book         runtime/book/main.py TEST_RUNTIME
 runtime  runtime      runtime/main.py TEST_RUNTIME | runtime/wakes.py TEST_RUNTIME | runtime/loads.py TEST_RUNTIME \
                       | runtime/interleavings.py
+kernel   kernel       kernel/main.py WQPLAN
 docs     guide        docs/guide.sh WQPLAN EXAMPLE_RDISK
 runtime  book_model   model/book_properties.py | model/drive_books.py TEST_RUNTIME
 edits    edits        edits/edits.py
@@ -88,7 +90,7 @@ for word; do
         fi
     done
     if [ ${#found[@]} -eq 0 ]; then
-        echo "run: there is no part or script $word; the parts are lib docs cli model runtime edits, the scripts ${names[*]}" >&2
+        echo "run: there is no part or script $word; the parts are lib docs cli model runtime kernel edits, the scripts ${names[*]}" >&2
         exit 2
     fi
     asked+=("${found[@]}")

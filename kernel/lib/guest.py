@@ -17,7 +17,7 @@ import packages
 ICOUNT_SHIFT = 5
 MEMORY = "1024M"
 # A guest that takes so many seconds of the host has a fault. It's no measure of what hangs in it.
-SECONDS = 900
+SECONDS = 1800
 BOOT = ("console=ttyS0 panic=-1 loglevel=5 rdinit=/init nokaslr mitigations=off workqueue.watchdog_thresh=0 "
         "printk.devkmsg=on random.trust_cpu=on")
 

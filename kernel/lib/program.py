@@ -16,11 +16,11 @@ LETTERS = {"per-cpu": "p", "unbound": "u", "mixed": "puo1"}
 
 
 class Refusal(Exception):
-    """wqplan gave no answer. It holds what it said, and its status."""
+    """wqplan gave no answer: what it printed in place of one, to standard output and to standard error, and its status."""
 
-    def __init__(self, said, status):
-        super().__init__(said)
-        self.said, self.status = said, status
+    def __init__(self, said, errors, status):
+        super().__init__(said + errors)
+        self.said, self.errors, self.status = said, errors, status
 
 
 def wqplan():
@@ -48,7 +48,7 @@ def ask(command, *texts):
         ended = subprocess.run([wqplan(), command, *words], stdin=subprocess.DEVNULL, stdout=subprocess.PIPE, stderr=subprocess.PIPE,
                                timeout=SECONDS)
     if ended.returncode not in (0, 1):
-        raise Refusal((ended.stdout + ended.stderr).decode("latin-1"), ended.returncode)
+        raise Refusal(ended.stdout.decode("latin-1"), ended.stderr.decode("latin-1"), ended.returncode)
     return ended.stdout
 
 

@@ -1,0 +1,247 @@
+"""Asks the workqueue code of Linux itself: do kernels do what the program and the model say? By kernel/, whose README.md says how.
+
+    main.py PROGRAM
+
+On Linux 6.1, with one CPU, while no worker can be created: all examples under their assignments and plans; the worked rows of `deadlock`
+(tests/cli/rows/deadlocks.py), with the answers that stand there; random declarations under their plans and under unsafe assignments; and
+random runs, driven. Then random declarations with memory enough, and safe ones on two CPUs. On Linux 6.12 fewer of these. On both the
+situations of kernel/cases. Each wrong machine of mutants.py must be refused by something that 6.1 did; and what is no shortage, or not the
+right one, must not pass for one.
+
+Where QEMU or a kernel can't be had, it says so, and skips what needs it: that is no failure. It takes some two minutes of processor time
+once the cache of kernel/ has what it needs.
+"""
+
+import os
+import pathlib
+import random
+import subprocess
+import sys
+import tempfile
+
+sys.dont_write_bytecode = True
+ROOT = pathlib.Path(__file__).resolve().parents[2]
+for folder in ("kernel/lib", "tests/lib", "tests/cli/rows"):
+    sys.path.append(str(ROOT / folder))
+import cases  # noqa: E402  (in kernel/lib, as are the next five)
+import guest  # noqa: E402
+import model  # noqa: E402
+import packages  # noqa: E402
+import pinned  # noqa: E402
+import program  # noqa: E402
+import random_cases  # noqa: E402
+from deadlocks import DEADLOCKS  # noqa: E402  (in tests/cli/rows)
+from mutants import MUTANTS  # noqa: E402  (beside this file)
+from programs import counts_of, is_there  # noqa: E402  (in tests/lib)
+from tables import text_of  # noqa: E402  (there, too)
+
+SECONDS = 600
+counts = {True: 0, False: 0}
+
+
+def tell(passed, name, why=""):
+    """Counts one that passed or failed."""
+    counts[bool(passed)] += 1
+    print(f"{'ok     ' if passed else 'FAILED '} {name}{f': {why}' if not passed and why else ''}", flush=True)
+
+
+# The cases ---------------------------------------------------------------------------------------------------------------------------
+
+
+def example_cases(choose, letters):
+    """All examples: each assignment of a declaration, and its plan, with the printed run, and in 3 or 4 orders."""
+    examples = ROOT / "examples"
+    for path in sorted(examples.rglob("*.assign")):
+        name = path.name.split(".")[0]
+        declaration = next(place for place in (path.with_name(f"{name}.wq"), path.parent / f"{path.parent.name}.wq") if place.exists())
+        yield from program.Asked(f"{path.name}: ", [declaration, path], letters, choose).cases(3)
+    for path in sorted(examples.rglob("*.wq")):
+        plan = program.plan_of(path)
+        if plan:
+            asked = program.Asked(f"{path.name}, its plan: ", [path, plan], letters, choose)
+            if not asked.is_safe:
+                raise guest.Fault(f"{path}: its plan isn't safe")
+            yield from asked.cases(3)
+
+
+def row_cases(choose, letters):
+    """The worked rows, whose answers were found by hand: `safe`, in two orders, or a run, driven, and in its order."""
+    for text, rows in DEADLOCKS:
+        for assignment, answer in rows:
+            asked = program.Asked(f"{text} | {assignment}: ", [text_of(text), text_of(assignment)], letters, choose)
+            asked.is_safe = answer == "safe"
+            asked.steps = [] if asked.is_safe else model.read_run(text_of(answer), asked.declaration)
+            yield from asked.cases(1 if asked.is_safe else 0)
+
+
+def unsafe_assignment(choose, text, name, letters):
+    """A random assignment that isn't safe, where one is found."""
+    declared = model.read_declaration(text)
+    for _ in range(10):
+        asked = program.Asked(name, [text, random_cases.assignment_text(choose, declared)], letters, choose)
+        if not asked.is_safe:
+            return asked
+    return None
+
+
+def random_sets(choose, count, letters, weather="short"):
+    """Random declarations: the plan in 3 orders, and an unsafe assignment, driven by the printed run, and free."""
+    for number in range(count):
+        text = random_cases.declaration_text(choose)
+        plan = program.plan_of(text)
+        if plan:
+            yield from program.Asked(f"random {number}, its plan: ", [text, plan], letters, choose).cases(2, 1, weather)
+        asked = unsafe_assignment(choose, text, f"random {number}: ", letters)
+        if asked:
+            yield from asked.cases(1, 1, weather)
+
+
+def random_runs(choose, count, letters):
+    """Random runs, with queueings of items that run, and any waits."""
+    for number in range(count):
+        text = random_cases.declaration_text(choose, 5, 8)
+        assignment = random_cases.assignment_text(choose, model.read_declaration(text))
+        asked = program.Asked(f"random run {number}: ", [text, assignment], letters, choose)
+        steps = random_cases.run_steps(choose, asked.declaration, asked.assignment, choose.randint(8, 40))
+        case = asked.driven_case("driven", steps)
+        *_, state = case.states()
+        said = program.ask("replay", *asked.texts, b"".join(line + b"\n" for line in model.run_text(steps))).decode().strip()
+        if (said == "open") == state.is_stuck() or said.startswith("not lawful"):
+            tell(False, case.name, f"wqplan replay says {said}, the model {'stuck' if state.is_stuck() else 'open'}")
+        yield case
+
+
+def safe_cases(choose, count, letters, cpus):
+    """Plans of random declarations, whose items are queued on any CPU."""
+    for number in range(count):
+        text = random_cases.declaration_text(choose)
+        plan = program.plan_of(text)
+        if plan:
+            yield from program.Asked(f"two CPUs, {number}: ", [text, plan], letters, choose).free_cases(0, cpus)
+
+
+# The kernels -------------------------------------------------------------------------------------------------------------------------
+
+
+def judged(what, kernel, made, cpus=1, weather="short"):
+    """Has a kernel run cases, and counts whether it does what model and program say. The cases are handed back."""
+    made = list(made)
+    cases.run(kernel, made, cpus, weather)
+    wrong = [(case, why) for case in made if (why := case.judge())]
+    for case, why in wrong[:10]:
+        print(f"FAILED  Linux {kernel.version}: {case.name}: {why}")
+    ended = sum(case.ended() for case in made if case.outcome)
+    runs = sum(isinstance(case, cases.DrivenCase) for case in made)
+    told = f"{len(made)} cases, of which {runs} driven; {ended} end, {len(made) - ended} hang or stand still"
+    tell(not wrong and len(made) > 3, f"Linux {kernel.version}, {what}: {told}", f"{len(wrong)} differ")
+    return made
+
+
+def compare_mutants(made):
+    """Each wrong machine must be refused by some case."""
+    for mutant in MUTANTS:
+        refusing = [case.name for case in made if case.judge(mutant)]
+        tell(refusing, f"a wrong model is noticed: {mutant.__name__}: by {len(refusing)} cases, such as {refusing[:1]}")
+
+
+def try_pinned(kernel):
+    made = pinned.all_cases()
+    pinned.run(kernel, made)
+    for case in made:
+        why = case.judge_series(kernel.series)
+        tell(not why, f"Linux {kernel.version}: {case.name}", why)
+
+
+def try_self_check(kernel):
+    """What is no shortage is refused; and so is a case in which somebody else than the rescuer executes an item."""
+    asked = program.Asked("", [b"item a\n", b"wq 0 a\n"], "p", random.Random(1))
+    commands = cases.commands_of(list(asked.cases(0)), "short")
+    for name, wrong in (
+        ("workers can be created", commands.replace("threads-max 1\n", "")),
+        ("no blockers", commands.replace("blockers\n", "")),
+    ):
+        try:
+            guest.run(kernel, wrong)
+            tell(False, f"the self-check refuses: {name}", "it didn't")
+        except guest.Fault as fault:
+            tell(str(fault).startswith("error"), f"the self-check refuses: {name}", str(fault))
+    made = list(asked.cases(0))
+    cases.run(kernel, made, weather="plenty")
+    for case in made:
+        passes = case.judge()
+        case.weather = "short"
+        tell(not passes and "somebody else" in case.judge(), "a case whose item no rescuer executes doesn't pass", case.judge())
+
+
+def try_command(series):
+    """kernel/judge: its statuses, and its last line."""
+    rdisk = ROOT / "examples" / "rdisk"
+    cancelled = {
+        "d.wq": "item a\nitem b\nflush a b\n", "d.assign": "wq 0 a b\n",
+        "d.run": "run 5\nqueue a\nstart 0 a\nqueue b\nwait 0 b\ncancel b\n", "bad.run": "run 1\nstart 0 a\n",
+    }
+    with tempfile.TemporaryDirectory() as folder:
+        for name, text in cancelled.items():
+            pathlib.Path(folder, name).write_text(text)
+        for status, last, words in (
+            (0, "nothing hangs", [rdisk / "rdisk.wq", rdisk / "rdisk.plan", "--orders", "1"]),
+            (1, "hangs", [rdisk / "rdisk.wq", rdisk / "rdisk.plan", "--orders", "0", "--no-rescuer", "0"]),
+            (2, "not lawful 1", ["d.wq", "d.assign", "bad.run"]),
+            (2, "refused 41 line 0", ["d.wq", "/dev/null"]),
+            (3, "", ["d.wq", "nothing.there"]),
+            # The known difference: the model lets the flush of a cancelled entry go at once.
+            (4, "differs", ["d.wq", "d.assign", "d.run"]),
+        ):
+            ended = subprocess.run([ROOT / "kernel" / "judge", *words, "--kernel", series], cwd=folder, capture_output=True, text=True,
+                                   stdin=subprocess.DEVNULL, timeout=SECONDS)
+            found = ended.returncode, (ended.stdout.splitlines() or [""])[-1]
+            tell(found == (status, last), f"kernel/judge ends with {status} {last}", f"{found} {ended.stderr}")
+
+
+def missing(series):
+    """Why a series can't be tried here, or nothing."""
+    try:
+        packages.kernels(series)[0].module()
+        packages.busybox()
+        packages.qemu()
+        return ""
+    except packages.Missing as why:
+        return str(why)
+
+
+def main(arguments):
+    if not is_there("kernel", *arguments):
+        return 1
+    os.environ["WQPLAN"] = os.path.realpath(arguments[0])
+    letters = program.LETTERS
+    why = missing("6.1")
+    if why:
+        print(f"skipped kernel: {why}")
+        return 0
+    kernel = packages.kernels("6.1")[0]
+    # Each has random numbers of its own: the random cases stay the same if an example or a row comes to it.
+    examples, rows, sets, runs, plenty, two, later = (random.Random(f"kernel {number}") for number in range(7))
+    made = judged("the examples", kernel, example_cases(examples, letters["mixed"]))
+    made += judged("the worked rows", kernel, row_cases(rows, letters["per-cpu"]))
+    made += judged("random declarations", kernel, random_sets(sets, 40, letters["mixed"]))
+    made += judged("random runs", kernel, random_runs(runs, 40, letters["mixed"]))
+    made += judged("with memory enough", kernel, random_sets(plenty, 12, letters["mixed"], "plenty"), weather="plenty")
+    judged("two CPUs", kernel, safe_cases(two, 20, letters["mixed"], 2), cpus=2)
+    compare_mutants(made)
+    try_pinned(kernel)
+    try_self_check(kernel)
+    try_command("6.1")
+    why = missing("6.12")
+    if why:
+        print(f"skipped kernel 6.12: {why}")
+    else:
+        kernel = packages.kernels("6.12")[0]
+        judged("the examples", kernel, example_cases(later, letters["mixed"]))
+        judged("random declarations and runs", kernel,
+               [*random_sets(later, 15, letters["mixed"]), *random_runs(later, 15, letters["mixed"])])
+        try_pinned(kernel)
+    return counts_of("kernel", counts[True], counts[False])
+
+
+if __name__ == "__main__":
+    sys.exit(main(sys.argv[1:]))
