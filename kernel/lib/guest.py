@@ -43,27 +43,31 @@ def archive(files):
     return b"".join(parts)
 
 
-def files_of(kernel, commands):
-    """The files of the guest."""
-    program, folder, text = 0o100755, 0o040755, 0o100644
-    files = {name: (folder, b"") for name in ("bin", "dev", "proc")}
-    files["bin/busybox"] = program, packages.busybox().read_bytes()
-    files["init"] = program, (packages.HERE / "init").read_bytes()
-    files["wqjudge.ko"] = text, kernel.module().read_bytes()
-    files["commands"] = text, commands.encode()
-    return files
+PROGRAM, FOLDER, TEXT = 0o100755, 0o040755, 0o100644
+
+
+def files_of(kernel, others, modules=()):
+    """The files of the guest: these others, by name, and besides the shell, its script, and the modules in the order in which they are
+    loaded, the judge's last."""
+    modules = [*modules, kernel.module()]
+    files = {name: (FOLDER, b"") for name in ("bin", "dev", "proc", "sys")}
+    files["bin/busybox"] = PROGRAM, packages.busybox().read_bytes()
+    files["init"] = PROGRAM, (packages.HERE / "init").read_bytes()
+    files["modules"] = TEXT, "".join(f"{module.name}\n" for module in modules).encode()
+    files |= {module.name: (TEXT, module.read_bytes()) for module in modules}
+    return files | {name: (TEXT, data) for name, data in others.items()}
 
 
 # The guest -----------------------------------------------------------------------------------------------------------------------
 
 
-def console_of(kernel, commands, cpus=1):
-    """All that the guest writes to its console."""
+def console_of(kernel, files, cpus=1):
+    """All that a guest with these files writes to its console."""
     words, environment = packages.qemu()
     with tempfile.TemporaryDirectory(prefix="wqjudge.") as folder:
         initrd = os.path.join(folder, "initrd")
         with open(initrd, "wb") as file:
-            file.write(archive(files_of(kernel, commands)))
+            file.write(archive(files))
         clock = ["-icount", f"shift={ICOUNT_SHIFT},sleep=off", "-rtc", "clock=vm"] if cpus == 1 else []
         words = [
             *words, "-accel", "tcg,thread=single", *clock, "-seed", "1", "-machine", "pc", "-cpu", "max", "-smp", str(cpus), "-m", MEMORY, "-nodefaults", "-no-user-config", "-display", "none",
@@ -113,7 +117,7 @@ def read_outcomes(console):
 
 def run(kernel, commands, cpus=1):
     """The outcomes of a guest with these commands, and its console. Raises Fault where it didn't carry out all of them."""
-    console = console_of(kernel, commands + "bye\n", cpus)
+    console = console_of(kernel, files_of(kernel, {"commands": f"{commands}bye\n".encode()}), cpus)
     outcomes, others = read_outcomes(console)
     faults = [line for line in others if line.startswith("error")]
     if faults or others[-1:] != ["bye"]:

@@ -7,6 +7,7 @@ $WQJUDGE_DEBS names, which apt then isn't asked for.
 
 import functools
 import hashlib
+import lzma
 import os
 import pathlib
 import re
@@ -169,9 +170,7 @@ def fetch_kernel(release, place):
     """Downloads a kernel and its headers, and unpacks them."""
     with tempfile.TemporaryDirectory() as folder:
         folder = pathlib.Path(folder)
-        names = known_packages(f"linux-image-{release}")
-        image = f"linux-image-{release}"
-        unpack(fetch(image if image in names else f"{image}-unsigned", folder), place, "./boot/vmlinuz-*")
+        unpack(fetch_image(release, folder), place, "./boot/vmlinuz-*")
         headers = f"linux-headers-{release}"
         unpack(fetch(headers, folder), place)
         common = re.sub(r"-cloud-amd64$", "-common", headers)
@@ -184,6 +183,30 @@ def fetch_kernel(release, place):
     # Without this nobody needs pahole: no types for BPF are made of the module.
     for image in place.glob("usr/src/linux-headers-*/vmlinux"):
         image.unlink()
+
+
+def modules(kernel, names):
+    """The files of modules of the kernel's package, by their names."""
+
+    def make(place):
+        with tempfile.TemporaryDirectory() as folder:
+            unpack(fetch_image(kernel.release, pathlib.Path(folder)), place, "./lib/modules/*")
+
+    root = made(cache() / f"modules-{kernel.release}", make)
+    files = {re.sub(r"\.ko(\.xz|\.zst)?$", "", path.name): path for path in root.rglob("*.ko*")}
+    for name in names:
+        if name not in files:
+            raise Missing(f"the package of Linux {kernel.release} has no module {name}")
+        if files[name].suffix == ".xz":
+            path = files[name].with_suffix("")
+            path.write_bytes(lzma.decompress(files[name].read_bytes()))
+            files[name] = path
+    return [files[name] for name in names]
+
+
+def fetch_image(release, folder):
+    image = f"linux-image-{release}"
+    return fetch(image if image in known_packages(image) else f"{image}-unsigned", folder)
 
 
 def kbuild_of(release, place):
