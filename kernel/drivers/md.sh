@@ -1,5 +1,5 @@
-# For kernel/driver: md on md (examples/md.md). md0 is a mirror on a RAM disk, and md1 a mirror on md0. While no worker can be created,
-# processes have both flushed.
+# For kernel/driver: md on md (examples/md.md). md0 is a mirror on a RAM disk, and md1 a mirror on md0. While no
+# worker can be created, processes have both flushed.
 #
 #     kernel/driver kernel/drivers/md.sh brd md-mod raid1
 
@@ -20,7 +20,8 @@ array() {
 
 array md0 1:0
 array md1 9:0
-# Processes that begin when somebody opens /go, since none can be made later. Each has its array flushed again and again.
+# Processes that begin when somebody opens /go, since none can be made later. Each has its array flushed again and
+# again.
 $busybox mkfifo /go
 many="1 2 3 4 5 6 7 8 9"
 for number in 1 2; do

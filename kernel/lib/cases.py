@@ -1,12 +1,14 @@
-"""What a kernel is asked, and whether it does what the model says: cases, their commands for the module (module/main.c has the list), and
-how their outcomes are judged."""
+"""What a kernel is asked, and whether it does what the model says: cases, their commands for the module
+(module/main.c has the list), and how their outcomes are judged.
+"""
 
 import dataclasses
 
 import guest
 import model
 
-# How a workqueue is made, by the letter of its kind: its arguments of the module's command `wq` behind KIND, and in words.
+# How a workqueue is made, by the letter of its kind: its arguments of the module's command `wq` behind KIND, and in
+# words.
 KINDS = {
     "p": ("per CPU", "p"),
     "u": ("WQ_UNBOUND", "u"),
@@ -40,7 +42,9 @@ class Setting:
         return [workqueue for workqueue in range(self.assignment.count) if workqueue not in self.without_rescuer]
 
     def start(self, machine, helpers):
-        """The machine at its start. A workqueue that executes one item at a time has no helper, whatever the declaration says."""
+        """The machine at its start. A workqueue that executes one item at a time has no helper, whatever the
+        declaration says.
+        """
         state = machine(self.declaration, self.assignment, helpers)
         state.ordered |= {workqueue for workqueue, kind in enumerate(self.kinds) if kind in "o1"}
         return state
@@ -74,7 +78,8 @@ class Case:
             return f"step {step} isn't lawful by the model"
         ends = "end" if self.ended() else "hang"
         if not why and self.must not in (None, ends):
-            return f"wqplan says that it must {self.must}; kernel and model have {self.shown(self.outcome.states['end'][1])}"
+            found = self.shown(self.outcome.states["end"][1])
+            return f"wqplan says that it must {self.must}; kernel and model have {found}"
         return why
 
     def differs(self, word, expected):
@@ -125,7 +130,10 @@ class FreeCase(Case):
             yield f"does {self.setting.number_of(item)} {directive.decode()} {self.setting.number_of(target)}"
 
     def commands(self):
-        words = [str(self.setting.number_of(item)) + (f"@{self.cpus[item]}" if item in self.cpus else "") for item in self.order]
+        words = [
+            str(self.setting.number_of(item)) + (f"@{self.cpus[item]}" if item in self.cpus else "")
+            for item in self.order
+        ]
         yield "queueall " + " ".join(words)
         yield "end"
 
@@ -134,14 +142,16 @@ class FreeCase(Case):
         state = self.setting.start(machine, HELPERS[self.weather])
         for item in self.order:
             state.make((b"queue", None, item))
-        able = range(self.setting.assignment.count) if self.weather == "plenty" else self.setting.workqueues_with_rescuer()
+        able = (
+            range(self.setting.assignment.count) if self.weather == "plenty" else self.setting.workqueues_with_rescuer()
+        )
         model.make_as_declared(state, able)
         return model.where_items_are(state)
 
     def compare(self, machine):
         expected = self.expected(machine)
-        # With entries on the lists of several CPUs the order of queueing is one among several, and how many workers are free for whom
-        # isn't known: then only `safe` says how it ends.
+        # With entries on the lists of several CPUs the order of queueing is one among several, and how many workers
+        # are free for whom isn't known: then only `safe` says how it ends.
         if expected and (not self.is_exact or self.weather == "free"):
             return ""
         return self.differs("end", expected)
@@ -166,7 +176,10 @@ class DrivenCase(Case):
                 on[workqueue] = name
             elif workqueue is not None:
                 item = on[workqueue]
-            words = [word.decode().removesuffix("wq") if word == b"overwq" else word.decode(), str(self.setting.number_of(item))]
+            words = [
+                word.decode().removesuffix("wq") if word == b"overwq" else word.decode(),
+                str(self.setting.number_of(item)),
+            ]
             if word in (b"wait", b"waitwq"):
                 words.append(str(self.setting.number_of(name)))
             yield " ".join(words)
@@ -194,7 +207,9 @@ class DrivenCase(Case):
         return self.differs("run", expected) or (self.differs("end", expected) if state.is_stuck() else "")
 
     def compare_events(self, overs):
-        """Each step happens; and no wait is over before it may be. `overs` has the waits that may be, before the steps and after each."""
+        """Each step happens; and no wait is over before it may be. `overs` has the waits that may be, before the
+        steps and after each.
+        """
         made = 0
         items = self.setting.declaration.items
         for letter, number, _, _ in self.outcome.events:
@@ -203,8 +218,9 @@ class DrivenCase(Case):
             if letter == "|":
                 made = number
             # It is noted between the marks of two steps: it belongs to the state that the first left, or the second.
-            if letter == "o" and made <= len(self.steps) and items[number] not in set().union(*overs[made:made + 2]):
-                return f"after step {made} the wait of {items[number].decode()} is over in the kernel, and may not be by the model"
+            if letter == "o" and made <= len(self.steps) and items[number] not in set().union(*overs[made : made + 2]):
+                name = items[number].decode()
+                return f"after step {made} the wait of {name} is over in the kernel, and may not be by the model"
         return ""
 
     def step(self, number):
@@ -212,7 +228,7 @@ class DrivenCase(Case):
         return b" ".join([word, name] if workqueue is None else [word, b"%d" % workqueue, name]).decode()
 
 
-# Guests --------------------------------------------------------------------------------------------------------------------------
+# Guests -------------------------------------------------------------------------------------------
 
 # So many cases in one guest: each keeps its workqueues, and their rescuers, to its end.
 MOST_CASES = 400
@@ -254,7 +270,7 @@ def run(kernel, cases, cpus=1, weather="short"):
     """Has guests run the cases, which keep their outcomes. The consoles are handed back."""
     consoles = []
     for first in range(0, len(cases), MOST_CASES):
-        part = cases[first:first + MOST_CASES]
+        part = cases[first : first + MOST_CASES]
         outcomes, console = guest.run(kernel, commands_of(part, weather), cpus)
         consoles.append(console)
         for number, case in enumerate(part):

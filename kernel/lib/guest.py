@@ -1,14 +1,16 @@
 """Boots a kernel with the module and a list of commands, in QEMU, and hands back what the module printed.
 
-Neither KVM nor root nor a network is needed. With one CPU the time of the guest is that of its instructions (-icount): a clock that a
-busy host neither slows nor hastens. While nothing runs in the guest its clock goes on to the next timer at once (sleep=off). So what the
-guest does is the same each time. With two CPUs QEMU 7.2 doesn't boot a guest so, and it has the host's clock; what counts as hung is told
-in looks of the module, not in time (module/cases.c, `happens`).
+Neither KVM nor root nor a network is needed. With one CPU the time of the guest is that of its instructions
+(-icount): a clock that a busy host neither slows nor hastens. While nothing runs in the guest its clock goes on to
+the next timer at once (sleep=off). So what the guest does is the same each time. With two CPUs QEMU 7.2 doesn't boot
+a guest so, and it has the host's clock; what counts as hung is told in looks of the module, not in time
+(module/cases.c, `happens`).
 """
 
 import os
 import re
 import subprocess
+import sys
 import tempfile
 
 import packages
@@ -18,15 +20,17 @@ ICOUNT_SHIFT = 5
 MEMORY = "1024M"
 # A guest that takes so many seconds of the host has a fault. It's no measure of what hangs in it.
 SECONDS = 1800
-BOOT = ("console=ttyS0 panic=-1 loglevel=5 rdinit=/init nokaslr mitigations=off workqueue.watchdog_thresh=0 "
-        "printk.devkmsg=on random.trust_cpu=on")
+BOOT = (
+    "console=ttyS0 panic=-1 loglevel=5 rdinit=/init nokaslr mitigations=off workqueue.watchdog_thresh=0 "
+    "printk.devkmsg=on random.trust_cpu=on"
+)
 
 
 class Fault(Exception):
     """The guest didn't do what it was told."""
 
 
-# The guest's files ---------------------------------------------------------------------------------------------------------------
+# The guest's files --------------------------------------------------------------------------------
 
 
 def archive(files):
@@ -47,8 +51,8 @@ PROGRAM, FOLDER, TEXT = 0o100755, 0o040755, 0o100644
 
 
 def files_of(kernel, others, modules=()):
-    """The files of the guest: these others, by name, and besides the shell, its script, and the modules in the order in which they are
-    loaded, the judge's last."""
+    """The files of the guest: these others, by name, and besides the shell, its script, and the modules in the order in
+    which they are loaded, the judge's last."""
     modules = [*modules, kernel.module()]
     files = {name: (FOLDER, b"") for name in ("bin", "dev", "proc", "sys")}
     files["bin/busybox"] = PROGRAM, packages.busybox().read_bytes()
@@ -58,7 +62,7 @@ def files_of(kernel, others, modules=()):
     return files | {name: (TEXT, data) for name, data in others.items()}
 
 
-# The guest -----------------------------------------------------------------------------------------------------------------------
+# The guest ----------------------------------------------------------------------------------------
 
 
 def console_of(kernel, files, cpus=1):
@@ -70,16 +74,49 @@ def console_of(kernel, files, cpus=1):
             file.write(archive(files))
         clock = ["-icount", f"shift={ICOUNT_SHIFT},sleep=off", "-rtc", "clock=vm"] if cpus == 1 else []
         words = [
-            *words, "-accel", "tcg,thread=single", *clock, "-seed", "1", "-machine", "pc", "-cpu", "max", "-smp", str(cpus), "-m", MEMORY, "-nodefaults", "-no-user-config", "-display", "none",
-            "-no-reboot", "-serial", "stdio", "-kernel", str(kernel.image), "-initrd", initrd, "-append", BOOT,
+            *words,
+            "-accel",
+            "tcg,thread=single",
+            *clock,
+            "-seed",
+            "1",
+            "-machine",
+            "pc",
+            "-cpu",
+            "max",
+            "-smp",
+            str(cpus),
+            "-m",
+            MEMORY,
+            "-nodefaults",
+            "-no-user-config",
+            "-display",
+            "none",
+            "-no-reboot",
+            "-serial",
+            "stdio",
+            "-kernel",
+            str(kernel.image),
+            "-initrd",
+            initrd,
+            "-append",
+            BOOT,
         ]
         try:
-            ended = subprocess.run(words, stdin=subprocess.DEVNULL, stdout=subprocess.PIPE, stderr=subprocess.STDOUT,
-                                   timeout=SECONDS, env={**os.environ, **environment})
+            ended = subprocess.run(
+                words,
+                stdin=subprocess.DEVNULL,
+                stdout=subprocess.PIPE,
+                stderr=subprocess.STDOUT,
+                timeout=SECONDS,
+                env={**os.environ, **environment},
+            )
         except OSError as error:
             raise packages.Missing(f"{words[0]}: {error.strerror}") from error
         except subprocess.TimeoutExpired as late:
-            raise Fault(f"the guest took more than {SECONDS} s:\n{(late.stdout or b'').decode('latin-1')[-3000:]}") from late
+            raise Fault(
+                f"the guest took more than {SECONDS} s:\n{(late.stdout or b'').decode('latin-1')[-3000:]}"
+            ) from late
     return ended.stdout.decode("latin-1").replace("\r", "")
 
 
@@ -116,10 +153,26 @@ def read_outcomes(console):
 
 
 def run(kernel, commands, cpus=1):
-    """The outcomes of a guest with these commands, and its console. Raises Fault where it didn't carry out all of them."""
+    """The outcomes of a guest with these commands, and its console. Raises Fault where it didn't carry out all of
+    them.
+    """
     console = console_of(kernel, files_of(kernel, {"commands": f"{commands}bye\n".encode()}), cpus)
     outcomes, others = read_outcomes(console)
     faults = [line for line in others if line.startswith("error")]
     if faults or others[-1:] != ["bye"]:
         raise Fault(f"{faults[0] if faults else 'the guest ended early'}\n{console[-3000:]}")
     return outcomes, console
+
+
+def kernel_of(series):
+    """The kernel of a series: the newest in which the module makes the right shortage. That is tried once for each."""
+    for kernel in packages.kernels(series):
+        tried = kernel.module().parent / "makes_the_shortage"
+        try:
+            if not tried.exists():
+                run(kernel, "blockers\nthreads-max 1\nshort\n")
+                tried.touch()
+            return kernel
+        except Fault as fault:
+            print(f"Linux {kernel.version} isn't taken: {str(fault).splitlines()[0]}", file=sys.stderr)
+    raise Fault(f"in no kernel of the series {series} that is there the module makes the right shortage")

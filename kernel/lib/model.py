@@ -1,5 +1,6 @@
-"""The machine of docs/FORMAT.md, "Steps", that a kernel's results are compared with: that of tests/model, which was written from that page
-alone, and which tests/run.sh compares with wqplan."""
+"""The machine of docs/FORMAT.md, "Steps", that a kernel's results are compared with: that of tests/model, which was
+written from that page alone, and which tests/run.sh compares with wqplan.
+"""
 
 import pathlib
 import sys
@@ -11,18 +12,34 @@ from deadlock import run_text  # noqa: E402
 from declaration import read_declaration  # noqa: E402
 from steps import RESCUER, State  # noqa: E402
 
-__all__ = ["RESCUER", "Refused", "State", "make_as_declared", "may_be_cancelled", "overs_of", "read_assignment", "read_declaration",
-           "read_run", "run_text", "where_items_are"]
+__all__ = [
+    "RESCUER",
+    "Refused",
+    "State",
+    "make_as_declared",
+    "may_be_cancelled",
+    "overs_of",
+    "read_assignment",
+    "read_declaration",
+    "read_run",
+    "run_text",
+    "where_items_are",
+]
 
 
 def overs_of(state):
     """The items that wait, and whose wait may be over."""
-    return {entry.item for (workqueue, helper), entry in state.running.items()
-            if entry.target is not None and state.may((entry.over, workqueue, entry.target), helper)}
+    return {
+        entry.item
+        for (workqueue, helper), entry in state.running.items()
+        if entry.target is not None and state.may((entry.over, workqueue, entry.target), helper)
+    }
 
 
 def step_as_declared(state, context):
-    """The step that this context can make as declared, or None ("Deadlocking runs", 3). A helper takes the first entry, too."""
+    """The step that this context can make as declared, or None ("Deadlocking runs", 3). A helper takes the first
+    entry, too.
+    """
     workqueue = context[0]
     entry = state.running.get(context)
     if entry is None:
@@ -53,15 +70,20 @@ def make_as_declared(state, workqueues):
 
 
 def may_be_cancelled(state, item):
-    """Whether its entry is pending, and nobody waits for it by flush_work: a kernel lets such a waiter go later than the model."""
+    """Whether its entry is pending, and nobody waits for it by flush_work: a kernel lets such a waiter go later than
+    the model.
+    """
     entry = state.pending_of.get(item)
     return entry is not None and not any(
-        (other.over, other.target) == (b"over", item) and other.mark > entry.number for other in state.running_of.values()
+        (other.over, other.target) == (b"over", item) and other.mark > entry.number
+        for other in state.running_of.values()
     )
 
 
 def where_items_are(state):
-    """By the number of each unfinished item where it is, as the module prints it. A wait that may be over is over in a kernel."""
+    """By the number of each unfinished item where it is, as the module prints it. A wait that may be over is over in
+    a kernel.
+    """
     number_of = {item: number for number, item in enumerate(state.targets)}
     overs = overs_of(state)
     where = {number: "p" for item, number in number_of.items() if item in state.pending_of}

@@ -1,8 +1,8 @@
-"""Brings what the judge needs into a cache, from packages of Debian: a kernel with its headers, for which the module is built, a shell
-for the guest, and QEMU where there is none on the PATH. Nothing is installed.
+"""Brings what the judge needs into a cache, from packages of Debian: a kernel with its headers, for which the module
+is built, a shell for the guest, and QEMU where there is none on the PATH. Nothing is installed.
 
-The cache is ~/.cache/wqplan-kernel, or wqplan-kernel in $XDG_CACHE_HOME. Packages come by `apt-get download`, or from the folder that
-$WQJUDGE_DEBS names, which apt then isn't asked for.
+The cache is ~/.cache/wqplan-kernel, or wqplan-kernel in $XDG_CACHE_HOME. Packages come by `apt-get download`, or from
+the folder that $WQJUDGE_DEBS names, which apt then isn't asked for.
 """
 
 import functools
@@ -37,8 +37,15 @@ def cache():
 def output_of(words, **given):
     """What a program prints. Raises Missing where there is no such program, or it fails."""
     try:
-        ended = subprocess.run(words, stdin=subprocess.DEVNULL, stdout=subprocess.PIPE, stderr=subprocess.PIPE, text=True,
-                               timeout=SECONDS, **given)
+        ended = subprocess.run(
+            words,
+            stdin=subprocess.DEVNULL,
+            stdout=subprocess.PIPE,
+            stderr=subprocess.PIPE,
+            text=True,
+            timeout=SECONDS,
+            **given,
+        )
     except OSError as error:
         raise Missing(f"{words[0]}: {error.strerror}") from error
     if ended.returncode != 0:
@@ -46,7 +53,7 @@ def output_of(words, **given):
     return ended.stdout
 
 
-# Packages ----------------------------------------------------------------------------------------------------------------------------
+# Packages -----------------------------------------------------------------------------------------
 
 
 def named_folder():
@@ -98,8 +105,16 @@ def unpack(package, root, *only):
         output_of(["dpkg-deb", "-x", package, root])
         return
     patterns = " ".join(f"'{pattern}'" for pattern in only)
-    output_of(["bash", "-c", f"set -o pipefail; dpkg-deb --fsys-tarfile \"$1\" | tar -x -C \"$2\" --wildcards {patterns}", "bash",
-               package, root])
+    output_of(
+        [
+            "bash",
+            "-c",
+            f"set -o pipefail; dpkg-deb --fsys-tarfile \"$1\" | tar -x -C \"$2\" --wildcards {patterns}",
+            "bash",
+            package,
+            root,
+        ]
+    )
 
 
 def made(place, make):
@@ -118,7 +133,7 @@ def made(place, make):
     return place
 
 
-# The kernel and the module -----------------------------------------------------------------------------------------------------------
+# The kernel and the module ------------------------------------------------------------------------
 
 
 class Kernel:
@@ -142,7 +157,7 @@ class Kernel:
         """The version text in the head of the image (Documentation/x86/boot.rst, kernel_version)."""
         head = self.image.read_bytes()[:65536]
         at = int.from_bytes(head[0x20E:0x210], "little") + 0x200
-        return head[at:head.index(b"\0", at)]
+        return head[at : head.index(b"\0", at)]
 
     def headers(self):
         return self.place / "usr" / "src" / f"linux-headers-{self.release}"
@@ -216,14 +231,17 @@ def kbuild_of(release, place):
 
 
 def kernels(series):
-    """The kernels of a series, the one to be taken first: the newest that there is, then those of the cache, newest first.
+    """The kernels of a series, in the order in which they are to be taken: the newest that there is, then those of the
+    cache, newest first.
 
     Raises Missing where there is none at all.
     """
     if series not in SERIES:
         raise Missing(f"the series {series} isn't known: the module is for {' and '.join(SERIES)}")
     pattern = re.compile(rf"{re.escape(series)}\..*-cloud-amd64")
-    cached = sorted((path.name for path in cache().iterdir() if pattern.fullmatch(path.name)), key=order_of, reverse=True)
+    cached = sorted(
+        (path.name for path in cache().iterdir() if pattern.fullmatch(path.name)), key=order_of, reverse=True
+    )
     try:
         newest = newest_release(series)
         made(cache() / newest, functools.partial(fetch_kernel, newest))
@@ -234,7 +252,7 @@ def kernels(series):
     return [Kernel(series, release) for release in [newest, *(name for name in cached if name != newest)]]
 
 
-# The shell and the machine -----------------------------------------------------------------------------------------------------------
+# The shell and the machine ------------------------------------------------------------------------
 
 
 def busybox():
@@ -250,8 +268,20 @@ def busybox():
 
 def needed_by(name):
     """A package and all that it needs that isn't installed."""
-    told = output_of(["apt-cache", "depends", "--recurse", "--no-recommends", "--no-suggests", "--no-conflicts", "--no-breaks",
-                      "--no-replaces", "--no-enhances", name])
+    told = output_of(
+        [
+            "apt-cache",
+            "depends",
+            "--recurse",
+            "--no-recommends",
+            "--no-suggests",
+            "--no-conflicts",
+            "--no-breaks",
+            "--no-replaces",
+            "--no-enhances",
+            name,
+        ]
+    )
     names = {line for line in told.splitlines() if line and line[0] not in " <|" and ":" not in line}
     installed = output_of(["dpkg-query", "-W", "-f", "${db:Status-Abbrev} ${Package}\n"]).splitlines()
     installed = {line.split()[-1] for line in installed if line.startswith("ii")}
@@ -268,7 +298,9 @@ def qemu():
         if named_folder():
             packages = sorted(named_folder().glob("*.deb"))
             if not any(path.name.startswith("qemu-system-x86_") for path in packages):
-                raise Missing(f"there is no qemu-system-x86_64 on the PATH, and no qemu-system-x86_*.deb in {named_folder()}")
+                raise Missing(
+                    f"there is no qemu-system-x86_64 on the PATH, and no qemu-system-x86_*.deb in {named_folder()}"
+                )
             for path in packages:
                 if not path.name.startswith("linux-"):
                     unpack(path, place)

@@ -1,6 +1,7 @@
 """Single situations, each with what each series of Linux does in it: kernel/cases/NAME.case.
 
-Such a file is lines `key: value`, and lines `key:` with lines below, each after four spaces. `#` begins a comment.
+Such a file is lines `key: value`, and lines `key:` with lines below, each after four spaces, or after eight if it goes
+on with the line above. `#` begins a comment.
 
     says         what it is about
     declaration  its lines, parted by ` / `
@@ -8,7 +9,7 @@ Such a file is lines `key: value`, and lines `key:` with lines below, each after
     kind         how the workqueues are made: a letter of cases.KINDS for all, or for each (default p)
     weather      short (default) or plenty
     does         what items do by themselves, in a free case: lines `ITEM DEED ARGUMENT` (module/main.c, `does`)
-    steps        the steps of docs/FORMAT.md, with other commands of the module between them, whose items have names here
+    steps        the steps of docs/FORMAT.md, with other commands of the module between them; items have names here
     model        what the model has at the end of the steps, or what wqplan says
     6.1, 6.12    what the kernel has at each `state WORD` of the steps: lines `WORD: ..`, in the words of kernel/judge
 """
@@ -22,8 +23,10 @@ import model
 PLACE = pathlib.Path(__file__).resolve().parents[1] / "cases"
 
 
-def lines_of(text):
-    return "".join(line + "\n" for line in text.split(" / ")).encode()
+def lines_of(field):
+    """The text of a field: lines, parted by ` / ` if they are on one."""
+    lines = field.split(" / ") if isinstance(field, str) else field
+    return "".join(line + "\n" for line in lines).encode()
 
 
 def fields(path):
@@ -32,7 +35,9 @@ def fields(path):
     for number, line in enumerate(path.read_text().splitlines(), 1):
         line = line.split("#")[0].rstrip()
         field = re.fullmatch(r"([\w.]+):(?: (.+))?", line)
-        if line.startswith("    ") and isinstance(found.get(key), list):
+        if line.startswith("        ") and found.get(key):
+            found[key][-1] += f" {line.strip()}"
+        elif line.startswith("    ") and isinstance(found.get(key), list):
             found[key].append(line.strip())
         elif field:
             key = field[1]
@@ -68,7 +73,9 @@ class PinnedCase(cases.Case):
             yield f"does {self.number(item)} {deed} {self.number(argument)}"
 
     def commands(self):
-        """Steps of FORMAT name a workqueue before the item: of `start 0 a` the number is left out, and for others who runs there is put."""
+        """Steps of FORMAT name a workqueue before the item: of `start 0 a` the number is left out, and for others who
+        runs there is put.
+        """
         on = {}
         for line in self.fields["steps"]:
             word, *rest = line.split()
@@ -104,7 +111,11 @@ class PinnedCase(cases.Case):
         if any(letter == "!" for letter, *_ in self.outcome.events):
             return f"a step doesn't happen: {self.outcome.events}"
         found = self.found()
-        return "".join(f"\n    {word}: {found.get(word)}" for word, text in self.expected(series).items() if found.get(word) != text)
+        return "".join(
+            f"\n    {word}: {found.get(word)}"
+            for word, text in self.expected(series).items()
+            if found.get(word) != text
+        )
 
 
 def all_cases():
@@ -112,7 +123,9 @@ def all_cases():
 
 
 def run(kernel, made):
-    """Has guests run them: one for those that begin in each weather. Those with `plenty` make the shortage anew behind them."""
+    """Has guests run them: one for those that begin in each weather. Those with `plenty` make the shortage anew
+    behind them.
+    """
     for weather in ("short", "plenty"):
         part = [case for case in made if case.begins == weather]
         if part:

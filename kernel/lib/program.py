@@ -16,7 +16,9 @@ LETTERS = {"per-cpu": "p", "unbound": "u", "mixed": "puo1"}
 
 
 class Refusal(Exception):
-    """wqplan gave no answer: what it printed in place of one, to standard output and to standard error, and its status."""
+    """wqplan gave no answer: what it printed in place of one, to standard output and to standard error, and its
+    status.
+    """
 
     def __init__(self, said, errors, status):
         super().__init__(said + errors)
@@ -27,8 +29,12 @@ def wqplan():
     """The program: that of $WQPLAN, of this clone, on the PATH, or installed by install.sh."""
     cache = os.environ.get("XDG_CACHE_HOME") or os.path.expanduser("~/.cache")
     built = "crates/wqplan/out/wqplan"
-    for path in (os.environ.get("WQPLAN"), ROOT / built, *(f"{folder}/wqplan" for folder in os.get_exec_path()),
-                 f"{cache}/wqplan/{built}"):
+    for path in (
+        os.environ.get("WQPLAN"),
+        ROOT / built,
+        *(f"{folder}/wqplan" for folder in os.get_exec_path()),
+        f"{cache}/wqplan/{built}",
+    ):
         if path and os.access(path, os.X_OK):
             return path
     raise packages.Missing("there is no wqplan: build it, or name it by the variable WQPLAN")
@@ -45,8 +51,13 @@ def ask(command, *texts):
                     file.write(text)
                 text = path
             words.append(text)
-        ended = subprocess.run([wqplan(), command, *words], stdin=subprocess.DEVNULL, stdout=subprocess.PIPE, stderr=subprocess.PIPE,
-                               timeout=SECONDS)
+        ended = subprocess.run(
+            [wqplan(), command, *words],
+            stdin=subprocess.DEVNULL,
+            stdout=subprocess.PIPE,
+            stderr=subprocess.PIPE,
+            timeout=SECONDS,
+        )
     if ended.returncode not in (0, 1):
         raise Refusal(ended.stdout.decode("latin-1"), ended.stderr.decode("latin-1"), ended.returncode)
     return ended.stdout
@@ -59,7 +70,9 @@ def plan_of(declaration):
 
 
 class Asked:
-    """A declaration and an assignment, what `wqplan deadlock` says of them, and the cases by which a kernel is asked the same."""
+    """A declaration and an assignment, what `wqplan deadlock` says of them, and the cases by which a kernel is asked
+    the same.
+    """
 
     def __init__(self, name, texts, letters, choose, without_rescuer=()):
         self.name, self.choose = name, choose

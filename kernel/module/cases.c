@@ -10,7 +10,7 @@
 
 #define POLL_MS	3000
 
-/* ---- workqueues ---------------------------------------------------------------------------------------------------------------- */
+/* ---- workqueues -------------------------------------------------------------------------------- */
 
 struct queue *make_queue(char kind, bool rescuer, int max_active)
 {
@@ -40,7 +40,7 @@ struct queue *make_queue(char kind, bool rescuer, int max_active)
 	return q->wq ? q : NULL;
 }
 
-/* Who calls this: R, the rescuer of this workqueue; N, a normal worker; or ?, somebody else, such as another one's rescuer. */
+/* Who calls this: R, the rescuer of this workqueue; N, a normal worker; or ?, such as another workqueue's rescuer. */
 char runs_here(const struct queue *q)
 {
 	char comm[TASK_COMM_LEN];
@@ -50,12 +50,12 @@ char runs_here(const struct queue *q)
 	get_task_comm(comm, current);
 	if (*q->rescuer && !strcmp(comm, q->rescuer))
 		return 'R';
-	if (strncmp(comm, WORKER_COMM, strlen(WORKER_COMM)) || !strncmp(comm, WORKER_COMM "R-", strlen(WORKER_COMM "R-")))
+	if (!strncmp(comm, ANY_RESCUER_COMM, strlen(ANY_RESCUER_COMM)))
 		return '?';
-	return 'N';
+	return strncmp(comm, WORKER_COMM, strlen(WORKER_COMM)) ? '?' : 'N';
 }
 
-/* ---- what happens -------------------------------------------------------------------------------------------------------------- */
+/* ---- what happens ------------------------------------------------------------------------------ */
 
 static void note(struct judged_case *c, char what, int item, int arg, char by)
 {
@@ -103,7 +103,7 @@ static void print_events(struct judged_case *c)
 	}
 }
 
-/* ---- work functions ------------------------------------------------------------------------------------------------------------ */
+/* ---- work functions ---------------------------------------------------------------------------- */
 
 static bool is_unfinished(struct item *it)
 {
@@ -169,7 +169,7 @@ static void wait_by(struct item *it, struct act act)
 	default:
 		wait_event(c->news, READ_ONCE(target->finished) || READ_ONCE(c->over));
 	}
-	/* It no longer waits when this is noted: so the driver's mark of the step that sees it comes behind the note. */
+	/* It is noted first: so the driver's mark of the step that sees it comes behind the note. */
 	note(c, 'o', it->number, act.arg, 0);
 	WRITE_ONCE(it->doing, RUNS);
 	wake_up_all(&c->news);
@@ -230,8 +230,8 @@ static void work_fn(struct work_struct *work)
 }
 
 /*
- * A kernel starts an item as soon as its rescuer is idle, but in a driven case it has to stay pending until its step `start` comes. So
- * another item, the gate, is queued in front of it, in which the rescuer sleeps until then.
+ * A kernel starts an item as soon as its rescuer is idle, but in a driven case it has to stay pending until its step
+ * `start` comes. So another item, the gate, is queued in front of it, in which the rescuer sleeps until then.
  */
 static void gate_fn(struct work_struct *work)
 {
@@ -245,7 +245,7 @@ static void gate_fn(struct work_struct *work)
 	wake_up_all(&c->news);
 }
 
-/* ---- cases --------------------------------------------------------------------------------------------------------------------- */
+/* ---- cases ------------------------------------------------------------------------------------- */
 
 struct judged_case *make_case(int number, bool driven)
 {
@@ -302,8 +302,8 @@ int add_act(struct item *it, enum deed deed, int arg)
 }
 
 /*
- * The items that go by themselves act from now on. All are queued before: so which of them end, where they wait in a circle, doesn't
- * depend on the order in which the rescuers run.
+ * The items that go by themselves act from now on. All are queued before: so which of them end, where they wait in a
+ * circle, doesn't depend on the order in which the rescuers run.
  */
 void begin_acts(struct judged_case *c)
 {
@@ -334,11 +334,12 @@ void cancel_item(struct item *it)
 	preempt_enable();
 }
 
-/* ---- driven steps -------------------------------------------------------------------------------------------------------------- */
+/* ---- driven steps ------------------------------------------------------------------------------ */
 
 /*
- * How long nothing has to happen until it counts as not happening is told in looks, LOOK_MS apart, and not by a clock: a guest whose host
- * does something else for seconds is behind by one look, not by seconds. Between two looks all that can run in the guest does.
+ * How long nothing has to happen until it counts as not happening is told in looks, LOOK_MS apart, and not by a
+ * clock: a guest whose host does something else for seconds is behind by one look, not by seconds. Between two looks
+ * all that can run in the guest does.
  */
 #define happens(c, condition)									\
 ({												\
@@ -355,7 +356,7 @@ static bool sleeps(struct task_struct *task)
 	return (READ_ONCE(task->__state) & TASK_UNINTERRUPTIBLE) && !READ_ONCE(task->on_rq);
 }
 
-/* Whether the wait of an item has begun, and sleeps. It is looked at twice, with time in between: it may sleep for a lock before. */
+/* Whether the wait of an item has begun, and sleeps. It is looked at several times: it may sleep for a lock before. */
 static bool waits_asleep(struct item *it)
 {
 	int i;
@@ -459,7 +460,7 @@ int drive(struct judged_case *c, const char *step, int item, int target)
 	return 0;
 }
 
-/* ---- how a case stands --------------------------------------------------------------------------------------------------------- */
+/* ---- how a case stands ------------------------------------------------------------------------- */
 
 static bool all_done(struct judged_case *c)
 {
@@ -489,8 +490,9 @@ static bool settle(struct judged_case *c)
 }
 
 /*
- * Settles, and prints `state CASE WORD done|hung`, and for each item that isn't finished its number, a p if it is pending, and an r if it
- * runs, with the letter and the target of its wait while it waits, and a ~ if it doesn't sleep in it: 0:p 3:rw1
+ * Settles, and prints `state CASE WORD done|hung`, and for each item that isn't finished its number, a p if it is
+ * pending, and an r if it runs, with the letter and the target of its wait while it waits, and a ~ if it doesn't
+ * sleep in it: 0:p 3:rw1
  */
 void print_state(struct judged_case *c, const char *word)
 {

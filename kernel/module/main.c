@@ -1,21 +1,22 @@
 // SPDX-License-Identifier: GPL-2.0
 /*
- * wqjudge executes the work items of declarations of wqplan, on the workqueues of assignments of them, and prints what becomes of each
- * item: so a kernel says whether they hang.
+ * wqjudge executes the work items of declarations of wqplan, on the workqueues of assignments of them, and prints
+ * what becomes of each item: so a kernel says whether they hang.
  *
- * Each write to /proc/wqjudge is a command, and it returns when the command is done. What comes of it is printed to the console, in lines
- * that begin with "wqjudge:". Items, workqueues and cases are numbered from 0.
+ * Each write to /proc/wqjudge is a command, and it returns when the command is done. What comes of it is printed to
+ * the console, in lines that begin with "wqjudge:". Items, workqueues and cases are numbered from 0.
  *
  * First all cases are made, since a rescuer can't be created later:
  *
  *   case N free|driven		the next case. The commands up to the next one describe it
- *   wq KIND RESCUER [MAX]	its next workqueue. KIND p: per CPU, u: WQ_UNBOUND, o: alloc_ordered_workqueue(). RESCUER 1: with
- *				WQ_MEM_RECLAIM, 0: without. MAX is max_active
+ *   wq KIND RESCUER [MAX]	its next workqueue. KIND p: per CPU, u: WQ_UNBOUND, o: alloc_ordered_workqueue().
+ *				RESCUER 1: with WQ_MEM_RECLAIM, 0: without. MAX is max_active
  *   item Q			its next item, which is queued to its workqueue Q alone
- *   does I DEED ARG		what item I does by itself, in a case that is free: `enum deed` in wqjudge.h, in lower case
+ *   does I DEED ARG		what item I does by itself, in a case that is free: see `deeds` below
  *   blockers			makes the items that will keep workers busy
  *
- * Then comes the weather. Before `short` and `free` the guest has to lower kernel.threads-max; after `plenty` it has to lift it again:
+ * Then comes the weather. Before `short` and `free` the guest has to lower kernel.threads-max; after `plenty` it has
+ * to lift it again:
  *
  *   short			all workers sleep, and it is looked whether that is so
  *   free N			the same, but N workers of each pool can execute work

@@ -1,22 +1,26 @@
 // SPDX-License-Identifier: GPL-2.0
 /*
- * The shortage: no worker can be created, and all that exist sleep. So only rescuers execute work, each that of its own workqueue. (Lines
- * are those of kernel/workqueue.c in Linux 6.1.192; 6.12.117 does the same.)
+ * The shortage: no worker can be created, and all that exist sleep. So only rescuers execute work, each that of its
+ * own workqueue. (Lines are those of kernel/workqueue.c in Linux 6.1.192; 6.12.117 does the same.)
  *
- * No worker can be created. The guest has set kernel.threads-max below the number of its threads. From then on copy_process()
- * (kernel/fork.c:2252, "nr_threads >= max_threads") refuses each new one. So kthread_create_on_node() in create_worker() (1952) fails,
- * and create_worker() leaves by the same `goto fail` as without memory, and returns NULL.
+ * No worker can be created. The guest has set kernel.threads-max below the number of its threads. From then on
+ * copy_process() (kernel/fork.c:2252, "nr_threads >= max_threads") refuses each new one. So kthread_create_on_node()
+ * in create_worker() (1952) fails, and create_worker() leaves by the same `goto fail` as without memory, and returns
+ * NULL.
  *
- * All workers sleep. For each pool there are more blockers than it has workers: items that sleep until the shortage ends, on workqueues
- * without a rescuer. Whenever the last running worker of a pool goes to sleep, the pool wakes an idle one, and that one takes the next
- * blocker. (wq_worker_sleeping(), need_more_worker(): the list isn't empty, and nobody runs.)
+ * All workers sleep. For each pool there are more blockers than it has workers: items that sleep until the shortage
+ * ends, on workqueues without a rescuer. Whenever the last running worker of a pool goes to sleep, the pool wakes an
+ * idle one, and that one takes the next blocker. (wq_worker_sleeping(), need_more_worker(): the list isn't empty, and
+ * nobody runs.)
  *
- * So the pool calls for help. The last idle worker doesn't execute work: it becomes the manager (worker_thread(), 2407 to 2411:
- * may_start_working() is false), and tries to create a worker, again and again, in maybe_create_worker() (2099). It stays there, since
- * blockers are left on the list, so that need_to_create_worker() holds. Meanwhile the pool's mayday timer runs: every 100 ms
- * pool_mayday_timeout() (2056) calls the rescuer of each workqueue that has an item on the list.
+ * So the pool calls for help. The last idle worker doesn't execute work: it becomes the manager (worker_thread(),
+ * 2411: may_start_working() is false), and tries to create a worker, again and again, in
+ * maybe_create_worker() (2099). It stays there, since blockers are left on the list, so that need_to_create_worker()
+ * holds. Meanwhile the pool's mayday timer runs: every 100 ms pool_mayday_timeout() (2056) calls the rescuer of each
+ * workqueue that has an item on the list.
  *
- * Nothing of this looks into the pools, so it is tried whether it is so: see is_short(). And each execution of a case tells who runs it.
+ * Nothing of this looks into the pools, so it is tried whether it is so: see is_short(). And each execution of a case
+ * tells who runs it.
  */
 #define pr_fmt(fmt) "wqjudge: " fmt
 #include <linux/cpumask.h>
@@ -25,7 +29,7 @@
 #include "wqjudge.h"
 
 #define NBLOCKERS	32	/* for each pool */
-#define QUIET_MS	1500	/* more than CREATE_COOLDOWN, after which a manager tries again, and many mayday intervals */
+#define QUIET_MS	1500	/* more than CREATE_COOLDOWN (1 s), and many mayday intervals */
 #define MAX_POOLS	32
 
 struct blocker {
@@ -165,8 +169,8 @@ static char shown(char by)
 }
 
 /*
- * Is it so that at each place rescuers alone execute work? Blockers are left; of two items that are queued now, that on a workqueue with a
- * rescuer is executed by this one, and the other isn't executed at all.
+ * Is it so that at each place rescuers alone execute work? Blockers are left; of two items that are queued now, that
+ * on a workqueue with a rescuer is executed by this one, and the other isn't executed at all.
  */
 static bool is_short(void)
 {
@@ -179,8 +183,8 @@ static bool is_short(void)
 		char with = READ_ONCE(p->with.by), without = READ_ONCE(p->without.by);
 		int started = nstarted_at(p);
 
-		pr_err("place %c%d: %d of %d blockers run; with a rescuer %c, without %c\n", p->kind, p->cpu, started, NBLOCKERS,
-		       shown(with), shown(without));
+		pr_err("place %c%d: %d of %d blockers run; with a rescuer %c, without %c\n", p->kind, p->cpu, started,
+		       NBLOCKERS, shown(with), shown(without));
 		right &= started < NBLOCKERS && with == 'R' && !without;
 	}
 	return right;

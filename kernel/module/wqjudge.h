@@ -22,14 +22,14 @@ struct queue {
 	char rescuer[TASK_COMM_LEN];
 };
 
-/* What a work function does: of an item that goes by itself, or as the driver says. The argument of all but nap is an item. */
+/* What a work function does, by itself or as the driver says. The argument of all but NAP is an item. */
 enum deed {
 	NOTHING,
 	FLUSH,		/* flush_work() */
 	FLUSHWQ,	/* flush_workqueue() of the item's workqueue */
 	DRAINWQ,	/* drain_workqueue() of the item's workqueue */
 	CANCEL_SYNC,	/* cancel_work_sync() */
-	POLL,		/* until the item is neither pending nor running, in a loop that doesn't sleep; it gives up after POLL_MS */
+	POLL,		/* waits in a loop that doesn't sleep, for POLL_MS at most */
 	AWAIT,		/* a completion: until the item has finished once */
 	QUEUE,		/* queue_work() */
 	NAP,		/* sleeps for so many milliseconds */

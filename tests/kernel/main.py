@@ -1,15 +1,17 @@
-"""Asks the workqueue code of Linux itself: do kernels do what the program and the model say? By kernel/, whose README.md says how.
+"""Asks the workqueue code of Linux itself: do kernels do what the program and the model say? By kernel/, whose
+README.md says how.
 
     main.py PROGRAM
 
-On Linux 6.1, with one CPU, while no worker can be created: all examples under their assignments and plans; the worked rows of `deadlock`
-(tests/cli/rows/deadlocks.py), with the answers that stand there; random declarations under their plans and under unsafe assignments; and
-random runs, driven. Then random declarations with memory enough, and safe ones on two CPUs. On Linux 6.12 fewer of these. On both the
-situations of kernel/cases. Each wrong machine of mutants.py must be refused by something that 6.1 did; and what is no shortage, or not the
-right one, must not pass for one.
+On Linux 6.1, with one CPU, while no worker can be created: all examples under their assignments and plans; the worked
+rows of `deadlock` (tests/cli/rows/deadlocks.py), with the answers that stand there; random declarations under their
+plans and under unsafe assignments; and random runs, driven. Then random declarations with memory enough, and safe
+ones on two CPUs. On Linux 6.12 fewer of these. On both the situations of kernel/cases. Each wrong machine of
+mutants.py must be refused by something that 6.1 did; and what is no shortage, or not the right one, must not pass for
+one.
 
-Where QEMU or a kernel can't be had, it says so, and skips what needs it: that is no failure. It takes some two minutes of processor time
-once the cache of kernel/ has what it needs.
+Where QEMU or a kernel can't be had, it says so, and skips what needs it: that is no failure. It takes some two
+minutes of processor time once the cache of kernel/ has what it needs.
 """
 
 import os
@@ -45,7 +47,7 @@ def tell(passed, name, why=""):
     print(f"{'ok     ' if passed else 'FAILED '} {name}{f': {why}' if not passed and why else ''}", flush=True)
 
 
-# The cases ---------------------------------------------------------------------------------------------------------------------------
+# The cases ----------------------------------------------------------------------------------------
 
 
 def example_cases(choose, letters):
@@ -53,7 +55,9 @@ def example_cases(choose, letters):
     examples = ROOT / "examples"
     for path in sorted(examples.rglob("*.assign")):
         name = path.name.split(".")[0]
-        declaration = next(place for place in (path.with_name(f"{name}.wq"), path.parent / f"{path.parent.name}.wq") if place.exists())
+        declaration = next(
+            place for place in (path.with_name(f"{name}.wq"), path.parent / f"{path.parent.name}.wq") if place.exists()
+        )
         yield from program.Asked(f"{path.name}: ", [declaration, path], letters, choose).cases(3)
     for path in sorted(examples.rglob("*.wq")):
         plan = program.plan_of(path)
@@ -105,7 +109,11 @@ def random_runs(choose, count, letters):
         steps = random_cases.run_steps(choose, asked.declaration, asked.assignment, choose.randint(8, 40))
         case = asked.driven_case("driven", steps)
         *_, state = case.states()
-        said = program.ask("replay", *asked.texts, b"".join(line + b"\n" for line in model.run_text(steps))).decode().strip()
+        said = (
+            program.ask("replay", *asked.texts, b"".join(line + b"\n" for line in model.run_text(steps)))
+            .decode()
+            .strip()
+        )
         if (said == "open") == state.is_stuck() or said.startswith("not lawful"):
             tell(False, case.name, f"wqplan replay says {said}, the model {'stuck' if state.is_stuck() else 'open'}")
         yield case
@@ -120,7 +128,7 @@ def safe_cases(choose, count, letters, cpus):
             yield from program.Asked(f"two CPUs, {number}: ", [text, plan], letters, choose).free_cases(0, cpus)
 
 
-# The kernels -------------------------------------------------------------------------------------------------------------------------
+# The kernels --------------------------------------------------------------------------------------
 
 
 def judged(what, kernel, made, cpus=1, weather="short"):
@@ -170,15 +178,21 @@ def try_self_check(kernel):
     for case in made:
         passes = case.judge()
         case.weather = "short"
-        tell(not passes and "somebody else" in case.judge(), "a case whose item no rescuer executes doesn't pass", case.judge())
+        tell(
+            not passes and "somebody else" in case.judge(),
+            "a case whose item no rescuer executes doesn't pass",
+            case.judge(),
+        )
 
 
 def try_command(series):
     """kernel/judge: its statuses, and its last line."""
     rdisk = ROOT / "examples" / "rdisk"
     cancelled = {
-        "d.wq": "item a\nitem b\nflush a b\n", "d.assign": "wq 0 a b\n",
-        "d.run": "run 5\nqueue a\nstart 0 a\nqueue b\nwait 0 b\ncancel b\n", "bad.run": "run 1\nstart 0 a\n",
+        "d.wq": "item a\nitem b\nflush a b\n",
+        "d.assign": "wq 0 a b\n",
+        "d.run": "run 5\nqueue a\nstart 0 a\nqueue b\nwait 0 b\ncancel b\n",
+        "bad.run": "run 1\nstart 0 a\n",
     }
     with tempfile.TemporaryDirectory() as folder:
         for name, text in cancelled.items():
@@ -192,8 +206,14 @@ def try_command(series):
             # The known difference: the model lets the flush of a cancelled entry go at once.
             (4, "differs", ["d.wq", "d.assign", "d.run"]),
         ):
-            ended = subprocess.run([ROOT / "kernel" / "judge", *words, "--kernel", series], cwd=folder, capture_output=True, text=True,
-                                   stdin=subprocess.DEVNULL, timeout=SECONDS)
+            ended = subprocess.run(
+                [ROOT / "kernel" / "judge", *words, "--kernel", series],
+                cwd=folder,
+                capture_output=True,
+                text=True,
+                stdin=subprocess.DEVNULL,
+                timeout=SECONDS,
+            )
             found = ended.returncode, (ended.stdout.splitlines() or [""])[-1]
             tell(found == (status, last), f"kernel/judge ends with {status} {last}", f"{found} {ended.stderr}")
 
@@ -218,7 +238,7 @@ def main(arguments):
     if why:
         print(f"skipped kernel: {why}")
         return 0
-    kernel = packages.kernels("6.1")[0]
+    kernel = guest.kernel_of("6.1")
     # Each has random numbers of its own: the random cases stay the same if an example or a row comes to it.
     examples, rows, sets, runs, plenty, two, later = (random.Random(f"kernel {number}") for number in range(7))
     made = judged("the examples", kernel, example_cases(examples, letters["mixed"]))
@@ -235,10 +255,13 @@ def main(arguments):
     if why:
         print(f"skipped kernel 6.12: {why}")
     else:
-        kernel = packages.kernels("6.12")[0]
+        kernel = guest.kernel_of("6.12")
         judged("the examples", kernel, example_cases(later, letters["mixed"]))
-        judged("random declarations and runs", kernel,
-               [*random_sets(later, 15, letters["mixed"]), *random_runs(later, 15, letters["mixed"])])
+        judged(
+            "random declarations and runs",
+            kernel,
+            [*random_sets(later, 15, letters["mixed"]), *random_runs(later, 15, letters["mixed"])],
+        )
         try_pinned(kernel)
     return counts_of("kernel", counts[True], counts[False])
 

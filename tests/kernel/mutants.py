@@ -1,4 +1,6 @@
-"""Wrong machines: each is that of tests/model/steps.py but for one rule of docs/FORMAT.md, "Steps". What a kernel did must refuse each."""
+"""Wrong machines: each is that of tests/model/steps.py but for one rule of docs/FORMAT.md, "Steps". What a kernel did
+must refuse each.
+"""
 
 import sys
 from pathlib import Path
@@ -82,5 +84,14 @@ class OrderedIsNot(State):
         return [(workqueue, helper) for helper in range(1 + self.helpers)]
 
 
-MUTANTS = (LastInFirstOut, FlushReturnsAtOnce, FlushWaitsForWhatRuns, FlushWaitsForWhatIsPending, FlushWaitsForLaterEntries,
-           FlushwqWaitsForLaterEntries, FlushwqWaitsForItsItem, FlushwqIgnoresItsCaller, OrderedIsNot)
+MUTANTS = (
+    LastInFirstOut,
+    FlushReturnsAtOnce,
+    FlushWaitsForWhatRuns,
+    FlushWaitsForWhatIsPending,
+    FlushWaitsForLaterEntries,
+    FlushwqWaitsForLaterEntries,
+    FlushwqWaitsForItsItem,
+    FlushwqIgnoresItsCaller,
+    OrderedIsNot,
+)
