@@ -1,0 +1,132 @@
+"""Which function calls which: by name, by a pointer, by what it is handed to."""
+
+import collections
+from typing import Iterable, Iterator, NamedTuple
+
+from .cells import Address, Function, Kept, Member, Value
+from .ctext import Tokens
+from .facts import Call, Facts
+from .holds import Holds
+from .places import FunctionId, Place
+from .tables import Idioms
+
+DIRECT = "call"
+# Functions that are called by pointers may make other pointers known; so often at most is it asked again.
+MOST_ROUNDS = 8
+
+
+class Edge(NamedTuple):
+    """A call: where, how, and of which name. `how` is DIRECT, `->member`, `*variable`, or `~name` of what is handed on."""
+    place: Place
+    how: str
+    call: Call
+
+
+def functions_of(values: Iterable[Value]) -> list[FunctionId]:
+    return [value.id for value in values if isinstance(value, Function)]
+
+
+class CallGraph:
+    """The calls of each function."""
+
+    def __init__(self, facts: Facts, holds: Holds, idioms: Idioms, stacked: bool = False) -> None:
+        self.facts = facts
+        self.holds = holds
+        self.idioms = idioms
+        self.stacked = stacked
+        self.edges: dict[FunctionId, dict[FunctionId, Edge]] = collections.defaultdict(dict)
+        # calls by a pointer whose functions aren't in the files
+        self.blind: dict[FunctionId, set[str]] = collections.defaultdict(set)
+        self.add_direct()
+        self.add_kept()
+        self.holds.settle()
+        for _ in range(MOST_ROUNDS):
+            added = self.add_handed() + self.add_pointers()
+            self.holds.settle()
+            if not added:
+                break
+        self.callers: dict[FunctionId, set[FunctionId]] = collections.defaultdict(set)
+        for caller, called in self.edges.items():
+            for function in called:
+                self.callers[function].add(caller)
+
+    def add(self, place: Place, function: FunctionId, arguments: list[Tokens], how: str, call: Call) -> int:
+        """Notes a call, and what its parameters may hold. Answers 1 where it is new."""
+        if function not in self.facts.definitions:
+            return 0
+        edges = self.edges[place.id]
+        is_new = function not in edges
+        if is_new or how == DIRECT and edges[function].how != DIRECT:
+            edges[function] = Edge(place, how, call)
+        for parameter, argument in zip(self.facts.definitions[function].parameters, arguments):
+            if parameter:
+                self.holds.flow_into_parameter(function, parameter, place, argument)
+        return int(is_new)
+
+    def add_direct(self) -> None:
+        for call in self.facts.calls:
+            for function in self.facts.resolve(call.place.file, call.name):
+                self.add(call.place, function, call.arguments, DIRECT, call)
+
+    def add_kept(self) -> None:
+        """percpu_ref_init(&ref, release, ..): who puts &ref may call `release`."""
+        for maker, _ in self.idioms.kept:
+            for call in self.facts.calls:
+                if call.name == maker and len(call.arguments) > 1:
+                    for value in self.holds.values(call.place, call.arguments[0]):
+                        if isinstance(value, Address):
+                            self.holds.flow(Kept(maker, value.cell), call.place, call.arguments[1])
+
+    def add_handed(self) -> int:
+        """Calls that call what they are handed, or what their object holds."""
+        added = 0
+        for call in self.facts.calls:
+            if call.place.id in self.facts.definitions:
+                for function, how in list(self.handed(call)):
+                    added += self.add(call.place, function, [], how, call)
+        return added
+
+    def handed(self, call: Call) -> Iterator[tuple[FunctionId, str]]:
+        idioms, holds, maybe = self.idioms, self.holds, f"~{call.name}"
+        for names, struct, member in idioms.members + (idioms.stacked if self.stacked else []):
+            if names.fullmatch(call.name):
+                for function in functions_of(list(holds.lookup(Member(struct, member)))):
+                    yield function, maybe
+        for maker, names in idioms.kept:
+            if names.fullmatch(call.name) and call.arguments:
+                for value in list(holds.values(call.place, call.arguments[0])):
+                    if isinstance(value, Address):
+                        for function in functions_of(list(holds.held[Kept(maker, value.cell)])):
+                            yield function, maybe
+        if self.is_outside(call) and not idioms.is_later(call.name):
+            how = DIRECT if idioms.is_now(call.name) else maybe
+            for words in call.arguments:
+                if 0 < len(words) <= 2 and words[0] != '"':
+                    for function in functions_of(holds.values(call.place, words)):
+                        yield function, how
+
+    def is_outside(self, call: Call) -> bool:
+        """Whether a call is of no function of the files, and of no variable."""
+        return not self.facts.resolve(call.place.file, call.name) and not self.facts.is_local(call.place, call.name)
+
+    def add_pointers(self) -> int:
+        """Calls by a member and by a variable."""
+        added = 0
+        for place, base, member, arguments in self.facts.pointer_calls:
+            call = Call(place, member, arguments)
+            found = functions_of(self.holds.lookup(self.holds.member(place, base, member)))
+            added += sum(self.add(place, function, arguments, f"->{member}", call) for function in found)
+            self.note_blind(place, f"->{member}", found)
+        for call in self.facts.calls:
+            if self.facts.is_local(call.place, call.name):
+                found = functions_of(self.holds.values(call.place, [call.name]))
+                added += sum(self.add(call.place, function, call.arguments, f"*{call.name}", call) for function in found)
+                self.note_blind(call.place, f"*{call.name}", found)
+        return added
+
+    def note_blind(self, place: Place, name: str, found: list[FunctionId]) -> None:
+        """Notes a pointer whose functions aren't known; a later round may find them."""
+        if found:
+            self.blind[place.id].discard(name)
+        else:
+            self.blind[place.id].add(name)

@@ -1,0 +1,89 @@
+"""What a variable may hold, and where it is held."""
+
+from dataclasses import dataclass
+from typing import Union
+
+from .places import FunctionId
+
+UNKNOWN = "?"
+
+
+@dataclass(frozen=True, slots=True)
+class Member:
+    """A member of all structs of one name. The struct is UNKNOWN where Coccinelle doesn't say which it is."""
+    struct: str
+    name: str
+
+    def __str__(self) -> str:
+        return f"{self.struct}.{self.name}"
+
+
+@dataclass(frozen=True, slots=True)
+class Variable:
+    """A variable or parameter of a function."""
+    file: str
+    function: str
+    name: str
+
+    def __str__(self) -> str:
+        return self.name
+
+
+@dataclass(frozen=True, slots=True)
+class Global:
+    """A variable outside functions."""
+    name: str
+
+    def __str__(self) -> str:
+        return self.name
+
+
+@dataclass(frozen=True, slots=True)
+class Result:
+    """What functions of this name return."""
+    function: str
+
+    def __str__(self) -> str:
+        return f"{self.function}()"
+
+
+@dataclass(frozen=True, slots=True)
+class Kept:
+    """The function that was given together with an object, as to percpu_ref_init."""
+    maker: str
+    object: "Cell"
+
+
+Cell = Union[Member, Variable, Global, Result, Kept]
+
+
+@dataclass(frozen=True, slots=True)
+class Address:
+    """The address of what is held there: &cell."""
+    cell: Cell
+
+    def __str__(self) -> str:
+        return str(self.cell)
+
+
+@dataclass(frozen=True, slots=True)
+class Function:
+    """A function, as a value."""
+    id: FunctionId
+
+
+@dataclass(frozen=True, slots=True)
+class Workqueue:
+    """What a call that makes a workqueue returns: FILE:LINE of the call; or the name of a system workqueue."""
+    made_at: str
+
+
+Value = Union[Address, Function, Workqueue]
+
+
+def may_be_same(one: Address, other: Address) -> bool:
+    """Members of one name may be the same if the struct of one of them isn't known."""
+    if one == other:
+        return True
+    a, b = one.cell, other.cell
+    return isinstance(a, Member) and isinstance(b, Member) and a.name == b.name and UNKNOWN in (a.struct, b.struct)

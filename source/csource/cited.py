@@ -1,0 +1,119 @@
+"""Which places of the given files a declaration means."""
+
+import re
+from dataclasses import dataclass
+from typing import Iterable, Optional
+
+from .declaration import Citation, Declaration, DeclaredItem, DismissedItem, Dismissal
+from .facts import Facts
+from .places import FunctionId
+from .program import Program
+from .sites import Key, Site
+
+COLUMN_OF_FIRST = re.compile(r"\S")
+
+
+class Functions:
+    """In which function a line is: a function goes from the line of its name to the first `}` that begins a line."""
+
+    def __init__(self, facts: Facts) -> None:
+        self.spans: dict[str, list[tuple[int, int, str]]] = {}
+        closings = {file: [n for n, line in enumerate(text.split("\n"), 1) if line.startswith("}")]
+                    for file, text in facts.texts.items()}
+        for function, places in facts.defined_at.items():
+            for place in places:
+                end = next((line for line in closings[place.file] if line >= place.line), place.line)
+                self.spans.setdefault(place.file, []).append((place.line, end, function.name))
+
+    def at(self, file: str, line: int) -> Optional[str]:
+        inside = [span for span in self.spans.get(file, ()) if span[0] <= line <= span[1]]
+        return max(inside)[2] if inside else None
+
+    def spans_of(self, function: FunctionId) -> list[tuple[int, int]]:
+        return sorted((first, last) for first, last, name in self.spans.get(function.file, ()) if name == function.name)
+
+
+@dataclass
+class Located:
+    """A citation, and the file of the tree that it names: none, where no given file or more than one has this name."""
+    citation: Citation
+    files: list[str]
+
+    @property
+    def file(self) -> Optional[str]:
+        return self.files[0] if len(self.files) == 1 else None
+
+
+class Cited:
+    """A declaration beside the files of a tree."""
+
+    def __init__(self, declaration: Declaration, program: Program) -> None:
+        self.declaration = declaration
+        self.program = program
+        self.functions = Functions(program.facts)
+        self.comments = "\n".join(line.partition("#")[2] for line in declaration.lines)
+        self.located = [Located(citation, self.locate(citation)) for citation in declaration.citations]
+        self.places = {(found.file, line) for found in self.located if found.file
+                       for line in range(found.citation.line, found.citation.last + 1)}
+        self.items = self.find_items()
+
+    def given(self, name: str) -> list[str]:
+        """The given files that a name may mean: it is the end of their path."""
+        return [file for file in self.program.facts.files if file == name or file.endswith("/" + name)]
+
+    def locate(self, citation: Citation) -> list[str]:
+        """The files that a citation may mean: if it names a function, those with this function at this line."""
+        files = self.given(citation.file)
+        if len(files) > 1:
+            files = [file for file in files if citation.function and
+                     self.functions.at(file, citation.line) == citation.function] or [
+                         file for file in files if file.rpartition("/")[0] in self.comments] or files
+        return files
+
+    def find_items(self) -> dict[str, list[FunctionId]]:
+        """The work functions of each declared item: none where none is found."""
+        found: dict[str, list[FunctionId]] = {}
+        for item in self.declaration.items:
+            found[item.name] = self.work_functions(item) or next(
+                (functions for name, functions in found.items() if name.split(".")[0] == item.base), [])
+        return found
+
+    def work_functions(self, item: DeclaredItem) -> list[FunctionId]:
+        """The first word of the line that is a work function, the name of the item before all others."""
+        words = [item.base, *re.findall(r"[A-Za-z_]\w+", item.comment)]
+        for word in words:
+            functions = [function for function in self.program.items.items if function.name == word]
+            if functions:
+                cited = {found.file for found in self.located if found.citation.number == item.number}
+                return [function for function in functions if function.file in cited] or functions
+        return []
+
+    def matches(self, key: Key, site_key: Key) -> bool:
+        """Whether a decision, whose file may be the end of a path, is of this site."""
+        return key[1:] == site_key[1:] and (site_key.file == key.file or site_key.file.endswith("/" + key.file))
+
+    def is_cited(self, site: Site) -> bool:
+        return (site.place.file, site.place.line) in self.places
+
+    def dismissal_of(self, key: Key) -> Optional[Dismissal]:
+        return next((dismissal for dismissal in self.declaration.dismissals if self.matches(dismissal.key, key)), None)
+
+    def dismissed_item(self, function: FunctionId) -> Optional[DismissedItem]:
+        return next((item for item in self.declaration.dismissed_items
+                     if item.function == function.name and function.file in self.given(item.file)), None)
+
+    def wrong(self) -> Iterable[tuple[Citation, str]]:
+        """Citations that don't fit the source, each with what is wrong."""
+        for found in self.located:
+            citation, file = found.citation, found.file
+            if file is None:
+                continue
+            lines = self.program.facts.texts[file].split("\n")
+            inside = self.functions.at(file, min(citation.line, len(lines)))
+            if citation.line > len(lines):
+                yield citation, f"the file has {len(lines)} lines"
+            elif not lines[citation.line - 1].strip():
+                yield citation, "the line is empty"
+            elif citation.function and inside != citation.function and FunctionId(file, citation.function) in (
+                    self.program.facts.definitions):
+                yield citation, f"the line is in {inside}" if inside else "the line is in no function"

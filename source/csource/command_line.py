@@ -1,0 +1,130 @@
+"""The command line of `wqsource`."""
+
+import argparse
+import glob
+import os
+import pathlib
+import sys
+from typing import NoReturn, Optional
+
+from . import audit, drift, program
+from .declaration import Declaration
+from .extract import ExtractError, Extractor, default_cache
+from .progress import Progress
+from .tables import TableError
+
+DONE, LEFT, USAGE, FAULT = 0, 1, 2, 3
+
+ABOUT = """\
+Reads C sources beside a declaration of wqplan.
+
+  audit   which places may wait in reach of the declared items, and are neither cited nor dismissed in the declaration
+  drift   what has changed between two trees: the lines that the declaration cites, waits in reach, workqueues
+  draft   a first declaration of some files, for a reader to decide
+
+It lists places that may wait, along calls that it could resolve in the files that it was given. It never says that these are
+all. Nothing here is proved. README.md beside it has the forms of the comments that it reads, and an example."""
+
+ENDS = """\
+Status: 0 nothing is left to decide or to look at, 1 something is, 2 the command line is wrong, 3 a fault: a file that can't be
+read, or Coccinelle is missing."""
+
+
+class Fault(Exception):
+    """What ends the command with status 3."""
+
+
+def parser() -> argparse.ArgumentParser:
+    shared = argparse.ArgumentParser(add_help=False)
+    shared.add_argument("--jobs", type=int, default=os.cpu_count(), metavar="N", help="so many spatch at a time (all processors)")
+    shared.add_argument("--cache", type=pathlib.Path, default=default_cache(), metavar="DIR",
+                        help="where facts are kept ($XDG_CACHE_HOME/wqplan/facts)")
+    shared.add_argument("--stacked", action="store_true", help="submit_bio may run the submit_bio functions of these files")
+    words = argparse.ArgumentParser(prog="wqsource", description=ABOUT, epilog=ENDS,
+                                    formatter_class=argparse.RawDescriptionHelpFormatter)
+    verbs = words.add_subparsers(dest="verb", required=True, metavar="audit|drift|draft")
+    files = dict(nargs="*", metavar="FILE", help="C files and headers, from the top of the tree; `*` stands for any letters. "
+                 "Without any: those of the `# files:` lines of the declaration")
+    one = verbs.add_parser("audit", parents=[shared], epilog=ENDS, help="sites that the declaration doesn't decide")
+    one.add_argument("--decl", required=True, metavar="D.wq")
+    one.add_argument("--tree", type=pathlib.Path, default=pathlib.Path("."), metavar="DIR")
+    one.add_argument("files", **files)
+    two = verbs.add_parser("drift", parents=[shared], epilog=ENDS, help="what has changed between two trees")
+    two.add_argument("--decl", required=True, metavar="D.wq")
+    two.add_argument("--old", type=pathlib.Path, required=True, metavar="DIR", help="the tree whose lines D.wq cites")
+    two.add_argument("--new", type=pathlib.Path, required=True, metavar="DIR")
+    two.add_argument("--write", action="store_true", help="write the new numbers of moved lines into D.wq, and nothing else")
+    two.add_argument("files", **files)
+    return words
+
+
+def expanded(tree: pathlib.Path, names: list[str]) -> list[str]:
+    """The files that the names mean. A name with `*` may mean several."""
+    found: list[str] = []
+    for name in names:
+        if "*" in name:
+            found += sorted(glob.glob(name, root_dir=tree, recursive=True))
+        else:
+            found.append(name)
+    return list(dict.fromkeys(found))
+
+
+def files_of(tree: pathlib.Path, given: list[str], declaration: Optional[Declaration]) -> list[str]:
+    """The files to read. Each is there."""
+    if not tree.is_dir():
+        raise Fault(f"{tree}: no such folder")
+    files = expanded(tree, given or (declaration.files if declaration else []))
+    if not files:
+        raise Fault("no file is given" + (", and the declaration has no `# files:` line" if declaration else ""))
+    missing = [file for file in files if not (tree / file).is_file()]
+    if missing:
+        raise Fault(f"{tree / missing[0]}: no such file")
+    return files
+
+
+def run_audit(words: argparse.Namespace, extractor: Extractor) -> int:
+    declaration = Declaration.read(words.decl)
+    files = files_of(words.tree, words.files, declaration)
+    found = audit.Audit(declaration, program.read(words.tree, files, extractor, program.Tables(), words.stacked))
+    extractor.progress.end()
+    audit.Printer(found, sys.stdout).print()
+    return DONE if found.is_done else LEFT
+
+
+def run_drift(words: argparse.Namespace, extractor: Extractor) -> int:
+    declaration = Declaration.read(words.decl)
+    files = files_of(words.old, words.files, declaration)
+    tables = program.Tables()
+    old = program.read(words.old, files, extractor, tables, words.stacked)
+    # (a file may be gone; one that a name with `*` means may be new)
+    later = expanded(words.new, words.files or declaration.files)
+    new = program.read(words.new, [file for file in later if (words.new / file).is_file()], extractor, tables, words.stacked)
+    found = drift.Drift(declaration, old, new)
+    extractor.progress.end()
+    drift.Printer(found, sys.stdout).print()
+    text = found.rewritten() if words.write else None
+    if text is not None:
+        replace(words.decl, text)
+    return DONE if found.is_silent(after_writing=words.write) else LEFT
+
+
+def replace(path: str, text: str) -> None:
+    """Writes beside the file, and then moves it there."""
+    half = pathlib.Path(f"{path}.new")
+    half.write_bytes(text.encode("utf-8", "surrogateescape"))
+    half.replace(path)
+
+
+VERBS = {"audit": run_audit, "drift": run_drift}
+
+
+def main() -> NoReturn:
+    words = parser().parse_args()
+    extractor = Extractor(words.cache, max(1, words.jobs or 1), Progress())
+    try:
+        status = VERBS[words.verb](words, extractor)
+    except (Fault, ExtractError, TableError, OSError) as fault:
+        extractor.progress.end()
+        print(f"wqsource: {fault}", file=sys.stderr)
+        status = FAULT
+    sys.exit(status)

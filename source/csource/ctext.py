@@ -1,0 +1,94 @@
+"""C expressions as lists of tokens."""
+
+import re
+
+TOKEN = re.compile(r'"(?:\\.|[^"\\])*"|\'(?:\\.|[^\'\\])*\'|->|[A-Za-z_]\w*|\d\w*|\S')
+NAME = re.compile(r"[A-Za-z_]\w*$")
+
+Tokens = list[str]
+
+
+def tokens(text: str) -> Tokens:
+    return TOKEN.findall(text)
+
+
+def is_name(token: str) -> bool:
+    return NAME.match(token) is not None
+
+
+def depth_change(token: str) -> int:
+    """1 where a bracket opens, -1 where one closes."""
+    return 1 if token in ("(", "[", "{") else -1 if token in (")", "]", "}") else 0
+
+
+def closing(words: Tokens, start: int) -> int:
+    """words[start] opens a bracket: the index of the one that closes it."""
+    depth = 0
+    for index in range(start, len(words)):
+        depth += depth_change(words[index])
+        if depth == 0:
+            return index
+    return len(words) - 1
+
+
+def opening(words: Tokens) -> int:
+    """The last token closes a bracket: the index of the one that opens it."""
+    depth = 0
+    for index in range(len(words) - 1, -1, -1):
+        depth += depth_change(words[index])
+        if depth == 0:
+            return index
+    return 0
+
+
+def arguments(words: Tokens) -> list[Tokens]:
+    """The arguments of a call, which stand between commas."""
+    found: list[Tokens] = []
+    current: Tokens = []
+    depth = 0
+    for word in words:
+        depth += depth_change(word)
+        if word == "," and depth == 0:
+            found.append(current)
+            current = []
+        else:
+            current.append(word)
+    return found + [current] if current else found
+
+
+def outer(words: Tokens, wanted: tuple[str, ...]) -> list[int]:
+    """Where one of the wanted tokens stands outside brackets."""
+    places, depth = [], 0
+    for index, word in enumerate(words):
+        depth += depth_change(word)
+        if depth == 0 and word in wanted:
+            places.append(index)
+    return places
+
+
+def bare(words: Tokens) -> Tokens:
+    """Without brackets around all of it and casts before it."""
+    while words and words[0] == "(":
+        end = closing(words, 0)
+        if end == len(words) - 1:
+            words = words[1:-1]
+        elif words[end + 1] not in ("->", ".", "[", "("):
+            words = words[end + 1:]
+        else:
+            break
+    return words
+
+
+def is_call(words: Tokens) -> bool:
+    """NAME(..), and nothing after it."""
+    return len(words) > 2 and is_name(words[0]) and words[1] == "(" and closing(words, 1) == len(words) - 1
+
+
+def joined(words: Tokens) -> str:
+    """The text without blanks, but for those between two words."""
+    text = ""
+    for word in words:
+        if text and re.match(r"\w", word) and re.search(r"\w$", text):
+            text += " "
+        text += word
+    return text

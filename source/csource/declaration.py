@@ -1,0 +1,148 @@
+"""A declaration of wqplan, as far as it is compared with the source: its items, and what its comments cite and dismiss."""
+
+import pathlib
+import re
+from dataclasses import dataclass, field
+from typing import Iterator, Optional
+
+from .sites import Key
+
+NO_WAIT = "no wait:"
+NO_ITEM = "no item:"
+FILES = "files:"
+# FILE FUNCTION CALL(ARGUMENT): WHY. The argument may hold brackets and colons; after the last bracket comes the colon.
+DISMISSAL = re.compile(r"\s*(\S+\.[chS])\s+(\w+)\s+(\w+)\((.*?)\)\s*:\s+(\S.*)")
+DISMISSED_ITEM = re.compile(r"\s*(\S+\.[chS])\s+(\w+)\s*:\s+(\S.*)")
+
+FILE = r"[\w./+-]*\w\.[chS]"
+# FILE:LINE, maybe -LINE, maybe a function
+CITED = re.compile(rf"(?<![\w./-])(?P<file>{FILE}):(?P<line>\d+)(?:-(?P<last>\d+))?")
+# one more line of the same file: right behind a citation `, LINE`; anywhere `(LINE`
+NEXT = re.compile(r"(?:,| and| or)\s+(?P<line>\d{1,5})(?:-(?P<last>\d+))?(?![\w.])")
+IN_BRACKETS = re.compile(r"\((?P<line>\d{1,5})(?:-(?P<last>\d+))?(?![\w.])")
+FUNCTION = re.compile(r"\s+(?P<function>[A-Za-z_]\w*)")
+
+
+@dataclass(frozen=True)
+class Citation:
+    """A line of the source that a comment names."""
+    number: int
+    column: int
+    file: str
+    line: int
+    last: int
+    function: Optional[str]
+
+    def __str__(self) -> str:
+        return f"{self.file}:{self.line}" + (f" {self.function}" if self.function else "")
+
+
+@dataclass(frozen=True)
+class Dismissal:
+    """`# no wait: FILE FUNCTION CALL(ARGUMENT): WHY`"""
+    number: int
+    key: Key
+    why: str
+
+    def __str__(self) -> str:
+        return f"# {NO_WAIT} {self.key}: {self.why}"
+
+
+@dataclass(frozen=True)
+class DismissedItem:
+    """`# no item: FILE FUNCTION: WHY`"""
+    number: int
+    file: str
+    function: str
+    why: str
+
+    def __str__(self) -> str:
+        return f"# {NO_ITEM} {self.file} {self.function}: {self.why}"
+
+
+@dataclass
+class DeclaredItem:
+    """An `item` line."""
+    number: int
+    name: str
+    comment: str
+
+    @property
+    def base(self) -> str:
+        """The name before the dot: submit.lower and submit.upper are the same code."""
+        return self.name.split(".")[0]
+
+
+@dataclass
+class Declaration:
+    """A text, line by line."""
+    path: str
+    lines: list[str]
+    items: list[DeclaredItem] = field(default_factory=list)
+    citations: list[Citation] = field(default_factory=list)
+    dismissals: list[Dismissal] = field(default_factory=list)
+    dismissed_items: list[DismissedItem] = field(default_factory=list)
+    malformed: list[int] = field(default_factory=list)
+    files: list[str] = field(default_factory=list)
+
+    @staticmethod
+    def of(path: str, text: str) -> "Declaration":
+        found = Declaration(path, text.split("\n"))
+        last_file = None
+        for number, line in enumerate(found.lines, 1):
+            before, _, comment = line.partition("#")
+            words = before.split()
+            if not words and found.take_note(number, comment):
+                continue
+            if words[:1] == ["item"] and len(words) > 1:
+                found.items.append(DeclaredItem(number, words[1], comment))
+            if not words and not comment:
+                last_file = None
+            for citation in citations_in(number, len(before) + 1, comment, last_file):
+                found.citations.append(citation)
+                last_file = citation.file
+        return found
+
+    @staticmethod
+    def read(path: str) -> "Declaration":
+        return Declaration.of(path, pathlib.Path(path).read_bytes().decode("utf-8", "surrogateescape"))
+
+    def take_note(self, number: int, comment: str) -> bool:
+        """A comment line that dismisses something or names files."""
+        text = comment.strip()
+        if text.startswith(NO_WAIT):
+            match = DISMISSAL.fullmatch(text[len(NO_WAIT):])
+            if match:
+                self.dismissals.append(Dismissal(number, Key(match[1], match[2], match[3], match[4]), match[5]))
+        elif text.startswith(NO_ITEM):
+            match = DISMISSED_ITEM.fullmatch(text[len(NO_ITEM):])
+            if match:
+                self.dismissed_items.append(DismissedItem(number, match[1], match[2], match[3]))
+        elif text.startswith(FILES):
+            self.files += text[len(FILES):].split()
+            return True
+        else:
+            return False
+        if not match:
+            self.malformed.append(number)
+        return True
+
+
+def citations_in(number: int, start: int, comment: str, file: Optional[str]) -> Iterator[Citation]:
+    """The citations of a comment that begins in column `start`, from 0. `file` is the one that was cited last before it."""
+    at, is_behind_one = 0, False
+    while True:
+        match = NEXT.match(comment, at) if is_behind_one else None
+        if match is None:
+            cited, alone = CITED.search(comment, at), IN_BRACKETS.search(comment, at) if file else None
+            match = min((found for found in (cited, alone) if found), key=re.Match.start, default=None)
+            if match is None:
+                return
+            file = match["file"] if match is cited else file
+        named = FUNCTION.match(comment, match.end())
+        line = int(match["line"])
+        yield Citation(number, start + match.start("line"), file, line, int(match["last"] or line), named and named["function"])
+        is_behind_one = True
+        at = match.end()
+        if NEXT.match(comment, at) is None and named:
+            at = named.end()

@@ -1,0 +1,188 @@
+"""What Coccinelle says of C files, put together: definitions, calls, assignments, types."""
+
+import collections
+import pathlib
+import re
+from dataclasses import dataclass
+from typing import Iterator, NamedTuple, Optional
+
+from . import ctext
+from .ctext import Tokens
+from .macros import macros_of
+from .places import FunctionId, Place
+
+UNKNOWN_TYPES = ("", "void", "unknown")
+
+
+class Call(NamedTuple):
+    """NAME(arguments)"""
+    place: Place
+    name: str
+    arguments: list[Tokens]
+
+    @property
+    def text(self) -> str:
+        return f"{self.name}({', '.join(map(ctext.joined, self.arguments))})"
+
+
+class PointerCall(NamedTuple):
+    """base->member(arguments)"""
+    place: Place
+    base: Tokens
+    member: str
+    arguments: list[Tokens]
+
+
+class Assignment(NamedTuple):
+    """left = right"""
+    place: Place
+    left: Tokens
+    right: Tokens
+
+
+class Initialiser(NamedTuple):
+    """struct struct x = { .member = value }"""
+    place: Place
+    struct: str
+    member: str
+    value: str
+
+
+class Return(NamedTuple):
+    """return value;"""
+    place: Place
+    value: Tokens
+
+
+@dataclass
+class Definition:
+    """A function, or a macro that calls something."""
+    place: Place
+    parameters: list[str]
+    is_local: bool = False
+
+
+def struct_name(text: str) -> str:
+    """The name of a type without `struct`, stars and the like."""
+    name = re.sub(r"\b(struct|const|volatile|union)\b|\*", "", text).strip()
+    return name[:-2] if name.endswith("_t") else name
+
+
+def parameter_names(text: str) -> list[str]:
+    """The names of a list of parameters; '' where one has none."""
+    names = []
+    for words in ctext.arguments(ctext.tokens(text)):
+        if "(" in words and "*" in words[:-1]:  # a pointer to a function: ( * name ) ( .. )
+            words = [words[words.index("*") + 1]]
+        known = [word for word in words if ctext.is_name(word)]
+        names.append(known[-1] if known else "")
+    return names
+
+
+class Facts:
+    """The facts of some files of a tree."""
+
+    GLOBAL = re.compile(r"^(?:extern |static |const |struct |unsigned |volatile )*[A-Za-z_]\w*[ \t*]+(\w+)(?:\[[^\]]*\])?"
+                        r"\s*(?:__\w+\s*)?[;=]", re.M)
+
+    def __init__(self, tree: pathlib.Path, lines: dict[str, list[str]]) -> None:
+        self.tree = tree
+        self.files = list(lines)
+        self.texts = {file: (tree / file).read_text(errors="replace") for file in self.files}
+        self.definitions: dict[FunctionId, Definition] = {}
+        self.defined_at: dict[FunctionId, list[Place]] = collections.defaultdict(list)
+        self.named: dict[str, list[FunctionId]] = collections.defaultdict(list)
+        self.calls: list[Call] = []
+        self.pointer_calls: list[PointerCall] = []
+        self.assignments: list[Assignment] = []
+        self.initialisers: list[Initialiser] = []
+        self.returns: list[Return] = []
+        self.types: dict[tuple[str, str, str, str], str] = {}
+        self.structs: dict[str, set[str]] = collections.defaultdict(set)
+        self.locals: set[tuple[str, str, str]] = set()
+        for file in self.files:
+            source = self.texts[file].split("\n")
+            for line in dict.fromkeys(lines[file]):
+                self.take(file, source, line.split("\t"))
+        for file in self.files:
+            self.take_macros(file)
+        self.take_initialised()
+        self.calls_in: dict[FunctionId, list[Call]] = collections.defaultdict(list)
+        for call in self.calls:
+            self.calls_in[call.place.id].append(call)
+
+    def take(self, file: str, source: list[str], words: list[str]) -> None:
+        """One line of facts."""
+        kind, line, _, function, *rest = words + [""]
+        place = Place(file, int(line), function)
+        if kind == "DEF":
+            self.define(place, rest[0], parameter_names(rest[1]), source)
+            self.defined_at[FunctionId(file, rest[0])].append(place)
+        elif kind == "CALL":
+            self.calls.append(Call(place, rest[0], ctext.arguments(ctext.tokens(rest[1]))))
+        elif kind == "PCALL":
+            self.pointer_calls.append(
+                PointerCall(place, ctext.tokens(rest[0]), rest[1], ctext.arguments(ctext.tokens(rest[2]))))
+        elif kind == "ASG":
+            self.assignments.append(Assignment(place, ctext.tokens(rest[0]), ctext.tokens(rest[1])))
+        elif kind == "LOC" and function != rest[0]:
+            self.locals.add((file, function, rest[0]))
+        elif kind == "INI":
+            self.initialisers.append(Initialiser(place, struct_name(rest[0]), rest[1], rest[2]))
+        elif kind == "RET":
+            self.returns.append(Return(place, ctext.tokens(rest[0])))
+        elif kind == "TYP":
+            self.take_type(place, rest[0], rest[1], struct_name(rest[2]))
+
+    def define(self, place: Place, name: str, parameters: list[str], source: list[str]) -> None:
+        # (`static` stands on the line of the name, or on the line before it)
+        before = " ".join(source[max(0, place.line - 2):place.line])
+        is_local = re.search(r"\bstatic\b", before) is not None and place.file.endswith(".c")
+        function = FunctionId(place.file, name)
+        if function not in self.definitions:
+            self.named[name].append(function)
+        self.definitions[function] = Definition(place, parameters, is_local)
+        self.locals.update((place.file, name, parameter) for parameter in parameters)
+
+    def take_type(self, place: Place, base: str, member: str, struct: str) -> None:
+        if struct not in UNKNOWN_TYPES:
+            self.types[place.file, place.function, ctext.joined(ctext.tokens(base)), member] = struct
+            self.structs[member].add(struct)
+
+    def take_macros(self, file: str) -> None:
+        """Coccinelle doesn't look into macros."""
+        for macro in macros_of(self.texts[file]):
+            function = FunctionId(file, macro.name)
+            if function in self.definitions:
+                continue
+            place = Place(file, macro.line, macro.name)
+            self.define(place, macro.name, macro.parameters, [])
+            self.calls += [Call(place, name, arguments) for name, arguments in macro.calls]
+
+    def take_initialised(self) -> None:
+        """A declaration with an initialiser says no more than an assignment: what is no global variable is a local one."""
+        known = {match for text in self.texts.values() for match in self.GLOBAL.findall(text)}
+        for place, left, _ in self.assignments:
+            if len(left) == 1 and left[0] not in known and place.id in self.definitions:
+                self.locals.add((place.file, place.function, left[0]))
+
+    def is_local(self, place: Place, name: str) -> bool:
+        """Whether this is a variable of the function at this place."""
+        return (place.file, place.function, name) in self.locals
+
+    def struct_of(self, place: Place, base: Tokens, member: str) -> Optional[str]:
+        """The struct of the member in `base->member`: what Coccinelle found, or the only one with a member of this name."""
+        found = self.types.get((place.file, place.function, ctext.joined(base), member))
+        if found is None and len(self.structs.get(member, ())) == 1:
+            return next(iter(self.structs[member]))
+        return found
+
+    def resolve(self, file: str, name: str) -> list[FunctionId]:
+        """The functions that this name may stand for in a file: its own, or else those that other files show."""
+        own = FunctionId(file, name)
+        if own in self.definitions:
+            return [own]
+        return [function for function in self.named.get(name, ()) if not self.definitions[function].is_local]
+
+    def all_named(self, name: str) -> Iterator[FunctionId]:
+        return iter(self.named.get(name, ()))

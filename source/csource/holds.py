@@ -1,0 +1,174 @@
+"""What each variable and member may hold: functions, addresses of objects, workqueues.
+
+Assignments, initialisers, returns and calls are taken as they stand, in no order and without context: what is held once may
+always be held. A member is one cell for all structs of its type.
+"""
+
+import collections
+from typing import Iterable, Optional
+
+from . import ctext
+from .cells import UNKNOWN, Address, Cell, Function, Global, Member, Result, Value, Variable, Workqueue
+from .ctext import Tokens
+from .facts import Facts
+from .places import FunctionId, Place
+from .tables import SYSTEM_WORKQUEUE, Waits
+
+
+class Holds:
+    """The values of each cell."""
+
+    def __init__(self, facts: Facts, waits: Waits) -> None:
+        self.facts = facts
+        self.waits = waits
+        self.held: dict[Cell, set[Value]] = collections.defaultdict(set)
+        self.flows_to: dict[Cell, set[Cell]] = collections.defaultdict(set)
+        self.changed: list[Cell] = []
+        self.of_member: dict[str, set[Member]] = collections.defaultdict(set)
+        self.take_facts()
+        self.settle()
+
+    def take_facts(self) -> None:
+        facts = self.facts
+        for place, left, right in facts.assignments:
+            cell = self.cell(place, left)
+            if cell is not None:
+                self.flow(cell, place, right)
+        for place, struct, member, value in facts.initialisers:
+            self.flow(self.noted(Member(struct, member)), place, [value])
+        for place, value in facts.returns:
+            if place.id in facts.definitions:
+                self.flow(Result(place.function), place, value)
+
+    # Expressions
+
+    def cell(self, place: Place, words: Tokens) -> Optional[Cell]:
+        """The variable, member or result that an expression reads; None where it is something else."""
+        words = ctext.bare(words)
+        while words and words[-1] == "]":
+            words = ctext.bare(words[:ctext.opening(words)])
+        while words and words[0] == "*":
+            words = ctext.bare(words[1:])
+        if not words or words[0] == "&":
+            return None
+        cuts = ctext.outer(words, ("->", "."))
+        if cuts:
+            return self.member(place, words[:cuts[-1]], words[-1]) if cuts[-1] + 2 == len(words) and ctext.is_name(
+                words[-1]) else None
+        if len(words) == 1 and ctext.is_name(words[0]):
+            if self.facts.is_local(place, words[0]):
+                return Variable(place.file, place.function, words[0])
+            return Global(words[0])
+        return Result(words[0]) if len(words) > 2 and ctext.is_name(words[0]) and words[1] == "(" and words[-1] == ")" else None
+
+    def member(self, place: Place, base: Tokens, name: str) -> Member:
+        return self.noted(Member(self.facts.struct_of(place, base, name) or UNKNOWN, name))
+
+    def noted(self, member: Member) -> Member:
+        self.of_member[member.name].add(member)
+        return member
+
+    def parts(self, place: Place, words: Tokens) -> tuple[set[Value], set[Cell]]:
+        """What an expression is: values that it names, and cells that it reads."""
+        words = ctext.bare(words)
+        if not words:
+            return set(), set()
+        branches = self.branches(words)
+        if branches:
+            both = [self.parts(place, branch) for branch in branches]
+            return both[0][0] | both[1][0], both[0][1] | both[1][1]
+        named = self.named(place, words)
+        if named is not None:
+            return named, set()
+        cell = self.cell(place, words)
+        return set(), {cell} if cell is not None else set()
+
+    @staticmethod
+    def branches(words: Tokens) -> Optional[tuple[Tokens, Tokens]]:
+        """The two of `a ? b : c`."""
+        marks = ctext.outer(words, ("?", ":"))
+        if not marks or words[marks[0]] != "?":
+            return None
+        asks = 0
+        for mark in marks:
+            asks += 1 if words[mark] == "?" else -1
+            if asks == 0:
+                return words[marks[0] + 1:mark] or words[:marks[0]], words[mark + 1:]
+        return None
+
+    def named(self, place: Place, words: Tokens) -> Optional[set[Value]]:
+        """The values that an expression names itself."""
+        if words[0] == "&":
+            functions = self.functions(place, words[1:])
+            cell = None if functions else self.cell(place, words[1:])
+            return functions or ({Address(cell)} if cell is not None else set())
+        functions = self.functions(place, words)
+        if functions:
+            return functions
+        if len(words) == 1 and SYSTEM_WORKQUEUE.match(words[0]) and not self.facts.is_local(place, words[0]):
+            return {Workqueue(words[0])}
+        if ctext.is_call(words) and self.waits.kind(words[0]).name == "workqueue":
+            return {Workqueue(f"{place.file}:{place.line}")}
+        return None
+
+    def functions(self, place: Place, words: Tokens) -> set[Value]:
+        """The functions that a single name stands for."""
+        if len(words) != 1 or not ctext.is_name(words[0]) or self.facts.is_local(place, words[0]):
+            return set()
+        return {Function(function) for function in self.facts.resolve(place.file, words[0])}
+
+    # Flows
+
+    def flow(self, to: Cell, place: Place, words: Tokens) -> None:
+        """`to` may hold what the expression is."""
+        values, cells = self.parts(place, words)
+        self.add(to, values)
+        for cell in cells:
+            if cell != to and to not in self.flows_to[cell]:
+                self.flows_to[cell].add(to)
+                self.add(to, self.held[cell])
+
+    def flow_into_parameter(self, function: FunctionId, parameter: str, place: Place, words: Tokens) -> None:
+        self.flow(Variable(function.file, function.name, parameter), place, words)
+
+    def add(self, to: Cell, values: Iterable[Value]) -> None:
+        held = self.held[to]
+        before = len(held)
+        held.update(values)
+        if len(held) != before:
+            self.changed.append(to)
+
+    def settle(self) -> None:
+        """Carries values on until nothing changes."""
+        while self.changed:
+            cell = self.changed.pop()
+            values = self.held[cell]
+            for to in self.flows_to[cell]:
+                self.add(to, values)
+
+    # Questions
+
+    def lookup(self, cell: Cell) -> set[Value]:
+        """What a cell may hold. If the struct of a member isn't known, what any member of the name may hold."""
+        if not isinstance(cell, Member):
+            return self.held[cell]
+        if cell.struct == UNKNOWN:
+            return set().union(*[self.held[member] for member in self.of_member[cell.name]])
+        return self.held[cell] | self.held[Member(UNKNOWN, cell.name)]
+
+    def values(self, place: Place, words: Tokens) -> set[Value]:
+        values, cells = self.parts(place, words)
+        return set(values).union(*[self.lookup(cell) for cell in cells])
+
+    def objects(self, place: Place, words: Tokens) -> frozenset[Address]:
+        """The objects that a pointer may point to; where none is known, what the pointer itself is."""
+        found = frozenset(value for value in self.values(place, words) if isinstance(value, Address))
+        return found or self.itself(place, words)
+
+    def itself(self, place: Place, words: Tokens) -> frozenset[Address]:
+        """The object that an expression names, as in wait_event(queue, ..)."""
+        bare = ctext.bare(words)
+        if bare and bare[0] == "*":
+            return self.objects(place, bare[1:])
+        cell = self.cell(place, words)
+        return frozenset([Address(cell)] if cell is not None else [])

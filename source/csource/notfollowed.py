@@ -1,0 +1,21 @@
+"""What was not looked into: calls of functions that the files don't have, and calls by pointers that nothing resolves."""
+
+from typing import Iterable
+
+from .places import FunctionId
+from .program import Program
+
+FOLLOWED_KINDS = ("none", "never")
+
+
+def not_followed(program: Program, functions: Iterable[FunctionId]) -> tuple[list[str], list[str]]:
+    """The names of functions that aren't in the files and may sleep for all that is known; and the pointers."""
+    names: set[str] = set()
+    pointers: set[str] = set()
+    for function in functions:
+        pointers |= program.graph.blind.get(function, set())
+        for call in program.facts.calls_in.get(function, ()):
+            if program.tables.waits.kind(call.name).name == "none" and program.graph.is_outside(call) and not (
+                    program.tables.harmless.has(call.name)):
+                names.add(call.name)
+    return sorted(names), sorted(pointers)

@@ -1,0 +1,101 @@
+"""The tables of names beside this folder: waits.txt, idioms.txt, harmless.txt."""
+
+import pathlib
+import re
+from dataclasses import dataclass, field
+from typing import Iterator
+
+FOLDER = pathlib.Path(__file__).resolve().parent.parent
+SYSTEM_WORKQUEUE = re.compile(r"system_\w*wq$")
+
+
+class TableError(Exception):
+    """A line of a table that has not the form that the head of the table describes."""
+
+
+def pattern(names: list[str]) -> re.Pattern[str]:
+    """What fits one of the names, in each of which `*` stands for any letters."""
+    return re.compile("|".join(re.escape(name).replace(r"\*", r"\w*") for name in names) or r"(?!)")
+
+
+def rows(path: pathlib.Path) -> Iterator[tuple[int, list[str]]]:
+    """The words of each line that isn't blank, without its comment, and its number."""
+    for number, line in enumerate(path.read_text().splitlines(), 1):
+        words = line.partition("#")[0].split()
+        if words:
+            yield number, words
+
+
+@dataclass(frozen=True)
+class Kind:
+    """What a call is, and which argument names its object: from 0, or -1 for the last."""
+    name: str
+    argument: int = 0
+
+    def object_of(self, arguments: list[list[str]]) -> list[str]:
+        """The argument that names the object, or nothing where there is none."""
+        return arguments[self.argument] if -1 <= self.argument < len(arguments) and arguments else []
+
+
+KINDS = ("item", "queue", "workqueue", "flush", "cancel", "flushwq", "event", "done", "wake", "pool", "give", "lock", "never",
+         "other")
+NONE = Kind("none")
+
+
+class Waits:
+    """waits.txt: the kind of each call."""
+
+    def __init__(self, path: pathlib.Path = FOLDER / "waits.txt") -> None:
+        self.rows = [(self.kind_of(path, number, words[0]), pattern(words[1:])) for number, words in rows(path)]
+        self.known: dict[str, Kind] = {}
+
+    @staticmethod
+    def kind_of(path: pathlib.Path, number: int, word: str) -> Kind:
+        name, _, argument = word.partition("/")
+        if name not in KINDS or not re.fullmatch(r"[1-9]|last|", argument):
+            raise TableError(f"{path}:{number}: `{word}` isn't a kind; the kinds are {' '.join(KINDS)}")
+        return Kind(name, -1 if argument == "last" else int(argument or 1) - 1)
+
+    def kind(self, call: str) -> Kind:
+        """The kind of a call. `NONE` is that of a name in no line."""
+        if call not in self.known:
+            self.known[call] = next((kind for kind, names in self.rows if names.fullmatch(call)), NONE)
+        return self.known[call]
+
+
+@dataclass
+class Idioms:
+    """idioms.txt: who calls what it is handed, or what its object holds."""
+    now: list[str] = field(default_factory=list)
+    later: list[str] = field(default_factory=list)
+    atomic: list[str] = field(default_factory=list)
+    members: list[tuple[re.Pattern[str], str, str]] = field(default_factory=list)
+    stacked: list[tuple[re.Pattern[str], str, str]] = field(default_factory=list)
+    kept: list[tuple[str, re.Pattern[str]]] = field(default_factory=list)
+
+    @staticmethod
+    def read(path: pathlib.Path = FOLDER / "idioms.txt") -> "Idioms":
+        found = Idioms()
+        for number, (word, *names) in rows(path):
+            if word in ("now", "later", "atomic"):
+                getattr(found, word).extend(names)
+            elif word in ("member", "stacked") and len(names) == 3:
+                (found.members if word == "member" else found.stacked).append((pattern(names[:1]), names[1], names[2]))
+            elif word == "kept" and len(names) > 1:
+                found.kept.append((names[0], pattern(names[1:])))
+            else:
+                raise TableError(f"{path}:{number}: no line of idioms.txt has this form")
+        found.is_now, found.is_later, found.is_atomic = (
+            pattern(found.now).fullmatch, pattern(found.later).fullmatch, pattern(found.atomic).fullmatch)
+        return found
+
+
+class Harmless:
+    """harmless.txt: names that wait for nothing."""
+    CAPITALS = re.compile(r"[A-Z_0-9]+")
+
+    def __init__(self, path: pathlib.Path = FOLDER / "harmless.txt") -> None:
+        self.names = pattern([name for _, words in rows(path) for name in words])
+
+    def has(self, call: str) -> bool:
+        return bool(self.CAPITALS.fullmatch(call) or self.names.fullmatch(call))
