@@ -3,21 +3,28 @@
 import re
 from typing import Iterator, NamedTuple
 
+from . import ctext
 from .facts import Facts
 from .places import Place
+from .sites import Key
 from .tables import Waits
 
 NOT_CODE = re.compile(r'/\*.*?\*/|//[^\n]*|"(?:\\.|[^"\\\n])*"|^[ \t]*#(?:[^\n]*\\\n)*[^\n]*', re.S | re.M)
-CALLED = re.compile(r"\b([A-Za-z_]\w*)\s*\(")
+CALLED = re.compile(r"\b([A-Za-z_]\w*)\s*(\()")
 BEGINS_FUNCTION = re.compile(r"^(?!else|if|for|while|switch|return|do\b)[A-Za-z_][^;={}]*?\b(\w+)\s*\(", re.M)
-LOOKED_FOR = ("item", "queue", "workqueue", "flush", "cancel", "flushwq", "event", "done", "pool")
+LOOKED_FOR = ("item", "queue", "workqueue", "flush", "cancel", "flushwq", "event", "done", "prepare", "pool")
 
 
 class Missed(NamedTuple):
-    """A call that no fact has. The function is a guess."""
+    """A call that no fact has. The function is a guess: the last thing before it that looks like the head of one."""
     place: Place
     call: str
+    argument: str
     text: str
+
+    @property
+    def key(self) -> Key:
+        return Key(self.place.file, self.place.function, self.call, self.argument)
 
 
 def blanked(text: str) -> str:
@@ -25,31 +32,32 @@ def blanked(text: str) -> str:
     return NOT_CODE.sub(lambda match: re.sub(r"[^\n]", " ", match[0]), text)
 
 
+def common_name(call: str) -> str:
+    """The facts have one name for all that declare a work item."""
+    return "DECLARE_WORK" if call.startswith("DECLARE_") else call
+
+
 def missed_calls(facts: Facts, waits: Waits) -> Iterator[Missed]:
-    """Calls of names that matter most, on lines where no fact has such a call."""
-    known = {(call.place.file, call.place.line, call.name) for call in facts.calls}
-    known |= {(call.place.file, call.place.line, "DECLARE") for call in facts.calls if call.name == "DECLARE_WORK"}
+    """Calls of the names that matter most, on lines where no fact has such a call."""
+    known = {(call.place.file, call.place.line, common_name(call.name)) for call in facts.calls}
     for file in facts.files:
         text = blanked(facts.texts[file])
-        for number, line in enumerate(text.split("\n"), 1):
-            for match in CALLED.finditer(line):
-                name = match[1]
-                if waits.kind(name).name in LOOKED_FOR and is_call(line, match) and not is_known(known, file, number, name):
-                    yield Missed(Place(file, number, function_before(text, number)), name, line.strip())
+        for match in CALLED.finditer(text):
+            if waits.kind(match[1]).name in LOOKED_FOR and is_call(text, match):
+                line = text.count("\n", 0, match.start()) + 1
+                if (file, line, common_name(match[1])) not in known:
+                    yield missed(facts.texts[file], text, file, line, match)
 
 
-def is_known(known: set[tuple[str, int, str]], file: str, number: int, name: str) -> bool:
-    return (file, number, "DECLARE" if name.startswith("DECLARE") else name) in known
+def is_call(text: str, match: "re.Match[str]") -> bool:
+    """Not a definition or a prototype: those stand at the beginning of a line, or behind a type that does."""
+    before = text[text.rfind("\n", 0, match.start()) + 1:match.start()]
+    return before[:1].isspace() or match[1].startswith("DECLARE_")
 
 
-def is_call(line: str, match: "re.Match[str]") -> bool:
-    """Not a definition or a prototype: those have the name after a type."""
-    before = line[:match.start()]
-    return not re.match(r"\S", line) or re.fullmatch(r"(?:static )?\s*", before) is not None and match[1].startswith("DECLARE")
-
-
-def function_before(text: str, number: int) -> str:
-    """The name of what looks like the function around a line."""
-    before = "\n".join(text.split("\n")[:number])
-    found = [match[1] for match in BEGINS_FUNCTION.finditer(before)]
-    return found[-1] if found else "-"
+def missed(source: str, text: str, file: str, line: int, match: "re.Match[str]") -> Missed:
+    words = ctext.tokens(text[match.start(2):match.start(2) + 400])
+    arguments = ctext.arguments(words[1:ctext.closing(words, 0)])
+    heads = [found[1] for found in BEGINS_FUNCTION.finditer(text, 0, match.start())]
+    return Missed(Place(file, line, heads[-1] if heads else "-"), match[1], ctext.joined(arguments[0]) if arguments else "",
+                  source.split("\n")[line - 1].strip())

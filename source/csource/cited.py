@@ -2,15 +2,13 @@
 
 import re
 from dataclasses import dataclass
-from typing import Iterable, Optional
+from typing import Iterator, Optional
 
 from .declaration import Citation, Declaration, DeclaredItem, DismissedItem, Dismissal
 from .facts import Facts
 from .places import FunctionId
 from .program import Program
 from .sites import Key, Site
-
-COLUMN_OF_FIRST = re.compile(r"\S")
 
 
 class Functions:
@@ -93,7 +91,19 @@ class Cited:
         return key[1:] == site_key[1:] and (site_key.file == key.file or site_key.file.endswith("/" + key.file))
 
     def is_cited(self, site: Site) -> bool:
-        return (site.place.file, site.place.line) in self.places
+        """Whether a comment names one of its lines."""
+        return any((site.key.file, line) in self.places for line in site.lines)
+
+    def deciders(self, site: Site) -> Optional[set[str]]:
+        """The items whose flushes cite a site; None where another comment cites it, which may speak of any item."""
+        names = set()
+        for found in self.located:
+            if found.file == site.key.file and any(found.citation.line <= line <= found.citation.last for line in site.lines):
+                words = self.declaration.lines[found.citation.number - 1].partition("#")[0].split()
+                if words[:1] not in (["flush"], ["flushwq"]):
+                    return None
+                names.update(words[1:2])
+        return names
 
     def dismissal_of(self, key: Key) -> Optional[Dismissal]:
         return next((dismissal for dismissal in self.declaration.dismissals if self.matches(dismissal.key, key)), None)
@@ -102,7 +112,7 @@ class Cited:
         return next((item for item in self.declaration.dismissed_items
                      if item.function == function.name and function.file in self.given(item.file)), None)
 
-    def wrong(self) -> Iterable[tuple[Citation, str]]:
+    def wrong(self) -> Iterator[tuple[Citation, str]]:
         """Citations that don't fit the source, each with what is wrong."""
         for found in self.located:
             citation, file = found.citation, found.file

@@ -7,7 +7,7 @@ import pathlib
 import sys
 from typing import NoReturn, Optional
 
-from . import audit, drift, program
+from . import audit, audit_text, drift, drift_text, program
 from .declaration import Declaration
 from .extract import ExtractError, Extractor, default_cache
 from .progress import Progress
@@ -48,6 +48,7 @@ def parser() -> argparse.ArgumentParser:
     one = verbs.add_parser("audit", parents=[shared], epilog=ENDS, help="sites that the declaration doesn't decide")
     one.add_argument("--decl", required=True, metavar="D.wq")
     one.add_argument("--tree", type=pathlib.Path, default=pathlib.Path("."), metavar="DIR")
+    one.add_argument("--paths", action="store_true", help="also the calls that lead to what may end a wait")
     one.add_argument("files", **files)
     two = verbs.add_parser("drift", parents=[shared], epilog=ENDS, help="what has changed between two trees")
     two.add_argument("--decl", required=True, metavar="D.wq")
@@ -87,7 +88,7 @@ def run_audit(words: argparse.Namespace, extractor: Extractor) -> int:
     files = files_of(words.tree, words.files, declaration)
     found = audit.Audit(declaration, program.read(words.tree, files, extractor, program.Tables(), words.stacked))
     extractor.progress.end()
-    audit.Printer(found, sys.stdout).print()
+    audit_text.Printer(found, sys.stdout, words.paths).print()
     return DONE if found.is_done else LEFT
 
 
@@ -101,7 +102,7 @@ def run_drift(words: argparse.Namespace, extractor: Extractor) -> int:
     new = program.read(words.new, [file for file in later if (words.new / file).is_file()], extractor, tables, words.stacked)
     found = drift.Drift(declaration, old, new)
     extractor.progress.end()
-    drift.Printer(found, sys.stdout).print()
+    drift_text.Printer(found, sys.stdout).print()
     text = found.rewritten() if words.write else None
     if text is not None:
         replace(words.decl, text)

@@ -2,12 +2,11 @@
 
 import collections
 from dataclasses import dataclass, field
-from typing import NamedTuple, Optional, TextIO
+from typing import NamedTuple, Optional
 
-from . import says
 from .cited import Cited
 from .declaration import Citation, Declaration, Dismissal
-from .moved import GONE, MOVED, SAME, Mapping, Now
+from .moved import MOVED, SAME, Mapping
 from .places import FunctionId
 from .program import Program
 from .sites import Key, Site
@@ -66,9 +65,9 @@ class Drift:
 
     @staticmethod
     def wait(program: Program, site: Site) -> Wait:
-        ended_by = map(program.workqueues.name, site.workqueues) if site.kind == "flushwq" else (
+        names = map(program.workqueues.name, site.workqueues) if site.kind == "flushwq" else (
             function.name for function in program.candidates(site))
-        return Wait(site.kind, site.key, tuple(sorted(ended_by)))
+        return Wait(site.kind, site.key, tuple(sorted(names)))
 
     def compare_waits(self) -> tuple[list[Change], list[Change]]:
         appeared: dict[Wait, Change] = {}
@@ -155,64 +154,3 @@ def renumbered(text: str, citation: Citation, line: int) -> str:
     new = str(line) + (f"-{line + length}" if length else "")
     before, after = text[:citation.column], text[citation.column:]
     return before + (new + after[len(old):] if after.startswith(old) else after)
-
-
-class Printer:
-    """What `drift` prints."""
-
-    def __init__(self, drift: Drift, to: TextIO) -> None:
-        self.drift = drift
-        self.to = to
-
-    def say(self, text: str, first: str = "", rest: str = "    ") -> None:
-        print(says.wrapped(text, first, rest), file=self.to)
-
-    def print(self) -> None:
-        drift = self.drift
-        self.say(f"# {drift.declaration.path} from {drift.old.facts.tree} to {drift.new.facts.tree}.", rest="# ")
-        self.say(says.promise(len(drift.old.facts.files)), "# ", "# ")
-        self.print_lines()
-        self.print_items()
-        for word, changes in (("new wait", drift.appeared), ("wait gone", drift.vanished)):
-            for change in changes:
-                ended_by = f", for {', '.join(change.wait.ended_by)}" if change.wait.ended_by else ""
-                self.say(f"{word}: {change.place}  [{change.wait.kind}]{ended_by}, in reach of {', '.join(change.items)}")
-        for dismissal in drift.dead_decisions():
-            self.say(f"{drift.declaration.path}:{dismissal.number}: dismisses {dismissal.key}, which is gone")
-        self.print_counts()
-
-    def print_lines(self) -> None:
-        drift, path = self.drift, self.drift.declaration.path
-        for citation, why in drift.wrong:
-            self.say(f"{path}:{citation.number}: cites {citation}: {why} in the old tree")
-        for found, now in drift.lines:
-            if now.what == SAME:
-                continue
-            function = drift.cited.functions.at(found.file, found.citation.line)
-            place = f"{found.file}:{found.citation.line} {function or ''}".rstrip()
-            text = drift.old.facts.texts[found.file].split("\n")[found.citation.line - 1].strip()
-            if now.what == MOVED:
-                self.say(f"{path}:{found.citation.number}: {place}: moved to line {now.line}")
-            elif now.what == GONE:
-                self.say(f"{path}:{found.citation.number}: {place}: gone: {text}")
-            else:
-                self.say(f"{path}:{found.citation.number}: {place}: {now.what}; {now.text}: {text}")
-
-    def print_items(self) -> None:
-        drift = self.drift
-        for name in drift.never_found():
-            self.say(f"item {name}: no work function of the old tree")
-        for name in drift.lost_items():
-            self.say(f"item {name}: its work function is gone")
-        for name, before, after in drift.requeued():
-            self.say(f"item {name}: was queued to {' '.join(sorted(before)) or '?'}, now to {' '.join(sorted(after)) or '?'}")
-        for function, workqueues in drift.new_items():
-            self.say(f"new item: {function.name} ({function.file}), queued to {' '.join(sorted(workqueues))}")
-        for name, before, after in drift.changed_flags():
-            self.say(f"workqueue {name}: was {before}; is {after}")
-
-    def print_counts(self) -> None:
-        drift, counts = self.drift, self.drift.counts()
-        lines = ", ".join(f"{counts[what]} {what}" for what in ("same", "moved", "changed", "elsewhere", "gone"))
-        self.say(f"# {says.counted(len(drift.lines), 'cited line')}: {lines}. {says.counted(len(drift.appeared), 'new wait')}, "
-                 f"{len(drift.vanished)} gone.", rest="# ")

@@ -11,7 +11,7 @@ from .holds import Holds
 from .items import Item, Items
 from .places import FunctionId
 from .reach import Reached, path_to, reached_from, roots_of
-from .sites import SIGNALLED, Key, Site, Sites, Waker, first_argument
+from .sites import SIGNALLED, Key, Site, Sites, Waker, key_of
 from .tables import Harmless, Idioms, Waits
 from .workqueues import Workqueues
 
@@ -70,11 +70,7 @@ class Program:
 
     def sites_of(self, reached: Reached) -> list[Site]:
         """The sites in functions that were reached."""
-        return [site for site in self.sites.sites if site.place.id in reached]
-
-    def names(self, functions: "set[FunctionId] | frozenset[FunctionId]") -> list[str]:
-        """The names of items, in order."""
-        return sorted(self.item(function).name for function in functions)
+        return [site for function in reached for site in self.sites.in_function.get(function, ())]
 
     def ends(self, site: Site) -> Ends:
         """What may end a wait for an object, as far as these files say it."""
@@ -92,12 +88,11 @@ class Program:
 
     def keys_in(self, function: FunctionId) -> set[Key]:
         """The calls of a function, as decisions name them."""
-        return {Key(function.file, function.name, call.name, first_argument(call))
-                for call in self.facts.calls_in.get(function, ())}
+        return {key_of(call) for call in self.facts.calls_in.get(function, ())}
 
-    def candidates(self, site: Site) -> frozenset[FunctionId]:
+    def candidates(self, site: Site) -> set[FunctionId]:
         """The items that may end a wait: those that the call names, or those that signal its object."""
-        return site.targets or frozenset(self.ends(site).items)
+        return site.targets or set(self.ends(site).items)
 
 
 def read(tree: pathlib.Path, files: list[str], extractor: Extractor, tables: Tables, stacked: bool = False) -> Program:

@@ -1,14 +1,9 @@
 """What every output says first, and lines of a width that can be read."""
 
 import textwrap
+from typing import TextIO
 
 WIDTH = 120
-
-
-def promise(files: int) -> str:
-    """What a listing says of itself."""
-    return ("It lists places that may wait, along the calls that it could resolve in the "
-            f"{files} files that it was given. It never says that these are all. Nothing here is proved.")
 
 
 def wrapped(text: str, first: str = "", rest: str = "    ") -> str:
@@ -17,6 +12,18 @@ def wrapped(text: str, first: str = "", rest: str = "    ") -> str:
                          break_on_hyphens=False)
 
 
-def counted(number: int, one: str, many: str = "") -> str:
+def note(to: TextIO, text: str) -> None:
+    """A comment."""
+    print(wrapped(text, "# ", "# "), file=to)
+
+
+def head(to: TextIO, what: str, files: int) -> None:
+    """What an output is of, and what it never says."""
+    note(to, f"wqsource: {what}.")
+    note(to, f"It lists places that may wait, along the calls that it could resolve in the {counted(files, 'file')} that it was "
+         "given. It never says that these are all. Nothing here is proved.")
+
+
+def counted(number: int, one: str) -> str:
     """A number, and the word for so many."""
-    return f"{number} {one if number == 1 else many or one + 's'}"
+    return f"{number} {one if number == 1 else one + 's'}"

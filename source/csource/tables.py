@@ -37,8 +37,9 @@ class Kind:
         return arguments[self.argument] if -1 <= self.argument < len(arguments) and arguments else []
 
 
-KINDS = ("item", "queue", "workqueue", "flush", "cancel", "flushwq", "event", "done", "wake", "pool", "give", "lock", "never",
-         "other")
+KINDS = ("item", "queue", "workqueue", "flush", "cancel", "flushwq", "event", "done", "prepare", "sleep", "wake", "pool", "give",
+         "lock", "never", "other")
+NOWAIT = "nowait"
 NONE = Kind("none")
 
 
@@ -46,14 +47,20 @@ class Waits:
     """waits.txt: the kind of each call."""
 
     def __init__(self, path: pathlib.Path = FOLDER / "waits.txt") -> None:
-        self.rows = [(self.kind_of(path, number, words[0]), pattern(words[1:])) for number, words in rows(path)]
+        self.rows: list[tuple[Kind, re.Pattern[str]]] = []
+        self.nowait: set[str] = set()
         self.known: dict[str, Kind] = {}
+        for number, (word, *names) in rows(path):
+            if word == NOWAIT:
+                self.nowait.update(names)
+            else:
+                self.rows.append((self.kind_of(path, number, word), pattern(names)))
 
     @staticmethod
     def kind_of(path: pathlib.Path, number: int, word: str) -> Kind:
         name, _, argument = word.partition("/")
         if name not in KINDS or not re.fullmatch(r"[1-9]|last|", argument):
-            raise TableError(f"{path}:{number}: `{word}` isn't a kind; the kinds are {' '.join(KINDS)}")
+            raise TableError(f"{path}:{number}: `{word}` isn't a kind; the kinds are {' '.join(KINDS)} {NOWAIT}")
         return Kind(name, -1 if argument == "last" else int(argument or 1) - 1)
 
     def kind(self, call: str) -> Kind:
@@ -61,6 +68,10 @@ class Waits:
         if call not in self.known:
             self.known[call] = next((kind for kind, names in self.rows if names.fullmatch(call)), NONE)
         return self.known[call]
+
+    def is_nowait(self, arguments: list[list[str]]) -> bool:
+        """Whether an argument says that the call doesn't sleep."""
+        return any(word in self.nowait for words in arguments for word in words)
 
 
 @dataclass

@@ -1,0 +1,151 @@
+"""What `audit` prints."""
+
+import collections
+from typing import Iterable, TextIO
+
+from . import says
+from .audit import Audit, Found, Neighbour
+from .notfollowed import not_followed
+from .reach import path_text
+from .sites import Lock, Site
+
+MOST_OTHERS = 8
+
+
+class Printer:
+    """Prints an audit. `paths`: also the calls that lead to what may end a wait."""
+
+    def __init__(self, audit: Audit, to: TextIO, paths: bool = False) -> None:
+        self.audit = audit
+        self.program = audit.program
+        self.to = to
+        self.paths = paths
+
+    def say(self, text: str, first: str = "", rest: str = "    ") -> None:
+        print(says.wrapped(text, first, rest), file=self.to)
+
+    def print(self) -> None:
+        audit = self.audit
+        says.head(self.to, f"{audit.declaration.path} beside {self.program.facts.tree}", len(self.program.facts.files))
+        self.print_faults()
+        for found in audit.left:
+            self.print_left(found)
+        for missed in audit.missed:
+            self.say(f"not parsed: {missed.place}: {missed.text}  [found by its name alone]")
+            print(f"  # no wait: {missed.key}: ", file=self.to)
+        for neighbour in audit.neighbours:
+            self.print_neighbour(neighbour)
+        self.print_for_others()
+        self.print_elsewhere()
+        self.print_not_followed()
+        self.print_locks()
+        self.print_counts()
+
+    def print_faults(self) -> None:
+        """What doesn't fit in the declaration itself."""
+        audit, path = self.audit, self.audit.declaration.path
+        for item in audit.lost:
+            self.say(f"{path}:{item.number}: item {item.name}: neither its name nor its comment names a work function of the files")
+        for citation, why in audit.wrong:
+            self.say(f"{path}:{citation.number}: cites {citation}: {why}")
+        for found in audit.ambiguous:
+            self.say(f"{path}:{found.citation.number}: cites {found.citation}, which may be any of {' '.join(found.files)}")
+        for number in audit.declaration.malformed:
+            self.say(f"{path}:{number}: the forms are `# no wait: FILE FUNCTION CALL(ARGUMENT): WHY` and "
+                     "`# no item: FILE FUNCTION: WHY`")
+        for dismissal in audit.stale:
+            self.say(f"{path}:{dismissal.number}: dismisses {dismissal.key}, which isn't in reach")
+        for item in audit.stale_items:
+            self.say(f"{path}:{item.number}: dismisses {item.function}, which is no work function of the files")
+
+    # Sites
+
+    def print_left(self, found: Found) -> None:
+        self.say(f"left: {found.site}  [{found.site.kind}]")
+        self.print_ways(found, list(found.ways))
+        for text in self.ended_by(found.site):
+            self.say(text, "  ")
+        print(f"  # no wait: {found.site.key}: ", file=self.to)
+
+    def print_ways(self, found: Found, names: Iterable[str]) -> None:
+        """How items reach a site: those with the same way together."""
+        ways: dict[str, list[str]] = collections.defaultdict(list)
+        for name in names:
+            ways[path_text(found.ways[name])].append(name)
+        for way, together in ways.items():
+            self.say(f"in reach of {', '.join(together)}{f', by {way}' if way else ''}", "  ")
+
+    def ended_by(self, site: Site) -> Iterable[str]:
+        """What may end a wait, as far as the files say it."""
+        program, name = self.program, self.audit.name
+        if site.workqueues:
+            yield f"flushes {', '.join(map(program.workqueues.name, sorted(site.workqueues)))}, which has " + (
+                ", ".join(sorted(map(name, site.targets))) or "no item of these files")
+        elif site.targets:
+            yield f"waits for {', '.join(sorted(map(name, site.targets)))}"
+        ends = program.ends(site)
+        if ends.items:
+            yield "may be ended by " + ", ".join(
+                f"{name(function)} ({ended.waker.place}{f', by {path_text(ended.path)}' if self.paths and ended.path else ''})"
+                for function, ended in sorted(ends.items.items(), key=lambda pair: pair[1].order))
+        if ends.others:
+            yield "may be ended by code that no item reaches, from " + ", ".join(sorted(ends.others)[:MOST_OTHERS]) + (
+                " .." if len(ends.others) > MOST_OTHERS else "")
+
+    def print_for_others(self) -> None:
+        """Cited sites that more items reach than those whose lines cite them: to look at, and not counted as left."""
+        for found, names in self.audit.for_others:
+            self.say(f"cited for other items: {found.site}")
+            self.print_ways(found, names)
+
+    # Items and workqueues
+
+    def print_neighbour(self, neighbour: Neighbour) -> None:
+        names = ", ".join(map(self.program.workqueues.name, sorted(neighbour.workqueues)))
+        sites = says.counted(neighbour.sites, "site") if neighbour.sites else "no site"
+        function = neighbour.function
+        self.say(f"not declared, on the workqueue of a declared item: {function.name} ({function.file}), on {names}, reaches {sites}")
+        if neighbour.sites:
+            print(f"  # no item: {function.file} {function.name}: ", file=self.to)
+
+    def print_elsewhere(self) -> None:
+        """Items and workqueues of the files that have nothing to do with the declared ones."""
+        audit, workqueues = self.audit, self.program.workqueues
+        if audit.elsewhere():
+            items = [self.program.item(function) for function in audit.elsewhere()]
+            self.say("not declared, on other workqueues: " + ", ".join(
+                f"{item.name} ({', '.join(map(workqueues.name, sorted(item.workqueues))) or '?'})" for item in items))
+        if audit.unused_workqueues():
+            self.say("workqueues without a declared item: " + ", ".join(audit.unused_workqueues()))
+
+    # What was not looked into
+
+    def print_not_followed(self) -> None:
+        names, pointers = not_followed(self.program, self.audit.reached_functions)
+        if names:
+            self.say("not followed, for the files don't have them: " + " ".join(names))
+        if pointers:
+            self.say("not followed, for no function of the files is known to stand there: " + " ".join(pointers))
+        given = self.audit.cited.given
+        missing = sorted({citation.file for citation in self.audit.declaration.citations if not given(citation.file)})
+        if missing:
+            self.say("cited, but not among the files: " + " ".join(missing))
+
+    def print_locks(self) -> None:
+        """Locks in reach, which are no sites."""
+        locks: dict[str, list[Lock]] = collections.defaultdict(list)
+        for lock in self.program.sites.locks:
+            if lock.place.id in self.audit.reached_functions:
+                for name in {str(held) for held in lock.objects} or {"?"}:
+                    locks[name].append(lock)
+        if locks:
+            self.say("locks in reach, which are waits if the holder waits: " + ", ".join(
+                f"{name} ({taken[0].place.file}:{taken[0].place.line}{f' +{len(taken) - 1}' if len(taken) > 1 else ''})"
+                for name, taken in sorted(locks.items())))
+
+    def print_counts(self) -> None:
+        audit = self.audit
+        waiting = [neighbour for neighbour in audit.neighbours if neighbour.sites]
+        says.note(self.to, f"{says.counted(len(audit.declaration.items), 'item')}. {says.counted(len(audit.sites), 'site')} in "
+                  f"reach: {len(audit.cited_sites)} cited, {len(audit.dismissed)} dismissed, {len(audit.left)} left. "
+                  f"{says.counted(len(waiting), 'item')} that may wait, not declared, on their workqueues.")
