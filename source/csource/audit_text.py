@@ -13,7 +13,7 @@ MOST_OTHERS = 8
 
 
 class Printer:
-    """Prints an audit. `paths`: also the calls that lead to what may end a wait."""
+    """Prints an audit. `paths`: the calls by which each item reaches a site, and those that lead to what may end it."""
 
     def __init__(self, audit: Audit, to: TextIO, paths: bool = False) -> None:
         self.audit = audit
@@ -67,13 +67,13 @@ class Printer:
             self.say(text, "  ")
         print(f"  # no wait: {found.site.key}: ", file=self.to)
 
-    def print_ways(self, found: Found, names: Iterable[str]) -> None:
-        """How items reach a site: those with the same way together."""
-        ways: dict[str, list[str]] = collections.defaultdict(list)
-        for name in names:
-            ways[path_text(found.ways[name])].append(name)
-        for way, together in ways.items():
-            self.say(f"in reach of {', '.join(together)}{f', by {way}' if way else ''}", "  ")
+    def print_ways(self, found: Found, names: list[str]) -> None:
+        """How items reach a site: the shortest way, and with --paths that of each item."""
+        names = sorted(names, key=lambda name: len(found.ways[name]))
+        for name in names if self.paths else names[:1]:
+            way = path_text(found.ways[name])
+            others = f"; and of {', '.join(names[1:])}" if names[1:] and not self.paths else ""
+            self.say(f"in reach of {name}{f', by {way}' if way else ''}{others}", "  ")
 
     def ended_by(self, site: Site) -> Iterable[str]:
         """What may end a wait, as far as the files say it."""

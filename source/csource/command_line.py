@@ -7,7 +7,7 @@ import pathlib
 import sys
 from typing import NoReturn, Optional
 
-from . import audit, audit_text, drift, drift_text, program
+from . import audit, audit_text, draft, draft_text, drift, drift_text, program
 from .declaration import Declaration
 from .extract import ExtractError, Extractor, default_cache
 from .progress import Progress
@@ -48,7 +48,7 @@ def parser() -> argparse.ArgumentParser:
     one = verbs.add_parser("audit", parents=[shared], epilog=ENDS, help="sites that the declaration doesn't decide")
     one.add_argument("--decl", required=True, metavar="D.wq")
     one.add_argument("--tree", type=pathlib.Path, default=pathlib.Path("."), metavar="DIR")
-    one.add_argument("--paths", action="store_true", help="also the calls that lead to what may end a wait")
+    one.add_argument("--paths", action="store_true", help="all calls that lead to a site, and to what may end it")
     one.add_argument("files", **files)
     two = verbs.add_parser("drift", parents=[shared], epilog=ENDS, help="what has changed between two trees")
     two.add_argument("--decl", required=True, metavar="D.wq")
@@ -56,6 +56,11 @@ def parser() -> argparse.ArgumentParser:
     two.add_argument("--new", type=pathlib.Path, required=True, metavar="DIR")
     two.add_argument("--write", action="store_true", help="write the new numbers of moved lines into D.wq, and nothing else")
     two.add_argument("files", **files)
+    three = verbs.add_parser("draft", parents=[shared], epilog=ENDS, help="a first declaration of some files")
+    three.add_argument("--tree", type=pathlib.Path, default=pathlib.Path("."), metavar="DIR")
+    three.add_argument("--only", nargs="+", default=[], metavar="FUNCTION", help="these work functions, and what they wait for")
+    three.add_argument("--assign", metavar="OUT", help="write the workqueues that the files make into OUT, as an assignment")
+    three.add_argument("files", **files)
     return words
 
 
@@ -116,7 +121,20 @@ def replace(path: str, text: str) -> None:
     half.replace(path)
 
 
-VERBS = {"audit": run_audit, "drift": run_drift}
+def run_draft(words: argparse.Namespace, extractor: Extractor) -> int:
+    files = files_of(words.tree, words.files, None)
+    found = draft.Draft(program.read(words.tree, files, extractor, program.Tables(), words.stacked), words.only)
+    extractor.progress.end()
+    if found.missing:
+        raise Fault(f"{found.missing[0]} is no work function of these files")
+    draft_text.Printer(found, sys.stdout).print()
+    if words.assign:
+        with open(words.assign, "w") as to:
+            draft_text.print_assignment(found, to)
+    return DONE
+
+
+VERBS = {"audit": run_audit, "drift": run_drift, "draft": run_draft}
 
 
 def main() -> NoReturn:

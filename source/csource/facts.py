@@ -102,8 +102,9 @@ class Facts:
         self.locals: set[tuple[str, str, str]] = set()
         for file in self.files:
             source = self.texts[file].split("\n")
-            for line in dict.fromkeys(lines[file]):
-                self.take(file, source, line.split("\t"))
+            facts = [line.split("\t") for line in dict.fromkeys(lines[file])]
+            for words in sorted(facts, key=lambda words: (int(words[1]), int(words[2]))):
+                self.take(file, source, words)
         for file in self.files:
             self.take_macros(file)
         self.take_initialised()

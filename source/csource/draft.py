@@ -1,0 +1,111 @@
+"""`draft`: a first declaration of some files, in which what isn't known is left to a reader."""
+
+import re
+from dataclasses import dataclass, field
+
+from .backstop import Missed, missed_calls
+from .calls import DIRECT, Edge
+from .items import Item
+from .places import FunctionId
+from .program import Ends, Program
+from .reach import path_to
+from .sites import TARGETED, Key, Site
+
+
+@dataclass
+class Line:
+    """A flush whose target is known: one item that the call names, or the only one that can end the wait."""
+    item: FunctionId
+    word: str
+    target: FunctionId
+    also: list[FunctionId]
+    site: Site
+    path: list[Edge]
+
+
+@dataclass
+class Open:
+    """A site that a reader has to decide, with the items that reach it and what may end it."""
+    site: Site
+    ends: Ends
+    ways: dict[FunctionId, list[Edge]] = field(default_factory=dict)
+
+    @property
+    def targets(self) -> list[FunctionId]:
+        """The items that may end it, the most likely first."""
+        ended = sorted(self.ends.items, key=lambda function: self.ends.items[function].order)
+        return sorted(self.site.targets) or ended
+
+
+def is_direct(path: list[Edge]) -> bool:
+    return all(edge.how == DIRECT for edge in path)
+
+
+class Draft:
+    """What is known of the items of some files, and what isn't."""
+
+    def __init__(self, program: Program, only: list[str]) -> None:
+        self.program = program
+        self.items = [function for function in program.items.items if not only or function.name in only]
+        self.missing = [name for name in only if not any(function.name == name for function in self.items)]
+        self.lines: list[Line] = []
+        self.open: dict[Key, Open] = {}
+        self.ends: dict[Key, Ends] = {}
+        for function in self.items:
+            self.take(function)
+        self.added = self.close()
+        self.missed: list[Missed] = list(missed_calls(program.facts, program.tables.waits))
+
+    def take(self, function: FunctionId) -> None:
+        """The sites in reach of an item: each becomes a line, or stays open."""
+        reached = self.program.sleeps[function]
+        for site in sorted(self.program.sites_of(reached), key=lambda site: (site.key.file, site.lines)):
+            path = path_to(reached, site.id)
+            line = self.line(function, site, path) if is_direct(path) else None
+            if line is not None:
+                self.lines.append(line)
+            else:
+                self.open.setdefault(site.key, Open(site, self.ends_of(site))).ways[function] = path
+
+    def ends_of(self, site: Site) -> Ends:
+        if site.key not in self.ends:
+            self.ends[site.key] = self.program.ends(site)
+        return self.ends[site.key]
+
+    def line(self, function: FunctionId, site: Site, path: list[Edge]) -> "Line | None":
+        """The line for a site, if its target is known. An item that waits for itself is left to the reader."""
+        if site.kind == "flushwq":
+            targets = sorted(site.targets, key=list(self.program.items.items).index)
+            known = len(site.workqueues) == 1 and targets and function not in targets
+            return Line(function, "flushwq", targets[0], targets[1:], site, path) if known else None
+        targets = sorted(site.targets) if site.kind in TARGETED else self.only_end(site)
+        return Line(function, "flush", targets[0], [], site, path) if len(targets) == 1 and targets[0] != function else None
+
+    def only_end(self, site: Site) -> list[FunctionId]:
+        """The item that ends a wait for an object, if nothing else in these files does, and it does so by direct calls."""
+        ends = self.ends_of(site)
+        if ends.others or len(ends.items) != 1:
+            return []
+        return [function for function, ended in ends.items.items() if is_direct(ended.path)]
+
+    def close(self) -> list[FunctionId]:
+        """The items that the lines name and that weren't asked for."""
+        named = {function for line in self.lines for function in (line.target, *line.also)}
+        return [function for function in self.program.items.items if function in named and function not in self.items]
+
+    def all_items(self) -> list[Item]:
+        return [self.program.item(function) for function in self.items + self.added]
+
+    def ordered(self) -> list[tuple[str, list[Item]]]:
+        """The ordered workqueues, each with its items, if it has several."""
+        found = []
+        for workqueue in sorted({workqueue for item in self.all_items() for workqueue in item.workqueues}):
+            items = [item for item in self.all_items() if workqueue in item.workqueues]
+            if len(items) > 1 and "ordered" in self.program.workqueues.flags(workqueue):
+                found.append((workqueue, items))
+        return found
+
+    def short(self, file: str) -> str:
+        """The name of a file as a citation gives it: without its folder, where one file alone has it."""
+        name = re.sub(r".*/", "", file)
+        return name if sum(other == name or other.endswith("/" + name) for other in self.program.facts.files) == 1 else file

@@ -1,0 +1,223 @@
+"""What `draft` prints: a declaration, and with --assign an assignment."""
+
+import collections
+from typing import Iterable, TextIO
+
+from . import says
+from .calls import Edge
+from .draft import Draft, Line, Open
+from .items import Item
+from .notfollowed import not_followed
+from .places import FunctionId, Place
+from .reach import path_text, roots_of
+from .sites import Site
+
+MOST_NAMED = 8
+
+HOW_TO_READ = (
+    "A `?` line is to be decided: write the flush that it is, or `# no wait: FILE FUNCTION CALL(ARGUMENT): WHY`, and take the `?` "
+    "line away. Until then wqplan refuses this text. Read each other line against the source, too, and take away items that "
+    "neither run on the reclaim path nor share a workqueue with one that does.")
+
+
+def some(names: Iterable[str]) -> str:
+    """At most so many names."""
+    found = sorted(names)
+    return ", ".join(found[:MOST_NAMED]) + (" .." if len(found) > MOST_NAMED else "")
+
+
+class Printer:
+    """Prints a draft."""
+
+    def __init__(self, draft: Draft, to: TextIO) -> None:
+        self.draft = draft
+        self.program = draft.program
+        self.to = to
+
+    def name(self, function: FunctionId) -> str:
+        return self.program.item(function).name
+
+    def names(self, functions: Iterable[FunctionId]) -> str:
+        return ", ".join(map(self.name, functions))
+
+    def write(self, text: str = "") -> None:
+        print(text, file=self.to)
+
+    def comment(self, text: str) -> None:
+        """A comment below a `?` line."""
+        self.write(says.wrapped(text, "#   ", "#     "))
+
+    def place(self, place: Place) -> str:
+        return f"{self.draft.short(place.file)}:{place.line} {place.function}"
+
+    def site_place(self, site: Site) -> str:
+        return f"{self.draft.short(site.key.file)}:{', '.join(map(str, site.lines))} {site.key.function}"
+
+    def decide(self, text: str) -> None:
+        """A `?` line. What doesn't fit into it follows as comments."""
+        self.write(says.wrapped(text, "? ", "#   "))
+
+    def print(self) -> None:
+        files = self.program.facts.files
+        says.head(self.to, f"a draft of {self.program.facts.tree}", len(files))
+        says.note(self.to, HOW_TO_READ)
+        self.write(says.wrapped(" ".join(files), "# files: ", "# files: "))
+        self.write()
+        for item in self.draft.all_items():
+            self.print_item(item)
+        self.print_ordered()
+        self.print_lines()
+        self.print_open()
+        self.print_unknown()
+        self.print_beside()
+        says.note(self.to, f"{says.counted(len(self.draft.all_items()), 'item')}. "
+                  f"{says.counted(len(self.draft.lines), 'line')} whose target is known, "
+                  f"{says.counted(len(self.draft.open), 'site')} to decide.")
+
+    # Items
+
+    def print_item(self, item: Item) -> None:
+        """The line, and below it who queues the item: that matters for waits which end only once it has run."""
+        works = ", ".join(sorted(map(str, item.works)))
+        queued = "; ".join(self.queueings(item)) or "queued nowhere in these files"
+        set_at = ", ".join(dict.fromkeys(self.place(place) for place in item.set_at))
+        said = "" if item.name == item.function.name else f"{item.function.name}, "
+        lines = says.wrapped(f"{said}{works}, set at {set_at}; {queued}", f"item {item.name}  # ", "#   ").split("\n")
+        self.write("\n".join(lines))
+        queuers, others = self.queuers(item)
+        if queuers or others:
+            self.comment("queued by " + "; ".join(filter(None, [
+                f"items {some(queuers)}" if queuers else "", f"code that no item reaches, from {some(others)}" if others else ""])))
+
+    def queueings(self, item: Item) -> Iterable[str]:
+        """To which workqueue it is queued, and where."""
+        places: dict[str, list[Place]] = collections.defaultdict(list)
+        for queueing in item.queueings:
+            names = "/".join(sorted(map(self.program.workqueues.name, queueing.workqueues))) or f"? ({queueing.named})"
+            places[names + (" (or another item is)" if queueing.is_one_of_several else "")].append(queueing.place)
+        for name, at in places.items():
+            yield f"queued to {name} at {', '.join(dict.fromkeys(map(self.place, at)))}"
+
+    def queuers(self, item: Item) -> tuple[set[str], set[str]]:
+        """The items that queue it, and other code that does."""
+        queuers: set[str] = set()
+        others: set[str] = set()
+        for queueing in item.queueings:
+            queuers |= {self.name(function) for function in self.program.reached_by.get(queueing.place.id, ())}
+            others |= {root.name for root in roots_of(self.program.graph, queueing.place.id)
+                       if root not in self.program.items.items}
+        return queuers, others
+
+    def print_ordered(self) -> None:
+        for workqueue, items in self.draft.ordered():
+            self.decide(f"ordered {' '.join(item.name for item in items)}")
+            self.comment(f"{self.program.workqueues.name(workqueue)} is ordered. Leave the line out if nothing relies on it")
+
+    # Waits
+
+    def print_lines(self) -> None:
+        """The flushes whose target is known: one line for each item and target, with all its places."""
+        self.write()
+        together: dict[tuple[FunctionId, str, FunctionId], list[Line]] = collections.defaultdict(list)
+        for line in self.draft.lines:
+            together[line.item, line.word, line.target].append(line)
+        for (item, word, target), lines in together.items():
+            for line in lines[1:]:
+                self.write(says.wrapped(self.said(line), "# the same wait: ", "#   "))
+            text = says.wrapped(self.said(lines[0]), f"{word} {self.name(item)} {self.name(target)}  # ", "#   ")
+            self.write(text)
+
+    def said(self, line: Line) -> str:
+        also = f"; also on this workqueue: {self.names(line.also)}" if line.also else ""
+        return f"{line.site.kind} {self.site_place(line.site)}: {line.site.key.call}{self.way(line.path)}{also}"
+
+    @staticmethod
+    def way(path: list[Edge]) -> str:
+        return f", by {path_text(path)}" if path else ""
+
+    def print_open(self) -> None:
+        order = {True: 0, False: 1}
+        for one in sorted(self.draft.open.values(), key=lambda one: (order[bool(one.targets)], one.site.key.file, one.site.lines)):
+            self.write()
+            self.print_one(one)
+
+    def print_one(self, one: Open) -> None:
+        """A site to decide: who reaches it, what may end it, and the lines that it may become."""
+        site = one.site
+        self.decide(f"{site.kind} {self.site_place(site)}: {site.key.call}({site.key.argument})")
+        items = sorted(one.ways, key=lambda function: len(one.ways[function]))
+        first = f"{self.name(items[0])}{self.way(one.ways[items[0]])}"
+        self.comment(f"in reach of {first}" + (f"; and of {self.names(items[1:])}" if items[1:] else ""))
+        if site.workqueues:
+            self.comment(f"flushes {', '.join(map(self.program.workqueues.name, sorted(site.workqueues)))}")
+        for function in one.targets:
+            ended = one.ends.items.get(function)
+            self.comment(f"waits for {self.name(function)}" if ended is None else
+                         f"may be ended by {self.name(function)} at {self.place(ended.waker.place)}{self.way(ended.path)}")
+        if one.ends.others:
+            self.comment(f"may be ended by code that no item reaches, from {some(one.ends.others)}")
+        targets = " ".join(map(self.name, one.targets)) or "TARGET"
+        word = "flushwq" if site.kind == "flushwq" else "flush"
+        for function in items:
+            self.write(f"#{word} {self.name(function)} {targets.split()[0] if word == 'flushwq' else targets}  # {site.kind} "
+                       f"{self.site_place(site)}"[:4000])
+        key = site.key._replace(file=self.draft.short(site.key.file))
+        self.write(f"## no wait: {key}: ")
+
+    # What isn't known
+
+    def print_unknown(self) -> None:
+        items = self.program.items
+        for call in items.unknown_items:
+            self.write()
+            self.decide(f"item {self.place(call.place)}: {call.text}: its function isn't in these files")
+        for call in items.unknown_queueings:
+            self.write()
+            self.decide(f"queue {self.place(call.place)}: {call.text}: what is queued isn't known")
+        for missed in self.draft.missed:
+            self.write()
+            self.decide(f"not parsed {self.place(missed.place)}: {missed.text}: found by its name alone")
+
+    def print_beside(self) -> None:
+        """Locks, and what wasn't followed."""
+        self.write()
+        reached = {function for item in self.draft.items for function in self.program.sleeps[item]}
+        locks: dict[str, list[Place]] = collections.defaultdict(list)
+        for lock in self.program.sites.locks:
+            if lock.place.id in reached:
+                for name in {str(held) for held in lock.objects} or {"?"}:
+                    locks[name].append(lock.place)
+        if locks:
+            says.note(self.to, "Locks in reach, which are waits if the holder waits: " + ", ".join(
+                f"{name} ({self.place(places[0])}{f' +{len(places) - 1}' if len(places) > 1 else ''})"
+                for name, places in sorted(locks.items())))
+        names, pointers = not_followed(self.program, reached)
+        if names:
+            says.note(self.to, "Not followed, for the files don't have them: " + " ".join(names))
+        if pointers:
+            says.note(self.to, "Not followed, for no function of the files is known to stand there: " + " ".join(pointers))
+
+
+def print_assignment(draft: Draft, to: TextIO) -> None:
+    """The workqueues as the files make them, with what their flags mean in comments."""
+    program = draft.program
+    says.note(to, f"wqsource: the workqueues of {program.facts.tree}, as far as its files say them. `safe` has the precondition "
+              "that each has a rescuer. A `?` line is to be decided.")
+    on: dict[str, list[Item]] = collections.defaultdict(list)
+    nowhere = []
+    for item in draft.all_items():
+        for workqueue in sorted(item.workqueues):
+            on[workqueue].append(item)
+        if not item.workqueues:
+            nowhere.append(item)
+    for number, (workqueue, items) in enumerate(on.items()):
+        shared = [item.name for item in items if len(item.workqueues) > 1]
+        made = program.workqueues.made.get(workqueue)
+        said = ", ".join(filter(None, [
+            program.workqueues.name(workqueue),
+            f"{draft.short(made.call.place.file)}:{made.call.place.line} {made.call.place.function}" if made else "",
+            program.workqueues.flags(workqueue),
+            f"queued to several workqueues: {', '.join(shared)}" if shared else ""]))
+        print(f"{'? ' if shared else ''}wq {number} {' '.join(item.name for item in items)}  # {said}", file=to)
+    if nowhere:
+        print(f"? wq ? {' '.join(item.name for item in nowhere)}  # their workqueue isn't known", file=to)
