@@ -48,7 +48,7 @@ class Printer:
         self.write(says.wrapped(text, "#   ", "#     "))
 
     def place(self, place: Place) -> str:
-        return f"{self.draft.short(place.file)}:{place.line} {place.function}"
+        return str(place._replace(file=self.draft.short(place.file)))
 
     def site_place(self, site: Site) -> str:
         return f"{self.draft.short(site.key.file)}:{', '.join(map(str, site.lines))} {site.key.function}"

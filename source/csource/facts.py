@@ -11,6 +11,7 @@ from .ctext import Tokens
 from .macros import macros_of
 from .places import FunctionId, Place
 
+OUTSIDE = "something_else"
 UNKNOWN_TYPES = ("", "void", "unknown")
 
 
@@ -115,7 +116,7 @@ class Facts:
     def take(self, file: str, source: list[str], words: list[str]) -> None:
         """One line of facts."""
         kind, line, _, function, *rest = words + [""]
-        place = Place(file, int(line), function)
+        place = Place(file, int(line), "" if function == OUTSIDE else function)
         if kind == "DEF":
             self.define(place, rest[0], parameter_names(rest[1]), source)
             self.defined_at[FunctionId(file, rest[0])].append(place)

@@ -10,13 +10,13 @@ class FunctionId(NamedTuple):
 
 
 class Place(NamedTuple):
-    """A line, and the function that it is in."""
+    """A line, and the function that it is in: '' outside functions."""
     file: str
     line: int
     function: str
 
     def __str__(self) -> str:
-        return f"{self.file}:{self.line} {self.function}"
+        return f"{self.file}:{self.line} {self.function}".rstrip()
 
     @property
     def id(self) -> FunctionId:

@@ -1,0 +1,61 @@
+"""What the tests of `wqsource` share: they read C files with it, and start it."""
+
+import collections
+import pathlib
+import sys
+
+import pytest
+
+HERE = pathlib.Path(__file__).resolve().parent
+ROOT = HERE.parent.parent
+sys.path[:0] = [str(ROOT / "source"), str(ROOT / "tests" / "lib")]
+
+import programs  # noqa: E402
+from csource import draft, extract, program, progress  # noqa: E402
+
+C_FILES = HERE / "c"
+
+Ran = collections.namedtuple("Ran", "status out err")
+Drafted = collections.namedtuple("Drafted", "items flushes open")
+
+
+@pytest.fixture(scope="session")
+def cache():
+    """Where facts are kept. The gate may begin with none."""
+    return extract.default_cache()
+
+
+@pytest.fixture(scope="session")
+def read(cache):
+    """read(tree, files): the program model of some files."""
+    extractor = extract.Extractor(cache, 1, progress.Progress())
+    tables = program.Tables()
+    return lambda tree, files, stacked=False: program.read(pathlib.Path(tree), files, extractor, tables, stacked)
+
+
+@pytest.fixture(scope="session")
+def drafted(read):
+    """drafted(files, tree): what a draft says of C files, as sets that a test writes down by hand.
+
+    `items`: the workqueues of each item. `flushes`: (line, FILE:LINE) of each flush whose target is known. `open`: of each
+    site to decide, as (FILE:LINE, CALL(ARGUMENT)), the items that reach it and those that may end it.
+    """
+    def draft_of(*files, tree=C_FILES):
+        found = draft.Draft(read(tree, list(files)), [])
+        name, workqueue = (lambda function: found.program.item(function).name), found.program.workqueues.name
+        at = lambda site: f"{site.key.file}:{','.join(map(str, site.lines))}"
+        return Drafted(
+            {item.name: {workqueue(one) for one in item.workqueues} for item in found.all_items()},
+            {(f"{line.word} {name(line.item)} {name(line.target)}", at(line.site)) for line in found.lines},
+            {(at(one.site), f"{one.site.key.call}({one.site.key.argument})"): (set(map(name, one.ways)), set(map(name, one.targets)))
+             for one in found.open.values()})
+    return draft_of
+
+
+@pytest.fixture
+def wqsource():
+    """wqsource(words ..): starts it."""
+    def start(*words, cwd=ROOT, env=None):
+        ran = programs.run([str(ROOT / "source" / "wqsource"), *map(str, words)], cwd=cwd, env=env, capture_output=True)
+        return Ran(ran.returncode, ran.stdout.decode(), ran.stderr.decode())
+    return start

@@ -1,0 +1,93 @@
+"""One small C file for each way in which code gets to a wait. What is expected was read off the C file."""
+
+
+def test_callback_parameter(drafted):
+    found = drafted("callback.c")
+    assert found.items == {"cb_work": set(), "cb_other_work": set()}
+    assert found.flushes == set()
+    assert found.open == {("callback.c:4", "flush_work(&c->other_work)"): ({"cb_work"}, {"cb_other_work"})}
+
+
+def test_table_of_operations(drafted):
+    found = drafted("ops.c")
+    assert found.open == {("ops.c:4", "wait_for_completion(&d->stopped)"): ({"ops_work"}, {"ops_end_work"})}
+    assert found.flushes == set()
+
+
+def test_declared_work(drafted):
+    found = drafted("declared.c")
+    assert found.items == {"declared_fn": {"system_wq"}, "declared_later_fn": {"system_unbound_wq"}}
+    assert found.flushes == {("flush declared_later_fn declared_fn", "declared.c:11")}
+    # it flushes the workqueue that it is on
+    assert found.open == {("declared.c:4", "flush_scheduled_work()"): ({"declared_fn"}, {"declared_fn"})}
+
+
+def test_percpu_ref(drafted):
+    found = drafted("percpu_ref.c")
+    assert found.flushes == set()
+    assert found.open == {("percpu_ref.c:6", "cancel_work_sync(&p->io_work)"): ({"pr_stop_work"}, {"pr_io_work"})}
+
+
+def test_kref(drafted):
+    found = drafted("kref.c")
+    assert found.items == {"kr_work": {"kr-stop"}, "kr_log_work": {"kr-log"}}
+    assert found.flushes == {("flushwq kr_work kr_log_work", "kref.c:6")}
+    assert found.open == {}
+
+
+def test_end_of_a_bio(drafted):
+    """What bi_end_io calls ends waits, and isn't in reach of them: nothing there can sleep."""
+    found = drafted("bio_end.c")
+    assert found.flushes == set()
+    assert found.open == {("bio_end.c:15", "wait_for_completion(&b->done)"): ({"be_send_work"}, {"be_answer_work"})}
+
+
+def test_work_that_is_initialised_again(drafted):
+    found = drafted("again.c")
+    assert found.items == {"again_first": {"early"}, "again_second": {"late"}, "again_waits": set()}
+    assert found.open == {("again.c:18", "flush_work(&a->work)"): ({"again_waits"}, {"again_first", "again_second"})}
+
+
+def test_macro(drafted):
+    found = drafted("macro.c")
+    assert found.flushes == {("flush macro_work macro_ready_work", "macro.c:2")}
+    assert found.open == {}
+
+
+def test_static_functions_of_one_name(drafted):
+    found = drafted("twin_a.c", "twin_b.c")
+    assert set(found.items) == {"twin_work.twin_a", "twin_work.twin_b", "twin_end_a"}
+    assert found.flushes == {("flush twin_work.twin_a twin_end_a", "twin_a.c:4")}
+    assert found.open == {("twin_b.c:4", "drain_workqueue(t->wq)"): ({"twin_work.twin_b"}, set())}
+
+
+def test_two_works_set_in_one_function(drafted):
+    """Each has its function, and only the second is queued, by a helper."""
+    found = drafted("two_inits.c")
+    assert found.items == {"ti_first": set(), "ti_second": {"ti"}}
+    assert found.flushes == {("flush ti_second ti_first", "two_inits.c:10")}
+    assert found.open == {}
+
+
+def test_pool_and_wait_queue(drafted):
+    """GFP_NOWAIT doesn't sleep, and schedule() belongs to the wait queue that was entered before."""
+    found = drafted("pool.c")
+    assert found.flushes == {("flush pool_take_work pool_give_work", "pool.c:6")}
+    assert found.open == {("pool.c:26,27", "prepare_to_wait(&p->wait)"): ({"pool_wait_work"}, set())}
+
+
+def test_kthread_worker_and_function_variable(drafted):
+    found = drafted("worker.c")
+    assert found.items == {"worker_fn": {"worker-dev"}, "worker_stop_fn": set()}
+    assert found.open == {("worker.c:4", "kthread_flush_worker(w->worker)"): ({"worker_stop_fn"}, {"worker_fn"})}
+
+
+def test_flags(read):
+    """As the calls give them: one in a variable, one not at all."""
+    import pathlib
+    def flags(file):
+        workqueues = read(pathlib.Path(__file__).parent / "c", [file]).workqueues
+        return {workqueues.name(made): workqueues.flags(made) for made in workqueues.made}
+    assert flags("two_inits.c") == {"ti": "ordered, WQ_MEM_RECLAIM, WQ_UNBOUND"}
+    assert flags("kref.c") == {"kr-log": "ordered, WQ_MEM_RECLAIM", "kr-stop": "max_active 1, NO WQ_MEM_RECLAIM: no rescuer"}
+    assert flags("again.c") == {"early": "WQ_MEM_RECLAIM", "late": "WQ_MEM_RECLAIM"}
