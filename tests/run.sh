@@ -14,6 +14,7 @@
 #     docs       pages, manual pages, completion: without a program, but for `guide`, the commands of the pages
 #     cli        what the program prints, its diagnoses, the examples, install.sh: with wqplan
 #     model      the program against a model that was written from docs/FORMAT.md alone: with wqplan
+#     source     the reader of C sources, source/wqsource: with Coccinelle and pytest, which it installs where it may
 #     runtime    books, runtimes and rescuers: with test_runtime
 #     kernel     the workqueue code of two series of Linux, in QEMU, where that and packages of Debian can be had: with wqplan
 #     edits      all wrong bodies of tests/edits, which takes hours, and the script that tries them
@@ -50,6 +51,7 @@ cli      explain      cli/explain.sh WQPLAN
 cli      diagnoses    cli/diagnoses/main.py WQPLAN
 cli      worst        cli/worst.py WQPLAN
 model    model        model/properties.py | model/compare.py WQPLAN | model/search.py WQPLAN
+source   source       source/main.sh
 runtime  book         runtime/book/main.py TEST_RUNTIME
 runtime  runtime      runtime/main.py TEST_RUNTIME | runtime/wakes.py TEST_RUNTIME | runtime/loads.py TEST_RUNTIME \
                       | runtime/interleavings.py
@@ -90,7 +92,8 @@ for word; do
         fi
     done
     if [ ${#found[@]} -eq 0 ]; then
-        echo "run: there is no part or script $word; the parts are lib docs cli model runtime kernel edits, the scripts ${names[*]}" >&2
+        echo "run: there is no part or script $word; the parts are lib docs cli model source runtime kernel edits," \
+            "the scripts ${names[*]}" >&2
         exit 2
     fi
     asked+=("${found[@]}")

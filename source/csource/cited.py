@@ -12,23 +12,20 @@ from .sites import Key, Site
 
 
 class Functions:
-    """In which function a line is: a function goes from the line of its name to the first `}` that begins a line."""
+    """In which function, or macro that calls something, a line is."""
 
     def __init__(self, facts: Facts) -> None:
-        self.spans: dict[str, list[tuple[int, int, str]]] = {}
-        closings = {file: [n for n, line in enumerate(text.split("\n"), 1) if line.startswith("}")]
-                    for file, text in facts.texts.items()}
-        for function, places in facts.defined_at.items():
-            for place in places:
-                end = next((line for line in closings[place.file] if line >= place.line), place.line)
-                self.spans.setdefault(place.file, []).append((place.line, end, function.name))
+        self.spans = facts.spans
+        self.in_file: dict[str, list[tuple[int, int, str]]] = {}
+        for function, spans in facts.spans.items():
+            self.in_file.setdefault(function.file, []).extend((first, last, function.name) for first, last in spans)
 
     def at(self, file: str, line: int) -> Optional[str]:
-        inside = [span for span in self.spans.get(file, ()) if span[0] <= line <= span[1]]
+        inside = [span for span in self.in_file.get(file, ()) if span[0] <= line <= span[1]]
         return max(inside)[2] if inside else None
 
     def spans_of(self, function: FunctionId) -> list[tuple[int, int]]:
-        return sorted((first, last) for first, last, name in self.spans.get(function.file, ()) if name == function.name)
+        return sorted(self.spans.get(function, ()))
 
 
 @dataclass
@@ -118,7 +115,7 @@ class Cited:
             citation, file = found.citation, found.file
             if file is None:
                 continue
-            lines = self.program.facts.texts[file].split("\n")
+            lines = self.program.facts.lines[file]
             inside = self.functions.at(file, min(citation.line, len(lines)))
             if citation.line > len(lines):
                 yield citation, f"the file has {len(lines)} lines"

@@ -40,7 +40,7 @@ class Printer:
                 continue
             function = drift.cited.functions.at(found.file, found.citation.line)
             place = f"{found.file}:{found.citation.line} {function or ''}".rstrip()
-            text = drift.old.facts.texts[found.file].split("\n")[found.citation.line - 1].strip()
+            text = drift.old.facts.lines[found.file][found.citation.line - 1].strip()
             if now.what == MOVED:
                 self.say(f"{path}:{found.citation.number}: {place}: moved to line {now.line}")
             elif now.what == GONE:

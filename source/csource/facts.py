@@ -90,8 +90,10 @@ class Facts:
         self.tree = tree
         self.files = list(lines)
         self.texts = {file: (tree / file).read_text(errors="replace") for file in self.files}
+        self.lines = {file: text.removesuffix("\n").split("\n") for file, text in self.texts.items()}
         self.definitions: dict[FunctionId, Definition] = {}
-        self.defined_at: dict[FunctionId, list[Place]] = collections.defaultdict(list)
+        # from the line of the name to the first `}` that begins a line; a macro to its last line
+        self.spans: dict[FunctionId, list[tuple[int, int]]] = collections.defaultdict(list)
         self.named: dict[str, list[FunctionId]] = collections.defaultdict(list)
         self.calls: list[Call] = []
         self.pointer_calls: list[PointerCall] = []
@@ -102,10 +104,9 @@ class Facts:
         self.structs: dict[str, set[str]] = collections.defaultdict(set)
         self.locals: set[tuple[str, str, str]] = set()
         for file in self.files:
-            source = self.texts[file].split("\n")
             facts = [line.split("\t") for line in dict.fromkeys(lines[file])]
             for words in sorted(facts, key=lambda words: (int(words[1]), int(words[2]))):
-                self.take(file, source, words)
+                self.take(file, words)
         for file in self.files:
             self.take_macros(file)
         self.take_initialised()
@@ -113,13 +114,13 @@ class Facts:
         for call in self.calls:
             self.calls_in[call.place.id].append(call)
 
-    def take(self, file: str, source: list[str], words: list[str]) -> None:
+    def take(self, file: str, words: list[str]) -> None:
         """One line of facts."""
         kind, line, _, function, *rest = words + [""]
         place = Place(file, int(line), "" if function == OUTSIDE else function)
         if kind == "DEF":
-            self.define(place, rest[0], parameter_names(rest[1]), source)
-            self.defined_at[FunctionId(file, rest[0])].append(place)
+            self.define(place, rest[0], parameter_names(rest[1]))
+            self.spans[FunctionId(file, rest[0])].append((place.line, self.end_of(place)))
         elif kind == "CALL":
             self.calls.append(Call(place, rest[0], ctext.arguments(ctext.tokens(rest[1]))))
         elif kind == "PCALL":
@@ -136,15 +137,25 @@ class Facts:
         elif kind == "TYP":
             self.take_type(place, rest[0], rest[1], struct_name(rest[2]))
 
-    def define(self, place: Place, name: str, parameters: list[str], source: list[str]) -> None:
-        # (`static` stands on the line of the name, or on the line before it)
-        before = " ".join(source[max(0, place.line - 2):place.line])
-        is_local = re.search(r"\bstatic\b", before) is not None and place.file.endswith(".c")
+    def end_of(self, place: Place) -> int:
+        """The line that ends a function."""
+        lines = self.lines[place.file]
+        return next((number for number in range(place.line + 1, len(lines) + 1) if lines[number - 1].startswith("}")), place.line)
+
+    def define(self, place: Place, name: str, parameters: list[str]) -> None:
+        is_local = place.file.endswith(".c") and self.is_static(place)
         function = FunctionId(place.file, name)
         if function not in self.definitions:
             self.named[name].append(function)
         self.definitions[function] = Definition(place, parameters, is_local)
         self.locals.update((place.file, name, parameter) for parameter in parameters)
+
+    def is_static(self, place: Place) -> bool:
+        """Whether `static` stands on the line of the name, or on the line before it, where that has only a type."""
+        lines = self.lines[place.file]
+        before = lines[place.line - 2] if place.line > 1 else ""
+        type_before = before if re.fullmatch(r"[A-Za-z_][\w\s*]*", before) else ""
+        return re.search(r"\bstatic\b", f"{type_before} {lines[place.line - 1]}") is not None
 
     def take_type(self, place: Place, base: str, member: str, struct: str) -> None:
         if struct not in UNKNOWN_TYPES:
@@ -158,7 +169,8 @@ class Facts:
             if function in self.definitions:
                 continue
             place = Place(file, macro.line, macro.name)
-            self.define(place, macro.name, macro.parameters, [])
+            self.define(place, macro.name, macro.parameters)
+            self.spans[function].append((macro.line, macro.last))
             self.calls += [Call(place, name, arguments) for name, arguments in macro.calls]
 
     def take_initialised(self) -> None:

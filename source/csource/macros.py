@@ -11,8 +11,10 @@ NO_CALL = {"if", "while", "for", "switch", "sizeof", "typeof", "__typeof__", "de
 
 
 class Macro(NamedTuple):
+    """Its calls are all taken to be in its first line."""
     name: str
     line: int
+    last: int
     parameters: list[str]
     calls: list[tuple[str, list[Tokens]]]
 
@@ -30,4 +32,4 @@ def macros_of(text: str) -> Iterator[Macro]:
         calls = calls_in(ctext.tokens(match[3].replace("\\\n", " ")))
         if calls:
             line = text.count("\n", 0, match.start()) + 1
-            yield Macro(match[1], line, [word.strip() for word in match[2].split(",")], calls)
+            yield Macro(match[1], line, line + match[0].count("\n"), [word.strip() for word in match[2].split(",")], calls)

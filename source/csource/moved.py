@@ -21,9 +21,9 @@ class Now:
     text: str = ""
 
 
-def normal(text: str) -> list[str]:
+def normal(lines: list[str]) -> list[str]:
     """Lines without what only indents or parts words."""
-    return [" ".join(line.split()) for line in text.split("\n")]
+    return [" ".join(line.split()) for line in lines]
 
 
 class Mapping:
@@ -32,8 +32,8 @@ class Mapping:
     def __init__(self, old: Program, new: Program) -> None:
         self.old, self.new = old, new
         self.old_functions, self.new_functions = Functions(old.facts), Functions(new.facts)
-        self.old_lines = {file: normal(text) for file, text in old.facts.texts.items()}
-        self.new_lines = {file: normal(text) for file, text in new.facts.texts.items()}
+        self.old_lines = {file: normal(lines) for file, lines in old.facts.lines.items()}
+        self.new_lines = {file: normal(lines) for file, lines in new.facts.lines.items()}
         self.known: dict[FunctionId, dict[int, int]] = {}
 
     def now(self, file: str, line: int) -> Now:

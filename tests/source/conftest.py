@@ -1,9 +1,11 @@
 """What the tests of `wqsource` share: they read C files with it, and start it."""
 
 import collections
+import os
 import pathlib
 import sys
 
+import hypothesis
 import pytest
 
 HERE = pathlib.Path(__file__).resolve().parent
@@ -14,6 +16,10 @@ import programs  # noqa: E402
 from csource import draft, extract, program, progress  # noqa: E402
 
 C_FILES = HERE / "c"
+
+# The machine may have much else to do, and the gate should say the same each time.
+hypothesis.settings.register_profile("gate", deadline=None, derandomize=True, max_examples=200)
+hypothesis.settings.load_profile("gate")
 
 Ran = collections.namedtuple("Ran", "status out err")
 Drafted = collections.namedtuple("Drafted", "items flushes open")
@@ -28,7 +34,8 @@ def cache():
 @pytest.fixture(scope="session")
 def read(cache):
     """read(tree, files): the program model of some files."""
-    extractor = extract.Extractor(cache, 1, progress.Progress())
+    jobs = int(os.environ.get("WQSOURCE_JOBS") or os.cpu_count() or 1)
+    extractor = extract.Extractor(cache, jobs, progress.Progress())
     tables = program.Tables()
     return lambda tree, files, stacked=False: program.read(pathlib.Path(tree), files, extractor, tables, stacked)
 

@@ -1,0 +1,37 @@
+#!/usr/bin/env bash
+# Prints the path of the tree of Linux 6.1 whose lines the examples cite, with the folders that they need. It is $LINUX_6_1 if that is
+# one, or the one that was unpacked here before, or Debian's linux-source-6.1, which is fetched: some 140 MB. Where none can be
+# had, the status is 1, and standard error says so.
+set -u
+folders='block drivers/block drivers/md drivers/nvme fs/iomap fs/xfs mm net/ceph'
+files='Makefile fs/fs-writeback.c'
+
+if [ -n "${LINUX_6_1-}" ]; then
+    [ -f "$LINUX_6_1/Makefile" ] && echo "$LINUX_6_1" && exit 0
+    echo "source: no Linux source at $LINUX_6_1" >&2
+    exit 1
+fi
+cache=${XDG_CACHE_HOME:-${HOME-}/.cache}/wqplan/linux-6.1
+if [ -f "$cache/complete" ]; then
+    echo "$cache"
+    exit 0
+fi
+half=$cache.half
+rm -rf -- "$half"
+mkdir -p -- "$half" && cd -- "$half" || exit 1
+trap 'rm -rf -- "$half"' EXIT
+if ! timeout 600 apt-get download linux-source-6.1 >/dev/null 2>&1; then
+    echo "source: Debian's linux-source-6.1 can't be fetched here" >&2
+    exit 1
+fi
+wanted=()
+for name in $folders $files; do
+    wanted+=("linux-source-6.1/$name")
+done
+dpkg-deb --fsys-tarfile linux-source-6.1_*.deb | tar -xO ./usr/src/linux-source-6.1.tar.xz |
+    tar -xJ --strip-components=1 "${wanted[@]}" || exit 1
+rm -- linux-source-6.1_*.deb
+touch complete
+rm -rf -- "$cache"
+mv -- "$half" "$cache"
+echo "$cache"

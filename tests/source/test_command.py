@@ -1,0 +1,141 @@
+"""The command line: statuses, what is said where a tool is missing, progress, the cache."""
+
+import io
+import os
+import pathlib
+import stat
+
+import pytest
+
+from conftest import C_FILES, ROOT
+from csource import progress
+from csource.tables import Idioms, TableError, Waits, pattern
+
+RDISK = ROOT / "examples" / "rdisk"
+
+
+def test_statuses(wqsource, tmp_path):
+    assert wqsource().status == 2
+    assert wqsource("look").status == 2
+    assert wqsource("audit", "rdisk.c").status == 2
+    ran = wqsource("--help")
+    assert ran.status == 0 and "audit" in ran.out and "drift" in ran.out and "draft" in ran.out
+    for words, said in (
+            (("audit", "--decl", tmp_path / "none.wq", "--tree", RDISK, "rdisk.c"), "none.wq"),
+            (("audit", "--decl", RDISK / "rdisk.wq", "--tree", RDISK, "none.c"), "none.c: no such file"),
+            (("audit", "--decl", RDISK / "rdisk.wq", "--tree", tmp_path / "none", "rdisk.c"), "none: no such folder"),
+            (("audit", "--decl", RDISK / "rdisk.wq", "--tree", RDISK), "no file is given, and the declaration has no `# files:` line"),
+            (("draft", "--only", "nobody", "--tree", RDISK, "--", "rdisk.c"), "nobody")):
+        ran = wqsource(*words)
+        assert ran.status == 3 and said in ran.err and ran.out == "", words
+
+
+def only(tmp_path, *programs):
+    """A PATH with nothing but these."""
+    folder = tmp_path / "bin"
+    folder.mkdir()
+    for name in programs:
+        found = next(os.path.join(place, name) for place in os.environ["PATH"].split(":") if os.access(os.path.join(place, name), os.X_OK))
+        (folder / name).symlink_to(found)
+    return {**os.environ, "PATH": str(folder)}
+
+
+def test_without_python(wqsource, tmp_path):
+    ran = wqsource("--help", env=only(tmp_path, "sh", "dirname", "readlink"))
+    assert ran == (3, "", "wqsource: python3 isn't on the PATH: apt-get install python3\n")
+
+
+def test_without_coccinelle(wqsource, tmp_path):
+    env = only(tmp_path, "sh", "dirname", "readlink")
+    (tmp_path / "bin" / "python3").symlink_to("/usr/bin/python3")
+    ran = wqsource("draft", "--cache", tmp_path / "cache", "--tree", RDISK, "rdisk.c", env=env)
+    assert ran.status == 3 and ran.err == "wqsource: spatch isn't on the PATH. It is Coccinelle's: apt-get install coccinelle\n"
+
+
+def test_a_spatch_that_fails(wqsource, tmp_path):
+    folder = tmp_path / "bin"
+    folder.mkdir()
+    (folder / "spatch").write_text("#!/bin/sh\necho 'cannot go on' >&2\nexit 9\n")
+    (folder / "spatch").chmod(0o755)
+    ran = wqsource("draft", "--cache", tmp_path / "cache", "--tree", RDISK, "rdisk.c",
+                   env={**os.environ, "PATH": f"{folder}:{os.environ['PATH']}"})
+    assert ran.status == 3 and ran.err == f"wqsource: spatch fails on {RDISK}/rdisk.c (9): cannot go on\n"
+    assert not [path for path in (tmp_path / "cache").rglob("*") if path.is_file()]
+
+
+def test_facts_are_kept_by_what_is_in_the_file(wqsource, tmp_path):
+    """The same text at another place is read from the cache: no spatch is needed then."""
+    words = ("draft", "--cache", tmp_path / "cache", "rdisk.c", "--tree")
+    first = wqsource(*words, RDISK)
+    assert first.status == 0
+    (tmp_path / "rdisk.c").write_text((RDISK / "rdisk.c").read_text())
+    folder = tmp_path / "bin"
+    folder.mkdir()
+    (folder / "spatch").write_text("#!/bin/sh\nexit 9\n")
+    (folder / "spatch").chmod(0o755)
+    env = {**os.environ, "PATH": f"{folder}:{os.environ['PATH']}"}
+    again = wqsource(*words, tmp_path, env=env)
+    assert again.status == 0 and again.out.splitlines()[3:] == first.out.splitlines()[3:]
+    (tmp_path / "rdisk.c").write_text((RDISK / "rdisk.c").read_text() + "\n")
+    assert wqsource(*words, tmp_path, env=env).status == 3
+
+
+class Terminal(io.StringIO):
+    def isatty(self):
+        return True
+
+
+@pytest.mark.parametrize("to,wanted", [(io.StringIO(), "wqsource: two\n"), (Terminal(), "\rwqsource: two\r             \r")])
+def test_progress(monkeypatch, to, wanted):
+    """Nothing for two seconds; then a line, which a terminal loses again."""
+    now = [100.0]
+    monkeypatch.setattr(progress.time, "monotonic", lambda: now[0])
+    said = progress.Progress(to)
+    now[0] += 1.9
+    said.say("one")
+    assert to.getvalue() == ""
+    now[0] += 0.2
+    said.say("two")
+    said.end()
+    assert to.getvalue() == wanted
+
+
+def test_tables(tmp_path):
+    table = tmp_path / "waits.txt"
+    table.write_text("# a comment\ndone/2  my_wait*   # another\nnever  my_*\nother  *\nnowait NOW\n")
+    waits = Waits(table)
+    assert (waits.kind("my_wait_long").name, waits.kind("my_wait").argument) == ("done", 1)
+    assert waits.kind("my_other").name == "never" and waits.kind("x_my_other").name == "other"
+    assert waits.is_nowait([["a", "|", "NOW"]]) and not waits.is_nowait([["a"]])
+    for line in ("sleeps my_wait", "done/x my_wait"):
+        table.write_text("never a\n" + line + "\n")
+        with pytest.raises(TableError, match=r"waits.txt:2: "):
+            Waits(table)
+    table.write_text("member a b\n")
+    with pytest.raises(TableError, match=r"waits.txt:1: "):
+        Idioms.read(table)
+    assert pattern(["a*", "b"]).fullmatch("a_1") and not pattern(["a*", "b"]).fullmatch("b_1") and not pattern([]).fullmatch("")
+
+
+def test_kinds_of_the_kernels_calls():
+    """The names of the guide's table of waits (docs/GUIDE.md, section 2), each of which is a site or a lock."""
+    waits = Waits()
+    wanted = {
+        "flush": "flush_work flush_delayed_work flush_rcu_work kthread_flush_work",
+        "flushwq": "flush_workqueue drain_workqueue destroy_workqueue kthread_flush_worker kthread_destroy_worker flush_scheduled_work",
+        "done": "wait_for_completion wait_for_completion_io wait_for_completion_timeout wait_on_bit",
+        "event": "wait_event wait_event_timeout wait_event_interruptible",
+        "sleep": "schedule io_schedule schedule_timeout",
+        "pool": "mempool_alloc bio_alloc_bioset",
+        "cancel": "cancel_work_sync cancel_delayed_work_sync kthread_cancel_work_sync",
+        "lock": "mutex_lock down down_read down_write",
+        "other": "lock_page lock_buffer blk_mq_freeze_queue submit_bio submit_bio_wait filemap_fdatawrite invalidate_inode_pages2 "
+                 "truncate_pagecache iput schedule_on_each_cpu work_on_cpu vfs_fsync synchronize_srcu blk_mq_alloc_request dm_io "
+                 "blkdev_issue_flush kernel_sendmsg sb_start_write del_gendisk balance_dirty_pages_ratelimited",
+        "never": "cancel_work cancel_delayed_work msleep synchronize_rcu rcu_barrier mutex_trylock mutex_unlock wake_up_process_wait",
+        "queue": "queue_work mod_delayed_work schedule_work queue_delayed_work kthread_queue_work kblockd_schedule_work",
+        "item": "INIT_WORK INIT_DELAYED_WORK INIT_DEFERRABLE_WORK INIT_RCU_WORK INIT_WORK_ONSTACK kthread_init_work btrfs_init_work",
+        "workqueue": "alloc_workqueue alloc_ordered_workqueue create_singlethread_workqueue kthread_create_worker",
+    }
+    found = {name: waits.kind(name).name for names in wanted.values() for name in names.split()}
+    assert found == {name: kind for kind, names in wanted.items() for name in names.split()} | {"wake_up_process_wait": "wake"}
