@@ -3,7 +3,7 @@
 import collections
 from typing import Iterable, Iterator, NamedTuple
 
-from .cells import Address, Function, Kept, Member, Value
+from .cells import UNKNOWN, Address, Function, Kept, Member, Value, Variable, may_be_same
 from .ctext import Tokens
 from .facts import Call, Facts
 from .holds import Holds
@@ -34,9 +34,14 @@ class CallGraph:
         self.holds = holds
         self.idioms = idioms
         self.stacked = stacked
-        self.edges: dict[FunctionId, dict[FunctionId, Edge]] = collections.defaultdict(dict)
+        self.by_pointer = [(call, Call(call.place, call.member, call.arguments)) for call in facts.pointer_calls]
+        # of each caller, the functions that it calls, and all the calls by which it does
+        self.edges: dict[FunctionId, dict[FunctionId, list[Edge]]] = collections.defaultdict(dict)
         # calls by a pointer whose functions aren't in the files
         self.blind: dict[FunctionId, set[str]] = collections.defaultdict(set)
+        self.assigned: dict[Member, list[tuple[Place, Tokens, Tokens]]] = collections.defaultdict(list)
+        self.initialised: dict[Member, set[FunctionId]] = collections.defaultdict(set)
+        self.note_members()
         self.add_direct()
         self.add_kept()
         self.holds.settle()
@@ -54,10 +59,10 @@ class CallGraph:
         """Notes a call, and what its parameters may hold. Answers 1 where it is new."""
         if function not in self.facts.definitions:
             return 0
-        edges = self.edges[place.id]
-        is_new = function not in edges
-        if is_new or how == DIRECT and edges[function].how != DIRECT:
-            edges[function] = Edge(place, how, call)
+        edges = self.edges[place.id].setdefault(function, [])
+        is_new = not any(edge.how == how and edge.call is call for edge in edges)
+        if is_new:
+            edges.append(Edge(place, how, call))
         for parameter, argument in zip(self.facts.definitions[function].parameters, arguments):
             if parameter:
                 self.holds.flow_into_parameter(function, parameter, place, argument)
@@ -90,7 +95,7 @@ class CallGraph:
         idioms, holds, maybe = self.idioms, self.holds, f"~{call.name}"
         for names, struct, member in idioms.members + (idioms.stacked if self.stacked else []):
             if names.fullmatch(call.name):
-                for function in functions_of(list(holds.lookup(Member(struct, member)))):
+                for function in self.held_by(call, Member(struct, member)):
                     yield function, maybe
         for maker, names in idioms.kept:
             if names.fullmatch(call.name) and call.arguments:
@@ -105,6 +110,35 @@ class CallGraph:
                     for function in functions_of(holds.values(call.place, words)):
                         yield function, how
 
+    def held_by(self, call: Call, member: Member) -> set[FunctionId]:
+        """What the member of the call's object may hold. Other objects that are known to be others don't count."""
+        objects = self.known_objects(call.place, call.arguments[0]) if call.arguments else set()
+        found = set()
+        for place, base, value in self.assigned[member]:
+            others = self.known_objects(place, base)
+            if not objects or not others or any(may_be_same(one, other) for one in objects for other in others):
+                found.update(functions_of(self.holds.values(place, value)))
+        return found | self.initialised[member]
+
+    def known_objects(self, place: Place, words: Tokens) -> set[Address]:
+        """The objects that a pointer points to: none, where it is a variable of which nothing is known."""
+        return {address for address in self.holds.objects(place, words) if not isinstance(address.cell, Variable)}
+
+    def note_members(self) -> None:
+        """Where a member that idioms.txt names is assigned, and of which object; and what initialisers say of it."""
+        wanted = [Member(struct, member) for _, struct, member in self.idioms.members + self.idioms.stacked]
+        names = {member.name for member in wanted}
+        for place, left, right in self.facts.assignments:
+            if len(left) > 2 and left[-1] in names and left[-2] in ("->", "."):
+                cell = self.holds.cell(place, left)
+                base = left[:-2] if left[-2] == "->" else ["&", *left[:-2]]
+                for member in wanted:
+                    if cell in (member, Member(UNKNOWN, member.name)):
+                        self.assigned[member].append((place, base, right))
+        for place, struct, name, value in self.facts.initialisers:
+            if Member(struct, name) in wanted:
+                self.initialised[Member(struct, name)].update(self.facts.resolve(place.file, value))
+
     def is_outside(self, call: Call) -> bool:
         """Whether a call is of no function of the files, and of no variable."""
         return not self.facts.resolve(call.place.file, call.name) and not self.facts.is_local(call.place, call.name)
@@ -112,8 +146,8 @@ class CallGraph:
     def add_pointers(self) -> int:
         """Calls by a member and by a variable."""
         added = 0
-        for place, base, member, arguments in self.facts.pointer_calls:
-            call = Call(place, member, arguments)
+        for pointer_call, call in self.by_pointer:
+            place, base, member, arguments = pointer_call
             found = functions_of(self.holds.lookup(self.holds.member(place, base, member)))
             added += sum(self.add(place, function, arguments, f"->{member}", call) for function in found)
             self.note_blind(place, f"->{member}", found)

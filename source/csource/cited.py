@@ -48,7 +48,7 @@ class Cited:
         self.functions = Functions(program.facts)
         self.comments = "\n".join(line.partition("#")[2] for line in declaration.lines)
         self.located = [Located(citation, self.locate(citation)) for citation in declaration.citations]
-        self.places = {(found.file, line) for found in self.located if found.file
+        self.places = {(found.file, line) for found in self.located if found.file and found.citation.decides
                        for line in range(found.citation.line, found.citation.last + 1)}
         self.items = self.find_items()
 
@@ -95,7 +95,7 @@ class Cited:
         """The items whose flushes cite a site; None where another comment cites it, which may speak of any item."""
         names = set()
         for found in self.located:
-            if found.file == site.key.file and any(found.citation.line <= line <= found.citation.last for line in site.lines):
+            if found.citation.decides and found.file == site.key.file and any(found.citation.line <= line <= found.citation.last for line in site.lines):
                 words = self.declaration.lines[found.citation.number - 1].partition("#")[0].split()
                 if words[:1] not in (["flush"], ["flushwq"]):
                     return None

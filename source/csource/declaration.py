@@ -25,13 +25,14 @@ FUNCTION = re.compile(r"\s+(?P<function>[A-Za-z_]\w*)")
 
 @dataclass(frozen=True)
 class Citation:
-    """A line of the source that a comment names."""
+    """A line of the source that a comment names. One in the reason of a dismissal decides no site by itself."""
     number: int
     column: int
     file: str
     line: int
     last: int
     function: Optional[str]
+    decides: bool = True
 
     def __str__(self) -> str:
         return f"{self.file}:{self.line}" + (f" {self.function}" if self.function else "")
@@ -92,7 +93,7 @@ class Declaration:
         for number, line in enumerate(found.lines, 1):
             before, _, comment = line.partition("#")
             words = before.split()
-            if not words and found.take_note(number, comment):
+            if not words and found.take_note(number, line):
                 continue
             if words[:1] == ["item"] and len(words) > 1:
                 found.items.append(DeclaredItem(number, words[1], comment))
@@ -107,9 +108,12 @@ class Declaration:
     def read(path: str) -> "Declaration":
         return Declaration.of(path, pathlib.Path(path).read_bytes().decode("utf-8", "surrogateescape"))
 
-    def take_note(self, number: int, comment: str) -> bool:
+    def take_note(self, number: int, line: str) -> bool:
         """A comment line that dismisses something or names files."""
-        text = comment.strip()
+        text = line.partition("#")[2].strip()
+        if text.startswith(FILES):
+            self.files += text[len(FILES):].split()
+            return True
         if text.startswith(NO_WAIT):
             match = DISMISSAL.fullmatch(text[len(NO_WAIT):])
             if match:
@@ -118,17 +122,17 @@ class Declaration:
             match = DISMISSED_ITEM.fullmatch(text[len(NO_ITEM):])
             if match:
                 self.dismissed_items.append(DismissedItem(number, match[1], match[2], match[3]))
-        elif text.startswith(FILES):
-            self.files += text[len(FILES):].split()
-            return True
         else:
             return False
-        if not match:
+        if match:
+            why = match[match.lastindex]
+            self.citations += citations_in(number, line.rindex(why), why, None, decides=False)
+        else:
             self.malformed.append(number)
         return True
 
 
-def citations_in(number: int, start: int, comment: str, file: Optional[str]) -> Iterator[Citation]:
+def citations_in(number: int, start: int, comment: str, file: Optional[str], decides: bool = True) -> Iterator[Citation]:
     """The citations of a comment that begins in column `start`, from 0. `file` is the one that was cited last before it."""
     at, is_behind_one = 0, False
     while True:
@@ -141,7 +145,8 @@ def citations_in(number: int, start: int, comment: str, file: Optional[str]) -> 
             file = match["file"] if match is cited else file
         named = FUNCTION.match(comment, match.end())
         line = int(match["line"])
-        yield Citation(number, start + match.start("line"), file, line, int(match["last"] or line), named and named["function"])
+        yield Citation(number, start + match.start("line"), file, line, int(match["last"] or line), named and named["function"],
+                       decides)
         is_behind_one = True
         at = match.end()
         if NEXT.match(comment, at) is None and named:

@@ -27,8 +27,9 @@ def reached_from(graph: CallGraph, start: FunctionId, follows: Follows = everywh
     waiting = collections.deque([start])
     while waiting:
         caller = waiting.popleft()
-        for function, edge in graph.edges.get(caller, {}).items():
-            if function not in reached and follows(edge):
+        for function, edges in graph.edges.get(caller, {}).items():
+            edge = next(filter(follows, edges), None) if function not in reached else None
+            if edge is not None:
                 reached[function] = Step(caller, edge)
                 waiting.append(function)
     return reached

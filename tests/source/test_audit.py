@@ -142,3 +142,13 @@ def test_locks_and_what_was_not_followed(audit, tmp_path):
     assert "not followed, for the files don't have them: l_far_away" in said
     assert "not followed, for no function of the files is known to stand there: ->end" in said
     assert status == 0
+
+
+def test_one_of_two_calls_of_a_function_is_dismissed(audit):
+    """The other still leads there."""
+    items = "item rl_late_work\n"
+    first = "# no wait: released.c rl_late_work rl_put(r->parent): a test\n"
+    second = "# no wait: released.c rl_late_work rl_put(r): a test\n"
+    for text, left in ((items, 1), (items + first, 1), (items + second, 1), (items + first + second, 0)):
+        said, status = audit(text, "released.c", tree=C_FILES)
+        assert len(those(said, "left")) == left and status == int(left > 0), text

@@ -23,7 +23,16 @@ def test_dismissal_round_trip(file, function, call, argument, why, blank_lines):
     text = "\n" * blank_lines + str(Dismissal(0, key, why)) + "\n"
     found = Declaration.of("x.wq", text)
     assert found.dismissals == [Dismissal(blank_lines + 1, key, why)]
-    assert not found.malformed and not found.citations
+    assert not found.malformed
+
+
+def test_a_reason_may_cite():
+    """Its lines are looked up, and decide nothing by themselves."""
+    text = "# no wait: x.c f g(a): it has started at y.c:7 h (12 k)"
+    found = Declaration.of("x.wq", text)
+    assert [(one.file, one.line, one.function, one.decides) for one in found.citations] == [
+        ("y.c", 7, "h", False), ("y.c", 12, "k", False)]
+    assert [text[one.column:].startswith(str(one.line)) for one in found.citations] == [True, True]
 
 
 @given(FILES, NAMES, WHY)

@@ -91,3 +91,10 @@ def test_flags(read):
     assert flags("two_inits.c") == {"ti": "ordered, WQ_MEM_RECLAIM, WQ_UNBOUND"}
     assert flags("kref.c") == {"kr-log": "ordered, WQ_MEM_RECLAIM", "kr-stop": "max_active 1, NO WQ_MEM_RECLAIM: no rescuer"}
     assert flags("again.c") == {"early": "WQ_MEM_RECLAIM", "late": "WQ_MEM_RECLAIM"}
+
+
+def test_the_release_of_another_object(drafted):
+    """put_device(&r->a_dev) calls what was assigned to this device's release, and not what was to another's."""
+    found = drafted("released.c")
+    assert {place for place, _ in found.open} == {"released.c:4", "released.c:14"}
+    assert found.open["released.c:4", "flush_work(&rl->a_work)"][0] == {"rl_put_work"}
