@@ -23,7 +23,7 @@ def version():
     return ".".join(numbers[:3])
 
 
-@pytest.fixture(scope="module", params=EXAMPLES, ids=lambda path: path.stem)
+@pytest.fixture(scope="module", params=EXAMPLES, ids=[path.stem for path in EXAMPLES])
 def audit(request, read):
     """The audit of an example. Facts come from the cache, or from as many spatch as there are processors."""
     declaration = Declaration.read(str(request.param))
