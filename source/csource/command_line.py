@@ -91,7 +91,8 @@ def files_of(tree: pathlib.Path, given: list[str], declaration: Optional[Declara
 def run_audit(words: argparse.Namespace, extractor: Extractor) -> int:
     declaration = Declaration.read(words.decl)
     files = files_of(words.tree, words.files, declaration)
-    found = audit.Audit(declaration, program.read(words.tree, files, extractor, program.Tables(), words.stacked))
+    found = audit.Audit(declaration, program.read(words.tree, files, extractor, program.Tables(),
+                                                    words.stacked or declaration.is_stacked))
     extractor.progress.end()
     audit_text.Printer(found, sys.stdout, words.paths).print()
     return DONE if found.is_done else LEFT
@@ -100,11 +101,11 @@ def run_audit(words: argparse.Namespace, extractor: Extractor) -> int:
 def run_drift(words: argparse.Namespace, extractor: Extractor) -> int:
     declaration = Declaration.read(words.decl)
     files = files_of(words.old, words.files, declaration)
-    tables = program.Tables()
-    old = program.read(words.old, files, extractor, tables, words.stacked)
+    tables, stacked = program.Tables(), words.stacked or declaration.is_stacked
+    old = program.read(words.old, files, extractor, tables, stacked)
     # (a file may be gone; one that a name with `*` means may be new)
     later = expanded(words.new, words.files or declaration.files)
-    new = program.read(words.new, [file for file in later if (words.new / file).is_file()], extractor, tables, words.stacked)
+    new = program.read(words.new, [file for file in later if (words.new / file).is_file()], extractor, tables, stacked)
     found = drift.Drift(declaration, old, new)
     extractor.progress.end()
     drift_text.Printer(found, sys.stdout).print()

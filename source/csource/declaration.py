@@ -10,6 +10,7 @@ from .sites import Key
 NO_WAIT = "no wait:"
 NO_ITEM = "no item:"
 FILES = "files:"
+STACKED = "stacked:"
 # FILE FUNCTION CALL(ARGUMENT): WHY. The argument may hold brackets and colons; after the last bracket comes the colon.
 DISMISSAL = re.compile(r"\s*(\S+\.[chS])\s+(\w+)\s+(\w+)\((.*?)\)\s*:\s+(\S.*)")
 DISMISSED_ITEM = re.compile(r"\s*(\S+\.[chS])\s+(\w+)\s*:\s+(\S.*)")
@@ -85,6 +86,7 @@ class Declaration:
     dismissed_items: list[DismissedItem] = field(default_factory=list)
     malformed: list[int] = field(default_factory=list)
     files: list[str] = field(default_factory=list)
+    is_stacked: bool = False
 
     @staticmethod
     def of(path: str, text: str) -> "Declaration":
@@ -113,6 +115,9 @@ class Declaration:
         text = line.partition("#")[2].strip()
         if text.startswith(FILES):
             self.files += text[len(FILES):].split()
+            return True
+        if text.startswith(STACKED):
+            self.is_stacked = True
             return True
         if text.startswith(NO_WAIT):
             match = DISMISSAL.fullmatch(text[len(NO_WAIT):])

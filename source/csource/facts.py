@@ -2,9 +2,10 @@
 
 import collections
 import pathlib
+import posixpath
 import re
 from dataclasses import dataclass
-from typing import Iterator, NamedTuple, Optional
+from typing import NamedTuple, Optional
 
 from . import ctext
 from .ctext import Tokens
@@ -91,6 +92,7 @@ class Facts:
         self.files = list(lines)
         self.texts = {file: (tree / file).read_text(errors="replace") for file in self.files}
         self.lines = {file: text.removesuffix("\n").split("\n") for file, text in self.texts.items()}
+        self.together = self.included()
         self.definitions: dict[FunctionId, Definition] = {}
         # from the line of the name to the first `}` that begins a line; a macro to its last line
         self.spans: dict[FunctionId, list[tuple[int, int]]] = collections.defaultdict(list)
@@ -111,8 +113,10 @@ class Facts:
             self.take_macros(file)
         self.take_initialised()
         self.calls_in: dict[FunctionId, list[Call]] = collections.defaultdict(list)
+        self.calls_named: dict[str, list[Call]] = collections.defaultdict(list)
         for call in self.calls:
             self.calls_in[call.place.id].append(call)
+            self.calls_named[call.name].append(call)
 
     def take(self, file: str, words: list[str]) -> None:
         """One line of facts."""
@@ -196,7 +200,22 @@ class Facts:
         own = FunctionId(file, name)
         if own in self.definitions:
             return [own]
-        return [function for function in self.named.get(name, ()) if not self.definitions[function].is_local]
+        return [function for function in self.named.get(name, ())
+                if not self.definitions[function].is_local or function.file in self.together[file]]
 
-    def all_named(self, name: str) -> Iterator[FunctionId]:
-        return iter(self.named.get(name, ()))
+    def calls_of(self, function: FunctionId) -> list[Call]:
+        """The calls by name that may call this function."""
+        return [call for call in self.calls_named.get(function.name, ())
+                if function in self.resolve(call.place.file, call.name)]
+
+    INCLUDE = re.compile(r'^[ \t]*#[ \t]*include[ \t]+"([^"]+\.c)"', re.M)
+
+    def included(self) -> dict[str, set[str]]:
+        """A .c file that includes another one shares its static functions: which files go together."""
+        together: dict[str, set[str]] = collections.defaultdict(set)
+        for file in self.files:
+            for name in self.INCLUDE.findall(self.texts[file]):
+                other = posixpath.normpath(posixpath.join(posixpath.dirname(file), name))
+                together[file].add(other)
+                together[other].add(file)
+        return together

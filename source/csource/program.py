@@ -53,7 +53,7 @@ class Program:
         self.graph = CallGraph(facts, self.holds, tables.idioms, stacked)
         self.items = Items(facts, self.holds, tables.waits)
         self.workqueues = Workqueues(facts, tables.waits)
-        self.sites = Sites(facts, self.holds, tables.waits, self.items)
+        self.sites = Sites(facts, self.holds, self.graph, tables.waits, self.items)
         # where an item may end a wait, and where it may wait: not in what runs where nothing sleeps
         self.reached = {function: reached_from(self.graph, function) for function in self.items.items}
         self.sleeps = {function: reached_from(self.graph, function, self.may_sleep) for function in self.items.items}

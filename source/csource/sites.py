@@ -5,7 +5,9 @@ from dataclasses import dataclass, field
 from typing import Iterator, NamedTuple
 
 from . import ctext
+from .calls import DIRECT, CallGraph
 from .cells import Address, Workqueue, may_be_same
+from .ctext import Tokens
 from .facts import Call, Facts
 from .holds import Holds
 from .items import Items
@@ -15,6 +17,9 @@ from .tables import Waits
 # Waits for an object that somebody signals; and those that name what they wait for.
 SIGNALLED = ("done", "pool")
 TARGETED = ("flush", "cancel", "flushwq")
+SLEEPS = (*TARGETED, "event", "done", "prepare", "pool", "other")
+# So many functions may hand on what is waited for, one to the next.
+MOST_WRAPPERS = 3
 
 
 class Key(NamedTuple):
@@ -79,9 +84,10 @@ def key_of(call: Call) -> Key:
 class Sites:
     """All of them, of all functions of the files."""
 
-    def __init__(self, facts: Facts, holds: Holds, waits: Waits, items: Items) -> None:
+    def __init__(self, facts: Facts, holds: Holds, graph: CallGraph, waits: Waits, items: Items) -> None:
         self.facts = facts
         self.holds = holds
+        self.graph = graph
         self.waits = waits
         self.items = items
         self.by_key: dict[Key, Site] = {}
@@ -89,6 +95,7 @@ class Sites:
         self.givers: list[Waker] = []
         self.locks: list[Lock] = []
         self.prepared: dict[FunctionId, list[Site]] = collections.defaultdict(list)
+        self.hands_on: set[FunctionId] = set()
         sleeps = []
         for call in facts.calls:
             kind = waits.kind(call.name)
@@ -109,43 +116,60 @@ class Sites:
             site.lines = sorted(set(site.lines))
             self.in_function[site.id].append(site)
 
-    def take(self, call: Call, kind: str, words: list[str]) -> None:
+    def take(self, call: Call, kind: str, words: Tokens) -> None:
         """A call that may sleep, if it is one. What the files define themselves is looked into instead."""
+        if kind not in SLEEPS or self.waits.is_nowait(call.arguments):
+            return
         is_ours = bool(self.facts.resolve(call.place.file, call.name))
-        if kind in ("flush", "cancel"):
-            objects = self.holds.objects(call.place, words)
-            targets = self.items.items_of(objects)
-            if targets or not is_ours:
-                self.add(call, kind, objects, targets)
-        elif kind == "flushwq":
-            workqueues = self.workqueues(call, words)
-            if workqueues or not is_ours:
-                self.add(call, kind, targets=self.items.items_on(workqueues), workqueues=workqueues)
-        elif kind in ("event", "done"):
-            self.add(call, "done", (self.holds.itself if kind == "event" else self.holds.objects)(call.place, words))
-        elif kind == "prepare":
-            self.prepared[call.place.id].append(self.add(call, "done", self.holds.objects(call.place, words)))
-        elif kind in ("pool", "other") and not is_ours and not self.waits.is_nowait(call.arguments):
-            self.add(call, kind, self.holds.objects(call.place, words) if kind == "pool" else ())
+        if is_ours and not (kind in TARGETED and self.named(call, kind, words)):
+            return
+        if kind == "other" or is_ours or not self.lift(call.place.id, kind, words, MOST_WRAPPERS):
+            self.add(call, kind, words)
+
+    def lift(self, function: FunctionId, kind: str, words: Tokens, most: int) -> bool:
+        """If what is waited for is a parameter of the function, its calls are the sites: each says what it waits for."""
+        definition = self.facts.definitions.get(function)
+        if definition is None or len(words) != 1 or words[0] not in definition.parameters or most == 0:
+            return False
+        at = definition.parameters.index(words[0])
+        calls = [call for call in self.facts.calls_of(function) if len(call.arguments) > at]
+        for call in calls:
+            if not self.lift(call.place.id, kind, call.arguments[at], most - 1):
+                self.add(call, kind, call.arguments[at])
+        if not calls or self.is_called_by_pointer(function):
+            return False
+        self.hands_on.add(function)
+        return True
+
+    def is_called_by_pointer(self, function: FunctionId) -> bool:
+        return any(edge.how != DIRECT for caller in self.graph.callers.get(function, ())
+                   for edge in self.graph.edges[caller][function])
 
     def take_sleep(self, call: Call) -> None:
         """schedule(): the end of a wait that was prepared in this function; or else a wait of its own, for nothing that is named."""
-        prepared = self.prepared.get(call.place.id)
-        if prepared:
-            for site in prepared:
-                site.lines.append(call.place.line)
-        else:
-            self.add(call, "other")
+        for site in self.prepared.get(call.place.id, ()):
+            site.lines.append(call.place.line)
+        if call.place.id not in self.prepared and call.place.id not in self.hands_on:
+            self.add(call, "other", [])
 
-    def add(self, call: Call, kind: str, objects=(), targets=(), workqueues=()) -> Site:
-        site = self.by_key.setdefault(key_of(call), Site(key_of(call), kind))
+    def add(self, call: Call, kind: str, words: Tokens) -> None:
+        """Notes a site, or one more line of it."""
+        site = self.by_key.setdefault(key_of(call), Site(key_of(call), "done" if kind in ("event", "prepare") else kind))
         site.lines.append(call.place.line)
-        site.objects.update(objects)
-        site.targets.update(targets)
-        site.workqueues.update(workqueues)
-        return site
+        if kind == "flushwq":
+            site.workqueues |= self.named(call, kind, words)
+            site.targets |= self.items.items_on(site.workqueues)
+        elif kind in TARGETED:
+            site.targets |= self.named(call, kind, words)
+        elif kind != "other":
+            site.objects |= (self.holds.itself if kind == "event" else self.holds.objects)(call.place, words)
+        if kind == "prepare":
+            self.prepared[call.place.id].append(site)
 
-    def workqueues(self, call: Call, words: list[str]) -> set[str]:
+    def named(self, call: Call, kind: str, words: Tokens) -> set:
+        """The items that a flush or cancel names; for a whole workqueue, which one that is."""
+        if kind != "flushwq":
+            return self.items.items_of(self.holds.objects(call.place, words))
         if call.name == "flush_scheduled_work":
             return {"system_wq"}
         return {value.made_at for value in self.holds.values(call.place, words) if isinstance(value, Workqueue)}

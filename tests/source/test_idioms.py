@@ -98,3 +98,16 @@ def test_the_release_of_another_object(drafted):
     found = drafted("released.c")
     assert {place for place, _ in found.open} == {"released.c:4", "released.c:14"}
     assert found.open["released.c:4", "flush_work(&rl->a_work)"][0] == {"rl_put_work"}
+
+
+def test_a_c_file_that_is_included(drafted):
+    """whole.c sees the static function of part.c; twin_a.c, which doesn't include it, would not."""
+    assert drafted("whole.c", "part.c").flushes == {("flush whole_work whole_end", "part.c:4")}
+
+
+def test_a_wait_in_a_helper(drafted):
+    """Its callers' calls are the sites: each names what it waits for."""
+    found = drafted("wrapper.c")
+    assert found.flushes == {("flush wr_first_work wr_read_work", "wrapper.c:16"),
+                             ("flush wr_second_work wr_written_work", "wrapper.c:23")}
+    assert found.open == {}

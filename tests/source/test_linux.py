@@ -27,7 +27,7 @@ def version():
 def audit(request, read):
     """The audit of an example. Facts come from the cache, or from as many spatch as there are processors."""
     declaration = Declaration.read(str(request.param))
-    return Audit(declaration, read(LINUX, expanded(LINUX, declaration.files)))
+    return Audit(declaration, read(LINUX, expanded(LINUX, declaration.files), declaration.is_stacked))
 
 
 def test_every_item_is_found(audit):
