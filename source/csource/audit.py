@@ -15,6 +15,7 @@ from .sites import Key, Site, key_of
 @dataclass
 class Found:
     """A site, and the declared items that reach it, each with its way there."""
+
     site: Site
     ways: dict[str, list[Edge]] = field(default_factory=dict)
 
@@ -22,6 +23,7 @@ class Found:
 @dataclass
 class Neighbour:
     """An item that isn't declared, on the workqueue of one that is."""
+
     function: FunctionId
     workqueues: set[str]
     sites: int
@@ -48,8 +50,11 @@ class Audit:
         others = [found for found in self.sites if not self.cited.is_cited(found.site)]
         self.dismissed = [found for found in others if self.dismisses(found.site.key)]
         self.left = [found for found in others if not self.cited.dismissal_of(found.site.key)]
-        self.missed = [missed for missed in missed_calls(self.program.facts, self.program.tables.waits)
-                       if not self.dismisses(missed.key)]
+        self.missed = [
+            missed
+            for missed in missed_calls(self.program.facts, self.program.tables.waits)
+            if not self.dismisses(missed.key)
+        ]
         self.for_others = [(found, names) for found in self.cited_sites if (names := self.undecided_items(found))]
 
     def take_faults(self) -> None:
@@ -58,15 +63,27 @@ class Audit:
         self.wrong = list(self.cited.wrong())
         self.ambiguous = [found for found in self.cited.located if len(found.files) > 1]
         self.stale = [dismissal for dismissal in self.declaration.dismissals if dismissal not in self.used]
-        self.stale_items = [item for item in self.declaration.dismissed_items
-                            if not any(function.name == item.function for function in self.program.items.items)]
+        self.stale_items = [
+            item
+            for item in self.declaration.dismissed_items
+            if not any(function.name == item.function for function in self.program.items.items)
+        ]
 
     @property
     def is_done(self) -> bool:
         """Whether nothing is left to decide or to mend."""
         waiting = any(neighbour.sites for neighbour in self.neighbours)
-        return not (self.left or self.missed or self.lost or self.wrong or self.ambiguous or self.stale or self.stale_items
-                    or self.declaration.malformed or waiting)
+        return not (
+            self.left
+            or self.missed
+            or self.lost
+            or self.wrong
+            or self.ambiguous
+            or self.stale
+            or self.stale_items
+            or self.declaration.malformed
+            or waiting
+        )
 
     # What is in reach
 
@@ -116,21 +133,31 @@ class Audit:
 
     def find_neighbours(self) -> list[Neighbour]:
         """Items that aren't declared, nor dismissed, on a workqueue of a declared one; those that wait most first."""
-        found = [Neighbour(function, item.workqueues & self.workqueues, len(self.program.sites_of(self.program.sleeps[function])))
-                 for function, item in self.program.items.items.items()
-                 if function not in self.declared and item.workqueues & self.workqueues
-                 and not self.cited.dismissed_item(function)]
+        found = [
+            Neighbour(
+                function, item.workqueues & self.workqueues, len(self.program.sites_of(self.program.sleeps[function]))
+            )
+            for function, item in self.program.items.items.items()
+            if function not in self.declared
+            and item.workqueues & self.workqueues
+            and not self.cited.dismissed_item(function)
+        ]
         return sorted(found, key=lambda neighbour: -neighbour.sites)
 
     def elsewhere(self) -> list[FunctionId]:
         """Items of the files that aren't declared, on other workqueues."""
-        return [function for function, item in self.program.items.items.items()
-                if function not in self.declared and not item.workqueues & self.workqueues]
+        return [
+            function
+            for function, item in self.program.items.items.items()
+            if function not in self.declared and not item.workqueues & self.workqueues
+        ]
 
     def unused_workqueues(self) -> list[str]:
         """The workqueues of the files without a declared item."""
         made = self.program.workqueues.made
-        return sorted({self.program.workqueues.name(workqueue) for workqueue in made if workqueue not in self.workqueues})
+        return sorted(
+            {self.program.workqueues.name(workqueue) for workqueue in made if workqueue not in self.workqueues}
+        )
 
     def name(self, function: FunctionId) -> str:
         """An item as the declaration calls it; one that isn't declared by its function."""

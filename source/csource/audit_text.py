@@ -1,13 +1,15 @@
 """What `audit` prints."""
 
-import collections
 from typing import Iterable, TextIO
 
 from . import says
 from .audit import Audit, Found, Neighbour
+from .locks import locks_text
 from .notfollowed import not_followed
+from .places import FunctionId
+from .program import Ended
 from .reach import path_text
-from .sites import Lock, Site
+from .sites import Site
 
 MOST_OTHERS = 8
 
@@ -45,18 +47,25 @@ class Printer:
         """What doesn't fit in the declaration itself."""
         audit, path = self.audit, self.audit.declaration.path
         for item in audit.lost:
-            self.say(f"{path}:{item.number}: item {item.name}: neither its name nor its comment names a work function of the files")
+            self.say(
+                f"{path}:{item.number}: item {item.name}: neither its name nor its comment names a work function of "
+                "the files"
+            )
         for citation, why in audit.wrong:
             self.say(f"{path}:{citation.number}: cites {citation}: {why}")
         for found in audit.ambiguous:
-            self.say(f"{path}:{found.citation.number}: cites {found.citation}, which may be any of {' '.join(found.files)}")
+            self.say(
+                f"{path}:{found.citation.number}: cites {found.citation}, which may be any of {' '.join(found.files)}"
+            )
         for number in audit.declaration.malformed:
-            self.say(f"{path}:{number}: the forms are `# no wait: FILE FUNCTION CALL(ARGUMENT): WHY` and "
-                     "`# no item: FILE FUNCTION: WHY`")
+            self.say(
+                f"{path}:{number}: the forms are `# no wait: FILE FUNCTION CALL(ARGUMENT): WHY` and "
+                "`# no item: FILE FUNCTION: WHY`"
+            )
         for dismissal in audit.stale:
             self.say(f"{path}:{dismissal.number}: dismisses {dismissal.key}, which isn't in reach")
-        for item in audit.stale_items:
-            self.say(f"{path}:{item.number}: dismisses {item.function}, which is no work function of the files")
+        for stale in audit.stale_items:
+            self.say(f"{path}:{stale.number}: dismisses {stale.function}, which is no work function of the files")
 
     # Sites
 
@@ -80,17 +89,22 @@ class Printer:
         program, name = self.program, self.audit.name
         if site.workqueues:
             yield f"flushes {', '.join(map(program.workqueues.name, sorted(site.workqueues)))}, which has " + (
-                ", ".join(sorted(map(name, site.targets))) or "no item of these files")
+                ", ".join(sorted(map(name, site.targets))) or "no item of these files"
+            )
         elif site.targets:
             yield f"waits for {', '.join(sorted(map(name, site.targets)))}"
         ends = program.ends(site)
         if ends.items:
-            yield "may be ended by " + ", ".join(
-                f"{name(function)} ({ended.waker.place}{f', by {path_text(ended.path)}' if self.paths and ended.path else ''})"
-                for function, ended in sorted(ends.items.items(), key=lambda pair: pair[1].order))
+            enders = sorted(ends.items.items(), key=lambda pair: pair[1].order)
+            yield "may be ended by " + ", ".join(self.ender(function, ended) for function, ended in enders)
         if ends.others:
             yield "may be ended by code that no item reaches, from " + ", ".join(sorted(ends.others)[:MOST_OTHERS]) + (
-                " .." if len(ends.others) > MOST_OTHERS else "")
+                " .." if len(ends.others) > MOST_OTHERS else ""
+            )
+
+    def ender(self, function: FunctionId, ended: Ended) -> str:
+        way = f", by {path_text(ended.path)}" if self.paths and ended.path else ""
+        return f"{self.audit.name(function)} ({ended.waker.place}{way})"
 
     def print_for_others(self) -> None:
         """Cited sites that more items reach than those whose lines cite them: to look at, and not counted as left."""
@@ -104,7 +118,10 @@ class Printer:
         names = ", ".join(map(self.program.workqueues.name, sorted(neighbour.workqueues)))
         sites = says.counted(neighbour.sites, "site") if neighbour.sites else "no site"
         function = neighbour.function
-        self.say(f"not declared, on the workqueue of a declared item: {function.name} ({function.file}), on {names}, reaches {sites}")
+        self.say(
+            f"not declared, on the workqueue of a declared item: {function.name} ({function.file}), on {names}, "
+            f"reaches {sites}"
+        )
         if neighbour.sites:
             print(f"  # no item: {function.file} {function.name}: ", file=self.to)
 
@@ -113,8 +130,12 @@ class Printer:
         audit, workqueues = self.audit, self.program.workqueues
         if audit.elsewhere():
             items = [self.program.item(function) for function in audit.elsewhere()]
-            self.say("not declared, on other workqueues: " + ", ".join(
-                f"{item.name} ({', '.join(map(workqueues.name, sorted(item.workqueues))) or '?'})" for item in items))
+            self.say(
+                "not declared, on other workqueues: "
+                + ", ".join(
+                    f"{item.name} ({', '.join(map(workqueues.name, sorted(item.workqueues))) or '?'})" for item in items
+                )
+            )
         if audit.unused_workqueues():
             self.say("workqueues without a declared item: " + ", ".join(audit.unused_workqueues()))
 
@@ -132,20 +153,16 @@ class Printer:
             self.say("cited, but not among the files: " + " ".join(missing))
 
     def print_locks(self) -> None:
-        """Locks in reach, which are no sites."""
-        locks: dict[str, list[Lock]] = collections.defaultdict(list)
-        for lock in self.program.sites.locks:
-            if lock.place.id in self.audit.reached_functions:
-                for name in {str(held) for held in lock.objects} or {"?"}:
-                    locks[name].append(lock)
-        if locks:
-            self.say("locks in reach, which are waits if the holder waits: " + ", ".join(
-                f"{name} ({taken[0].place.file}:{taken[0].place.line}{f' +{len(taken) - 1}' if len(taken) > 1 else ''})"
-                for name, taken in sorted(locks.items())))
+        text = locks_text(self.program, self.audit.reached_functions, str)
+        if text:
+            self.say(f"locks in reach, which are waits if the holder waits: {text}")
 
     def print_counts(self) -> None:
         audit = self.audit
         waiting = [neighbour for neighbour in audit.neighbours if neighbour.sites]
-        says.note(self.to, f"{says.counted(len(audit.declaration.items), 'item')}. {says.counted(len(audit.sites), 'site')} in "
-                  f"reach: {len(audit.cited_sites)} cited, {len(audit.dismissed)} dismissed, {len(audit.left)} left. "
-                  f"{says.counted(len(waiting), 'item')} that may wait, not declared, on their workqueues.")
+        says.note(
+            self.to,
+            f"{says.counted(len(audit.declaration.items), 'item')}. {says.counted(len(audit.sites), 'site')} in "
+            f"reach: {len(audit.cited_sites)} cited, {len(audit.dismissed)} dismissed, {len(audit.left)} left. "
+            f"{says.counted(len(waiting), 'item')} that may wait, not declared, on their workqueues.",
+        )

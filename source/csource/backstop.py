@@ -17,6 +17,7 @@ LOOKED_FOR = ("item", "queue", "workqueue", "flush", "cancel", "flushwq", "event
 
 class Missed(NamedTuple):
     """A call that no fact has. The function is a guess: the last thing before it that looks like the head of one."""
+
     place: Place
     call: str
     argument: str
@@ -51,13 +52,17 @@ def missed_calls(facts: Facts, waits: Waits) -> Iterator[Missed]:
 
 def is_call(text: str, match: "re.Match[str]") -> bool:
     """Not a definition or a prototype: those stand at the beginning of a line, or behind a type that does."""
-    before = text[text.rfind("\n", 0, match.start()) + 1:match.start()]
+    before = text[text.rfind("\n", 0, match.start()) + 1 : match.start()]
     return before[:1].isspace() or match[1].startswith("DECLARE_")
 
 
 def missed(source: str, text: str, file: str, line: int, match: "re.Match[str]") -> Missed:
-    words = ctext.tokens(text[match.start(2):match.start(2) + 400])
-    arguments = ctext.arguments(words[1:ctext.closing(words, 0)])
+    words = ctext.tokens(text[match.start(2) : match.start(2) + 400])
+    arguments = ctext.arguments(words[1 : ctext.closing(words, 0)])
     heads = [found[1] for found in BEGINS_FUNCTION.finditer(text, 0, match.start())]
-    return Missed(Place(file, line, heads[-1] if heads else "-"), match[1], ctext.joined(arguments[0]) if arguments else "",
-                  source.split("\n")[line - 1].strip())
+    return Missed(
+        Place(file, line, heads[-1] if heads else "-"),
+        match[1],
+        ctext.joined(arguments[0]) if arguments else "",
+        source.split("\n")[line - 1].strip(),
+    )

@@ -5,9 +5,10 @@ from typing import Iterable, Iterator, NamedTuple
 
 from .cells import UNKNOWN, Address, Function, Kept, Member, Value, Variable, may_be_same
 from .ctext import Tokens
-from .facts import Call, Facts
+from .facts import Facts
 from .holds import Holds
 from .places import FunctionId, Place
+from .records import Call
 from .tables import Idioms
 
 DIRECT = "call"
@@ -16,7 +17,11 @@ MOST_ROUNDS = 8
 
 
 class Edge(NamedTuple):
-    """A call: where, how, and of which name. `how` is DIRECT, `->member`, `*variable`, or `~name` of what is handed on."""
+    """A call: where, how, and of which name.
+
+    `how` is DIRECT, `->member`, `*variable`, or `~name` of the call that a function is handed to.
+    """
+
     place: Place
     how: str
     call: Call
@@ -154,7 +159,9 @@ class CallGraph:
         for call in self.facts.calls:
             if self.facts.is_local(call.place, call.name):
                 found = functions_of(self.holds.values(call.place, [call.name]))
-                added += sum(self.add(call.place, function, call.arguments, f"*{call.name}", call) for function in found)
+                added += sum(
+                    self.add(call.place, function, call.arguments, f"*{call.name}", call) for function in found
+                )
                 self.note_blind(call.place, f"*{call.name}", found)
         return added
 

@@ -11,6 +11,7 @@ UNKNOWN = "?"
 @dataclass(frozen=True, slots=True)
 class Member:
     """A member of all structs of one name. The struct is UNKNOWN where Coccinelle doesn't say which it is."""
+
     struct: str
     name: str
 
@@ -21,6 +22,7 @@ class Member:
 @dataclass(frozen=True, slots=True)
 class Variable:
     """A variable or parameter of a function."""
+
     file: str
     function: str
     name: str
@@ -32,6 +34,7 @@ class Variable:
 @dataclass(frozen=True, slots=True)
 class Global:
     """A variable outside functions."""
+
     name: str
 
     def __str__(self) -> str:
@@ -41,6 +44,7 @@ class Global:
 @dataclass(frozen=True, slots=True)
 class Result:
     """What functions of this name return."""
+
     function: str
 
     def __str__(self) -> str:
@@ -50,6 +54,7 @@ class Result:
 @dataclass(frozen=True, slots=True)
 class Kept:
     """The function that was given together with an object, as to percpu_ref_init."""
+
     maker: str
     object: "Cell"
 
@@ -60,6 +65,7 @@ Cell = Union[Member, Variable, Global, Result, Kept]
 @dataclass(frozen=True, slots=True)
 class Address:
     """The address of what is held there: &cell."""
+
     cell: Cell
 
     def __str__(self) -> str:
@@ -69,12 +75,14 @@ class Address:
 @dataclass(frozen=True, slots=True)
 class Function:
     """A function, as a value."""
+
     id: FunctionId
 
 
 @dataclass(frozen=True, slots=True)
 class Workqueue:
     """What a call that makes a workqueue returns: FILE:LINE of the call; or the name of a system workqueue."""
+
     made_at: str
 
 

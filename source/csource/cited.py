@@ -31,12 +31,14 @@ class Functions:
 @dataclass
 class Located:
     """A citation, and the file of the tree that it names: none, where no given file or more than one has this name."""
+
     citation: Citation
     files: list[str]
 
     @property
-    def file(self) -> Optional[str]:
-        return self.files[0] if len(self.files) == 1 else None
+    def file(self) -> str:
+        """The file, or '' where it isn't known."""
+        return self.files[0] if len(self.files) == 1 else ""
 
 
 class Cited:
@@ -48,8 +50,12 @@ class Cited:
         self.functions = Functions(program.facts)
         self.comments = "\n".join(line.partition("#")[2] for line in declaration.lines)
         self.located = [Located(citation, self.locate(citation)) for citation in declaration.citations]
-        self.places = {(found.file, line) for found in self.located if found.file and found.citation.decides
-                       for line in range(found.citation.line, found.citation.last + 1)}
+        self.places = {
+            (found.file, line)
+            for found in self.located
+            if found.file and found.citation.decides
+            for line in range(found.citation.line, found.citation.last + 1)
+        }
         self.items = self.find_items()
 
     def given(self, name: str) -> list[str]:
@@ -60,9 +66,15 @@ class Cited:
         """The files that a citation may mean: if it names a function, those with this function at this line."""
         files = self.given(citation.file)
         if len(files) > 1:
-            files = [file for file in files if citation.function and
-                     self.functions.at(file, citation.line) == citation.function] or [
-                         file for file in files if file.rpartition("/")[0] in self.comments] or files
+            files = (
+                [
+                    file
+                    for file in files
+                    if citation.function and self.functions.at(file, citation.line) == citation.function
+                ]
+                or [file for file in files if file.rpartition("/")[0] in self.comments]
+                or files
+            )
         return files
 
     def find_items(self) -> dict[str, list[FunctionId]]:
@@ -70,7 +82,8 @@ class Cited:
         found: dict[str, list[FunctionId]] = {}
         for item in self.declaration.items:
             found[item.name] = self.work_functions(item) or next(
-                (functions for name, functions in found.items() if name.split(".")[0] == item.base), [])
+                (functions for name, functions in found.items() if name.split(".")[0] == item.base), []
+            )
         return found
 
     def work_functions(self, item: DeclaredItem) -> list[FunctionId]:
@@ -95,7 +108,11 @@ class Cited:
         """The items whose flushes cite a site; None where another comment cites it, which may speak of any item."""
         names = set()
         for found in self.located:
-            if found.citation.decides and found.file == site.key.file and any(found.citation.line <= line <= found.citation.last for line in site.lines):
+            if (
+                found.citation.decides
+                and found.file == site.key.file
+                and any(found.citation.line <= line <= found.citation.last for line in site.lines)
+            ):
                 words = self.declaration.lines[found.citation.number - 1].partition("#")[0].split()
                 if words[:1] not in (["flush"], ["flushwq"]):
                     return None
@@ -106,14 +123,20 @@ class Cited:
         return next((dismissal for dismissal in self.declaration.dismissals if self.matches(dismissal.key, key)), None)
 
     def dismissed_item(self, function: FunctionId) -> Optional[DismissedItem]:
-        return next((item for item in self.declaration.dismissed_items
-                     if item.function == function.name and function.file in self.given(item.file)), None)
+        return next(
+            (
+                item
+                for item in self.declaration.dismissed_items
+                if item.function == function.name and function.file in self.given(item.file)
+            ),
+            None,
+        )
 
     def wrong(self) -> Iterator[tuple[Citation, str]]:
         """Citations that don't fit the source, each with what is wrong."""
         for found in self.located:
             citation, file = found.citation, found.file
-            if file is None:
+            if not file:
                 continue
             lines = self.program.facts.lines[file]
             inside = self.functions.at(file, min(citation.line, len(lines)))
@@ -121,6 +144,9 @@ class Cited:
                 yield citation, f"the file has {len(lines)} lines"
             elif not lines[citation.line - 1].strip():
                 yield citation, "the line is empty"
-            elif citation.function and inside != citation.function and FunctionId(file, citation.function) in (
-                    self.program.facts.definitions):
+            elif (
+                citation.function
+                and inside != citation.function
+                and FunctionId(file, citation.function) in (self.program.facts.definitions)
+            ):
                 yield citation, f"the line is in {inside}" if inside else "the line is in no function"

@@ -5,7 +5,7 @@ import glob
 import os
 import pathlib
 import sys
-from typing import NoReturn, Optional
+from typing import Any, NoReturn, Optional
 
 from . import audit, audit_text, draft, draft_text, drift, drift_text, program
 from .declaration import Declaration
@@ -22,12 +22,12 @@ Reads C sources beside a declaration of wqplan.
   drift   what has changed between two trees: the lines that the declaration cites, waits in reach, workqueues
   draft   a first declaration of some files, for a reader to decide
 
-It lists places that may wait, along calls that it could resolve in the files that it was given. It never says that these are
-all. Nothing here is proved. README.md beside it has the forms of the comments that it reads, and an example."""
+It lists places that may wait, along calls that it could resolve in the files that it was given. It never says that
+these are all. Nothing here is proved. README.md beside it has the comments that it reads, and an example."""
 
 ENDS = """\
-Status: 0 nothing is left to decide or to look at, 1 something is, 2 the command line is wrong, 3 a fault: a file that can't be
-read, or Coccinelle is missing."""
+Status: 0 nothing is left to decide or to look at, 1 something is, 2 the command line is wrong, 3 a fault: a file that
+can't be read, or Coccinelle is missing."""
 
 
 class Fault(Exception):
@@ -36,15 +36,29 @@ class Fault(Exception):
 
 def parser() -> argparse.ArgumentParser:
     shared = argparse.ArgumentParser(add_help=False)
-    shared.add_argument("--jobs", type=int, default=os.cpu_count(), metavar="N", help="so many spatch at a time (all processors)")
-    shared.add_argument("--cache", type=pathlib.Path, default=default_cache(), metavar="DIR",
-                        help="where facts are kept ($XDG_CACHE_HOME/wqplan/facts)")
-    shared.add_argument("--stacked", action="store_true", help="submit_bio may run the submit_bio functions of these files")
-    words = argparse.ArgumentParser(prog="wqsource", description=ABOUT, epilog=ENDS,
-                                    formatter_class=argparse.RawDescriptionHelpFormatter)
+    shared.add_argument(
+        "--jobs", type=int, default=os.cpu_count(), metavar="N", help="so many spatch at a time (all processors)"
+    )
+    shared.add_argument(
+        "--cache",
+        type=pathlib.Path,
+        default=default_cache(),
+        metavar="DIR",
+        help="where facts are kept ($XDG_CACHE_HOME/wqplan/facts)",
+    )
+    shared.add_argument(
+        "--stacked", action="store_true", help="submit_bio may run the submit_bio functions of these files"
+    )
+    words = argparse.ArgumentParser(
+        prog="wqsource", description=ABOUT, epilog=ENDS, formatter_class=argparse.RawDescriptionHelpFormatter
+    )
     verbs = words.add_subparsers(dest="verb", required=True, metavar="audit|drift|draft")
-    files = dict(nargs="*", metavar="FILE", help="C files and headers, from the top of the tree; `*` stands for any letters. "
-                 "Without any: those of the `# files:` lines of the declaration")
+    files: dict[str, Any] = dict(
+        nargs="*",
+        metavar="FILE",
+        help="C files and headers, from the top of the tree; `*` stands for any letters. "
+        "Without any: those of the `# files:` lines of the declaration",
+    )
     one = verbs.add_parser("audit", parents=[shared], epilog=ENDS, help="sites that the declaration doesn't decide")
     one.add_argument("--decl", required=True, metavar="D.wq")
     one.add_argument("--tree", type=pathlib.Path, default=pathlib.Path("."), metavar="DIR")
@@ -54,12 +68,18 @@ def parser() -> argparse.ArgumentParser:
     two.add_argument("--decl", required=True, metavar="D.wq")
     two.add_argument("--old", type=pathlib.Path, required=True, metavar="DIR", help="the tree whose lines D.wq cites")
     two.add_argument("--new", type=pathlib.Path, required=True, metavar="DIR")
-    two.add_argument("--write", action="store_true", help="write the new numbers of moved lines into D.wq, and nothing else")
+    two.add_argument(
+        "--write", action="store_true", help="write the new numbers of moved lines into D.wq, and nothing else"
+    )
     two.add_argument("files", **files)
     three = verbs.add_parser("draft", parents=[shared], epilog=ENDS, help="a first declaration of some files")
     three.add_argument("--tree", type=pathlib.Path, default=pathlib.Path("."), metavar="DIR")
-    three.add_argument("--only", nargs="+", default=[], metavar="FUNCTION", help="these work functions, and what they wait for")
-    three.add_argument("--assign", metavar="OUT", help="write the workqueues that the files make into OUT, as an assignment")
+    three.add_argument(
+        "--only", nargs="+", default=[], metavar="FUNCTION", help="these work functions, and what they wait for"
+    )
+    three.add_argument(
+        "--assign", metavar="OUT", help="write the workqueues that the files make into OUT, as an assignment"
+    )
     three.add_argument("files", **files)
     return words
 
@@ -91,8 +111,10 @@ def files_of(tree: pathlib.Path, given: list[str], declaration: Optional[Declara
 def run_audit(words: argparse.Namespace, extractor: Extractor) -> int:
     declaration = Declaration.read(words.decl)
     files = files_of(words.tree, words.files, declaration)
-    found = audit.Audit(declaration, program.read(words.tree, files, extractor, program.Tables(),
-                                                    words.stacked or declaration.is_stacked))
+    found = audit.Audit(
+        declaration,
+        program.read(words.tree, files, extractor, program.Tables(), words.stacked or declaration.is_stacked),
+    )
     extractor.progress.end()
     audit_text.Printer(found, sys.stdout, words.paths).print()
     return DONE if found.is_done else LEFT

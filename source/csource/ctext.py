@@ -73,7 +73,7 @@ def bare(words: Tokens) -> Tokens:
         if end == len(words) - 1:
             words = words[1:-1]
         elif words[end + 1] not in ("->", ".", "[", "("):
-            words = words[end + 1:]
+            words = words[end + 1 :]
         else:
             break
     return words

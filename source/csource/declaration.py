@@ -1,4 +1,4 @@
-"""A declaration of wqplan, as far as it is compared with the source: its items, and what its comments cite and dismiss."""
+"""A declaration of wqplan, as far as the source is compared with it: items, and what its comments cite and dismiss."""
 
 import pathlib
 import re
@@ -27,6 +27,7 @@ FUNCTION = re.compile(r"\s+(?P<function>[A-Za-z_]\w*)")
 @dataclass(frozen=True)
 class Citation:
     """A line of the source that a comment names. One in the reason of a dismissal decides no site by itself."""
+
     number: int
     column: int
     file: str
@@ -42,6 +43,7 @@ class Citation:
 @dataclass(frozen=True)
 class Dismissal:
     """`# no wait: FILE FUNCTION CALL(ARGUMENT): WHY`"""
+
     number: int
     key: Key
     why: str
@@ -53,6 +55,7 @@ class Dismissal:
 @dataclass(frozen=True)
 class DismissedItem:
     """`# no item: FILE FUNCTION: WHY`"""
+
     number: int
     file: str
     function: str
@@ -65,6 +68,7 @@ class DismissedItem:
 @dataclass
 class DeclaredItem:
     """An `item` line."""
+
     number: int
     name: str
     comment: str
@@ -78,6 +82,7 @@ class DeclaredItem:
 @dataclass
 class Declaration:
     """A text, line by line."""
+
     path: str
     lines: list[str]
     items: list[DeclaredItem] = field(default_factory=list)
@@ -91,7 +96,7 @@ class Declaration:
     @staticmethod
     def of(path: str, text: str) -> "Declaration":
         found = Declaration(path, text.split("\n"))
-        last_file = None
+        last_file = ""
         for number, line in enumerate(found.lines, 1):
             before, _, comment = line.partition("#")
             words = before.split()
@@ -100,7 +105,7 @@ class Declaration:
             if words[:1] == ["item"] and len(words) > 1:
                 found.items.append(DeclaredItem(number, words[1], comment))
             if not words and not comment:
-                last_file = None
+                last_file = ""
             for citation in citations_in(number, len(before) + 1, comment, last_file):
                 found.citations.append(citation)
                 last_file = citation.file
@@ -114,45 +119,47 @@ class Declaration:
         """A comment line that dismisses something or names files."""
         text = line.partition("#")[2].strip()
         if text.startswith(FILES):
-            self.files += text[len(FILES):].split()
+            self.files += text[len(FILES) :].split()
             return True
         if text.startswith(STACKED):
             self.is_stacked = True
             return True
         if text.startswith(NO_WAIT):
-            match = DISMISSAL.fullmatch(text[len(NO_WAIT):])
+            match = DISMISSAL.fullmatch(text[len(NO_WAIT) :])
             if match:
                 self.dismissals.append(Dismissal(number, Key(match[1], match[2], match[3], match[4]), match[5]))
         elif text.startswith(NO_ITEM):
-            match = DISMISSED_ITEM.fullmatch(text[len(NO_ITEM):])
+            match = DISMISSED_ITEM.fullmatch(text[len(NO_ITEM) :])
             if match:
                 self.dismissed_items.append(DismissedItem(number, match[1], match[2], match[3]))
         else:
             return False
         if match:
-            why = match[match.lastindex]
-            self.citations += citations_in(number, line.rindex(why), why, None, decides=False)
+            why = match.groups()[-1]
+            self.citations += citations_in(number, line.rindex(why), why, "", decides=False)
         else:
             self.malformed.append(number)
         return True
 
 
-def citations_in(number: int, start: int, comment: str, file: Optional[str], decides: bool = True) -> Iterator[Citation]:
-    """The citations of a comment that begins in column `start`, from 0. `file` is the one that was cited last before it."""
+def next_citation(comment: str, at: int, has_file: bool, is_behind_one: bool) -> Optional[re.Match[str]]:
+    """The next place in a comment that names a line."""
+    if is_behind_one and (match := NEXT.match(comment, at)):
+        return match
+    cited = CITED.search(comment, at)
+    alone = IN_BRACKETS.search(comment, at) if has_file else None
+    return alone if cited is None or alone is not None and alone.start() < cited.start() else cited
+
+
+def citations_in(number: int, start: int, comment: str, file: str, decides: bool = True) -> Iterator[Citation]:
+    """The citations of a comment that begins in column `start`, from 0. `file` is what was cited last before, or ''."""
     at, is_behind_one = 0, False
-    while True:
-        match = NEXT.match(comment, at) if is_behind_one else None
-        if match is None:
-            cited, alone = CITED.search(comment, at), IN_BRACKETS.search(comment, at) if file else None
-            match = min((found for found in (cited, alone) if found), key=re.Match.start, default=None)
-            if match is None:
-                return
-            file = match["file"] if match is cited else file
+    while match := next_citation(comment, at, file != "", is_behind_one):
+        file = match.groupdict().get("file") or file
         named = FUNCTION.match(comment, match.end())
         line = int(match["line"])
-        yield Citation(number, start + match.start("line"), file, line, int(match["last"] or line), named and named["function"],
-                       decides)
+        last = int(match["last"] or line)
+        column = start + match.start("line")
+        yield Citation(number, column, file, line, last, named["function"] if named else None, decides)
         is_behind_one = True
-        at = match.end()
-        if NEXT.match(comment, at) is None and named:
-            at = named.end()
+        at = match.end() if NEXT.match(comment, match.end()) or not named else named.end()

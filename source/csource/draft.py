@@ -15,6 +15,7 @@ from .sites import TARGETED, Key, Site
 @dataclass
 class Line:
     """A flush whose target is known: one item that the call names, or the only one that can end the wait."""
+
     item: FunctionId
     word: str
     target: FunctionId
@@ -26,6 +27,7 @@ class Line:
 @dataclass
 class Open:
     """A site that a reader has to decide, with the items that reach it and what may end it."""
+
     site: Site
     ends: Ends
     ways: dict[FunctionId, list[Edge]] = field(default_factory=dict)
@@ -79,10 +81,14 @@ class Draft:
             known = len(site.workqueues) == 1 and targets and function not in targets
             return Line(function, "flushwq", targets[0], targets[1:], site, path) if known else None
         targets = sorted(site.targets) if site.kind in TARGETED else self.only_end(site)
-        return Line(function, "flush", targets[0], [], site, path) if len(targets) == 1 and targets[0] != function else None
+        return (
+            Line(function, "flush", targets[0], [], site, path)
+            if len(targets) == 1 and targets[0] != function
+            else None
+        )
 
     def only_end(self, site: Site) -> list[FunctionId]:
-        """The item that ends a wait for an object, if nothing else in these files does, and it does so by direct calls."""
+        """The item that ends a wait for an object, by direct calls, if nothing else in these files does."""
         ends = self.ends_of(site)
         if ends.others or len(ends.items) != 1:
             return []
@@ -108,4 +114,8 @@ class Draft:
     def short(self, file: str) -> str:
         """The name of a file as a citation gives it: without its folder, where one file alone has it."""
         name = re.sub(r".*/", "", file)
-        return name if sum(other == name or other.endswith("/" + name) for other in self.program.facts.files) == 1 else file
+        return (
+            name
+            if sum(other == name or other.endswith("/" + name) for other in self.program.facts.files) == 1
+            else file
+        )

@@ -7,6 +7,7 @@ from . import says
 from .calls import Edge
 from .draft import Draft, Line, Open
 from .items import Item
+from .locks import locks_text
 from .notfollowed import not_followed
 from .places import FunctionId, Place
 from .reach import path_text, roots_of
@@ -15,9 +16,10 @@ from .sites import Site
 MOST_NAMED = 8
 
 HOW_TO_READ = (
-    "A `?` line is to be decided: write the flush that it is, or `# no wait: FILE FUNCTION CALL(ARGUMENT): WHY`, and take the `?` "
-    "line away. Until then wqplan refuses this text. Read each other line against the source, too, and take away items that "
-    "neither run on the reclaim path nor share a workqueue with one that does.")
+    "A `?` line is to be decided: write the flush that it is, or `# no wait: FILE FUNCTION CALL(ARGUMENT): WHY`, and "
+    "take the `?` line away. Until then wqplan refuses this text. Read each other line against the source, too, and "
+    "take away items that neither run on the reclaim path nor share a workqueue with one that does."
+)
 
 
 def some(names: Iterable[str]) -> str:
@@ -70,9 +72,12 @@ class Printer:
         self.print_open()
         self.print_unknown()
         self.print_beside()
-        says.note(self.to, f"{says.counted(len(self.draft.all_items()), 'item')}. "
-                  f"{says.counted(len(self.draft.lines), 'line')} whose target is known, "
-                  f"{says.counted(len(self.draft.open), 'site')} to decide.")
+        says.note(
+            self.to,
+            f"{says.counted(len(self.draft.all_items()), 'item')}. "
+            f"{says.counted(len(self.draft.lines), 'line')} whose target is known, "
+            f"{says.counted(len(self.draft.open), 'site')} to decide.",
+        )
 
     # Items
 
@@ -86,8 +91,18 @@ class Printer:
         self.write("\n".join(lines))
         queuers, others = self.queuers(item)
         if queuers or others:
-            self.comment("queued by " + "; ".join(filter(None, [
-                f"items {some(queuers)}" if queuers else "", f"code that no item reaches, from {some(others)}" if others else ""])))
+            self.comment(
+                "queued by "
+                + "; ".join(
+                    filter(
+                        None,
+                        [
+                            f"items {some(queuers)}" if queuers else "",
+                            f"code that no item reaches, from {some(others)}" if others else "",
+                        ],
+                    )
+                )
+            )
 
     def queueings(self, item: Item) -> Iterable[str]:
         """To which workqueue it is queued, and where."""
@@ -104,14 +119,19 @@ class Printer:
         others: set[str] = set()
         for queueing in item.queueings:
             queuers |= {self.name(function) for function in self.program.reached_by.get(queueing.place.id, ())}
-            others |= {root.name for root in roots_of(self.program.graph, queueing.place.id)
-                       if root not in self.program.items.items}
+            others |= {
+                root.name
+                for root in roots_of(self.program.graph, queueing.place.id)
+                if root not in self.program.items.items
+            }
         return queuers, others
 
     def print_ordered(self) -> None:
         for workqueue, items in self.draft.ordered():
             self.decide(f"ordered {' '.join(item.name for item in items)}")
-            self.comment(f"{self.program.workqueues.name(workqueue)} is ordered. Leave the line out if nothing relies on it")
+            self.comment(
+                f"{self.program.workqueues.name(workqueue)} is ordered. Leave the line out if nothing relies on it"
+            )
 
     # Waits
 
@@ -137,7 +157,9 @@ class Printer:
 
     def print_open(self) -> None:
         order = {True: 0, False: 1}
-        for one in sorted(self.draft.open.values(), key=lambda one: (order[bool(one.targets)], one.site.key.file, one.site.lines)):
+        for one in sorted(
+            self.draft.open.values(), key=lambda one: (order[bool(one.targets)], one.site.key.file, one.site.lines)
+        ):
             self.write()
             self.print_one(one)
 
@@ -152,15 +174,20 @@ class Printer:
             self.comment(f"flushes {', '.join(map(self.program.workqueues.name, sorted(site.workqueues)))}")
         for function in one.targets:
             ended = one.ends.items.get(function)
-            self.comment(f"waits for {self.name(function)}" if ended is None else
-                         f"may be ended by {self.name(function)} at {self.place(ended.waker.place)}{self.way(ended.path)}")
+            self.comment(
+                f"waits for {self.name(function)}"
+                if ended is None
+                else f"may be ended by {self.name(function)} at {self.place(ended.waker.place)}{self.way(ended.path)}"
+            )
         if one.ends.others:
             self.comment(f"may be ended by code that no item reaches, from {some(one.ends.others)}")
         targets = " ".join(map(self.name, one.targets)) or "TARGET"
         word = "flushwq" if site.kind == "flushwq" else "flush"
         for function in items:
-            self.write(f"#{word} {self.name(function)} {targets.split()[0] if word == 'flushwq' else targets}  # {site.kind} "
-                       f"{self.site_place(site)}"[:4000])
+            self.write(
+                f"#{word} {self.name(function)} {targets.split()[0] if word == 'flushwq' else targets}  # {site.kind} "
+                f"{self.site_place(site)}"[:4000]
+            )
         key = site.key._replace(file=self.draft.short(site.key.file))
         self.write(f"## no wait: {key}: ")
 
@@ -182,27 +209,26 @@ class Printer:
         """Locks, and what wasn't followed."""
         self.write()
         reached = {function for item in self.draft.items for function in self.program.sleeps[item]}
-        locks: dict[str, list[Place]] = collections.defaultdict(list)
-        for lock in self.program.sites.locks:
-            if lock.place.id in reached:
-                for name in {str(held) for held in lock.objects} or {"?"}:
-                    locks[name].append(lock.place)
+        locks = locks_text(self.program, reached, self.place)
         if locks:
-            says.note(self.to, "Locks in reach, which are waits if the holder waits: " + ", ".join(
-                f"{name} ({self.place(places[0])}{f' +{len(places) - 1}' if len(places) > 1 else ''})"
-                for name, places in sorted(locks.items())))
+            says.note(self.to, f"Locks in reach, which are waits if the holder waits: {locks}")
         names, pointers = not_followed(self.program, reached)
         if names:
             says.note(self.to, "Not followed, for the files don't have them: " + " ".join(names))
         if pointers:
-            says.note(self.to, "Not followed, for no function of the files is known to stand there: " + " ".join(pointers))
+            says.note(
+                self.to, "Not followed, for no function of the files is known to stand there: " + " ".join(pointers)
+            )
 
 
 def print_assignment(draft: Draft, to: TextIO) -> None:
     """The workqueues as the files make them, with what their flags mean in comments."""
     program = draft.program
-    says.note(to, f"wqsource: the workqueues of {program.facts.tree}, as far as its files say them. `safe` has the precondition "
-              "that each has a rescuer. A `?` line is to be decided.")
+    says.note(
+        to,
+        f"wqsource: the workqueues of {program.facts.tree}, as far as its files say them. `safe` has the precondition "
+        "that each has a rescuer. A `?` line is to be decided.",
+    )
     on: dict[str, list[Item]] = collections.defaultdict(list)
     nowhere = []
     for item in draft.all_items():
@@ -213,11 +239,19 @@ def print_assignment(draft: Draft, to: TextIO) -> None:
     for number, (workqueue, items) in enumerate(on.items()):
         shared = [item.name for item in items if len(item.workqueues) > 1]
         made = program.workqueues.made.get(workqueue)
-        said = ", ".join(filter(None, [
-            program.workqueues.name(workqueue),
-            f"{draft.short(made.call.place.file)}:{made.call.place.line} {made.call.place.function}" if made else "",
-            program.workqueues.flags(workqueue),
-            f"queued to several workqueues: {', '.join(shared)}" if shared else ""]))
+        said = ", ".join(
+            filter(
+                None,
+                [
+                    program.workqueues.name(workqueue),
+                    f"{draft.short(made.call.place.file)}:{made.call.place.line} {made.call.place.function}"
+                    if made
+                    else "",
+                    program.workqueues.flags(workqueue),
+                    f"queued to several workqueues: {', '.join(shared)}" if shared else "",
+                ],
+            )
+        )
         print(f"{'? ' if shared else ''}wq {number} {' '.join(item.name for item in items)}  # {said}", file=to)
     if nowhere:
         print(f"? wq ? {' '.join(item.name for item in nowhere)}  # their workqueue isn't known", file=to)

@@ -14,6 +14,7 @@ from .sites import Key, Site
 
 class Wait(NamedTuple):
     """A wait, as two trees are compared by it: no line, and what may end it by name."""
+
     kind: str
     key: Key
     ended_by: tuple[str, ...]
@@ -22,6 +23,7 @@ class Wait(NamedTuple):
 @dataclass
 class Change:
     """A wait that is in reach in one tree alone: where, and of which items."""
+
     wait: Wait
     place: str
     items: list[str] = field(default_factory=list)
@@ -36,8 +38,11 @@ class Drift:
         mapping = Mapping(old, new)
         self.wrong = list(self.cited.wrong())
         bad = {citation for citation, _ in self.wrong}
-        self.lines = [(found, mapping.now(found.file, found.citation.line)) for found in self.cited.located
-                      if found.file and found.citation not in bad]
+        self.lines = [
+            (found, mapping.now(found.file, found.citation.line))
+            for found in self.cited.located
+            if found.file and found.citation not in bad
+        ]
         self.appeared, self.vanished = self.compare_waits()
 
     # Citations
@@ -57,7 +62,7 @@ class Drift:
 
     def waits_of(self, program: Program, cited: Cited, name: str) -> dict[Wait, Site]:
         """The waits in reach of a declared item. What the declaration dismisses is among them."""
-        found = {}
+        found: dict[Wait, Site] = {}
         for function in cited.items[name]:
             for site in program.sites_of(program.sleeps[function]):
                 found.setdefault(self.wait(program, site), site)
@@ -65,8 +70,11 @@ class Drift:
 
     @staticmethod
     def wait(program: Program, site: Site) -> Wait:
-        names = map(program.workqueues.name, site.workqueues) if site.kind == "flushwq" else (
-            function.name for function in program.candidates(site))
+        names = (
+            map(program.workqueues.name, site.workqueues)
+            if site.kind == "flushwq"
+            else (function.name for function in program.candidates(site))
+        )
         return Wait(site.kind, site.key, tuple(sorted(names)))
 
     def compare_waits(self) -> tuple[list[Change], list[Change]]:
@@ -81,20 +89,30 @@ class Drift:
                 appeared.setdefault(wait, Change(wait, str(after[wait]))).items.append(item.name)
             for wait in before.keys() - after.keys():
                 vanished.setdefault(wait, Change(wait, str(before[wait]))).items.append(item.name)
-        return (sorted(appeared.values(), key=lambda change: change.place),
-                sorted(vanished.values(), key=lambda change: change.place))
+        return (
+            sorted(appeared.values(), key=lambda change: change.place),
+            sorted(vanished.values(), key=lambda change: change.place),
+        )
 
     # Items and workqueues
 
     def lost_items(self) -> list[str]:
-        return [item.name for item in self.declaration.items if self.cited.items[item.name] and not self.new_cited.items[item.name]]
+        return [
+            item.name
+            for item in self.declaration.items
+            if self.cited.items[item.name] and not self.new_cited.items[item.name]
+        ]
 
     def never_found(self) -> list[str]:
         return [item.name for item in self.declaration.items if not self.cited.items[item.name]]
 
     @staticmethod
     def queued_to(program: Program, functions: list[FunctionId]) -> set[str]:
-        return {program.workqueues.name(workqueue) for function in functions for workqueue in program.item(function).workqueues}
+        return {
+            program.workqueues.name(workqueue)
+            for function in functions
+            for workqueue in program.item(function).workqueues
+        }
 
     def requeued(self) -> list[tuple[str, set[str], set[str]]]:
         """Items whose workqueues are others than before."""
@@ -122,29 +140,50 @@ class Drift:
 
     def changed_flags(self) -> list[tuple[str, str, str]]:
         """Workqueues of declared items whose flags are others than before."""
+
         def flags(program: Program) -> dict[str, str]:
             return {program.workqueues.name(made): program.workqueues.flags(made) for made in program.workqueues.made}
+
         before, after = flags(self.old), flags(self.new)
-        return [(name, before[name], after[name]) for name in sorted(self.workqueues())
-                if name in before and name in after and before[name] != after[name]]
+        return [
+            (name, before[name], after[name])
+            for name in sorted(self.workqueues())
+            if name in before and name in after and before[name] != after[name]
+        ]
 
     # Decisions
 
     def dead_decisions(self) -> list[Dismissal]:
         """Dismissals of calls that the old tree has and the new one hasn't."""
-        return [dismissal for dismissal in self.declaration.dismissals
-                if self.has_call(self.old, self.cited, dismissal) and not self.has_call(self.new, self.new_cited, dismissal)]
+        return [
+            dismissal
+            for dismissal in self.declaration.dismissals
+            if self.has_call(self.old, self.cited, dismissal) and not self.has_call(self.new, self.new_cited, dismissal)
+        ]
 
     @staticmethod
     def has_call(program: Program, cited: Cited, dismissal: Dismissal) -> bool:
         key = dismissal.key
-        return any(cited.matches(key, called) for file in cited.given(key.file)
-                   for called in program.keys_in(FunctionId(file, key.function)))
+        return any(
+            cited.matches(key, called)
+            for file in cited.given(key.file)
+            for called in program.keys_in(FunctionId(file, key.function))
+        )
 
     def is_silent(self, after_writing: bool) -> bool:
         told = [now for _, now in self.lines if now.what != SAME and not (after_writing and now.what == MOVED)]
-        return not (told or self.wrong or self.appeared or self.vanished or self.lost_items() or self.never_found()
-                    or self.requeued() or self.new_items() or self.changed_flags() or self.dead_decisions())
+        return not (
+            told
+            or self.wrong
+            or self.appeared
+            or self.vanished
+            or self.lost_items()
+            or self.never_found()
+            or self.requeued()
+            or self.new_items()
+            or self.changed_flags()
+            or self.dead_decisions()
+        )
 
 
 def renumbered(text: str, citation: Citation, line: int) -> str:
@@ -152,5 +191,5 @@ def renumbered(text: str, citation: Citation, line: int) -> str:
     length = citation.last - citation.line
     old = str(citation.line) + (f"-{citation.last}" if length else "")
     new = str(line) + (f"-{line + length}" if length else "")
-    before, after = text[:citation.column], text[citation.column:]
-    return before + (new + after[len(old):] if after.startswith(old) else after)
+    before, after = text[: citation.column], text[citation.column :]
+    return before + (new + after[len(old) :] if after.startswith(old) else after)

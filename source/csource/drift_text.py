@@ -19,14 +19,19 @@ class Printer:
 
     def print(self) -> None:
         drift = self.drift
-        says.head(self.to, f"{drift.declaration.path} from {drift.old.facts.tree} to {drift.new.facts.tree}",
-                  len(drift.old.facts.files))
+        says.head(
+            self.to,
+            f"{drift.declaration.path} from {drift.old.facts.tree} to {drift.new.facts.tree}",
+            len(drift.old.facts.files),
+        )
         self.print_lines()
         self.print_items()
         for word, changes in (("new wait", drift.appeared), ("wait gone", drift.vanished)):
             for change in changes:
                 ended_by = f", for {', '.join(change.wait.ended_by)}" if change.wait.ended_by else ""
-                self.say(f"{word}: {change.place}  [{change.wait.kind}]{ended_by}, in reach of {', '.join(change.items)}")
+                self.say(
+                    f"{word}: {change.place}  [{change.wait.kind}]{ended_by}, in reach of {', '.join(change.items)}"
+                )
         for dismissal in drift.dead_decisions():
             self.say(f"{drift.declaration.path}:{dismissal.number}: dismisses {dismissal.key}, which is gone")
         self.print_counts()
@@ -55,14 +60,19 @@ class Printer:
         for name in drift.lost_items():
             self.say(f"item {name}: its work function is gone")
         for name, before, after in drift.requeued():
-            self.say(f"item {name}: was queued to {' '.join(sorted(before)) or '?'}, now to {' '.join(sorted(after)) or '?'}")
+            self.say(
+                f"item {name}: was queued to {' '.join(sorted(before)) or '?'}, now to {' '.join(sorted(after)) or '?'}"
+            )
         for function, workqueues in drift.new_items():
             self.say(f"new item: {function.name} ({function.file}), queued to {' '.join(sorted(workqueues))}")
-        for name, before, after in drift.changed_flags():
-            self.say(f"workqueue {name}: was {before}; is {after}")
+        for name, old, new in drift.changed_flags():
+            self.say(f"workqueue {name}: was {old}; is {new}")
 
     def print_counts(self) -> None:
         drift, counts = self.drift, self.drift.counts()
         lines = ", ".join(f"{counts[what]} {what}" for what in (SAME, MOVED, CHANGED, ELSEWHERE, GONE))
-        says.note(self.to, f"{says.counted(len(drift.lines), 'cited line')}: {lines}. "
-                  f"{says.counted(len(drift.appeared), 'new wait')}, {len(drift.vanished)} gone.")
+        says.note(
+            self.to,
+            f"{says.counted(len(drift.lines), 'cited line')}: {lines}. "
+            f"{says.counted(len(drift.appeared), 'new wait')}, {len(drift.vanished)} gone.",
+        )

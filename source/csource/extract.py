@@ -28,6 +28,7 @@ def default_cache() -> pathlib.Path:
 @dataclass
 class Extractor:
     """Finds the facts of the files of a tree, with some spatch at a time."""
+
     cache: pathlib.Path
     jobs: int
     progress: Progress
@@ -68,9 +69,17 @@ class Extractor:
             half = os.path.join(folder, "facts")
             ended = subprocess.run(
                 ["spatch", "--very-quiet", "--no-includes", "--sp-file", str(RULES), file],
-                cwd=tree, env={**os.environ, "WQFACTS": half}, stdin=subprocess.DEVNULL, stdout=subprocess.DEVNULL,
-                stderr=subprocess.PIPE, text=True, errors="replace")
+                cwd=tree,
+                env={**os.environ, "WQFACTS": half},
+                stdin=subprocess.DEVNULL,
+                stdout=subprocess.DEVNULL,
+                stderr=subprocess.PIPE,
+                text=True,
+                errors="replace",
+            )
             if ended.returncode or not os.path.exists(half):
                 said = ended.stderr.strip().splitlines()
-                raise ExtractError(f"spatch fails on {tree / file} ({ended.returncode}): {said[-1] if said else 'no message'}")
+                raise ExtractError(
+                    f"spatch fails on {tree / file} ({ended.returncode}): {said[-1] if said else 'no message'}"
+                )
             os.replace(half, to)

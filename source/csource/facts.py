@@ -4,64 +4,16 @@ import collections
 import pathlib
 import posixpath
 import re
-from dataclasses import dataclass
-from typing import NamedTuple, Optional
+from typing import Optional
 
 from . import ctext
 from .ctext import Tokens
 from .macros import macros_of
 from .places import FunctionId, Place
+from .records import Assignment, Call, Definition, Initialiser, PointerCall, Return
 
 OUTSIDE = "something_else"
 UNKNOWN_TYPES = ("", "void", "unknown")
-
-
-class Call(NamedTuple):
-    """NAME(arguments)"""
-    place: Place
-    name: str
-    arguments: list[Tokens]
-
-    @property
-    def text(self) -> str:
-        return f"{self.name}({', '.join(map(ctext.joined, self.arguments))})"
-
-
-class PointerCall(NamedTuple):
-    """base->member(arguments)"""
-    place: Place
-    base: Tokens
-    member: str
-    arguments: list[Tokens]
-
-
-class Assignment(NamedTuple):
-    """left = right"""
-    place: Place
-    left: Tokens
-    right: Tokens
-
-
-class Initialiser(NamedTuple):
-    """struct struct x = { .member = value }"""
-    place: Place
-    struct: str
-    member: str
-    value: str
-
-
-class Return(NamedTuple):
-    """return value;"""
-    place: Place
-    value: Tokens
-
-
-@dataclass
-class Definition:
-    """A function, or a macro that calls something."""
-    place: Place
-    parameters: list[str]
-    is_local: bool = False
 
 
 def struct_name(text: str) -> str:
@@ -84,8 +36,11 @@ def parameter_names(text: str) -> list[str]:
 class Facts:
     """The facts of some files of a tree."""
 
-    GLOBAL = re.compile(r"^(?:extern |static |const |struct |unsigned |volatile )*[A-Za-z_]\w*[ \t*]+(\w+)(?:\[[^\]]*\])?"
-                        r"\s*(?:__\w+\s*)?[;=]", re.M)
+    GLOBAL = re.compile(
+        r"^(?:extern |static |const |struct |unsigned |volatile )*[A-Za-z_]\w*[ \t*]+(\w+)(?:\[[^\]]*\])?"
+        r"\s*(?:__\w+\s*)?[;=]",
+        re.M,
+    )
 
     def __init__(self, tree: pathlib.Path, lines: dict[str, list[str]]) -> None:
         self.tree = tree
@@ -129,7 +84,8 @@ class Facts:
             self.calls.append(Call(place, rest[0], ctext.arguments(ctext.tokens(rest[1]))))
         elif kind == "PCALL":
             self.pointer_calls.append(
-                PointerCall(place, ctext.tokens(rest[0]), rest[1], ctext.arguments(ctext.tokens(rest[2]))))
+                PointerCall(place, ctext.tokens(rest[0]), rest[1], ctext.arguments(ctext.tokens(rest[2])))
+            )
         elif kind == "ASG":
             self.assignments.append(Assignment(place, ctext.tokens(rest[0]), ctext.tokens(rest[1])))
         elif kind == "LOC" and function != rest[0]:
@@ -144,7 +100,10 @@ class Facts:
     def end_of(self, place: Place) -> int:
         """The line that ends a function."""
         lines = self.lines[place.file]
-        return next((number for number in range(place.line + 1, len(lines) + 1) if lines[number - 1].startswith("}")), place.line)
+        return next(
+            (number for number in range(place.line + 1, len(lines) + 1) if lines[number - 1].startswith("}")),
+            place.line,
+        )
 
     def define(self, place: Place, name: str, parameters: list[str]) -> None:
         is_local = place.file.endswith(".c") and self.is_static(place)
@@ -178,7 +137,7 @@ class Facts:
             self.calls += [Call(place, name, arguments) for name, arguments in macro.calls]
 
     def take_initialised(self) -> None:
-        """A declaration with an initialiser says no more than an assignment: what is no global variable is a local one."""
+        """Facts have an initialised variable as an assignment: what is no global variable is a local one."""
         known = {match for text in self.texts.values() for match in self.GLOBAL.findall(text)}
         for place, left, _ in self.assignments:
             if len(left) == 1 and left[0] not in known and place.id in self.definitions:
@@ -189,7 +148,7 @@ class Facts:
         return (place.file, place.function, name) in self.locals
 
     def struct_of(self, place: Place, base: Tokens, member: str) -> Optional[str]:
-        """The struct of the member in `base->member`: what Coccinelle found, or the only one with a member of this name."""
+        """The struct of the member in `base->member`: what Coccinelle found, or the only one with such a member."""
         found = self.types.get((place.file, place.function, ctext.joined(base), member))
         if found is None and len(self.structs.get(member, ())) == 1:
             return next(iter(self.structs[member]))
@@ -200,13 +159,19 @@ class Facts:
         own = FunctionId(file, name)
         if own in self.definitions:
             return [own]
-        return [function for function in self.named.get(name, ())
-                if not self.definitions[function].is_local or function.file in self.together[file]]
+        return [
+            function
+            for function in self.named.get(name, ())
+            if not self.definitions[function].is_local or function.file in self.together[file]
+        ]
 
     def calls_of(self, function: FunctionId) -> list[Call]:
         """The calls by name that may call this function."""
-        return [call for call in self.calls_named.get(function.name, ())
-                if function in self.resolve(call.place.file, call.name)]
+        return [
+            call
+            for call in self.calls_named.get(function.name, ())
+            if function in self.resolve(call.place.file, call.name)
+        ]
 
     INCLUDE = re.compile(r'^[ \t]*#[ \t]*include[ \t]+"([^"]+\.c)"', re.M)
 

@@ -1,7 +1,7 @@
 """What each variable and member may hold: functions, addresses of objects, workqueues.
 
-Assignments, initialisers, returns and calls are taken as they stand, in no order and without context: what is held once may
-always be held. A member is one cell for all structs of its type.
+Assignments, initialisers, returns and calls are taken as they stand, in no order and without context: what is held once
+may always be held. A member is one cell for all structs of its type.
 """
 
 import collections
@@ -34,8 +34,8 @@ class Holds:
             cell = self.cell(place, left)
             if cell is not None:
                 self.flow(cell, place, right)
-        for place, struct, member, value in facts.initialisers:
-            self.flow(self.noted(Member(struct, member)), place, [value])
+        for place, struct, member, name in facts.initialisers:
+            self.flow(self.noted(Member(struct, member)), place, [name])
         for place, value in facts.returns:
             if place.id in facts.definitions:
                 self.flow(Result(place.function), place, value)
@@ -46,20 +46,27 @@ class Holds:
         """The variable, member or result that an expression reads; None where it is something else."""
         words = ctext.bare(words)
         while words and words[-1] == "]":
-            words = ctext.bare(words[:ctext.opening(words)])
+            words = ctext.bare(words[: ctext.opening(words)])
         while words and words[0] == "*":
             words = ctext.bare(words[1:])
         if not words or words[0] == "&":
             return None
         cuts = ctext.outer(words, ("->", "."))
         if cuts:
-            return self.member(place, words[:cuts[-1]], words[-1]) if cuts[-1] + 2 == len(words) and ctext.is_name(
-                words[-1]) else None
+            return (
+                self.member(place, words[: cuts[-1]], words[-1])
+                if cuts[-1] + 2 == len(words) and ctext.is_name(words[-1])
+                else None
+            )
         if len(words) == 1 and ctext.is_name(words[0]):
             if self.facts.is_local(place, words[0]):
                 return Variable(place.file, place.function, words[0])
             return Global(words[0])
-        return Result(words[0]) if len(words) > 2 and ctext.is_name(words[0]) and words[1] == "(" and words[-1] == ")" else None
+        return (
+            Result(words[0])
+            if len(words) > 2 and ctext.is_name(words[0]) and words[1] == "(" and words[-1] == ")"
+            else None
+        )
 
     def member(self, place: Place, base: Tokens, name: str) -> Member:
         return self.noted(Member(self.facts.struct_of(place, base, name) or UNKNOWN, name))
@@ -93,7 +100,7 @@ class Holds:
         for mark in marks:
             asks += 1 if words[mark] == "?" else -1
             if asks == 0:
-                return words[marks[0] + 1:mark] or words[:marks[0]], words[mark + 1:]
+                return words[marks[0] + 1 : mark] or words[: marks[0]], words[mark + 1 :]
         return None
 
     def named(self, place: Place, words: Tokens) -> Optional[set[Value]]:

@@ -7,16 +7,18 @@ from typing import NamedTuple, Optional
 from . import ctext
 from .cells import Address, Function, Workqueue, may_be_same
 from .ctext import Tokens
-from .facts import Call, Facts
+from .facts import Facts
 from .holds import Holds
 from .places import FunctionId, Place
+from .records import Call
 from .tables import SYSTEM_WORKQUEUE, Waits
 
 NO_WORKQUEUE = ("cpu", "WORK_CPU_UNBOUND")
 
 
 class Queueing(NamedTuple):
-    """A call that queues an item: to which workqueues, as the call names them, and whether it is one of several items."""
+    """A call that queues an item: to which workqueues, how it names them, and whether it may queue other items."""
+
     place: Place
     workqueues: frozenset[str]
     named: str
@@ -26,6 +28,7 @@ class Queueing(NamedTuple):
 @dataclass
 class Item:
     """A work function, with all the work_structs that have it."""
+
     function: FunctionId
     name: str = ""
     set_at: list[Place] = field(default_factory=list)
@@ -57,7 +60,7 @@ class Items:
         self.give_names()
 
     def set_item(self, call: Call) -> None:
-        """INIT_WORK(&work, function) and its like: the function is what is one, and the work the first other argument."""
+        """INIT_WORK(&work, function) and its like: the function is what is one, the work the first other argument."""
         functions: list[FunctionId] = []
         works: set[Address] = set()
         for words in call.arguments:
@@ -66,8 +69,11 @@ class Items:
             if here:
                 functions = functions or here
             elif not works:
-                works = set(self.holds.objects(call.place, words)) if words and words[0] != "&" else {
-                    value for value in values if isinstance(value, Address)}
+                works = (
+                    set(self.holds.objects(call.place, words))
+                    if words and words[0] != "&"
+                    else {value for value in values if isinstance(value, Address)}
+                )
         if not functions:
             if not self.facts.resolve(call.place.file, call.name):
                 self.unknown_items.append(call)
@@ -98,7 +104,9 @@ class Items:
         functions = self.queued_by(call.place.id, works)
         if functions:
             for function in functions:
-                self.items[function].queueings.append(Queueing(call.place, frozenset(workqueues), named, len(functions) > 1))
+                self.items[function].queueings.append(
+                    Queueing(call.place, frozenset(workqueues), named, len(functions) > 1)
+                )
         elif works or not self.facts.resolve(call.place.file, call.name):
             self.unknown_queueings.append(call)
 

@@ -12,6 +12,7 @@ NO_CALL = {"if", "while", "for", "switch", "sizeof", "typeof", "__typeof__", "de
 
 class Macro(NamedTuple):
     """Its calls are all taken to be in its first line."""
+
     name: str
     line: int
     last: int
@@ -21,9 +22,11 @@ class Macro(NamedTuple):
 
 def calls_in(words: Tokens) -> list[tuple[str, list[Tokens]]]:
     """Each NAME(..) among the words."""
-    return [(words[at], ctext.arguments(words[at + 2:ctext.closing(words, at + 1)]))
-            for at in range(len(words) - 1)
-            if words[at + 1] == "(" and ctext.is_name(words[at]) and words[at] not in NO_CALL]
+    return [
+        (words[at], ctext.arguments(words[at + 2 : ctext.closing(words, at + 1)]))
+        for at in range(len(words) - 1)
+        if words[at + 1] == "(" and ctext.is_name(words[at]) and words[at] not in NO_CALL
+    ]
 
 
 def macros_of(text: str) -> Iterator[Macro]:
@@ -32,4 +35,6 @@ def macros_of(text: str) -> Iterator[Macro]:
         calls = calls_in(ctext.tokens(match[3].replace("\\\n", " ")))
         if calls:
             line = text.count("\n", 0, match.start()) + 1
-            yield Macro(match[1], line, line + match[0].count("\n"), [word.strip() for word in match[2].split(",")], calls)
+            yield Macro(
+                match[1], line, line + match[0].count("\n"), [word.strip() for word in match[2].split(",")], calls
+            )

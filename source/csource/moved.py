@@ -2,12 +2,12 @@
 
 import difflib
 from dataclasses import dataclass
-from typing import Iterator, Optional
+from typing import Optional
 
 from .cited import Functions
-from .facts import Call
 from .places import FunctionId, Place
 from .program import Program
+from .records import Call
 
 SAME, MOVED, CHANGED, ELSEWHERE, GONE = "same", "moved", "changed", "elsewhere", "gone"
 MOST_PLACES = 3
@@ -16,6 +16,7 @@ MOST_PLACES = 3
 @dataclass(frozen=True)
 class Now:
     """What became of a line. `line` is its new number where it is still there."""
+
     what: str
     line: int = 0
     text: str = ""
@@ -61,25 +62,36 @@ class Mapping:
         """The lines of a function that are in the new one of this name, too: two equal lines stay in their order."""
         if function not in self.known:
             old, new = self.numbered(self.old_functions, self.old_lines, function), self.numbered(
-                self.new_functions, self.new_lines, function)
-            matcher = difflib.SequenceMatcher(None, [text for _, text in old], [text for _, text in new], autojunk=False)
-            self.known[function] = {old[match.a + k][0]: new[match.b + k][0]
-                                    for match in matcher.get_matching_blocks() for k in range(match.size)}
+                self.new_functions, self.new_lines, function
+            )
+            matcher = difflib.SequenceMatcher(
+                None, [text for _, text in old], [text for _, text in new], autojunk=False
+            )
+            self.known[function] = {
+                old[match.a + k][0]: new[match.b + k][0]
+                for match in matcher.get_matching_blocks()
+                for k in range(match.size)
+            }
         return self.known[function]
 
     @staticmethod
     def numbered(functions: Functions, lines: dict[str, list[str]], function: FunctionId) -> list[tuple[int, str]]:
-        return [(number, lines[function.file][number - 1])
-                for first, last in functions.spans_of(function) for number in range(first, last + 1)]
+        return [
+            (number, lines[function.file][number - 1])
+            for first, last in functions.spans_of(function)
+            for number in range(first, last + 1)
+        ]
 
     def calls_at(self, file: str, line: int) -> list[Call]:
         return [call for call in self.old.facts.calls if (call.place.file, call.place.line) == (file, line)]
 
     def by_its_calls(self, file: str, line: int, function: str) -> Optional[Now]:
-        """The line isn't there any more, but what it calls is called in this function, or in just this way elsewhere."""
+        """The line is gone, but what it calls is called in this function, or in just this way elsewhere."""
         calls = self.calls_at(file, line)
         names, texts = {call.name for call in calls}, {call.text for call in calls}
-        near = [call.place for call in self.new.facts.calls_in.get(FunctionId(file, function), ()) if call.name in names]
+        near = [
+            call.place for call in self.new.facts.calls_in.get(FunctionId(file, function), ()) if call.name in names
+        ]
         if near:
             return Now(CHANGED, text=f"{'/'.join(sorted(names))} is called at {places_text(near)}")
         far = [call.place for call in self.new.facts.calls if call.text in texts]
@@ -87,8 +99,11 @@ class Mapping:
 
     def by_its_text(self, file: str, line: int, function: str) -> Optional[Now]:
         text = self.old_lines[file][line - 1]
-        places = [Place(file, number, self.new_functions.at(file, number) or "-")
-                  for number, other in enumerate(self.new_lines.get(file, []), 1) if other == text]
+        places = [
+            Place(file, number, self.new_functions.at(file, number) or "-")
+            for number, other in enumerate(self.new_lines.get(file, []), 1)
+            if other == text
+        ]
         places = [place for place in places if place.function != function]
         return Now(ELSEWHERE, text=f"the same line is at {places_text(places)}") if len(text) > 3 and places else None
 

@@ -1,4 +1,4 @@
-"""What was not looked into: calls of functions that the files don't have, and calls by pointers that nothing resolves."""
+"""What was not looked into: functions that the files don't have, and pointers that nothing resolves."""
 
 from typing import Iterable
 
@@ -15,7 +15,10 @@ def not_followed(program: Program, functions: Iterable[FunctionId]) -> tuple[lis
     for function in functions:
         pointers |= program.graph.blind.get(function, set())
         for call in program.facts.calls_in.get(function, ()):
-            if program.tables.waits.kind(call.name).name == "none" and program.graph.is_outside(call) and not (
-                    program.tables.harmless.has(call.name)):
+            if (
+                program.tables.waits.kind(call.name).name == "none"
+                and program.graph.is_outside(call)
+                and not (program.tables.harmless.has(call.name))
+            ):
                 names.add(call.name)
     return sorted(names), sorted(pointers)

@@ -5,12 +5,14 @@ from typing import NamedTuple
 
 class FunctionId(NamedTuple):
     """A function: two files may have static functions of one name."""
+
     file: str
     name: str
 
 
 class Place(NamedTuple):
     """A line, and the function that it is in: '' outside functions."""
+
     file: str
     line: int
     function: str

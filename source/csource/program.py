@@ -19,14 +19,16 @@ from .workqueues import Workqueues
 @dataclass
 class Tables:
     """The tables of names."""
+
     waits: Waits = field(default_factory=Waits)
-    idioms: Idioms = field(default_factory=Idioms.read)
+    idioms: Idioms = field(default_factory=Idioms)
     harmless: Harmless = field(default_factory=Harmless)
 
 
 @dataclass
 class Ended:
     """An item that may end a wait: where it does, and the calls that lead there."""
+
     waker: Waker
     path: list[Edge]
 
@@ -39,6 +41,7 @@ class Ended:
 @dataclass
 class Ends:
     """What may end a wait: items, and code that no item reaches, by the functions that lead to it."""
+
     items: dict[FunctionId, Ended] = field(default_factory=dict)
     others: set[str] = field(default_factory=set)
 

@@ -9,6 +9,7 @@ from .places import FunctionId
 
 class Step(NamedTuple):
     """The call by which a function was reached first."""
+
     caller: FunctionId
     edge: Edge
 
@@ -47,7 +48,9 @@ def path_to(reached: Reached, function: FunctionId) -> list[Edge]:
 
 def path_text(path: list[Edge]) -> str:
     """FUNCTION:LINE of each call, and how it calls where it isn't by name."""
-    return " > ".join(f"{edge.place.function}:{edge.place.line}{'' if edge.how == DIRECT else ' ' + edge.how}" for edge in path)
+    return " > ".join(
+        f"{edge.place.function}:{edge.place.line}{'' if edge.how == DIRECT else ' ' + edge.how}" for edge in path
+    )
 
 
 def roots_of(graph: CallGraph, function: FunctionId) -> set[FunctionId]:

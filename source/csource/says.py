@@ -8,8 +8,9 @@ WIDTH = 120
 
 def wrapped(text: str, first: str = "", rest: str = "    ") -> str:
     """The text in lines; names and paths stay whole."""
-    return textwrap.fill(text, WIDTH, initial_indent=first, subsequent_indent=rest, break_long_words=False,
-                         break_on_hyphens=False)
+    return textwrap.fill(
+        text, WIDTH, initial_indent=first, subsequent_indent=rest, break_long_words=False, break_on_hyphens=False
+    )
 
 
 def note(to: TextIO, text: str) -> None:
@@ -20,8 +21,11 @@ def note(to: TextIO, text: str) -> None:
 def head(to: TextIO, what: str, files: int) -> None:
     """What an output is of, and what it never says."""
     note(to, f"wqsource: {what}.")
-    note(to, f"It lists places that may wait, along the calls that it could resolve in the {counted(files, 'file')} that it was "
-         "given. It never says that these are all. Nothing here is proved.")
+    note(
+        to,
+        f"It lists places that may wait, along the calls that it could resolve in the {counted(files, 'file')} that it "
+        "was given. It never says that these are all. Nothing here is proved.",
+    )
 
 
 def counted(number: int, one: str) -> str:

@@ -8,10 +8,11 @@ from . import ctext
 from .calls import DIRECT, CallGraph
 from .cells import Address, Workqueue, may_be_same
 from .ctext import Tokens
-from .facts import Call, Facts
+from .facts import Facts
 from .holds import Holds
 from .items import Items
 from .places import FunctionId, Place
+from .records import Call
 from .tables import Waits
 
 # Waits for an object that somebody signals; and those that name what they wait for.
@@ -24,6 +25,7 @@ MOST_WRAPPERS = 3
 
 class Key(NamedTuple):
     """What a decision is kept by: file, function, call and first argument, and no line."""
+
     file: str
     function: str
     call: str
@@ -37,9 +39,10 @@ class Key(NamedTuple):
 class Site:
     """A call that may sleep, with all its places in one function: who decides one of these decides them all.
 
-    `targets` are the items that it names itself, `objects` what it waits for otherwise, `lines` those of its calls and of the
-    sleep that belongs to it.
+    `targets` are the items that it names itself, `objects` what it waits for otherwise, `lines` those of its calls and
+    of the sleep that belongs to it.
     """
+
     key: Key
     kind: str
     lines: list[int] = field(default_factory=list)
@@ -61,6 +64,7 @@ class Site:
 
 class Waker(NamedTuple):
     """A call that signals an object, or gives an element back."""
+
     place: Place
     call: str
     objects: frozenset[Address]
@@ -68,6 +72,7 @@ class Waker(NamedTuple):
 
 class Lock(NamedTuple):
     """A call that takes a lock and may sleep."""
+
     place: Place
     call: str
     objects: frozenset[Address]
@@ -127,7 +132,7 @@ class Sites:
             self.add(call, kind, words)
 
     def lift(self, function: FunctionId, kind: str, words: Tokens, most: int) -> bool:
-        """If what is waited for is a parameter of the function, its calls are the sites: each says what it waits for."""
+        """If what is waited for is a parameter of the function, its calls are the sites: each names the object."""
         definition = self.facts.definitions.get(function)
         if definition is None or len(words) != 1 or words[0] not in definition.parameters or most == 0:
             return False
@@ -142,11 +147,14 @@ class Sites:
         return True
 
     def is_called_by_pointer(self, function: FunctionId) -> bool:
-        return any(edge.how != DIRECT for caller in self.graph.callers.get(function, ())
-                   for edge in self.graph.edges[caller][function])
+        return any(
+            edge.how != DIRECT
+            for caller in self.graph.callers.get(function, ())
+            for edge in self.graph.edges[caller][function]
+        )
 
     def take_sleep(self, call: Call) -> None:
-        """schedule(): the end of a wait that was prepared in this function; or else a wait of its own, for nothing that is named."""
+        """schedule(): the end of a wait that was prepared in this function, or else a wait for something unnamed."""
         for site in self.prepared.get(call.place.id, ()):
             site.lines.append(call.place.line)
         if call.place.id not in self.prepared and call.place.id not in self.hands_on:
@@ -154,7 +162,9 @@ class Sites:
 
     def add(self, call: Call, kind: str, words: Tokens) -> None:
         """Notes a site, or one more line of it."""
-        site = self.by_key.setdefault(key_of(call), Site(key_of(call), "done" if kind in ("event", "prepare") else kind))
+        site = self.by_key.setdefault(
+            key_of(call), Site(key_of(call), "done" if kind in ("event", "prepare") else kind)
+        )
         site.lines.append(call.place.line)
         if kind == "flushwq":
             site.workqueues |= self.named(call, kind, words)

@@ -2,7 +2,7 @@
 
 import pathlib
 import re
-from dataclasses import dataclass, field
+from dataclasses import dataclass
 from typing import Iterator
 
 FOLDER = pathlib.Path(__file__).resolve().parent.parent
@@ -29,6 +29,7 @@ def rows(path: pathlib.Path) -> Iterator[tuple[int, list[str]]]:
 @dataclass(frozen=True)
 class Kind:
     """What a call is, and which argument names its object: from 0, or -1 for the last."""
+
     name: str
     argument: int = 0
 
@@ -37,8 +38,24 @@ class Kind:
         return arguments[self.argument] if -1 <= self.argument < len(arguments) and arguments else []
 
 
-KINDS = ("item", "queue", "workqueue", "flush", "cancel", "flushwq", "event", "done", "prepare", "sleep", "wake", "pool", "give",
-         "lock", "never", "other")
+KINDS = (
+    "item",
+    "queue",
+    "workqueue",
+    "flush",
+    "cancel",
+    "flushwq",
+    "event",
+    "done",
+    "prepare",
+    "sleep",
+    "wake",
+    "pool",
+    "give",
+    "lock",
+    "never",
+    "other",
+)
 NOWAIT = "nowait"
 NONE = Kind("none")
 
@@ -74,35 +91,41 @@ class Waits:
         return any(word in self.nowait for words in arguments for word in words)
 
 
-@dataclass
 class Idioms:
     """idioms.txt: who calls what it is handed, or what its object holds."""
-    now: list[str] = field(default_factory=list)
-    later: list[str] = field(default_factory=list)
-    atomic: list[str] = field(default_factory=list)
-    members: list[tuple[re.Pattern[str], str, str]] = field(default_factory=list)
-    stacked: list[tuple[re.Pattern[str], str, str]] = field(default_factory=list)
-    kept: list[tuple[str, re.Pattern[str]]] = field(default_factory=list)
 
-    @staticmethod
-    def read(path: pathlib.Path = FOLDER / "idioms.txt") -> "Idioms":
-        found = Idioms()
-        for number, (word, *names) in rows(path):
-            if word in ("now", "later", "atomic"):
-                getattr(found, word).extend(names)
-            elif word in ("member", "stacked") and len(names) == 3:
-                (found.members if word == "member" else found.stacked).append((pattern(names[:1]), names[1], names[2]))
-            elif word == "kept" and len(names) > 1:
-                found.kept.append((names[0], pattern(names[1:])))
+    def __init__(self, path: pathlib.Path = FOLDER / "idioms.txt") -> None:
+        names: dict[str, list[str]] = {"now": [], "later": [], "atomic": []}
+        self.members: list[tuple[re.Pattern[str], str, str]] = []
+        self.stacked: list[tuple[re.Pattern[str], str, str]] = []
+        self.kept: list[tuple[str, re.Pattern[str]]] = []
+        for number, (word, *given) in rows(path):
+            if word in names:
+                names[word] += given
+            elif word in ("member", "stacked") and len(given) == 3:
+                (self.members if word == "member" else self.stacked).append((pattern(given[:1]), given[1], given[2]))
+            elif word == "kept" and len(given) > 1:
+                self.kept.append((given[0], pattern(given[1:])))
             else:
                 raise TableError(f"{path}:{number}: no line of idioms.txt has this form")
-        found.is_now, found.is_later, found.is_atomic = (
-            pattern(found.now).fullmatch, pattern(found.later).fullmatch, pattern(found.atomic).fullmatch)
-        return found
+        self.now, self.later, self.atomic = (pattern(names[word]) for word in ("now", "later", "atomic"))
+
+    def is_now(self, call: str) -> bool:
+        """Whether it calls a function among its arguments before it returns."""
+        return self.now.fullmatch(call) is not None
+
+    def is_later(self, call: str) -> bool:
+        """Whether it keeps the function for others to call."""
+        return self.later.fullmatch(call) is not None
+
+    def is_atomic(self, call: str) -> bool:
+        """Whether what it calls can't sleep."""
+        return self.atomic.fullmatch(call) is not None
 
 
 class Harmless:
     """harmless.txt: names that wait for nothing."""
+
     CAPITALS = re.compile(r"[A-Z_0-9]+")
 
     def __init__(self, path: pathlib.Path = FOLDER / "harmless.txt") -> None:

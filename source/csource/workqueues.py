@@ -5,8 +5,9 @@ from dataclasses import dataclass
 
 from . import ctext
 from .ctext import Tokens
-from .facts import Call, Facts
+from .facts import Facts
 from .items import is_system
+from .records import Call
 from .tables import Waits
 
 # These pass WQ_MEM_RECLAIM themselves.
@@ -18,6 +19,7 @@ NO_RESCUER = "NO WQ_MEM_RECLAIM: no rescuer"
 @dataclass
 class Made:
     """A call that makes a workqueue, and what its result is assigned to."""
+
     call: Call
     to: str = ""
 
@@ -69,5 +71,8 @@ class Workqueues:
     def assigned(self, call: Call) -> list[Tokens]:
         """What the function assigns to variables that the call is given: flags may be kept there."""
         names = {words[0] for words in call.arguments if words and ctext.is_name(words[0]) and words[0].islower()}
-        return [right for place, left, right in self.facts.assignments
-                if place.id == call.place.id and len(left) == 1 and left[0] in names]
+        return [
+            right
+            for place, left, right in self.facts.assignments
+            if place.id == call.place.id and len(left) == 1 and left[0] in names
+        ]

@@ -44,9 +44,10 @@ def read(cache):
 def drafted(read):
     """drafted(files, tree): what a draft says of C files, as sets that a test writes down by hand.
 
-    `items`: the workqueues of each item. `flushes`: (line, FILE:LINE) of each flush whose target is known. `open`: of each
-    site to decide, as (FILE:LINE, CALL(ARGUMENT)), the items that reach it and those that may end it.
+    `items`: the workqueues of each item. `flushes`: (line, FILE:LINE) of each flush whose target is known. `open`: of
+    each site to decide, as (FILE:LINE, CALL(ARGUMENT)), the items that reach it and those that may end it.
     """
+
     def draft_of(*files, tree=C_FILES):
         found = draft.Draft(read(tree, list(files)), [])
         name, workqueue = (lambda function: found.program.item(function).name), found.program.workqueues.name
@@ -54,15 +55,24 @@ def drafted(read):
         return Drafted(
             {item.name: {workqueue(one) for one in item.workqueues} for item in found.all_items()},
             {(f"{line.word} {name(line.item)} {name(line.target)}", at(line.site)) for line in found.lines},
-            {(at(one.site), f"{one.site.key.call}({one.site.key.argument})"): (set(map(name, one.ways)), set(map(name, one.targets)))
-             for one in found.open.values()})
+            {
+                (at(one.site), f"{one.site.key.call}({one.site.key.argument})"): (
+                    set(map(name, one.ways)),
+                    set(map(name, one.targets)),
+                )
+                for one in found.open.values()
+            },
+        )
+
     return draft_of
 
 
 @pytest.fixture
 def wqsource():
     """wqsource(words ..): starts it."""
+
     def start(*words, cwd=ROOT, env=None):
         ran = programs.run([str(ROOT / "source" / "wqsource"), *map(str, words)], cwd=cwd, env=env, capture_output=True)
         return Ran(ran.returncode, ran.stdout.decode(), ran.stderr.decode())
+
     return start

@@ -19,7 +19,7 @@ def change(path, line, random):
     lines = lines_of(path)
     names = [match for match in re.finditer(r"[A-Za-z_]\w*", lines[line - 1]) if match[0] not in KEYWORDS]
     match = random.choice(names)
-    lines[line - 1] = lines[line - 1][:match.start()] + match[0] + "_else" + lines[line - 1][match.end():]
+    lines[line - 1] = lines[line - 1][: match.start()] + match[0] + "_else" + lines[line - 1][match.end() :]
     write(path, lines)
 
 
@@ -32,7 +32,7 @@ def delete(path, line):
 def insert_above(path, line, count):
     """Comments above a line: it and all below it move."""
     lines = lines_of(path)
-    lines[line - 1:line - 1] = ["/* a comment */"] * count
+    lines[line - 1 : line - 1] = ["/* a comment */"] * count
     write(path, lines)
 
 

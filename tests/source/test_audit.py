@@ -13,12 +13,14 @@ DECIDED = (RDISK / "rdisk.wq").read_text() + "# no wait: rdisk.c rdisk_log submi
 @pytest.fixture
 def audit(wqsource, tmp_path):
     """audit(text, files): the lines that aren't comments, continued ones in one, and the status."""
+
     def audited(text, *files, tree=RDISK, words=()):
         (tmp_path / "x.wq").write_text(text)
         ran = wqsource("audit", "--decl", tmp_path / "x.wq", "--tree", tree, *words, *files)
         assert ran.err == ""
         said = re.sub(r"\n {4,}", " ", ran.out.replace(f"{tmp_path}/", ""))
         return said.splitlines(), ran.status
+
     return audited
 
 
@@ -37,8 +39,11 @@ def test_a_wait_that_no_line_cites_is_left(audit):
     said, status = audit(DECIDED.replace("# rdisk.c:27 rdisk_reconnect: flush_work", ""), "rdisk.c")
     assert status == 1
     at = said.index("left: rdisk.c:27 rdisk_reconnect: flush_work(&rd->send_work)  [flush]")
-    assert said[at + 1:at + 4] == [
-        "  in reach of reconnect", "  waits for send", "  # no wait: rdisk.c rdisk_reconnect flush_work(&rd->send_work): "]
+    assert said[at + 1 : at + 4] == [
+        "  in reach of reconnect",
+        "  waits for send",
+        "  # no wait: rdisk.c rdisk_reconnect flush_work(&rd->send_work): ",
+    ]
 
 
 def test_a_dismissal_is_kept_by_function_and_call(audit, tmp_path):
@@ -52,7 +57,9 @@ def test_a_dismissal_is_kept_by_function_and_call(audit, tmp_path):
     said, status = audit(DECIDED, "rdisk.c", tree=tmp_path)
     assert status == 1
     assert those(said, "left") == ["left: rdisk.c:18 rdisk_log: submit_bio_wait(rd->bio)  [other]"]
-    assert those(said, "x.wq") == ["x.wq:8: dismisses rdisk.c rdisk_log submit_bio_wait(rd->record), which isn't in reach"]
+    assert those(said, "x.wq") == [
+        "x.wq:8: dismisses rdisk.c rdisk_log submit_bio_wait(rd->record), which isn't in reach"
+    ]
 
 
 def test_a_dismissed_call_is_not_followed(audit):
@@ -61,7 +68,9 @@ def test_a_dismissed_call_is_not_followed(audit):
     said, status = audit(items, "callback.c", tree=C_FILES)
     assert those(said, "left") == ["left: callback.c:4 cb_sleeps: flush_work(&c->other_work)  [flush]"] and status == 1
     assert "  in reach of cb_work, by cb_work:16 > cb_apply:9 *call" in said
-    said, status = audit(items + "# no wait: callback.c cb_work cb_apply(c): it is never taken\n", "callback.c", tree=C_FILES)
+    said, status = audit(
+        items + "# no wait: callback.c cb_work cb_apply(c): it is never taken\n", "callback.c", tree=C_FILES
+    )
     assert not those(said, "left") and status == 0
 
 
@@ -79,8 +88,10 @@ def test_citations_that_do_not_fit(audit):
 def test_a_file_name_that_two_files_have(audit, tmp_path):
     for folder in ("a", "b"):
         (tmp_path / folder).mkdir()
-        (tmp_path / folder / "x.c").write_text(f"static void {folder}_work(struct work_struct *work)\n{{\n\tflush_work(&{folder}.other);\n}}\n\n"
-                                               f"void {folder}_init(void)\n{{\n\tINIT_WORK(&{folder}.work, {folder}_work);\n}}\n")
+        (tmp_path / folder / "x.c").write_text(
+            f"static void {folder}_work(struct work_struct *work)\n{{\n\tflush_work(&{folder}.other);\n}}\n\n"
+            f"void {folder}_init(void)\n{{\n\tINIT_WORK(&{folder}.work, {folder}_work);\n}}\n"
+        )
     files = ("a/x.c", "b/x.c")
     said, status = audit("item a_work\n# x.c:3\n", *files, tree=tmp_path)
     assert those(said, "x.wq") == ["x.wq:2: cites x.c:3, which may be any of a/x.c b/x.c"] and status == 1
@@ -91,14 +102,20 @@ def test_a_file_name_that_two_files_have(audit, tmp_path):
 
 
 def test_items(audit):
-    """An item is its name, or the first work function that its comment names; `.lower` and `.upper` are one function."""
-    for text in ("item ti_second\n", "item b  # ti_second\n", "item ti_second.lower\nitem ti_second.upper\n",
-                 "item x.lower  # ti_second\nitem x.upper\n"):
+    """An item is its name, or the first work function of its comment; `.lower` and `.upper` are one function."""
+    for text in (
+        "item ti_second\n",
+        "item b  # ti_second\n",
+        "item ti_second.lower\nitem ti_second.upper\n",
+        "item x.lower  # ti_second\nitem x.upper\n",
+    ):
         said, status = audit(text, "two_inits.c", tree=C_FILES)
         assert those(said, "left") == ["left: two_inits.c:10 ti_second: cancel_work_sync(&t->first_work)  [cancel]"]
         assert status == 1
     said, status = audit("item nobody  # ti_start\n", "two_inits.c", tree=C_FILES)
-    assert those(said, "x.wq")[0].startswith("x.wq:1: item nobody: neither its name nor its comment names a work function")
+    assert those(said, "x.wq")[0].startswith(
+        "x.wq:1: item nobody: neither its name nor its comment names a work function"
+    )
     assert status == 1
 
 
@@ -107,14 +124,19 @@ def test_an_item_beside_a_declared_one(audit, tmp_path):
     text = (RDISK / "rdisk.c").read_text()
     without = "\n".join(line for line in DECIDED.split("\n") if "reconnect" not in line)
     said, status = audit(without, "rdisk.c")
-    assert "not declared, on the workqueue of a declared item: rdisk_reconnect (rdisk.c), on rdisk, reaches 1 site" in said
+    assert (
+        "not declared, on the workqueue of a declared item: rdisk_reconnect (rdisk.c), on rdisk, reaches 1 site" in said
+    )
     assert "not declared, on other workqueues: " not in "".join(said) and status == 1
     said, status = audit(without + "# no item: rdisk.c rdisk_reconnect: it is never queued\n", "rdisk.c")
     assert not those(said, "not declared, on the workqueue") and status == 0
     # one that doesn't wait needs no decision
     (tmp_path / "rdisk.c").write_text(text.replace("\tflush_work(&rd->send_work);\n", "\n"))
     said, status = audit(without, "rdisk.c", tree=tmp_path)
-    assert "not declared, on the workqueue of a declared item: rdisk_reconnect (rdisk.c), on rdisk, reaches no site" in said
+    assert (
+        "not declared, on the workqueue of a declared item: rdisk_reconnect (rdisk.c), on rdisk, reaches no site"
+        in said
+    )
     assert status == 0
 
 
@@ -134,11 +156,12 @@ def test_files_of_the_declaration(audit):
 
 
 def test_locks_and_what_was_not_followed(audit, tmp_path):
-    (tmp_path / "l.c").write_text("static void l_work(struct work_struct *work)\n{\n\tmutex_lock(&l->lock);\n\tl_far_away(l);\n"
-                                  "\tl->ops->end(l);\n\tkfree(l);\n}\n\nvoid l_init(struct l *l)\n{\n\tINIT_WORK(&l->work, l_work);\n}\n")
+    (tmp_path / "l.c").write_text(
+        "static void l_work(struct work_struct *work)\n{\n\tmutex_lock(&l->lock);\n\tl_far_away(l);\n"
+        "\tl->ops->end(l);\n\tkfree(l);\n}\n\nvoid l_init(struct l *l)\n{\n\tINIT_WORK(&l->work, l_work);\n}\n"
+    )
     said, status = audit("item l_work\n", "l.c", tree=tmp_path)
-    assert "locks in reach, which are waits if the holder waits: l.lock (l.c:3)" in said or (
-        "locks in reach, which are waits if the holder waits: ?.lock (l.c:3)" in said)
+    assert "locks in reach, which are waits if the holder waits: ?.lock (l.c:3 l_work)" in said
     assert "not followed, for the files don't have them: l_far_away" in said
     assert "not followed, for no function of the files is known to stand there: ->end" in said
     assert status == 0

@@ -10,8 +10,14 @@ def test_swallowed_functions(read, wqsource):
     # Coccinelle has neither function ..
     assert {function.name for function in program.facts.definitions} == {"sw_end", "sw_init"}
     # .. and both calls are told, as well as the items whose functions are missing
-    missed = {(call.place.line, call.place.function, call.call, call.argument) for call in missed_calls(program.facts, Waits())}
-    assert missed == {(7, "sw_first", "wait_for_completion", "&s->done"), (15, "sw_second", "cancel_work_sync", "&s->end_work")}
+    missed = {
+        (call.place.line, call.place.function, call.call, call.argument)
+        for call in missed_calls(program.facts, Waits())
+    }
+    assert missed == {
+        (7, "sw_first", "wait_for_completion", "&s->done"),
+        (15, "sw_second", "cancel_work_sync", "&s->end_work"),
+    }
     said = wqsource("draft", "--tree", C_FILES, "swallowed.c").out
     assert "? item swallowed.c:24 sw_init" in said and "? item swallowed.c:25 sw_init" in said
     assert "? not parsed swallowed.c:7 sw_first" in said and "? not parsed swallowed.c:15 sw_second" in said
@@ -22,9 +28,11 @@ def test_left_until_dismissed(wqsource, tmp_path):
     declaration.write_text("item sw_end\n")
     ran = wqsource("audit", "--decl", declaration, "--tree", C_FILES, "swallowed.c")
     assert ran.status == 1 and ran.out.count("not parsed: ") == 2
-    declaration.write_text("item sw_end\n"
-                           "# no wait: swallowed.c sw_first wait_for_completion(&s->done): a test\n"
-                           "# no wait: swallowed.c sw_second cancel_work_sync(&s->end_work): a test\n")
+    declaration.write_text(
+        "item sw_end\n"
+        "# no wait: swallowed.c sw_first wait_for_completion(&s->done): a test\n"
+        "# no wait: swallowed.c sw_second cancel_work_sync(&s->end_work): a test\n"
+    )
     ran = wqsource("audit", "--decl", declaration, "--tree", C_FILES, "swallowed.c")
     assert ran.status == 0 and "not parsed" not in ran.out
 

@@ -2,12 +2,10 @@
 
 import io
 import os
-import pathlib
-import stat
 
 import pytest
 
-from conftest import C_FILES, ROOT
+from conftest import ROOT
 from csource import progress
 from csource.tables import Idioms, TableError, Waits, pattern
 
@@ -21,11 +19,15 @@ def test_statuses(wqsource, tmp_path):
     ran = wqsource("--help")
     assert ran.status == 0 and "audit" in ran.out and "drift" in ran.out and "draft" in ran.out
     for words, said in (
-            (("audit", "--decl", tmp_path / "none.wq", "--tree", RDISK, "rdisk.c"), "none.wq"),
-            (("audit", "--decl", RDISK / "rdisk.wq", "--tree", RDISK, "none.c"), "none.c: no such file"),
-            (("audit", "--decl", RDISK / "rdisk.wq", "--tree", tmp_path / "none", "rdisk.c"), "none: no such folder"),
-            (("audit", "--decl", RDISK / "rdisk.wq", "--tree", RDISK), "no file is given, and the declaration has no `# files:` line"),
-            (("draft", "--only", "nobody", "--tree", RDISK, "--", "rdisk.c"), "nobody")):
+        (("audit", "--decl", tmp_path / "none.wq", "--tree", RDISK, "rdisk.c"), "none.wq"),
+        (("audit", "--decl", RDISK / "rdisk.wq", "--tree", RDISK, "none.c"), "none.c: no such file"),
+        (("audit", "--decl", RDISK / "rdisk.wq", "--tree", tmp_path / "none", "rdisk.c"), "none: no such folder"),
+        (
+            ("audit", "--decl", RDISK / "rdisk.wq", "--tree", RDISK),
+            "no file is given, and the declaration has no `# files:` line",
+        ),
+        (("draft", "--only", "nobody", "--tree", RDISK, "--", "rdisk.c"), "nobody"),
+    ):
         ran = wqsource(*words)
         assert ran.status == 3 and said in ran.err and ran.out == "", words
 
@@ -35,7 +37,11 @@ def only(tmp_path, *programs):
     folder = tmp_path / "bin"
     folder.mkdir()
     for name in programs:
-        found = next(os.path.join(place, name) for place in os.environ["PATH"].split(":") if os.access(os.path.join(place, name), os.X_OK))
+        found = next(
+            os.path.join(place, name)
+            for place in os.environ["PATH"].split(":")
+            if os.access(os.path.join(place, name), os.X_OK)
+        )
         (folder / name).symlink_to(found)
     return {**os.environ, "PATH": str(folder)}
 
@@ -49,7 +55,10 @@ def test_without_coccinelle(wqsource, tmp_path):
     env = only(tmp_path, "sh", "dirname", "readlink")
     (tmp_path / "bin" / "python3").symlink_to("/usr/bin/python3")
     ran = wqsource("draft", "--cache", tmp_path / "cache", "--tree", RDISK, "rdisk.c", env=env)
-    assert ran.status == 3 and ran.err == "wqsource: spatch isn't on the PATH. It is Coccinelle's: apt-get install coccinelle\n"
+    assert (
+        ran.status == 3
+        and ran.err == "wqsource: spatch isn't on the PATH. It is Coccinelle's: apt-get install coccinelle\n"
+    )
 
 
 def test_a_spatch_that_fails(wqsource, tmp_path):
@@ -57,8 +66,15 @@ def test_a_spatch_that_fails(wqsource, tmp_path):
     folder.mkdir()
     (folder / "spatch").write_text("#!/bin/sh\necho 'cannot go on' >&2\nexit 9\n")
     (folder / "spatch").chmod(0o755)
-    ran = wqsource("draft", "--cache", tmp_path / "cache", "--tree", RDISK, "rdisk.c",
-                   env={**os.environ, "PATH": f"{folder}:{os.environ['PATH']}"})
+    ran = wqsource(
+        "draft",
+        "--cache",
+        tmp_path / "cache",
+        "--tree",
+        RDISK,
+        "rdisk.c",
+        env={**os.environ, "PATH": f"{folder}:{os.environ['PATH']}"},
+    )
     assert ran.status == 3 and ran.err == f"wqsource: spatch fails on {RDISK}/rdisk.c (9): cannot go on\n"
     assert not [path for path in (tmp_path / "cache").rglob("*") if path.is_file()]
 
@@ -85,7 +101,9 @@ class Terminal(io.StringIO):
         return True
 
 
-@pytest.mark.parametrize("to,wanted", [(io.StringIO(), "wqsource: two\n"), (Terminal(), "\rwqsource: two\r             \r")])
+@pytest.mark.parametrize(
+    "to,wanted", [(io.StringIO(), "wqsource: two\n"), (Terminal(), "\rwqsource: two\r             \r")]
+)
 def test_progress(monkeypatch, to, wanted):
     """Nothing for two seconds; then a line, which a terminal loses again."""
     now = [100.0]
@@ -113,8 +131,12 @@ def test_tables(tmp_path):
             Waits(table)
     table.write_text("member a b\n")
     with pytest.raises(TableError, match=r"waits.txt:1: "):
-        Idioms.read(table)
-    assert pattern(["a*", "b"]).fullmatch("a_1") and not pattern(["a*", "b"]).fullmatch("b_1") and not pattern([]).fullmatch("")
+        Idioms(table)
+    assert (
+        pattern(["a*", "b"]).fullmatch("a_1")
+        and not pattern(["a*", "b"]).fullmatch("b_1")
+        and not pattern([]).fullmatch("")
+    )
 
 
 def test_kinds_of_the_kernels_calls():
@@ -122,20 +144,25 @@ def test_kinds_of_the_kernels_calls():
     waits = Waits()
     wanted = {
         "flush": "flush_work flush_delayed_work flush_rcu_work kthread_flush_work",
-        "flushwq": "flush_workqueue drain_workqueue destroy_workqueue kthread_flush_worker kthread_destroy_worker flush_scheduled_work",
+        "flushwq": "flush_workqueue drain_workqueue destroy_workqueue kthread_flush_worker kthread_destroy_worker "
+        "flush_scheduled_work",
         "done": "wait_for_completion wait_for_completion_io wait_for_completion_timeout wait_on_bit",
         "event": "wait_event wait_event_timeout wait_event_interruptible",
         "sleep": "schedule io_schedule schedule_timeout",
         "pool": "mempool_alloc bio_alloc_bioset",
         "cancel": "cancel_work_sync cancel_delayed_work_sync kthread_cancel_work_sync",
         "lock": "mutex_lock down down_read down_write",
-        "other": "lock_page lock_buffer blk_mq_freeze_queue submit_bio submit_bio_wait filemap_fdatawrite invalidate_inode_pages2 "
-                 "truncate_pagecache iput schedule_on_each_cpu work_on_cpu vfs_fsync synchronize_srcu blk_mq_alloc_request dm_io "
-                 "blkdev_issue_flush kernel_sendmsg sb_start_write del_gendisk balance_dirty_pages_ratelimited",
-        "never": "cancel_work cancel_delayed_work msleep synchronize_rcu rcu_barrier mutex_trylock mutex_unlock wake_up_process_wait",
-        "queue": "queue_work mod_delayed_work schedule_work queue_delayed_work kthread_queue_work kblockd_schedule_work",
-        "item": "INIT_WORK INIT_DELAYED_WORK INIT_DEFERRABLE_WORK INIT_RCU_WORK INIT_WORK_ONSTACK kthread_init_work btrfs_init_work",
+        "other": "lock_page lock_buffer blk_mq_freeze_queue submit_bio submit_bio_wait filemap_fdatawrite "
+        "invalidate_inode_pages2 truncate_pagecache iput schedule_on_each_cpu work_on_cpu vfs_fsync synchronize_srcu "
+        "blk_mq_alloc_request dm_io blkdev_issue_flush kernel_sendmsg sb_start_write del_gendisk "
+        "balance_dirty_pages_ratelimited",
+        "never": "cancel_work cancel_delayed_work msleep synchronize_rcu rcu_barrier mutex_trylock mutex_unlock",
+        "wake": "wake_up wake_up_process complete complete_all",
+        "queue": "queue_work mod_delayed_work schedule_work queue_delayed_work kthread_queue_work "
+        "kblockd_schedule_work",
+        "item": "INIT_WORK INIT_DELAYED_WORK INIT_DEFERRABLE_WORK INIT_RCU_WORK INIT_WORK_ONSTACK kthread_init_work "
+        "btrfs_init_work",
         "workqueue": "alloc_workqueue alloc_ordered_workqueue create_singlethread_workqueue kthread_create_worker",
     }
     found = {name: waits.kind(name).name for names in wanted.values() for name in names.split()}
-    assert found == {name: kind for kind, names in wanted.items() for name in names.split()} | {"wake_up_process_wait": "wake"}
+    assert found == {name: kind for kind, names in wanted.items() for name in names.split()}

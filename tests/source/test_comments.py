@@ -10,11 +10,19 @@ NAMES = st.from_regex(r"[a-z_][a-z0-9_]{0,20}", fullmatch=True)
 FILES = st.lists(NAMES, min_size=1, max_size=3).map(lambda parts: "/".join(parts) + ".c")
 LINES = st.integers(1, 99999)
 # a pointer, a member, an address, a call: without blanks, as a site is printed
-ARGUMENTS = st.one_of(st.just(""), NAMES, st.builds("&{}->{}".format, NAMES, NAMES), st.builds("&{}->{}.{}".format, NAMES, NAMES, NAMES),
-                      st.builds("{}({})->{}".format, NAMES, NAMES, NAMES), st.builds("&{}[{}]".format, NAMES, NAMES))
+ARGUMENTS = st.one_of(
+    st.just(""),
+    NAMES,
+    st.builds("&{}->{}".format, NAMES, NAMES),
+    st.builds("&{}->{}.{}".format, NAMES, NAMES, NAMES),
+    st.builds("{}({})->{}".format, NAMES, NAMES, NAMES),
+    st.builds("&{}[{}]".format, NAMES, NAMES),
+)
 WHY = st.from_regex(r"[a-z]([a-z ,.:()#-]{0,40}[a-z.])?", fullmatch=True)
 # what may stand around citations and is none: no number, no bracket
-PROSE = st.lists(st.sampled_from(["done", "by", "the", "work", "of", "it;", "flush", "queued to x at"]), max_size=4).map(" ".join)
+PROSE = st.lists(
+    st.sampled_from(["done", "by", "the", "work", "of", "it;", "flush", "queued to x at"]), max_size=4
+).map(" ".join)
 
 
 @given(FILES, NAMES, NAMES, ARGUMENTS, WHY, st.integers(0, 3))
@@ -31,8 +39,10 @@ def test_a_reason_may_cite():
     text = "# no wait: x.c f g(a): it has started at y.c:7 h (12 k)"
     found = Declaration.of("x.wq", text)
     assert [(one.file, one.line, one.function, one.decides) for one in found.citations] == [
-        ("y.c", 7, "h", False), ("y.c", 12, "k", False)]
-    assert [text[one.column:].startswith(str(one.line)) for one in found.citations] == [True, True]
+        ("y.c", 7, "h", False),
+        ("y.c", 12, "k", False),
+    ]
+    assert [text[one.column :].startswith(str(one.line)) for one in found.citations] == [True, True]
 
 
 @given(FILES, NAMES, WHY)
@@ -47,10 +57,11 @@ def test_citations_round_trip(cited, prose):
     comment = "; ".join(f"{prose} {file}:{line} {function}" for file, line, function in cited)
     found = Declaration.of("x.wq", f"flush a b  # {comment}").citations
     assert [(one.number, one.file, one.line, one.last, one.function) for one in found] == [
-        (1, file, line, line, function) for file, line, function in cited]
+        (1, file, line, line, function) for file, line, function in cited
+    ]
     # the column is where the number stands
     text = f"flush a b  # {comment}"
-    assert [text[one.column:].startswith(str(one.line)) for one in found] == [True] * len(cited)
+    assert [text[one.column :].startswith(str(one.line)) for one in found] == [True] * len(cited)
 
 
 @given(FILES, st.lists(LINES, min_size=1, max_size=4), NAMES)
@@ -78,15 +89,27 @@ def cited(text):
 
 def test_forms_of_the_examples():
     assert cited("# done io-cmd-file.c:238 nvmet_file_execute_rw: an element comes back") == [
-        ("io-cmd-file.c", 238, 238, "nvmet_file_execute_rw")]
+        ("io-cmd-file.c", 238, 238, "nvmet_file_execute_rw")
+    ]
     assert cited("# flush auth.c:916 nvme_auth_wait, 872 nvme_auth_negotiate, from fabrics.c:437, 512") == [
-        ("auth.c", 916, 916, "nvme_auth_wait"), ("auth.c", 872, 872, "nvme_auth_negotiate"), ("fabrics.c", 437, 437, None),
-        ("fabrics.c", 512, 512, None)]
+        ("auth.c", 916, 916, "nvme_auth_wait"),
+        ("auth.c", 872, 872, "nvme_auth_negotiate"),
+        ("fabrics.c", 437, 437, None),
+        ("fabrics.c", 512, 512, None),
+    ]
     assert cited("# (tcp.c:2291, 2334, core.c:216), core.c:511-515") == [
-        ("tcp.c", 2291, 2291, None), ("tcp.c", 2334, 2334, None), ("core.c", 216, 216, None), ("core.c", 511, 515, None)]
+        ("tcp.c", 2291, 2291, None),
+        ("tcp.c", 2334, 2334, None),
+        ("core.c", 216, 216, None),
+        ("core.c", 511, 515, None),
+    ]
     # a number in brackets is a line of the file before it; after a blank line there is none before it
     assert cited("# x.c:9 f ends it (1631 g)\n# and (12, 13)") == [
-        ("x.c", 9, 9, "f"), ("x.c", 1631, 1631, "g"), ("x.c", 12, 12, None), ("x.c", 13, 13, None)]
+        ("x.c", 9, 9, "f"),
+        ("x.c", 1631, 1631, "g"),
+        ("x.c", 12, 12, None),
+        ("x.c", 13, 13, None),
+    ]
     assert cited("# x.c:9 f\n\n# (16 elements)") == [("x.c", 9, 9, "f")]
 
 
@@ -97,7 +120,12 @@ def test_no_citations():
 
 
 def test_malformed_dismissals():
-    for text in ("# no wait: x.c f wait()", "# no wait: x.c f: why", "# no wait: x.c f wait(a): ", "# no item: x.c: why"):
+    for text in (
+        "# no wait: x.c f wait()",
+        "# no wait: x.c f: why",
+        "# no wait: x.c f wait(a): ",
+        "# no item: x.c: why",
+    ):
         found = Declaration.of("x.wq", text)
         assert found.malformed == [1] and not found.dismissals and not found.dismissed_items
     # no comment of its own: the words before it count

@@ -1,6 +1,5 @@
 """Faults with a fixed seed, each of which `drift` must tell, and changes of which it must tell the new numbers."""
 
-import pathlib
 import re
 import shutil
 
@@ -40,12 +39,29 @@ flush ops_work ops_end_work  # done ops.c:4 ops_stop, at ops.c:20 ops_work, by o
 """
 
 # What the work functions reach, by reading. None of them queues or waits through others.
-REACHED = [("rdisk.c", "rdisk_send"), ("rdisk.c", "rdisk_log"), ("rdisk.c", "rdisk_reconnect"), ("callback.c", "cb_work"),
-           ("callback.c", "cb_apply"), ("callback.c", "cb_sleeps"), ("pool.c", "pool_take_work"), ("pool.c", "pool_give_work"),
-           ("two_inits.c", "ti_first"), ("two_inits.c", "ti_second"), ("macro.c", "macro_work"), ("ops.c", "ops_stop"),
-           ("ops.c", "ops_work"), ("ops.c", "ops_end_work")]
-UNREACHED = [("rdisk.c", "rdisk_receive"), ("rdisk.c", "rdisk_start"), ("pool.c", "pool_wait_work"), ("two_inits.c", "ti_start"),
-             ("ops.c", "ops_start")]
+REACHED = [
+    ("rdisk.c", "rdisk_send"),
+    ("rdisk.c", "rdisk_log"),
+    ("rdisk.c", "rdisk_reconnect"),
+    ("callback.c", "cb_work"),
+    ("callback.c", "cb_apply"),
+    ("callback.c", "cb_sleeps"),
+    ("pool.c", "pool_take_work"),
+    ("pool.c", "pool_give_work"),
+    ("two_inits.c", "ti_first"),
+    ("two_inits.c", "ti_second"),
+    ("macro.c", "macro_work"),
+    ("ops.c", "ops_stop"),
+    ("ops.c", "ops_work"),
+    ("ops.c", "ops_end_work"),
+]
+UNREACHED = [
+    ("rdisk.c", "rdisk_receive"),
+    ("rdisk.c", "rdisk_start"),
+    ("pool.c", "pool_wait_work"),
+    ("two_inits.c", "ti_start"),
+    ("ops.c", "ops_start"),
+]
 
 
 @pytest.fixture
@@ -54,7 +70,9 @@ def trees(tmp_path):
     for name in ("old", "new"):
         (tmp_path / name).mkdir()
         for file in FILES:
-            shutil.copy(ROOT / "examples" / "rdisk" / file if file == "rdisk.c" else C_FILES / file, tmp_path / name / file)
+            shutil.copy(
+                ROOT / "examples" / "rdisk" / file if file == "rdisk.c" else C_FILES / file, tmp_path / name / file
+            )
     return tmp_path / "old", tmp_path / "new"
 
 
@@ -62,6 +80,7 @@ def trees(tmp_path):
 def compare(read):
     def compared(old, new):
         return Drift(Declaration.of("x.wq", DECLARATION), read(old, FILES), read(new, FILES))
+
     return compared
 
 
@@ -77,8 +96,14 @@ def told(drift):
 def test_the_declaration_cites_what_it_says():
     """The lines were copied by hand: they have the calls that the comments mean."""
     assert len(cited_lines()) == 17
-    for (file, line), call in {("rdisk.c", 9): "wait_for_completion", ("callback.c", 4): "flush_work", ("pool.c", 6): "mempool_alloc",
-                               ("two_inits.c", 10): "cancel_work_sync", ("ops.c", 27): "complete", ("macro.c", 20): "wake_up"}.items():
+    for (file, line), call in {
+        ("rdisk.c", 9): "wait_for_completion",
+        ("callback.c", 4): "flush_work",
+        ("pool.c", 6): "mempool_alloc",
+        ("two_inits.c", 10): "cancel_work_sync",
+        ("ops.c", 27): "complete",
+        ("macro.c", 20): "wake_up",
+    }.items():
         path = ROOT / "examples" / "rdisk" / file if file == "rdisk.c" else C_FILES / file
         assert call in faults.lines_of(path)[line - 1]
 
@@ -118,19 +143,29 @@ def test_moved_lines_have_their_new_numbers(trees, compare, at):
     above, count = random.randint(1, line), random.randint(1, 30)
     faults.insert_above(trees[1] / file, above, count)
     assert told(compare(*trees)) == {
-        (f, n): (("moved", n + count) if f == file and n >= above else ("same", n)) for f, n in cited_lines()}
+        (f, n): (("moved", n + count) if f == file and n >= above else ("same", n)) for f, n in cited_lines()
+    }
 
 
 @pytest.mark.parametrize("at", range(len(REACHED)))
 def test_a_wait_that_is_added_in_reach_is_told(trees, compare, at):
     file, function = REACHED[at]
     call = faults.chosen(SEED + at).choice(
-        ["flush_work(&x->new_work)", "wait_event(x->queue, x->ready)", "mempool_alloc(x->pool, GFP_NOIO)", "vfs_fsync(x->file, 1)",
-         "flush_workqueue(x->wq)", "cancel_delayed_work_sync(&x->new_work)", "wait_for_completion(&x->done)"])
+        [
+            "flush_work(&x->new_work)",
+            "wait_event(x->queue, x->ready)",
+            "mempool_alloc(x->pool, GFP_NOIO)",
+            "vfs_fsync(x->file, 1)",
+            "flush_workqueue(x->wq)",
+            "cancel_delayed_work_sync(&x->new_work)",
+            "wait_for_completion(&x->done)",
+        ]
+    )
     faults.add_wait(trees[1] / file, function, call)
     drift = compare(*trees)
     assert [(change.wait.key.file, change.wait.key.function, change.wait.key.call) for change in drift.appeared] == [
-        (file, function, call.partition("(")[0])]
+        (file, function, call.partition("(")[0])
+    ]
     assert not drift.vanished and not drift.is_silent(after_writing=True)
     # the other way round it is a wait that is gone
     back = compare(*reversed(trees))
@@ -149,8 +184,12 @@ def test_equal_lines_keep_their_order(tmp_path, read):
     for name, extra in (("old", ""), ("new", "\tcancel_work_sync(&q->third_work);\n")):
         (tmp_path / name).mkdir()
         (tmp_path / name / "q.c").write_text(
-            "static void q_work(struct work_struct *work)\n{\n" + extra + "\tcancel_work_sync(&q->io_work);\n\tq_stop(q);\n"
-            "\tcancel_work_sync(&q->io_work);\n}\n\nstatic void q_init(struct q *q)\n{\n\tINIT_WORK(&q->work, q_work);\n}\n")
+            "static void q_work(struct work_struct *work)\n{\n"
+            + extra
+            + "\tcancel_work_sync(&q->io_work);\n\tq_stop(q);\n"
+            "\tcancel_work_sync(&q->io_work);\n}\n\n"
+            "static void q_init(struct q *q)\n{\n\tINIT_WORK(&q->work, q_work);\n}\n"
+        )
     declaration = Declaration.of("q.wq", "item q_work\n# q.c:3 q_work, 5 q_work\n")
     found = told(Drift(declaration, read(tmp_path / "old", ["q.c"]), read(tmp_path / "new", ["q.c"])))
     assert found == {("q.c", 3): ("moved", 4), ("q.c", 5): ("moved", 6)}
@@ -161,10 +200,14 @@ def test_workqueues_and_items(trees, compare):
     path = trees[1] / "rdisk.c"
     text = path.read_text()
     text = text.replace("queue_work(rd->wq, &rd->log_work)", "queue_work(rd->log_wq, &rd->log_work)")
-    text = text.replace('rd->wq = alloc_workqueue("rdisk", WQ_MEM_RECLAIM, 0);',
-                        'rd->wq = alloc_workqueue("rdisk", 0, 0);\n\trd->log_wq = alloc_workqueue("log", WQ_MEM_RECLAIM, 0);\n'
-                        "\tINIT_WORK(&rd->new_work, rdisk_new);\n\tqueue_work(rd->wq, &rd->new_work);")
-    path.write_text("static void rdisk_new(struct work_struct *work)\n{\n}\n" + text.replace("rdisk_reconnect", "rdisk_renamed"))
+    text = text.replace(
+        'rd->wq = alloc_workqueue("rdisk", WQ_MEM_RECLAIM, 0);',
+        'rd->wq = alloc_workqueue("rdisk", 0, 0);\n\trd->log_wq = alloc_workqueue("log", WQ_MEM_RECLAIM, 0);\n'
+        "\tINIT_WORK(&rd->new_work, rdisk_new);\n\tqueue_work(rd->wq, &rd->new_work);",
+    )
+    path.write_text(
+        "static void rdisk_new(struct work_struct *work)\n{\n}\n" + text.replace("rdisk_reconnect", "rdisk_renamed")
+    )
     drift = compare(*trees)
     assert drift.requeued() == [("log", {"rdisk"}, {"log"})]
     # (send is queued by rdisk_renamed still, so it is on rdisk)
@@ -198,5 +241,7 @@ def test_a_dismissal_whose_call_is_gone_is_told(trees, wqsource, tmp_path):
     path = trees[1] / "rdisk.c"
     path.write_text(path.read_text().replace("submit_bio_wait(rd->record)", "submit_bio_wait(rd->other)"))
     ran = wqsource("drift", "--decl", declaration, "--old", trees[0], "--new", trees[1])
-    assert f"{declaration}:7: dismisses rdisk.c rdisk_log submit_bio_wait(rd->record), which is gone" in re.sub(r"\n +", " ", ran.out)
+    assert f"{declaration}:7: dismisses rdisk.c rdisk_log submit_bio_wait(rd->record), which is gone" in re.sub(
+        r"\n +", " ", ran.out
+    )
     assert ran.status == 1

@@ -85,11 +85,16 @@ def test_kthread_worker_and_function_variable(drafted):
 def test_flags(read):
     """As the calls give them: one in a variable, one not at all."""
     import pathlib
+
     def flags(file):
         workqueues = read(pathlib.Path(__file__).parent / "c", [file]).workqueues
         return {workqueues.name(made): workqueues.flags(made) for made in workqueues.made}
+
     assert flags("two_inits.c") == {"ti": "ordered, WQ_MEM_RECLAIM, WQ_UNBOUND"}
-    assert flags("kref.c") == {"kr-log": "ordered, WQ_MEM_RECLAIM", "kr-stop": "max_active 1, NO WQ_MEM_RECLAIM: no rescuer"}
+    assert flags("kref.c") == {
+        "kr-log": "ordered, WQ_MEM_RECLAIM",
+        "kr-stop": "max_active 1, NO WQ_MEM_RECLAIM: no rescuer",
+    }
     assert flags("again.c") == {"early": "WQ_MEM_RECLAIM", "late": "WQ_MEM_RECLAIM"}
 
 
@@ -108,6 +113,8 @@ def test_a_c_file_that_is_included(drafted):
 def test_a_wait_in_a_helper(drafted):
     """Its callers' calls are the sites: each names what it waits for."""
     found = drafted("wrapper.c")
-    assert found.flushes == {("flush wr_first_work wr_read_work", "wrapper.c:16"),
-                             ("flush wr_second_work wr_written_work", "wrapper.c:23")}
+    assert found.flushes == {
+        ("flush wr_first_work wr_read_work", "wrapper.c:16"),
+        ("flush wr_second_work wr_written_work", "wrapper.c:23"),
+    }
     assert found.open == {}

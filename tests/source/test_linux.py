@@ -52,13 +52,18 @@ def shown(audit, number):
         if found.citation.number == number:
             for site in sites:
                 if found.file == site.key.file and (
-                        found.citation.line in site.lines if exact else found.citation.function == site.key.function):
+                    found.citation.line in site.lines if exact else found.citation.function == site.key.function
+                ):
                     return True
     return False
 
 
 def flush_lines(audit):
-    return [number for number, line in enumerate(audit.declaration.lines, 1) if line.partition("#")[0].split()[:1] in (["flush"], ["flushwq"])]
+    return [
+        number
+        for number, line in enumerate(audit.declaration.lines, 1)
+        if line.partition("#")[0].split()[:1] in (["flush"], ["flushwq"])
+    ]
 
 
 def test_the_places_of_the_declared_waits_are_shown(audit):
