@@ -2,8 +2,8 @@
 //
 //     WQFACTS=OUT spatch --very-quiet --no-includes --sp-file facts.cocci FILE.c
 //
-// A line has these fields, with a TAB between them: kind, line, column, function, and what the rule below hands to `fact`.
-// csource/facts.py reads them. What Coccinelle can't parse it leaves out without a word: csource/backstop.py looks for that.
+// A line has these fields, with a TAB between them: kind, line, column, function, and what a rule hands to `fact`.
+// csource/facts.py reads them. What Coccinelle can't parse it leaves out without a word: csource/backstop.py finds it.
 @initialize:python@
 @@
 import os
