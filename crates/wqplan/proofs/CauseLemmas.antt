@@ -18,8 +18,8 @@ use Rattle.wq_run.specs.declared.fault.RunStop.TheVariants as stop
 use Rattle.wq_run.specs.Fault.{end_or_stop}
 use Rattle.wqplan.specs.Cause.{EndsAlone, EndsReady, IsCaused, IsReady, IsUnready}
 use Rattle.clap.specs.Words.{Text}
-use Rattle.wqplan.specs.CommandLine.{Asked, plans, checks, judges, replays, finds, draws, runs, explains, files_of}
-use Rattle.wqplan.specs.Status.{end_or_common, explained_or_common, unheld}
+use Rattle.wqplan.specs.CommandLine.{Asked, plans, runs, explains, files_of}
+use Rattle.wqplan.specs.Status.{end_or_common, explained_or_common}
 
 Any-more : {X : Type 0} (P : X → Type 0) (xs : List X) (y : X) → Any P xs → Any P (xs ++ y ∷ [])
 Any-more P xs y (k, x, below, is, holds) = (k, x, grind (arith, common_steps), grind (arith, common_steps), holds)
@@ -142,47 +142,3 @@ alone (Err Write) never = tt
 
 pub alone_by : (ended : Result Explained Fault) (result : Result End CommandFault) → result ≡ explained_or_common ended → ended ≢ Err Read → EndsAlone result
 alone_by ended result is never = subst EndsAlone (sym is) (alone ended never)
-
--- ---- an answer that is held in memory
-
-module _ {F : Type 0} (Seeds : Option ℕ → Type 0) (Opens : Text → Option F → Type 0) where
-  unheld_ready : (files : List Text) (MayFail MayStart : Type 0) (fault : CommandFault) → EndsReady Seeds Opens files MayFail MayStart (Err fault)
-      → EndsReady Seeds Opens files MayFail MayStart (Err (unheld fault))
-  unheld_ready files MayFail MayStart (Common Memory) h = h
-  unheld_ready files MayFail MayStart (Common Read) h = h
-  unheld_ready files MayFail MayStart (Common Write) h = h
-  unheld_ready files MayFail MayStart Thread h = h
-  unheld_ready files MayFail MayStart Tally h = h
-
-  unheld_alone : (fault : CommandFault) → EndsAlone (Err fault) → EndsAlone (Err (unheld fault))
-  unheld_alone (Common Memory) h = h
-  unheld_alone (Common Read) h = h
-  unheld_alone (Common Write) h = h
-  unheld_alone Thread h = h
-  unheld_alone Tally h = h
-
-  -- where it couldn't be held, memory ran out after all was ready
-  pub unheld_caused : (InputFailed : Type 0) (asked : Asked) (fault : CommandFault) → IsCaused Seeds Opens InputFailed asked (Err fault)
-      → IsCaused Seeds Opens InputFailed asked (Err (unheld fault))
-  unheld_caused InputFailed (plans None) fault h = unheld_ready [] InputFailed ⊥ fault h
-  unheld_caused InputFailed (plans (Some file)) fault h = unheld_ready (files_of (plans (Some file))) (Unit {0}) ⊥ fault h
-  unheld_caused InputFailed (checks a b) fault h = unheld_ready (files_of (checks a b)) (Unit {0}) ⊥ fault h
-  unheld_caused InputFailed (judges a b) fault h = unheld_ready (files_of (judges a b)) (Unit {0}) ⊥ fault h
-  unheld_caused InputFailed (replays a b d) fault h = unheld_ready (files_of (replays a b d)) (Unit {0}) ⊥ fault h
-  unheld_caused InputFailed (finds a b) fault h = unheld_ready (files_of (finds a b)) (Unit {0}) ⊥ fault h
-  unheld_caused InputFailed (draws a b) fault h = unheld_ready (files_of (draws a b)) (Unit {0}) ⊥ fault h
-  unheld_caused InputFailed (runs a n) fault h = unheld_ready (a ∷ []) (Unit {0}) (Unit {0}) fault h
-  unheld_caused InputFailed (explains code) fault h = unheld_alone fault h
-
-  -- where it couldn't be written, all was ready
-  pub unwritten_caused : (InputFailed : Type 0) (asked : Asked) (end : End) → IsCaused Seeds Opens InputFailed asked (Ok end)
-      → IsCaused Seeds Opens InputFailed asked (Err (Common Write))
-  unwritten_caused InputFailed (plans None) end h = h
-  unwritten_caused InputFailed (plans (Some file)) end h = h
-  unwritten_caused InputFailed (checks a b) end h = h
-  unwritten_caused InputFailed (judges a b) end h = h
-  unwritten_caused InputFailed (replays a b d) end h = h
-  unwritten_caused InputFailed (finds a b) end h = h
-  unwritten_caused InputFailed (draws a b) end h = h
-  unwritten_caused InputFailed (runs a n) end h = h
-  unwritten_caused InputFailed (explains code) end h = h

@@ -1,6 +1,5 @@
 -- How a command ended that was carried out on readers.
-use Rattle.std.proofs.Common.{◌≡◌, ◌≢◌, ℕ, List, [], Option, Some, Result, Ok, Err, ap, refl, subst, sym}
-use Rattle.std.specs.Io.KnownBytes.{Appends}
+use Rattle.std.proofs.Common.{◌≡◌, ◌≢◌, ℕ, List, Option, Result, Ok, Err, ap, refl, subst, sym}
 use Rattle.std.specs.Prelude.{IfErr, IfOk}
 use Rattle.wq_meter.specs.Meter.{Meter, WritesPrefix, WritesWhole, count_after}
 use Rattle.wq_meter.specs.Shell.{Given}
@@ -13,12 +12,11 @@ use Rattle.wq_commands.specs.declared.why.Outcome.{Outcome}
 use Rattle.wq_explain.specs.declared.explain.Explained.{Explained}
 use Rattle.wq_explain.specs.Explaining.{explained_end, explained_text}
 use Rattle.wq_run.specs.declared.fault.CommandFault.{CommandFault}
-use Rattle.wq_run.specs.declared.fault.CommandFault.TheVariants.{Common, Tally, Thread}
 use Rattle.wq_run.specs.declared.fault.RunStop.{RunStop}
 use Rattle.wq_run.specs.declared.fault.RunStop.TheVariants as stop
 use Rattle.wq_run.specs.Fault.{end_or_stop}
 use Rattle.wqplan.specs.Ended.{EndedBy, EndsExplain}
-use Rattle.wqplan.specs.Status.{end_or_common, explain_end, explained_or_common, unheld}
+use Rattle.wqplan.specs.Status.{end_or_common, explain_end, explained_or_common}
 
 -- only this is a fault of writing
 abbrev pub IsWrite : {S : Type 0} → Stopped S → Type 0
@@ -94,29 +92,3 @@ module _ {W : Type 0} (contents : W → Option (List ℕ)) (old new : Meter W) (
       → EndedBy contents old new (EndsExplain code) result
   explain_ended_by ended result same is whole part untouched never failed not_failed =
       subst (EndedBy contents old new (EndsExplain code)) (sym same) (of_explained ended is whole part untouched never failed not_failed)
-
--- an answer that was held in memory, and is then written
-module _ {V W : Type 0} (kept : V → Option (List ℕ)) (contents : W → Option (List ℕ)) (before after : Meter V) (old new : Meter W) (Ends : End → List ℕ → Type 0)
-    (text : List ℕ) (empty : kept before.device ≡ Some []) (full : kept after.device ≡ Some text) where
-  held : (end : End) → EndedBy kept before after Ends (Ok end) → Ends end text
-  held end ended =
-      let grown : Appends (Some []) (Some text) ended.0 =
-      subst (λ k. Appends (Some []) k ended.0) full (subst (λ k. Appends k (kept after.device) ended.0) empty ended.2.appended) in
-      subst (Ends end) (sym grown) ended.1
-
-  pub held_whole : (end : End) → EndedBy kept before after Ends (Ok end) → WritesWhole contents old new text → new.failures ≡ old.failures
-      → EndedBy contents old new Ends (Ok end)
-  held_whole end ended whole same = (text, held end ended, whole, same)
-
-  pub held_prefix : (end : End) → EndedBy kept before after Ends (Ok end) → WritesPrefix contents old new text
-      → new.failures ≡ count_after old.failures 1 → EndedBy contents old new Ends (Err (Common Write))
-  held_prefix end ended part failed = (end, text, held end ended, part, failed)
-
--- nothing is written where the answer couldn't be held
-pub unheld_ended : {W : Type 0} (contents : W → Option (List ℕ)) (old : Meter W) (Ends : End → List ℕ → Type 0) (fault : CommandFault)
-    → EndedBy contents old old Ends (Err (unheld fault))
-unheld_ended contents old Ends (Common Memory) = refl
-unheld_ended contents old Ends (Common Read) = refl
-unheld_ended contents old Ends (Common Write) = refl
-unheld_ended contents old Ends Thread = refl
-unheld_ended contents old Ends Tally = refl

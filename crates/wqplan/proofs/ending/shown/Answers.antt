@@ -1,4 +1,4 @@
-use Rattle.std.proofs.Common.{◌≡◌, ℕ, inl, inr, refl, subst, sym}
+use Rattle.std.proofs.Common.{◌≡◌, ℕ, inl, inr, refl, subst, sym, Result, Ok, Err, OnErr}
 use Rattle.std.specs.Prelude.{◌⊎◌}
 use Rattle.wqplan.specs.Status.{unwritten_status}
 use Rattle.wqplan.specs.declared.world.Unwritten.{Unwritten}
@@ -9,5 +9,10 @@ three_or_141 : (why : Unwritten) → (unwritten_status why ≡ 3) ⊎ (unwritten
 three_or_141 Unread = inr refl
 three_or_141 (Failed why) = inl refl
 
+on_err : {T E P : Type 0} (r : Result T E) → P → OnErr r P
+on_err (Ok x) p = tt
+on_err (Err e) p = p
+
 pub returns-in-Err-clause-failed : goal.returns-in-Err-clause-failed
-returns-in-Err-clause-failed g c = subst (λ n. (n ≡ 3) ⊎ (n ≡ 141)) (sym c.unwritten.ensures) (three_or_141 _)
+returns-in-Err-clause-failed g c =
+    on_err c.args.printed.now (subst (λ n. (n ≡ 3) ⊎ (n ≡ 141)) (sym c.unwritten.ensures) (three_or_141 _))
