@@ -114,11 +114,13 @@ class Audit:
         return sorted(found.values(), key=lambda one: (one.site.key.file, one.site.lines, one.site.key))
 
     def undecided_items(self, found: Found) -> list[str]:
-        """The items that reach a cited site, where only the lines of other items cite it."""
-        decided = self.cited.deciders(found.site)
-        if decided is None or self.dismisses(found.site.key):
+        """The items that reach a cited site, where the lines that cite it are other items', and have other targets."""
+        lines = self.cited.deciding_lines(found.site)
+        if lines is None or self.dismisses(found.site.key):
             return []
-        return [name for name in found.ways if name not in decided]
+        names = {words[1] for words in lines}
+        targets = {target for words in lines for target in words[2:]}
+        return [name for name in found.ways if name not in names and not targets <= self.cited.targets(name) | {name}]
 
     # What is beside it
 

@@ -11,6 +11,9 @@ from .program import Program
 from .sites import Key, Site
 
 
+FLUSHES = (["flush"], ["flushwq"])
+
+
 class Functions:
     """In which function, or macro that calls something, a line is."""
 
@@ -104,20 +107,30 @@ class Cited:
         """Whether a comment names one of its lines."""
         return any((site.key.file, line) in self.places for line in site.lines)
 
-    def deciders(self, site: Site) -> Optional[set[str]]:
-        """The items whose flushes cite a site; None where another comment cites it, which may speak of any item."""
-        names = set()
+    def deciding_lines(self, site: Site) -> Optional[list[list[str]]]:
+        """The words of the flush lines that cite a site; None where another comment cites it, which is for any item."""
+        lines = []
         for found in self.located:
+            citation = found.citation
             if (
-                found.citation.decides
+                citation.decides
                 and found.file == site.key.file
-                and any(found.citation.line <= line <= found.citation.last for line in site.lines)
+                and any(citation.line <= line <= citation.last for line in site.lines)
             ):
-                words = self.declaration.lines[found.citation.number - 1].partition("#")[0].split()
-                if words[:1] not in (["flush"], ["flushwq"]):
+                words = self.words(citation.number)
+                if words[:1] not in FLUSHES:
                     return None
-                names.update(words[1:2])
-        return names
+                lines.append(words)
+        return lines
+
+    def words(self, number: int) -> list[str]:
+        """The words of a line of the declaration, without its comment."""
+        return self.declaration.lines[number - 1].partition("#")[0].split()
+
+    def targets(self, name: str) -> set[str]:
+        """What an item waits for by its lines."""
+        lines = [self.words(number) for number in range(1, len(self.declaration.lines) + 1)]
+        return {target for words in lines if words[:1] in FLUSHES and words[1:2] == [name] for target in words[2:]}
 
     def dismissal_of(self, key: Key) -> Optional[Dismissal]:
         return next((dismissal for dismissal in self.declaration.dismissals if self.matches(dismissal.key, key)), None)

@@ -44,29 +44,47 @@ def test_every_site_is_decided(audit):
     assert audit.is_done
 
 
-def shown(audit, number):
-    """Whether a citation of this line of the declaration is a site in reach, or in its function is one."""
-    sites = [found.site for found in audit.sites]
-    exact = version() == CITED
-    for found in audit.cited.located:
-        if found.citation.number == number:
-            for site in sites:
-                if found.file == site.key.file and (
-                    found.citation.line in site.lines if exact else found.citation.function == site.key.function
-                ):
-                    return True
-    return False
+def leads_to_sites(audit):
+    """The functions from which calls lead to a site in reach."""
+    found = {found.site.id for found in audit.sites}
+    waiting = list(found)
+    while waiting:
+        callers = audit.program.graph.callers.get(waiting.pop(), set()) - found
+        found |= callers
+        waiting += callers
+    return found
+
+
+def shown_places(audit):
+    """Where a site in reach is, a call that leads to one, or a lock that is taken in reach: (file, function, line)."""
+    places = {(*found.site.id, line) for found in audit.sites for line in found.site.lines}
+    leads = leads_to_sites(audit)
+    for caller in audit.reached_functions:
+        for function, edges in audit.program.graph.edges.get(caller, {}).items():
+            if function in leads:
+                places |= {(edge.place.file, edge.place.function, edge.place.line) for edge in edges}
+    for lock in audit.program.sites.locks:
+        if lock.place.id in audit.reached_functions:
+            places.add((lock.place.file, lock.place.function, lock.place.line))
+    return places
 
 
 def flush_lines(audit):
-    return [
-        number
-        for number, line in enumerate(audit.declaration.lines, 1)
-        if line.partition("#")[0].split()[:1] in (["flush"], ["flushwq"])
-    ]
+    """The numbers of the lines that declare waits."""
+    for number, line in enumerate(audit.declaration.lines, 1):
+        if line.partition("#")[0].split()[:1] in (["flush"], ["flushwq"]):
+            yield number
 
 
 def test_the_places_of_the_declared_waits_are_shown(audit):
-    """Of each `flush` and `flushwq` line a place is found by the tool alone. The number may not fall."""
-    hidden = [audit.declaration.lines[number - 1] for number in flush_lines(audit) if not shown(audit, number)]
+    """Of each line that declares a wait a place is found by the tool alone. In another version than the one that is
+    cited the lines are others: then the function counts."""
+    places = shown_places(audit)
+    functions = {place[:2] for place in places}
+    hidden = []
+    for number in flush_lines(audit):
+        cited = [found for found in audit.cited.located if found.citation.number == number]
+        exact = {(found.file, found.citation.function, found.citation.line) for found in cited}
+        if not (exact & places if version() == CITED else {place[:2] for place in exact} & functions):
+            hidden.append(audit.declaration.lines[number - 1])
     assert hidden == []
