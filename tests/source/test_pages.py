@@ -1,0 +1,45 @@
+"""source/README.md: what it shows is what is printed, and what it names is there."""
+
+import re
+
+from conftest import ROOT
+
+PAGE = (ROOT / "source" / "README.md").read_text()
+RDISK = ROOT / "examples" / "rdisk"
+
+
+def test_shown_audit(wqsource):
+    """The first block with output, to the byte."""
+    command, shown = re.search(r"```text\n\$ wqsource (audit --decl rdisk\.wq rdisk\.c)\n(.*?)```", PAGE, re.S).groups()
+    assert wqsource(*command.split(), cwd=RDISK).out == shown
+
+
+def test_shown_draft(wqsource, tmp_path):
+    """wqplan stops at the first `?`, in the line that the page says."""
+    line = int(re.search(r"refused 4 line (\d+)", PAGE)[1])
+    words = re.search(r"\$ wqsource (draft --assign )draft\.assign( rdisk\.c) > draft\.wq", PAGE)
+    drafted = wqsource(*words[1].split(), tmp_path / "draft.assign", *words[2].split(), cwd=RDISK).out.splitlines()
+    assert drafted[line - 1].startswith("? ") and not any(text.startswith("?") for text in drafted[: line - 1])
+
+
+def test_dismissed_as_shown(wqsource, tmp_path):
+    """With the line that the page adds nothing is left."""
+    dismissal = re.search(r"^# no wait: rdisk\.c .*: an interrupt ends it$", PAGE, re.M)[0]
+    (tmp_path / "rdisk.wq").write_text((RDISK / "rdisk.wq").read_text() + dismissal + "\n")
+    assert wqsource("audit", "--decl", tmp_path / "rdisk.wq", "rdisk.c", cwd=RDISK).status == 0
+
+
+def test_modules_and_tables():
+    """Each module and each table has its row, and each row names what is there."""
+    modules = {path.stem for path in (ROOT / "source" / "csource").glob("*.py")} - {"__init__", "__main__"}
+    rows = {name for row in re.findall(r"^\| (`\w+`.*?) \|", PAGE, re.M) for name in re.findall(r"`(\w+)`", row)}
+    plumbing = {"command_line", "progress", "says", "places"}
+    assert modules - plumbing - rows == {"audit_text", "drift_text", "draft_text"}
+    assert set(re.findall(r"^\| \[(\w+\.txt)\]", PAGE, re.M)) == {path.name for path in (ROOT / "source").glob("*.txt")}
+
+
+def test_options():
+    """What the page says of the command line is there."""
+    source = (ROOT / "source" / "csource" / "command_line.py").read_text()
+    for option in set(re.findall(r"`(--\w+)|(--\w+) (?:D|DIR|OUT|FUNCTION)", PAGE)):
+        assert f'"{option[0] or option[1]}"' in source
