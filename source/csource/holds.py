@@ -12,7 +12,7 @@ from .cells import UNKNOWN, Address, Cell, Function, Global, Member, Result, Val
 from .ctext import Tokens
 from .facts import Facts
 from .places import FunctionId, Place
-from .tables import SYSTEM_WORKQUEUE, Waits
+from .tables import OLD_NAMES, SYSTEM_WORKQUEUE, Waits
 
 
 class Holds:
@@ -113,7 +113,7 @@ class Holds:
         if functions:
             return functions
         if len(words) == 1 and SYSTEM_WORKQUEUE.match(words[0]) and not self.facts.is_local(place, words[0]):
-            return {Workqueue(words[0])}
+            return {Workqueue(OLD_NAMES.get(words[0], words[0]))}
         if ctext.is_call(words) and self.waits.kind(words[0]).name == "workqueue":
             return {Workqueue(f"{place.file}:{place.line}")}
         return None

@@ -7,6 +7,8 @@ from typing import Iterator
 
 FOLDER = pathlib.Path(__file__).resolve().parent.parent
 SYSTEM_WORKQUEUE = re.compile(r"system_\w*wq$")
+# Later kernels have other names for these two.
+OLD_NAMES = {"system_percpu_wq": "system_wq", "system_dfl_wq": "system_unbound_wq"}
 
 
 class TableError(Exception):
