@@ -118,12 +118,18 @@ def faults_of(texts):
     return list(crossed(labels, arrows)), list(covered(arrows))
 
 
+def text_of(declaration):
+    """A declaration of examples/. A file NAME.MORE.wq has lines for the end of NAME.wq."""
+    whole = declaration.with_name(declaration.name.split(".")[0] + ".wq")
+    return declaration.read_bytes() if whole == declaration else whole.read_bytes() + declaration.read_bytes()
+
+
 def examples():
     """By name the texts of each declaration of examples/, alone and with each of its assignments."""
     for declaration in sorted((ROOT / "examples").glob("*.wq")):
-        yield declaration.stem, (declaration.read_bytes(),)
+        yield declaration.stem, (text_of(declaration),)
         for assignment in sorted(declaration.parent.glob(f"{declaration.stem}.*assign")):
-            yield assignment.name, (declaration.read_bytes(), assignment.read_bytes())
+            yield assignment.name, (text_of(declaration), assignment.read_bytes())
 
 
 def self_test():
