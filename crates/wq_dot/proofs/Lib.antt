@@ -8,5 +8,6 @@ pub mod Counts
 pub mod Marked
 pub mod Placed
 pub mod Taking
+pub mod CommentCounts
 pub mod WithinLimits
 mod OneDrawing

@@ -3,7 +3,7 @@
 //! `Drawing` puts the lines one after the other. The laws say what that means for an item and for a flush, as in "The command
 //! `dot`" in docs/FORMAT.md.
 
-ghost use Rattle.std.specs.Prelude.{◌≡◌, ◌<◌, Bool, ℕ, List, length, map, Contains};
+ghost use Rattle.std.specs.Prelude.{◌≡◌, ◌<◌, Bool, ℕ, List, Ok, length, map, Contains};
 ghost use Rattle.std.specs.List.{All, count_by, range_with_len};
 ghost use Rattle.wq_items.specs.declared.target.Target.{Target};
 ghost use Rattle.wq_items.specs.Table.{Table, IsTable, flush_count, targets_of};
@@ -13,8 +13,10 @@ ghost use Rattle.wq_graph.specs.declared.arc.WaitArc.{WaitArc};
 ghost use Rattle.wq_graph.specs.Graph.{IsArc, arc_of, arcs_by_place};
 ghost use Rattle.wq_meter.specs.Shell.{HasOneAnswer};
 ghost use Rattle.wq_commands.specs.declared.end.End.{End};
+ghost use Rattle.wq_commands.specs.Declaration.{Declared, declaration};
 ghost use Rattle.wq_dot.specs.declared.look.FlushLook.{FlushLook};
 ghost use Rattle.wq_dot.specs.Drawing.{drawing_lines, is_whole_at};
+ghost use Rattle.wq_dot.specs.Tooltips.{comments_of};
 ghost use Rattle.wq_dot.specs.Laws.{is_arrow, is_line_of};
 ghost use Rattle.wq_dot.specs.Dotting.{Draws, DrawsTexts, OwnDraws};
 
@@ -48,6 +50,11 @@ pub fn each_flush_has_one_arrow()
     ensures declared { (t : Table) (p : Partition) → IsTable t → All (IsArc t.waits p.group_of) (arcs_by_place t.waits p.group_of) }
     ensures places { (t : Table) (p : Partition) → IsTable t →
         map (λ (a : WaitArc). a.place) (arcs_by_place t.waits p.group_of) ≡ range_with_len 0 (flush_count t.waits) }
+{}
+
+/// Each flush has its comment: a text that declares items has as many comments as flushes.
+pub fn each_flush_has_a_comment()
+    ensures { (text : List ℕ) (s : Declared) → declaration text ≡ Ok s → length (comments_of text) ≡ flush_count s.table.waits }
 {}
 
 /// An arrow has the head of its flush's kind: that of a whole workqueue exactly where the target that is declared at its place is one.
