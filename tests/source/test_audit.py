@@ -175,3 +175,25 @@ def test_one_of_two_calls_of_a_function_is_dismissed(audit):
     for text, left in ((items, 1), (items + first, 1), (items + second, 1), (items + first + second, 0)):
         said, status = audit(text, "released.c", tree=C_FILES)
         assert len(those(said, "left")) == left and status == int(left > 0), text
+
+
+def test_stacked(audit):
+    """With --stacked, or a comment that says so, submit_bio leads into the driver below."""
+    items = "item st_work\nitem st_idle_work\n"
+    below = "left: stacked.c:6 st_submit_bio: wait_event(s->idle)  [done]"
+    said, _ = audit(items, "stacked.c", tree=C_FILES)
+    assert those(said, "left") == ["left: stacked.c:17 st_work: submit_bio(s->bio)  [other]"]
+    for text, words in ((items, ("--stacked",)), ("# stacked: a test\n" + items, ())):
+        said, _ = audit(text, "stacked.c", tree=C_FILES, words=words)
+        assert below in those(said, "left")
+        assert "  may be ended by st_idle_work (stacked.c:24 st_idle_work)" in said
+
+
+def test_cited_for_other_items_with_the_same_targets(audit):
+    """An item whose own lines have the targets isn't named."""
+    items = "item a  # wr_first_work\nitem b  # wr_first_work\nitem read  # wr_read_work\n"
+    line = "flush a read  # done wrapper.c:16 wr_first_work\n"
+    said, _ = audit(items + line, "wrapper.c", tree=C_FILES)
+    assert "cited for other items: wrapper.c:16 wr_first_work: wr_wait(&w->read)" in said
+    said, _ = audit(items + line + "flush b read\n", "wrapper.c", tree=C_FILES)
+    assert not those(said, "cited for other items")
