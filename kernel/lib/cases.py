@@ -231,7 +231,7 @@ class DrivenCase(Case):
 # Guests -------------------------------------------------------------------------------------------
 
 # So many cases in one guest: each keeps its workqueues, and their rescuers, to its end.
-MOST_CASES = 400
+MOST_CASES = 500
 
 WEATHERS = {
     "short": "no worker can be created, and all that exist sleep",

@@ -85,17 +85,19 @@ def newest_release(series):
     return max(found, key=order_of)
 
 
-def fetch(name, into):
-    """The file of a package, downloaded into a folder."""
+def fetch(names, into):
+    """The files of packages, downloaded into a folder."""
     folder = named_folder()
-    if folder:
-        found = sorted(folder.glob(f"{name}_*.deb"))
-        if not found:
+    if folder is None:
+        output_of(["apt-get", "download", "-q", *names], cwd=into)
+        folder = into
+    found = []
+    for name in names:
+        files = sorted(folder.glob(f"{name}_*.deb"))
+        if not files:
             raise Missing(f"there is no {name}_*.deb in {folder}")
-        return found[-1]
-    output_of(["apt-get", "download", "-q", name], cwd=into)
-    # (apt writes a colon of a version as %3a)
-    return next(iter(into.glob(f"{name}_*.deb")))
+        found.append(files[-1])
+    return found
 
 
 def unpack(package, root, *only):
@@ -185,12 +187,13 @@ def fetch_kernel(release, place):
     """Downloads a kernel and its headers, and unpacks them."""
     with tempfile.TemporaryDirectory() as folder:
         folder = pathlib.Path(folder)
-        unpack(fetch_image(release, folder), place, "./boot/vmlinuz-*")
         headers = f"linux-headers-{release}"
-        unpack(fetch(headers, folder), place)
         common = re.sub(r"-cloud-amd64$", "-common", headers)
-        unpack(fetch(common, folder), place)
-        unpack(fetch(kbuild_of(release, place), folder), place)
+        image, *others = fetch([image_package(release), headers, common], folder)
+        unpack(image, place, "./boot/vmlinuz-*")
+        for package in others:
+            unpack(package, place)
+        unpack(*fetch([kbuild_package(release, place)], folder), place)
     # The makefiles of Debian's headers name each other by the places where they are installed.
     for makefile in place.glob("usr/src/linux-headers-*/Makefile"):
         text = makefile.read_text()
@@ -205,7 +208,7 @@ def modules(kernel, names):
 
     def make(place):
         with tempfile.TemporaryDirectory() as folder:
-            unpack(fetch_image(kernel.release, pathlib.Path(folder)), place, "./lib/modules/*")
+            unpack(*fetch([image_package(kernel.release)], pathlib.Path(folder)), place, "./lib/modules/*")
 
     root = made(cache() / f"modules-{kernel.release}", make)
     files = {re.sub(r"\.ko(\.xz|\.zst)?$", "", path.name): path for path in root.rglob("*.ko*")}
@@ -219,12 +222,12 @@ def modules(kernel, names):
     return [files[name] for name in names]
 
 
-def fetch_image(release, folder):
+def image_package(release):
     image = f"linux-image-{release}"
-    return fetch(image if image in known_packages(image) else f"{image}-unsigned", folder)
+    return image if image in known_packages(image) else f"{image}-unsigned"
 
 
-def kbuild_of(release, place):
+def kbuild_package(release, place):
     """The package of the build's programs: the links in the headers lead to its folder."""
     link = os.readlink(place / "usr" / "src" / f"linux-headers-{release}" / "scripts")
     return re.search(r"linux-kbuild-[^/]+", link)[0]
@@ -260,32 +263,16 @@ def busybox():
 
     def make(place):
         with tempfile.TemporaryDirectory() as folder:
-            unpack(fetch("busybox-static", pathlib.Path(folder)), place)
+            unpack(*fetch(["busybox-static"], pathlib.Path(folder)), place)
 
     root = made(cache() / "busybox", make)
     return next(path for path in (root / "bin" / "busybox", root / "usr" / "bin" / "busybox") if path.exists())
 
 
 def needed_by(name):
-    """A package and all that it needs that isn't installed."""
-    told = output_of(
-        [
-            "apt-cache",
-            "depends",
-            "--recurse",
-            "--no-recommends",
-            "--no-suggests",
-            "--no-conflicts",
-            "--no-breaks",
-            "--no-replaces",
-            "--no-enhances",
-            name,
-        ]
-    )
-    names = {line for line in told.splitlines() if line and line[0] not in " <|" and ":" not in line}
-    installed = output_of(["dpkg-query", "-W", "-f", "${db:Status-Abbrev} ${Package}\n"]).splitlines()
-    installed = {line.split()[-1] for line in installed if line.startswith("ii")}
-    return sorted((names - installed) | {name})
+    """A package, and all that would have to be installed with it here."""
+    told = output_of(["apt-get", "-s", "--no-install-recommends", "install", name])
+    return re.findall(r"^Inst (\S+)", told, re.MULTILINE)
 
 
 def qemu():
@@ -306,8 +293,8 @@ def qemu():
                     unpack(path, place)
             return
         with tempfile.TemporaryDirectory() as folder:
-            for name in needed_by("qemu-system-x86"):
-                unpack(fetch(name, pathlib.Path(folder)), place)
+            for package in fetch(needed_by("qemu-system-x86"), pathlib.Path(folder)):
+                unpack(package, place)
 
     root = made(cache() / "qemu", make)
     libraries = ":".join(str(root / folder) for folder in ("usr/lib/x86_64-linux-gnu", "lib/x86_64-linux-gnu"))

@@ -14,6 +14,7 @@ Where QEMU or a kernel can't be had, it says so, and skips what needs it: that i
 minutes of processor time once the cache of kernel/ has what it needs.
 """
 
+import copy
 import os
 import pathlib
 import random
@@ -131,17 +132,22 @@ def safe_cases(choose, count, letters, cpus):
 # The kernels --------------------------------------------------------------------------------------
 
 
-def judged(what, kernel, made, cpus=1, weather="short"):
-    """Has a kernel run cases, and counts whether it does what model and program say. The cases are handed back."""
-    made = list(made)
+def judged(kernel, sets, cpus=1, weather="short"):
+    """Has a kernel run sets of cases, by what they are, and counts of each whether it does what model and program say.
+
+    All cases are handed back.
+    """
+    sets = {what: list(made) for what, made in sets.items()}
+    made = [case for part in sets.values() for case in part]
     cases.run(kernel, made, cpus, weather)
-    wrong = [(case, why) for case in made if (why := case.judge())]
-    for case, why in wrong[:10]:
-        print(f"FAILED  Linux {kernel.version}: {case.name}: {why}")
-    ended = sum(case.ended() for case in made if case.outcome)
-    runs = sum(isinstance(case, cases.DrivenCase) for case in made)
-    told = f"{len(made)} cases, of which {runs} driven; {ended} end, {len(made) - ended} hang or stand still"
-    tell(not wrong and len(made) > 3, f"Linux {kernel.version}, {what}: {told}", f"{len(wrong)} differ")
+    for what, part in sets.items():
+        wrong = [(case, why) for case in part if (why := case.judge())]
+        for case, why in wrong[:10]:
+            print(f"FAILED  Linux {kernel.version}: {case.name}: {why}")
+        ended = sum(case.ended() for case in part if case.outcome)
+        runs = sum(isinstance(case, cases.DrivenCase) for case in part)
+        told = f"{len(part)} cases, of which {runs} driven; {ended} end, {len(part) - ended} hang or stand still"
+        tell(not wrong and len(part) > 3, f"Linux {kernel.version}, {what}: {told}", f"{len(wrong)} differ")
     return made
 
 
@@ -160,7 +166,7 @@ def try_pinned(kernel):
         tell(not why, f"Linux {kernel.version}: {case.name}", why)
 
 
-def try_self_check(kernel):
+def try_self_check(kernel, made):
     """What is no shortage is refused; and so is a case in which somebody else than the rescuer executes an item."""
     asked = program.Asked("", [b"item a\n", b"wq 0 a\n"], "p", random.Random(1))
     commands = cases.commands_of(list(asked.cases(0)), "short")
@@ -173,16 +179,10 @@ def try_self_check(kernel):
             tell(False, f"the self-check refuses: {name}", "it didn't")
         except guest.Fault as fault:
             tell(str(fault).startswith("error"), f"the self-check refuses: {name}", str(fault))
-    made = list(asked.cases(0))
-    cases.run(kernel, made, weather="plenty")
-    for case in made:
-        passes = case.judge()
+    for case in [case for case in made if case.weather == "plenty" and not case.judge()][:3]:
+        case = copy.copy(case)
         case.weather = "short"
-        tell(
-            not passes and "somebody else" in case.judge(),
-            "a case whose item no rescuer executes doesn't pass",
-            case.judge(),
-        )
+        tell("somebody else" in case.judge(), f"this doesn't pass in a shortage: {case.name}", case.judge())
 
 
 def try_command(series):
@@ -241,27 +241,31 @@ def main(arguments):
     kernel = guest.kernel_of("6.1")
     # Each has random numbers of its own: the random cases stay the same if an example or a row comes to it.
     examples, rows, sets, runs, plenty, two, later = (random.Random(f"kernel {number}") for number in range(7))
-    made = judged("the examples", kernel, example_cases(examples, letters["mixed"]))
-    made += judged("the worked rows", kernel, row_cases(rows, letters["per-cpu"]))
-    made += judged("random declarations", kernel, random_sets(sets, 40, letters["mixed"]))
-    made += judged("random runs", kernel, random_runs(runs, 40, letters["mixed"]))
-    made += judged("with memory enough", kernel, random_sets(plenty, 12, letters["mixed"], "plenty"), weather="plenty")
-    judged("two CPUs", kernel, safe_cases(two, 20, letters["mixed"], 2), cpus=2)
+    sets = {
+        "the examples": example_cases(examples, letters["mixed"]),
+        "the worked rows": row_cases(rows, letters["per-cpu"]),
+        "random declarations": random_sets(sets, 40, letters["mixed"]),
+        "random runs": random_runs(runs, 40, letters["mixed"]),
+    }
+    made = judged(kernel, sets)
+    sets = {"with memory enough": random_sets(plenty, 12, letters["mixed"], "plenty")}
+    made += judged(kernel, sets, weather="plenty")
+    judged(kernel, {"two CPUs": safe_cases(two, 20, letters["mixed"], 2)}, cpus=2)
     compare_mutants(made)
     try_pinned(kernel)
-    try_self_check(kernel)
+    try_self_check(kernel, made)
     try_command("6.1")
     why = missing("6.12")
     if why:
         print(f"skipped kernel 6.12: {why}")
     else:
         kernel = guest.kernel_of("6.12")
-        judged("the examples", kernel, example_cases(later, letters["mixed"]))
-        judged(
-            "random declarations and runs",
-            kernel,
-            [*random_sets(later, 15, letters["mixed"]), *random_runs(later, 15, letters["mixed"])],
-        )
+        sets = {
+            "the examples": example_cases(later, letters["mixed"]),
+            "random declarations": random_sets(later, 15, letters["mixed"]),
+            "random runs": random_runs(later, 15, letters["mixed"]),
+        }
+        judged(kernel, sets)
         try_pinned(kernel)
     return counts_of("kernel", counts[True], counts[False])
 
