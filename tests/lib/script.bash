@@ -65,10 +65,14 @@ skipped() {
 
 # from_debian PROGRAM PACKAGE: whether the program is there. Where it may, it installs the package that has it.
 from_debian() {
+    local words
     command -v "$1" >/dev/null && return
     [ "$(id -u)" -eq 0 ] && command -v apt-get >/dev/null || return
-    DEBIAN_FRONTEND=noninteractive apt-get -qq -y --no-install-recommends install "$2" >/dev/null 2>&1 </dev/null
-    command -v "$1" >/dev/null
+    for words in "install $2" update "install $2"; do
+        DEBIAN_FRONTEND=noninteractive "$timeout" 300 apt-get -qq -y --no-install-recommends $words >/dev/null 2>&1 </dev/null
+        command -v "$1" >/dev/null && return
+    done
+    return 1
 }
 
 # counts_of SCRIPT: says how many passed and failed. The status is 0 where none failed.
