@@ -8,8 +8,8 @@ What stands in backticks is a name where it looks like one of the code's: `snake
 A section is named as in `docs/FORMAT.md, "Limits"`, or `"Limits" and "Directives" in docs/FORMAT.md`, or `GUIDE.md, section 2`. It is a
 heading of this page, or what stands in bold where a paragraph begins.
 
-Outside code blocks no line of a page of MEASURED has more than LINE_WIDTH columns, or, in a table, ROW_WIDTH. How long a page is, is
-judged by its readers.
+Outside code blocks no line of a page of MEASURED has more than LINE_WIDTH columns, or CODE_WIDTH if the page stands beside code, or, in a
+table, ROW_WIDTH. How long a page is, is judged by its readers.
 """
 
 import pathlib
@@ -20,11 +20,13 @@ ROOT = pathlib.Path(__file__).resolve().parents[2]
 PAGES = ["README.md", "CONTRIBUTING.md", "bench/README.md", "tests/DIAGNOSES.md", "tests/FORMATS.md"]
 PAGES += [f"docs/{name}.md" for name in ("ARCHITECTURE", "DECISIONS", "DEFINITIONS", "FORMAT", "LOCKDEP", "PROMISES", "RUNTIME")]
 # Where sections are named: on pages and in what is beside them, in these folders and at the top.
-CITING = ["bench", "docs", "examples", "man", "package", "tests"]
+CITING = ["bench", "docs", "examples", "kernel", "man", "package", "source", "tests"]
 # The pages that are measured: all of the repository.
 MEASURED = sorted(str(page.relative_to(ROOT)) for page in ROOT.rglob("*.md") if "out" not in page.parts and ".git" not in page.parts)
 LINE_WIDTH = 100
+CODE_WIDTH = 120
 ROW_WIDTH = 160
+BESIDE_CODE = ("kernel", "source", "tests")
 
 # Where the names of the code are found, and names of Linux and of the toolchain's library.
 FOLDERS = ["crates", "tests", "bench", "man"]
@@ -140,9 +142,10 @@ def named(text):
 def too_wide(page):
     """Of each line or row of a page that is too wide, its number and its width."""
     is_code = False
+    width = CODE_WIDTH if page.split("/")[0] in BESIDE_CODE else LINE_WIDTH
     for number, line in enumerate((ROOT / page).read_text().splitlines(), 1):
         is_code ^= line.startswith("```")
-        if not is_code and len(line) > (ROW_WIDTH if line.startswith("|") else LINE_WIDTH):
+        if not is_code and len(line) > (ROW_WIDTH if line.startswith("|") else width):
             yield f"{page}:{number}: {len(line)} columns"
 
 
