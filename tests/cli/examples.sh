@@ -270,6 +270,36 @@ for arc in 'xfs_end_io xfs_blockgc_worker' 'xfs_blockgc_worker xfs_end_io' 'xfs_
 done
 hangs 'xfs: the kernel, without a free block' xfs.full.wq xfs.assign
 
+# nbd: four workqueues, safe, though the least is four as well. A line for whoever runs already would be a false alarm.
+counts nbd 6 8 6 4
+answers nbd 'plan 4' nbd_dev_remove_work recv_work blk_mq_run_work_fn nbd_dead_link_work
+without_cancel nbd 4
+plan_is_least nbd
+run deadlock nbd.wq nbd.assign
+ends 'nbd: the kernel' 0 safe
+draws nbd 'plan 4: items 6, workqueues 4, arrows 8, red 0, bold 3' nbd.wq
+draws 'nbd: the kernel' 'safe: items 6, workqueues 4, arrows 8, red 0, bold 0' nbd.wq nbd.assign
+{ cat nbd.wq && echo 'flush blk_mq_timeout_work blk_mq_run_work_fn'; } >nbd.alarm.wq
+hangs 'nbd: the kernel, with a line for what runs already' nbd.alarm.wq nbd.assign
+
+# bcache: six workqueues, safe; three are enough. With what is moved, or the journal, on the workqueue of the requests it hangs.
+# Where no bucket is left for the btree, what is moved waits for itself.
+counts bcache 17 30 17 6
+answers bcache 'plan 3' bch_data_insert_start.io bch_data_insert_keys.gc journal_write
+without_cancel bcache 3
+plan_is_least bcache
+run deadlock bcache.wq bcache.assign
+ends 'bcache: the kernel' 0 safe
+hangs 'bcache: what is moved among the requests' bcache.wq bcache.merged.assign 39
+sed -e '/^wq 2/d' -e 's/^wq 0/& journal_write journal_discard_work/' -e 's/^wq 3/wq 2/' -e 's/^wq 4/wq 3/' -e 's/^wq 5/wq 4/' \
+    bcache.assign >bcache.onejournal.assign
+hangs 'bcache: the journal among the requests' bcache.wq bcache.onejournal.assign
+draws bcache 'plan 3: items 17, workqueues 3, arrows 30, red 0, bold 2' bcache.wq
+draws 'bcache: the kernel' 'safe: items 17, workqueues 6, arrows 30, red 0, bold 0' bcache.wq bcache.assign
+cat bcache.wq bcache.nobucket.wq >bcache.full.wq
+answers bcache.full 'circle 1' bch_data_insert_keys.gc bch_data_insert_keys.gc
+hangs 'bcache: the kernel, without a bucket for the btree' bcache.full.wq bcache.assign
+
 # The tests of want of memory have the largest declaration and its workqueues, byte for byte.
 cases=$(<"$root/crates/test_cases/src/largest.rt")
 largest=$(basename -- "$(ls -S -- "$examples"/*.wq | head -n 1)" .wq)
