@@ -277,7 +277,7 @@ without_cancel nbd 4
 plan_is_least nbd
 run deadlock nbd.wq nbd.assign
 ends 'nbd: the kernel' 0 safe
-draws nbd 'plan 4: items 6, workqueues 4, arrows 8, red 0, bold 3' nbd.wq
+draws nbd 'plan of 4 workqueues, 3 waits in bold: items 6, workqueues 4, arrows 8, red 0, bold 3' nbd.wq
 draws 'nbd: the kernel' 'safe: items 6, workqueues 4, arrows 8, red 0, bold 0' nbd.wq nbd.assign
 { cat nbd.wq && echo 'flush blk_mq_timeout_work blk_mq_run_work_fn'; } >nbd.alarm.wq
 hangs 'nbd: the kernel, with a line for what runs already' nbd.alarm.wq nbd.assign
@@ -294,7 +294,7 @@ hangs 'bcache: what is moved among the requests' bcache.wq bcache.merged.assign 
 sed -e '/^wq 2/d' -e 's/^wq 0/& journal_write journal_discard_work/' -e 's/^wq 3/wq 2/' -e 's/^wq 4/wq 3/' -e 's/^wq 5/wq 4/' \
     bcache.assign >bcache.onejournal.assign
 hangs 'bcache: the journal among the requests' bcache.wq bcache.onejournal.assign
-draws bcache 'plan 3: items 17, workqueues 3, arrows 30, red 0, bold 2' bcache.wq
+draws bcache 'plan of 3 workqueues, 2 waits in bold: items 17, workqueues 3, arrows 30, red 0, bold 2' bcache.wq
 draws 'bcache: the kernel' 'safe: items 17, workqueues 6, arrows 30, red 0, bold 0' bcache.wq bcache.assign
 cat bcache.wq bcache.nobucket.wq >bcache.full.wq
 answers bcache.full 'circle 1' bch_data_insert_keys.gc bch_data_insert_keys.gc
