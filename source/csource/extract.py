@@ -13,6 +13,7 @@ from .progress import Progress
 from .tables import FOLDER
 
 RULES = FOLDER / "facts.cocci"
+MACROS = FOLDER / "macros.h"
 
 
 class ExtractError(Exception):
@@ -42,8 +43,8 @@ class Extractor:
         return {file: kept[file].read_text(errors="replace").splitlines() for file in files}
 
     def kept_at(self, source: pathlib.Path) -> pathlib.Path:
-        """The name says what the facts are of: the file and the rules."""
-        name = hashlib.sha256(RULES.read_bytes() + b"\0" + source.read_bytes()).hexdigest()
+        """The name says what the facts are of: the file, the rules and the macros."""
+        name = hashlib.sha256(b"\0".join(path.read_bytes() for path in (RULES, MACROS, source))).hexdigest()
         return self.cache / name[:2] / name[2:]
 
     def extract_all(self, tree: pathlib.Path, files: list[str], kept: dict[str, pathlib.Path]) -> None:
@@ -68,7 +69,7 @@ class Extractor:
         with tempfile.TemporaryDirectory(dir=to.parent) as folder:
             half = os.path.join(folder, "facts")
             ended = subprocess.run(
-                ["spatch", "--very-quiet", "--no-includes", "--sp-file", str(RULES), file],
+                ["spatch", "--very-quiet", "--no-includes", "--macro-file", str(MACROS), "--sp-file", str(RULES), file],
                 cwd=tree,
                 env={**os.environ, "WQFACTS": half},
                 stdin=subprocess.DEVNULL,
