@@ -141,7 +141,9 @@ grep -rnoE '\]\([^)#]+\)' --include='*.md' . | sed -E 's/^([^:]*):[0-9]+:\]\((.*
         *) [ -e "$(dirname "$page")/$link" ] || echo "${page#./} $link" ;;
     esac
 done >"$work/dead"
-is 'a link that leads nowhere' "$(printf '%s\n' 'README.md bench/README.md')" "$(sort -u "$work/dead")"
+is 'the pages that only the repository has' "$(printf '%s\n' README.md\ {bench,kernel,source}/README.md)" \
+    "$(grep '^README.md ' "$work/dead" | LC_ALL=C sort -u)"
+is 'no other link leads nowhere' '' "$(grep -vE ' (\.\./)?(bench|kernel|source|tests|crates)/' "$work/dead")"
 
 # Removed.
 cd -- "$work" || exit 1
