@@ -52,7 +52,6 @@ class Draft:
         self.missing = [name for name in only if not any(function.name == name for function in self.items)]
         self.lines: list[Line] = []
         self.open: dict[Key, Open] = {}
-        self.ends: dict[Key, Ends] = {}
         for function in self.items:
             self.take(function)
         self.added = self.close()
@@ -67,12 +66,7 @@ class Draft:
             if line is not None:
                 self.lines.append(line)
             else:
-                self.open.setdefault(site.key, Open(site, self.ends_of(site))).ways[function] = path
-
-    def ends_of(self, site: Site) -> Ends:
-        if site.key not in self.ends:
-            self.ends[site.key] = self.program.ends(site)
-        return self.ends[site.key]
+                self.open.setdefault(site.key, Open(site, self.program.ends(site))).ways[function] = path
 
     def line(self, function: FunctionId, site: Site, path: list[Edge]) -> "Line | None":
         """The line for a site, if its target is known. An item that waits for itself is left to the reader."""
@@ -89,7 +83,7 @@ class Draft:
 
     def only_end(self, site: Site) -> list[FunctionId]:
         """The item that ends a wait for an object, by direct calls, if nothing else in these files does."""
-        ends = self.ends_of(site)
+        ends = self.program.ends(site)
         if ends.others or len(ends.items) != 1:
             return []
         return [function for function, ended in ends.items.items() if is_direct(ended.path)]

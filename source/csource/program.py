@@ -60,6 +60,7 @@ class Program:
         # where an item may end a wait, and where it may wait: not in what runs where nothing sleeps
         self.reached = {function: reached_from(self.graph, function) for function in self.items.items}
         self.sleeps = {function: reached_from(self.graph, function, self.may_sleep) for function in self.items.items}
+        self.known_ends: dict[Key, Ends] = {}
         self.reached_by: dict[FunctionId, set[FunctionId]] = collections.defaultdict(set)
         for item, reached in self.reached.items():
             for function in reached:
@@ -77,6 +78,11 @@ class Program:
 
     def ends(self, site: Site) -> Ends:
         """What may end a wait for an object, as far as these files say it."""
+        if site.key not in self.known_ends:
+            self.known_ends[site.key] = self.find_ends(site)
+        return self.known_ends[site.key]
+
+    def find_ends(self, site: Site) -> Ends:
         found = Ends()
         if site.kind not in SIGNALLED:
             return found
