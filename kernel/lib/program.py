@@ -103,9 +103,11 @@ class Asked:
         for number in range(1, orders + 1):
             yield self.free_case(f"random order {number}", self.choose.sample(order, len(order)), cpus)
 
-    def driven_case(self, name="driven by the run", steps=None):
-        """The printed run, or another one."""
-        return cases.DrivenCase(f"{self.name}{name}", self.setting, steps or self.steps, None if steps else "hang")
+    def driven_case(self, name="driven by the run", steps=None, must=None):
+        """The printed run, which must hang, or another one."""
+        if steps is None:
+            steps, must = self.steps, "hang"
+        return cases.DrivenCase(f"{self.name}{name}", self.setting, steps, must)
 
     def cases(self, orders, cpus=1, weather="short"):
         """The printed run, driven, while rescuers are alone; and the free cases."""
