@@ -18,6 +18,7 @@ import copy
 import os
 import pathlib
 import random
+import re
 import subprocess
 import sys
 import tempfile
@@ -187,7 +188,11 @@ def try_self_check(kernel, made):
 
 def try_command(series):
     """kernel/judge: its statuses, and its last line."""
-    rdisk = ROOT / "examples" / "rdisk"
+    examples = ROOT / "examples"
+    xfs = (examples / "xfs.assign").read_text()
+    without = ",".join(re.findall(r"^wq (\d+) .*no WQ_MEM_RECLAIM", xfs, re.MULTILINE))
+    page = (ROOT / "kernel" / "README.md").read_text()
+    tell(f"--no-rescuer {without}`" in page, f"kernel/README.md names the workqueues of xfs without a rescuer: {without}")
     cancelled = {
         "d.wq": "item a\nitem b\nflush a b\n",
         "d.assign": "wq 0 a b\n",
@@ -198,8 +203,8 @@ def try_command(series):
         for name, text in cancelled.items():
             pathlib.Path(folder, name).write_text(text)
         for status, last, words in (
-            (0, "nothing hangs", [rdisk / "rdisk.wq", rdisk / "rdisk.plan", "--orders", "1"]),
-            (1, "hangs", [rdisk / "rdisk.wq", rdisk / "rdisk.plan", "--orders", "0", "--no-rescuer", "0"]),
+            (0, "nothing hangs", [examples / "rdisk/rdisk.wq", examples / "rdisk/rdisk.plan", "--orders", "1"]),
+            (1, "hangs", [examples / "xfs.wq", examples / "xfs.assign", "--orders", "0", "--no-rescuer", without]),
             (2, "not lawful 1", ["d.wq", "d.assign", "bad.run"]),
             (2, "refused 41 line 0", ["d.wq", "/dev/null"]),
             (3, "", ["d.wq", "nothing.there"]),
