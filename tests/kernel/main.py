@@ -52,19 +52,25 @@ def tell(passed, name, why=""):
 # The cases ----------------------------------------------------------------------------------------
 
 
+def declaration_of(path):
+    """The declaration of an example; the lines of NAME.MORE.wq belong at the end of NAME.wq."""
+    first = path.with_name(f"{path.name.split('.')[0]}.wq")
+    return first.read_bytes() + (path.read_bytes() if path != first else b"")
+
+
 def example_cases(choose, letters):
     """All examples: each assignment of a declaration, and its plan, with the printed run, and in 3 or 4 orders."""
     examples = ROOT / "examples"
     for path in sorted(examples.rglob("*.assign")):
         name = path.name.split(".")[0]
-        declaration = next(
-            place for place in (path.with_name(f"{name}.wq"), path.parent / f"{path.parent.name}.wq") if place.exists()
-        )
+        places = path.with_name(f"{name}.wq"), path.parent / f"{path.parent.name}.wq"
+        declaration = next(place for place in places if place.exists())
         yield from program.Asked(f"{path.name}: ", [declaration, path], letters, choose).cases(3)
     for path in sorted(examples.rglob("*.wq")):
-        plan = program.plan_of(path)
+        declaration = declaration_of(path)
+        plan = program.plan_of(declaration)
         if plan:
-            asked = program.Asked(f"{path.name}, its plan: ", [path, plan], letters, choose)
+            asked = program.Asked(f"{path.name}, its plan: ", [declaration, plan], letters, choose)
             if not asked.is_safe:
                 raise guest.Fault(f"{path}: its plan isn't safe")
             yield from asked.cases(3)
