@@ -2,6 +2,7 @@
 (module/main.c has the list), and how their outcomes are judged.
 """
 
+import collections
 import dataclasses
 
 import guest
@@ -17,6 +18,9 @@ KINDS = {
 }
 
 WORDS = {"w": "wait", "W": "waitwq"}
+
+# MAX_ITEMS and MAX_ACTS of module/wqjudge.h.
+MOST_ITEMS, MOST_WAITS = 256, 64
 
 
 @dataclasses.dataclass
@@ -34,6 +38,17 @@ class Setting:
             yield f"wq {KINDS[kind][1]} {rescuer}{' 1' if kind == '1' else ''}"
         for item in self.declaration.items:
             yield f"item {self.assignment.workqueue_of[item]}"
+
+    def too_large(self):
+        """What the module has no room for, in words, or nothing."""
+        items = self.declaration.items
+        if len(items) > MOST_ITEMS:
+            return f"{len(items)} items; at most {MOST_ITEMS} can be judged"
+        waits = collections.Counter(item for item, _ in self.declaration.flushes)
+        for item, count in waits.most_common(1):
+            if count > MOST_WAITS:
+                return f"{item.decode()} has {count} waits; at most {MOST_WAITS} of an item can be judged"
+        return ""
 
     def number_of(self, item):
         return self.declaration.items.index(item)

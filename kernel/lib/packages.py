@@ -13,6 +13,7 @@ import pathlib
 import re
 import shutil
 import subprocess
+import sys
 import tempfile
 
 HERE = pathlib.Path(__file__).resolve().parent
@@ -29,8 +30,11 @@ class Missing(Exception):
 
 def cache():
     base = os.environ.get("XDG_CACHE_HOME") or os.path.join(os.path.expanduser("~"), ".cache")
-    place = pathlib.Path(base) / "wqplan-kernel"
-    place.mkdir(parents=True, exist_ok=True)
+    place = pathlib.Path(base).absolute() / "wqplan-kernel"
+    try:
+        place.mkdir(parents=True, exist_ok=True)
+    except OSError as error:
+        raise Missing(f"the cache {place} can't be made: {error.strerror}") from error
     return place
 
 
@@ -89,6 +93,7 @@ def fetch(names, into):
     """The files of packages, downloaded into a folder."""
     folder = named_folder()
     if folder is None:
+        print(f"downloading {', '.join(names)}", file=sys.stderr, flush=True)
         output_of(["apt-get", "download", "-q", *names], cwd=into)
         folder = into
     found = []
@@ -272,7 +277,7 @@ def busybox():
 def needed_by(name):
     """A package, and all that would have to be installed with it here."""
     told = output_of(["apt-get", "-s", "--no-install-recommends", "install", name])
-    return re.findall(r"^Inst (\S+)", told, re.MULTILINE)
+    return sorted({name, *re.findall(r"^Inst (\S+)", told, re.MULTILINE)})
 
 
 def qemu():
