@@ -19,8 +19,8 @@ import sys
 ROOT = pathlib.Path(__file__).resolve().parents[2]
 PAGES = ["README.md", "CONTRIBUTING.md", "bench/README.md", "tests/DIAGNOSES.md", "tests/FORMATS.md"]
 PAGES += [f"docs/{name}.md" for name in ("ARCHITECTURE", "DECISIONS", "DEFINITIONS", "FORMAT", "LOCKDEP", "PROMISES", "RUNTIME")]
-# Where sections are named: on pages and in what is beside them, in these folders and at the top.
-CITING = ["bench", "docs", "examples", "kernel", "man", "package", "source", "tests"]
+# Where sections are named: in sources, on pages and in what is beside them, in these folders and at the top.
+CITING = ["bench", "crates", "docs", "examples", "kernel", "man", "package", "source", "tests"]
 # The pages that are measured: all of the repository.
 MEASURED = sorted(str(page.relative_to(ROOT)) for page in ROOT.rglob("*.md") if "out" not in page.parts and ".git" not in page.parts)
 LINE_WIDTH = 100

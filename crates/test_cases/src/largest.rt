@@ -92,6 +92,38 @@ flush xfs_btree_split_worker xlog_ioend_work         # done xfs_log.c:890 xlog_w
 flush xfs_btree_split_worker xlog_discard_endio_work # done xfs_extent_busy.c:587 xfs_extent_busy_flush
 flush xfs_btree_split_worker xfs_buf_ioend_work      # done xfs_buf.c:1611 xfs_buf_iowait
 flush xlog_cil_push_work xlog_ioend_work             # done xfs_log.c:890 xlog_wait_on_iclog, at xfs_log_cil.c:1359 xlog_cil_push_work, and xfs_log.c:2918 xlog_state_get_iclog_space
+
+# Beside the source (source/README.md): the sites in reach that no line above cites. What a disk ends, it ends in an interrupt.
+# files: fs/xfs/*.c fs/xfs/*.h fs/xfs/libxfs/*.c fs/xfs/libxfs/*.h fs/fs-writeback.c fs/inode.c fs/iomap/buffered-io.c
+# files: fs/iomap/direct-io.c mm/backing-dev.c mm/page-writeback.c mm/truncate.c
+#
+# The sleeps behind the calls that the lines name: fs/fs-writeback.c:191 wb_wait_for_completion for writeback,
+# fs/fs-writeback.c:1557 __inode_wait_for_writeback for that of one inode, mm/page-writeback.c:3058 folio_wait_writeback for that of
+# a page, fs/inode.c:2437 __inode_dio_wait for direct writes.
+# More waits of the items that commit transactions, for items that their lines name. A commit that finds too much in memory waits
+# until xlog_cil_push_work has begun, at xfs_log_cil.c:1480 xlog_cil_push_background. A synchronous one waits for that at
+# xfs_log_cil.c:1748 xlog_cil_force_seq, and at xfs_log.c:3307 xlog_force_lsn until xlog_ioend_work has ended the log buffer before
+# its own (xfs_log.c:2871 xlog_state_done_syncing). A direct write that is to be on disk when it ends waits as these do, at
+# fs/iomap/direct-io.c:122 iomap_dio_complete.
+# no wait: xfs_trans.c xfs_trans_alloc xfs_blockgc_flush_all(mp): where no free block is left: xfs.nospace.wq has it
+# no wait: xfs_trans.c xfs_trans_alloc_inode xfs_blockgc_free_quota(ip): a forced reservation meets no limit, and what comes here forces it (xfs_iomap.c:582 xfs_iomap_write_unwritten)
+# no wait: fs-writeback.c inode_sleep_on_writeback prepare_to_wait(wqh): whoever writes the inode has started
+# no wait: inode.c inode_wait_for_lru_isolating __wait_on_bit(wqh): whoever isolates it has started
+# no wait: buffered-io.c iomap_submit_ioend submit_bio(ioend->io_bio): the disk ends requests
+# no wait: xfs_bmap_util.c xfs_zero_extent blkdev_issue_zeroout(target->bt_bdev): only for a write without the page cache, on DAX (xfs_iomap.c:276 xfs_iomap_write_direct)
+# no wait: xfs_buf.c xfs_buf_wait_unpin add_wait_queue(&bp->b_waiters): only a write waits. xfs_buf_ioend_work writes again what it has locked, which nobody pins meanwhile
+# no wait: xfs_buf.c xfs_buf_ioapply_map bio_alloc(bp->b_target->bt_bdev): a bio comes back when the disk ends it
+# no wait: xfs_buf.c xfs_buf_ioapply_map submit_bio(bio): the disk ends requests
+# no wait: xfs_inode.c __xfs_iunpin_wait prepare_to_wait(wq): only after a shutdown (xfs_icache.c:918 xfs_reclaim_inode)
+# no wait: xfs_linux.h delay schedule_timeout_uninterruptible(ticks): a time that passes
+# no wait: xfs_log.c xlog_write_iclog blkdev_issue_flush(log->l_mp->m_ddev_targp->bt_bdev): the disk ends it
+# no wait: xfs_log.c xlog_write_iclog submit_bio(split): the disk ends requests
+# no wait: xfs_log.c xlog_write_iclog submit_bio(&iclog->ic_bio): the disk ends requests
+# no wait: xfs_log_cil.c xlog_discard_busy_extents submit_bio(bio): the disk ends requests
+# no wait: xfs_log_priv.h xlog_shutdown_wait wait_var_event(&log->l_opstate): only after a shutdown
+# no wait: xfs_trans.c xfs_trans_alloc sb_start_intwrite(mp->m_super): a process thaws the file system
+# no wait: page-writeback.c write_cache_pages lock_page(page): whoever has the page has started, or the disk ends a read
+# no wait: truncate.c truncate_inode_pages_range folio_lock(folio): the same
 ";
 
 /// examples/xfs.assign.

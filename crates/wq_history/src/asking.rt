@@ -91,7 +91,8 @@ impl Asked {
         self.mark
     }
 
-    /// Ends the ask although its wait isn't over. The book still keeps a row for it.
+    /// Ends the ask although its wait isn't over. The book keeps a row for it, and counts it as one that waits, for good: what holds
+    /// such a book can't be closed (71).
     pub fn give_up(self) {
         let Asked { item: _, mark: _ } = self;
     }
@@ -145,7 +146,8 @@ impl LaneAsked {
         self.mark
     }
 
-    /// Ends the ask although its wait isn't over. The book still keeps a row for it.
+    /// Ends the ask although its wait isn't over. The book keeps a row for it, and counts it as one that waits, for good: what holds
+    /// such a book can't be closed (71).
     pub fn give_up(self) {
         let LaneAsked { lane: _, mark: _ } = self;
     }

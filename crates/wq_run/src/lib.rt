@@ -6,8 +6,8 @@
 //! the definition `report_text` of these numbers, byte by byte. One call of this name makes them, of a closed runtime and of what
 //! all threads left.
 //!
-//! This crate is separate from the other commands, whose proofs know nothing of threads. The command is that of "`run`" in
-//! docs/FORMAT.md. It takes the time of planning, of the executions and of writing the answer.
+//! This crate is separate from the other commands, whose proofs know nothing of threads. The command is that of "The command
+//! `run`" in docs/FORMAT.md. It takes the time of planning, of the executions and of writing the answer.
 #![tactic(auto)]
 
 mod fault;

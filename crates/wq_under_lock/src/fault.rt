@@ -1,6 +1,6 @@
 //! Why no runtime is made.
 //!
-//! The numbers are those of "Runtimes" in docs/FORMAT.md. Every call takes constant time.
+//! The numbers are those of "Runtimes" in docs/RUNTIME.md. Every call takes constant time.
 
 ghost use Rattle.std.specs.Prelude.{◌≡◌};
 ghost use Rattle.wq_under_lock.specs.Refusals.{new_code};
