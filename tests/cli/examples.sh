@@ -126,8 +126,10 @@ plan_is_least() {
 # arrows LOOK: those of the file `out` that look so, whatever their heads, as `arc` lines, sorted. An arrow that is drawn from its
 # target is returned to its item.
 arrows() {
-    sed -nE "s/^  \"([^\"]*)\" -> \"([^\"]*)\" \[$1\]( \[arrowhead=odiamond\])?;$/arc \1 \2/p
-        s/^  \"([^\"]*)\" -> \"([^\"]*)\" \[$1\] \[dir=back(, arrowtail=odiamond)?\];$/arc \2 \1/p" out | LC_ALL=C sort
+    local comment='( \[edgetooltip="([^"\\]|\\.)*"\])?'
+    sed -nE "s/^  \"([^\"]*)\" -> \"([^\"]*)\" \[$1\]( \[arrowhead=odiamond\])?$comment;$/arc \1 \2/p
+        s/^  \"([^\"]*)\" -> \"([^\"]*)\" \[$1\] \[dir=back(, arrowtail=odiamond)?\]$comment;$/arc \2 \1/p" out |
+        LC_ALL=C sort
 }
 
 # boxes FILE: the items on each workqueue of a drawing, or of a file with `wq` lines, sorted.

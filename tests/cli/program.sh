@@ -643,7 +643,7 @@ done
 # Long help of a command has the answers of this command with their statuses, and no answer that only others have; short help has
 # none. That of the program has all.
 while IFS=$'\t' read -r command has cell; do
-    "$program" $command --help | sed -n '/Exit status:/,$p' | tr -s ' \n' '  ' >out
+    limited "$program" $command --help | sed -n '/Exit status:/,$p' | tr -s ' \n' '  ' >out
     found=$(grep -cF -- "$cell" out)
     is "$command --help: $has $cell" "$([ "$has" = has ] && echo 1 || echo 0)" "$found"
 done < <(python3 -B "$root/tests/lib/commands.py" answers)

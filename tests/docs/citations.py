@@ -186,7 +186,7 @@ def unpacked(into, texts):
     # (tar says of each name that isn't there that it isn't, and unpacks the others)
     members = [f"{top}/{name}" for name in sorted(names)]
     subprocess.run(["tar", "-xJf", TARBALL, "-C", into, "--strip-components=1", *members], stderr=subprocess.DEVNULL,
-                   check=False)
+                   check=False, timeout=300)
     return into
 
 

@@ -149,7 +149,7 @@ def has_graphviz():
     """Whether there is a program `dot`, perhaps fetched."""
     if shutil.which("dot") is None and shutil.which("apt-get") and os.geteuid() == 0:
         subprocess.run(["apt-get", "install", "-y", "-q", "graphviz"], stdout=subprocess.DEVNULL,
-                       stderr=subprocess.DEVNULL, check=False)
+                       stderr=subprocess.DEVNULL, check=False, timeout=600)
     return shutil.which("dot") is not None
 
 

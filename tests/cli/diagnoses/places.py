@@ -381,7 +381,7 @@ ACCEPTED = [
     ({"d": AB, "a": "wq 0 a b"}, "deadlock d a", "run 4 / queue a / queue b / start 0 a / wait 0 b", 1, []),
     ({"d": AB}, "circles d", "safe", 0, []),
     ({"d": AB, "a": "wq 0 a b"}, "circles d a", "components 1 / component 1 / arc a b", 1, []),
-    ({"d": ""}, "dot d", drawn("plan 0"), 0, [
+    ({"d": ""}, "dot d", drawn("plan of 0 workqueues"), 0, [
         "d: note: no item is declared: is this the right file?",
     ]),
     ({"d": "", "a": ""}, "dot d a", drawn("safe"), 0, [
