@@ -280,6 +280,10 @@ def needed_by(name):
     return sorted({name, *re.findall(r"^Inst (\S+)", told, re.MULTILINE)})
 
 
+# Of qemu-system-common.
+QEMU_MODULES = "usr/lib/x86_64-linux-gnu/qemu"
+
+
 def qemu():
     """The words that start QEMU, without its arguments, and what they need in the environment."""
     found = shutil.which("qemu-system-x86_64")
@@ -303,5 +307,10 @@ def qemu():
 
     root = made(cache() / "qemu", make)
     libraries = ":".join(str(root / folder) for folder in ("usr/lib/x86_64-linux-gnu", "lib/x86_64-linux-gnu"))
-    firmware = [word for folder in ("usr/share/qemu", "usr/share/seabios") for word in ("-L", str(root / folder))]
-    return [str(root / "usr/bin/qemu-system-x86_64"), *firmware], {"LD_LIBRARY_PATH": libraries}
+    environment = {"LD_LIBRARY_PATH": libraries}
+    # What was installed already, as by the QEMU of another machine, isn't in the cache.
+    if not (root / QEMU_MODULES).exists():
+        environment["QEMU_MODULE_DIR"] = f"/{QEMU_MODULES}"
+    folders = [base / folder for folder in ("usr/share/qemu", "usr/share/seabios") for base in (root, pathlib.Path("/"))]
+    firmware = [word for folder in folders for word in ("-L", str(folder))]
+    return [str(root / "usr/bin/qemu-system-x86_64"), *firmware], environment
