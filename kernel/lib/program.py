@@ -29,8 +29,11 @@ def wqplan():
     """The program: that of $WQPLAN, of this clone, on the PATH, or installed by install.sh."""
     cache = os.environ.get("XDG_CACHE_HOME") or os.path.expanduser("~/.cache")
     built = "crates/wqplan/out/wqplan"
+    named = os.environ.get("WQPLAN")
+    if named and not os.access(named, os.X_OK):
+        raise packages.Missing(f"the variable WQPLAN names {named}, which can't be executed")
     for path in (
-        os.environ.get("WQPLAN"),
+        named,
         ROOT / built,
         *(f"{folder}/wqplan" for folder in os.get_exec_path()),
         f"{cache}/wqplan/{built}",
