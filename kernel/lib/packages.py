@@ -51,7 +51,7 @@ def output_of(words, **given):
             **given,
         )
     except OSError as error:
-        raise Missing(f"{words[0]}: {error.strerror}") from error
+        raise Missing(f"{words[0]}: {error.strerror} (is it installed, and on the PATH?)") from error
     if ended.returncode != 0:
         raise Missing(f"`{' '.join(map(str, words))}` failed:\n{(ended.stdout + ended.stderr).strip()}")
     return ended.stdout
@@ -311,6 +311,6 @@ def qemu():
     # What was installed already, as by the QEMU of another machine, isn't in the cache.
     if not (root / QEMU_MODULES).exists():
         environment["QEMU_MODULE_DIR"] = f"/{QEMU_MODULES}"
-    folders = [base / folder for folder in ("usr/share/qemu", "usr/share/seabios") for base in (root, pathlib.Path("/"))]
-    firmware = [word for folder in folders for word in ("-L", str(folder))]
+    places = [base / "usr/share" for base in (root, pathlib.Path("/"))]
+    firmware = [word for place in places for name in ("qemu", "seabios") for word in ("-L", str(place / name))]
     return [str(root / "usr/bin/qemu-system-x86_64"), *firmware], environment

@@ -204,6 +204,10 @@ def try_command(series):
         "d.assign": "wq 0 a b\n",
         "d.run": "run 5\nqueue a\nstart 0 a\nqueue b\nwait 0 b\ncancel b\n",
         "bad.run": "run 1\nstart 0 a\n",
+        "many.wq": "".join(f"item i{number}\n" for number in range(257)),
+        "many.assign": "".join(f"wq {number} i{number}\n" for number in range(257)),
+        "waits.wq": "".join(f"item i{number}\n" for number in range(66)) + "flush i65 i0\n" * 65,
+        "waits.assign": "".join(f"wq {number} i{number}\n" for number in range(66)),
     }
     with tempfile.TemporaryDirectory() as folder:
         for name, text in cancelled.items():
@@ -213,7 +217,11 @@ def try_command(series):
             (1, "hangs", [examples / "xfs.wq", examples / "xfs.assign", "--orders", "0", "--no-rescuer", without]),
             (2, "not lawful 1", ["d.wq", "d.assign", "bad.run"]),
             (2, "refused 41 line 0", ["d.wq", "/dev/null"]),
+            (2, "", ["many.wq", "many.assign"]),
+            (2, "", ["waits.wq", "waits.assign"]),
+            (2, "", ["d.wq", "d.assign", "--no-rescuer", "-1"]),
             (3, "", ["d.wq", "nothing.there"]),
+            (3, "", ["d.wq", "d.assign", "--keep-log", "nothing/there"]),
             # The known difference: the model lets the flush of a cancelled entry go at once.
             (4, "differs", ["d.wq", "d.assign", "d.run"]),
         ):
@@ -226,7 +234,9 @@ def try_command(series):
                 timeout=SECONDS,
             )
             found = ended.returncode, (ended.stdout.splitlines() or [""])[-1]
-            tell(found == (status, last), f"kernel/judge ends with {status} {last}", f"{found} {ended.stderr}")
+            is_told = (ended.stdout or ended.stderr) and "Traceback" not in ended.stderr
+            name = f"kernel/judge {' '.join(map(str, words[-2:]))} ends with {status} {last}"
+            tell(found == (status, last) and is_told, name, f"{found} {ended.stderr}")
 
 
 def missing(series):
