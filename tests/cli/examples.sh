@@ -165,16 +165,16 @@ draws() {
 }
 
 # dm-snapshot: six workqueues, safe; with one kcopyd for all it hangs.
-counts dm-snapshot 6 3 6 6
+counts dm-snapshot 6 4 6 6
 answers dm-snapshot 'plan 3' do_work.merging do_work.other do_metadata.other
 without_cancel dm-snapshot 3
 plan_is_least dm-snapshot
 run deadlock dm-snapshot.wq dm-snapshot.assign
 ends 'dm-snapshot: the kernel' 0 safe
 hangs 'dm-snapshot: one kcopyd' dm-snapshot.wq dm-snapshot.merged.assign 14
-draws dm-snapshot 'plan of 3 workqueues, 2 waits in bold: items 6, workqueues 3, arrows 3, red 0, bold 2' dm-snapshot.wq
-draws 'dm-snapshot: the kernel' 'safe: items 6, workqueues 6, arrows 3, red 0, bold 0' dm-snapshot.wq dm-snapshot.assign
-draws 'dm-snapshot: one kcopyd' 'can hang, 1 wait in red: items 6, workqueues 3, arrows 3, red 1, bold 0' \
+draws dm-snapshot 'plan of 3 workqueues, 2 waits in bold: items 6, workqueues 3, arrows 4, red 0, bold 2' dm-snapshot.wq
+draws 'dm-snapshot: the kernel' 'safe: items 6, workqueues 6, arrows 4, red 0, bold 0' dm-snapshot.wq dm-snapshot.assign
+draws 'dm-snapshot: one kcopyd' 'can hang, 1 wait in red: items 6, workqueues 3, arrows 4, red 1, bold 0' \
     dm-snapshot.wq dm-snapshot.merged.assign
 
 # dm-integrity: six workqueues, safe; without dm-integrity-offload it hangs.
