@@ -14,7 +14,8 @@
 #   before it;
 # - an excerpt: the word behind the backticks is `rust` or `antt`. Its lines stand in a file of the guide's program
 #   (crates/example_rdisk), in src/ or proofs/, one below the other and just so;
-# - something to read, which is skipped: the word behind the backticks is `c` or `text`.
+# - something to read, which is skipped: the word behind the backticks is `text`, or `c` and it is no file. (What `wqsource` prints
+#   on docs/GUIDE.md is compared by tests/source/test_pages.py, which has Coccinelle.)
 # A page is played in a folder of its own, from top to bottom. Those in examples/ find the files of examples/ there, and README.md
 # finds the folder.
 set -u
@@ -95,12 +96,14 @@ block() {
         excerpt "$at" rt "$@"
     elif [ "$word" = antt ]; then
         excerpt "$at" antt "$@"
+    elif [ "$word" = text ]; then
+        return
     elif [ "${first:0:2}" = '$ ' ]; then
         commands "$@"
     elif [[ $first =~ ^(#|/\*)\ ([A-Za-z0-9._-]+)(\ \*/)?$ ]]; then
         printf '%s\n' "$@" >"${BASH_REMATCH[2]}"
         case $page in docs/GUIDE.md | docs/WAITS.md) kept "${BASH_REMATCH[2]}" ;; esac
-    elif [ "$word" != c ] && [ "$word" != text ]; then
+    elif [ "$word" != c ]; then
         fail "$page: the block at line $at is no file, no command and nothing to read"
     fi
 }

@@ -31,7 +31,7 @@ BESIDE_CODE = ("kernel", "source", "tests")
 # Where the names of the code are found, and names of Linux and of the toolchain's library.
 FOLDERS = ["crates", "tests", "bench", "man"]
 OF_OTHERS = """
-    check_flush_dependency connect_work create_workqueue destroy_workqueue disable_work drain_workqueue enable_work
+    check_flush_dependency connect_work create_worker create_workqueue destroy_workqueue disable_work drain_workqueue enable_work
     find_worker_executing_work worker_thread
     flush_workqueue max_active nvme_tcp_wq start_flush_work work_busy CONFIG_PROVE_LOCKING FitsInMemory SmallVec
 """.split()

@@ -1,10 +1,11 @@
-"""source/README.md: what it shows is what is printed, and what it names is there."""
+"""source/README.md, and docs/GUIDE.md on wqsource: what they show is what is printed, and what they name is there."""
 
 import re
 
 from conftest import ROOT
 
 PAGE = (ROOT / "source" / "README.md").read_text()
+GUIDE = (ROOT / "docs" / "GUIDE.md").read_text()
 RDISK = ROOT / "examples" / "rdisk"
 
 
@@ -27,6 +28,24 @@ def test_dismissed_as_shown(wqsource, tmp_path):
     dismissal = re.search(r"^# no wait: rdisk\.c .*: an interrupt ends it$", PAGE, re.M)[0]
     (tmp_path / "rdisk.wq").write_text((RDISK / "rdisk.wq").read_text() + dismissal + "\n")
     assert wqsource("audit", "--decl", tmp_path / "rdisk.wq", "rdisk.c", cwd=RDISK).status == 0
+
+
+def test_draft_in_the_guide(wqsource, tmp_path):
+    """The lines of the draft that are neither blank nor comments, to the byte."""
+    command = r"\$ wqsource draft --assign draft\.assign rdisk\.c > draft\.wq\n\$ grep '\^\[\^#\]' draft\.wq\n"
+    shown = re.search(rf"```text\n{command}((?:.*\n)*?)```", GUIDE)[1]
+    drafted = wqsource("draft", "--assign", tmp_path / "draft.assign", "rdisk.c", cwd=RDISK).out.splitlines(True)
+    assert "".join(line for line in drafted if re.match("[^#\n]", line)) == shown
+
+
+def test_dismissed_in_the_guide(wqsource, tmp_path):
+    """With the line of section 1 the audit of section 5 has status 0; without a `flush` line, 1."""
+    dismissal = re.search(r"`(# no wait: rdisk\.c .*: an interrupt)`", GUIDE)[1]
+    assert GUIDE.count("`wqsource audit --decl rdisk.wq rdisk.c`") == 2
+    text = (RDISK / "rdisk.wq").read_text() + dismissal + "\n"
+    for declared, status in ((text, 0), (re.sub("^flush send .*\n", "", text, flags=re.M), 1)):
+        (tmp_path / "rdisk.wq").write_text(declared)
+        assert wqsource("audit", "--decl", tmp_path / "rdisk.wq", "rdisk.c", cwd=RDISK).status == status
 
 
 def test_modules_and_tables():
