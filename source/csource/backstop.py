@@ -12,7 +12,7 @@ from .tables import Waits
 NOT_CODE = re.compile(r'/\*.*?\*/|//[^\n]*|"(?:\\.|[^"\\\n])*"|^[ \t]*#(?:[^\n]*\\\n)*[^\n]*', re.S | re.M)
 CALLED = re.compile(r"\b([A-Za-z_]\w*)\s*(\()")
 BEGINS_FUNCTION = re.compile(r"^(?!else|if|for|while|switch|return|do\b)[A-Za-z_][^;={}]*?\b(\w+)\s*\(", re.M)
-LOOKED_FOR = ("item", "queue", "workqueue", "flush", "cancel", "flushwq", "event", "done", "prepare", "pool")
+LOOKED_FOR = ("item", "queue", "workqueue", "flush", "cancel", "flushwq", "event", "done", "prepare", "enter", "pool")
 
 
 class Missed(NamedTuple):

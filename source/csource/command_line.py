@@ -162,7 +162,8 @@ VERBS = {"audit": run_audit, "drift": run_drift, "draft": run_draft}
 
 def main() -> NoReturn:
     words = parser().parse_args()
-    extractor = Extractor(words.cache, max(1, words.jobs or 1), Progress())
+    # (spatch runs in the folder of the tree)
+    extractor = Extractor(words.cache.resolve(), max(1, words.jobs or 1), Progress())
     try:
         status = VERBS[words.verb](words, extractor)
     except (Fault, ExtractError, TableError, OSError) as fault:

@@ -101,7 +101,7 @@ class Draft:
         found = []
         for workqueue in sorted({workqueue for item in self.all_items() for workqueue in item.workqueues}):
             items = [item for item in self.all_items() if workqueue in item.workqueues]
-            if len(items) > 1 and "ordered" in self.program.workqueues.flags(workqueue):
+            if len(items) > 1 and self.program.workqueues.is_ordered(workqueue) is not False:
                 found.append((workqueue, items))
         return found
 

@@ -129,8 +129,9 @@ class Printer:
     def print_ordered(self) -> None:
         for workqueue, items in self.draft.ordered():
             self.decide(f"ordered {' '.join(item.name for item in items)}")
+            is_so = "is ordered" if self.program.workqueues.is_ordered(workqueue) else "is ordered in 6.1, not in 6.12"
             self.comment(
-                f"{self.program.workqueues.name(workqueue)} is ordered. Leave the line out if nothing relies on it"
+                f"{self.program.workqueues.name(workqueue)} {is_so}. Leave the line out if nothing relies on it"
             )
 
     # Waits

@@ -11,6 +11,7 @@ from .records import Call
 
 SAME, MOVED, CHANGED, ELSEWHERE, GONE = "same", "moved", "changed", "elsewhere", "gone"
 MOST_PLACES = 3
+UNPARSED = ", outside any function that could be parsed"
 
 
 @dataclass(frozen=True)
@@ -100,7 +101,7 @@ class Mapping:
     def by_its_text(self, file: str, line: int, function: str) -> Optional[Now]:
         text = self.old_lines[file][line - 1]
         places = [
-            Place(file, number, self.new_functions.at(file, number) or "-")
+            Place(file, number, self.new_functions.at(file, number) or "")
             for number, other in enumerate(self.new_lines.get(file, []), 1)
             if other == text
         ]
@@ -108,5 +109,9 @@ class Mapping:
         return Now(ELSEWHERE, text=f"the same line is at {places_text(places)}") if len(text) > 3 and places else None
 
 
+def place_text(place: Place) -> str:
+    return str(place) if place.function else f"{place}{UNPARSED}"
+
+
 def places_text(places: list[Place]) -> str:
-    return ", ".join(map(str, places[:MOST_PLACES])) + (" .." if len(places) > MOST_PLACES else "")
+    return ", ".join(map(place_text, places[:MOST_PLACES])) + (" .." if len(places) > MOST_PLACES else "")

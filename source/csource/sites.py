@@ -102,11 +102,14 @@ class Sites:
         self.prepared: dict[FunctionId, list[Site]] = collections.defaultdict(list)
         self.hands_on: set[FunctionId] = set()
         sleeps = []
+        enters = []
         for call in facts.calls:
             kind = waits.kind(call.name)
             words = kind.object_of(call.arguments)
             if kind.name == "sleep":
                 sleeps.append(call)
+            elif kind.name == "enter":
+                enters.append(call)
             elif kind.name in ("wake", "give"):
                 waker = Waker(call.place, call.name, holds.objects(call.place, words))
                 (self.wakers if kind.name == "wake" else self.givers).append(waker)
@@ -114,6 +117,10 @@ class Sites:
                 self.locks.append(Lock(call.place, call.name, holds.objects(call.place, words)))
             else:
                 self.take(call, kind.name, words)
+        sleeping = {call.place.id for call in sleeps}
+        for call in enters:
+            if call.place.id in sleeping:
+                self.take(call, "prepare", waits.kind(call.name).object_of(call.arguments))
         for call in sleeps:
             self.take_sleep(call)
         self.in_function: dict[FunctionId, list[Site]] = collections.defaultdict(list)

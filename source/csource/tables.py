@@ -50,6 +50,7 @@ KINDS = (
     "event",
     "done",
     "prepare",
+    "enter",
     "sleep",
     "wake",
     "pool",

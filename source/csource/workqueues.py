@@ -1,7 +1,9 @@
 """The workqueues that the files make: their names and flags."""
 
+import pathlib
 import re
 from dataclasses import dataclass
+from typing import Optional
 
 from . import ctext
 from .ctext import Tokens
@@ -12,8 +14,20 @@ from .tables import Waits
 
 # These pass WQ_MEM_RECLAIM themselves.
 WITH_RESCUER = ("create_workqueue", "create_singlethread_workqueue", "create_freezable_workqueue")
-ORDERED = ("create_singlethread_workqueue", "create_freezable_workqueue")
+ORDERED = ("create_singlethread_workqueue",)
+# Unbound, and one at a time.
+UNBOUND_ONE = ("create_freezable_workqueue",)
+PERHAPS_ORDERED = "max_active 1 (ordered in Linux 6.1, not in 6.12)"
 NO_RESCUER = "NO WQ_MEM_RECLAIM: no rescuer"
+
+# alloc_workqueue of Linux 6.1 makes an unbound workqueue of one at a time an ordered one; that of 6.12 doesn't.
+MADE_ORDERED = re.compile(r"\bWQ_UNBOUND\)\s*&&\s*max_active\s*==\s*1\b")
+
+
+def makes_ordered(tree: pathlib.Path) -> Optional[bool]:
+    """Whether a tree's alloc_workqueue makes an unbound workqueue of one at a time ordered; None if it isn't there."""
+    source = tree / "kernel" / "workqueue.c"
+    return bool(MADE_ORDERED.search(source.read_text(errors="replace"))) if source.is_file() else None
 
 
 @dataclass
@@ -29,6 +43,7 @@ class Workqueues:
 
     def __init__(self, facts: Facts, waits: Waits) -> None:
         self.facts = facts
+        self.unbound_one = {True: "ordered", False: "max_active 1", None: PERHAPS_ORDERED}[makes_ordered(facts.tree)]
         self.made: dict[str, Made] = {}
         for call in facts.calls:
             if waits.kind(call.name).name == "workqueue" and not facts.resolve(call.place.file, call.name):
@@ -60,12 +75,18 @@ class Workqueues:
         found.append("WQ_UNBOUND" if "WQ_UNBOUND" in text else "")
         return ", ".join(filter(None, found))
 
-    @staticmethod
-    def order(call: Call, text: str) -> str:
+    def is_ordered(self, workqueue: str) -> Optional[bool]:
+        """Whether it is ordered; None if that depends on the kernel, which isn't known."""
+        text = self.flags(workqueue)
+        return None if PERHAPS_ORDERED in text else "ordered" in text
+
+    def order(self, call: Call, text: str) -> str:
         last = call.arguments[2:3] if call.name == "alloc_workqueue" else call.arguments[-1:]
         is_one = last == [["1"]]
-        if "ordered" in call.name or call.name in ORDERED or "WQ_UNBOUND" in text and is_one:
+        if "ordered" in call.name or call.name in ORDERED or "__WQ_ORDERED" in text:
             return "ordered"
+        if call.name in UNBOUND_ONE or "WQ_UNBOUND" in text and is_one:
+            return self.unbound_one
         return "max_active 1" if is_one else ""
 
     def assigned(self, call: Call) -> list[Tokens]:

@@ -96,6 +96,13 @@ def test_facts_are_kept_by_what_is_in_the_file(wqsource, tmp_path):
     assert wqsource(*words, tmp_path, env=env).status == 3
 
 
+def test_a_relative_cache(wqsource, tmp_path):
+    """It is meant from where the command runs, and not from the tree, where spatch runs."""
+    ran = wqsource("draft", "--cache", "kept", "--tree", RDISK, "rdisk.c", cwd=tmp_path)
+    assert ran.status == 0 and ran.err == "" and "item rdisk_send" in ran.out
+    assert len([path for path in (tmp_path / "kept").rglob("*") if path.is_file()]) == 1
+
+
 class Terminal(io.StringIO):
     def isatty(self):
         return True
@@ -156,6 +163,7 @@ def test_kinds_of_the_kernels_calls():
         "invalidate_inode_pages2 truncate_pagecache iput schedule_on_each_cpu work_on_cpu vfs_fsync synchronize_srcu "
         "blk_mq_alloc_request dm_io blkdev_issue_flush kernel_sendmsg sb_start_write del_gendisk "
         "balance_dirty_pages_ratelimited",
+        "enter": "__add_wait_queue __add_wait_queue_entry_tail",
         "never": "cancel_work cancel_delayed_work msleep synchronize_rcu rcu_barrier mutex_trylock mutex_unlock",
         "wake": "wake_up wake_up_process complete complete_all",
         "queue": "queue_work mod_delayed_work schedule_work queue_delayed_work kthread_queue_work "

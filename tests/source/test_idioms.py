@@ -1,5 +1,7 @@
 """One small C file for each way in which code gets to a wait. What is expected was read off the C file."""
 
+import pytest
+
 
 def test_callback_parameter(drafted):
     found = drafted("callback.c")
@@ -90,7 +92,9 @@ def test_flags(read):
         workqueues = read(pathlib.Path(__file__).parent / "c", [file]).workqueues
         return {workqueues.name(made): workqueues.flags(made) for made in workqueues.made}
 
-    assert flags("two_inits.c") == {"ti": "ordered, WQ_MEM_RECLAIM, WQ_UNBOUND"}
+    # (which kernel it is of, nothing there says)
+    perhaps = "max_active 1 (ordered in Linux 6.1, not in 6.12)"
+    assert flags("two_inits.c") == {"ti": f"{perhaps}, WQ_MEM_RECLAIM, WQ_UNBOUND"}
     assert flags("kref.c") == {
         "kr-log": "ordered, WQ_MEM_RECLAIM",
         "kr-stop": "max_active 1, NO WQ_MEM_RECLAIM: no rescuer",
@@ -118,3 +122,51 @@ def test_a_wait_in_a_helper(drafted):
         ("flush wr_second_work wr_written_work", "wrapper.c:23"),
     }
     assert found.open == {}
+
+
+# What alloc_workqueue does with an unbound workqueue of one at a time: kernel/workqueue.c:4312 of 6.1.192, and what
+# stands in its place in 6.12.117 (line 5723).
+IMPLIED = """\
+struct workqueue_struct *alloc_workqueue(const char *fmt, unsigned int flags, int max_active, ...)
+{
+	if ((flags & WQ_UNBOUND) && max_active == 1)
+		flags |= __WQ_ORDERED;
+}
+"""
+NOT_IMPLIED = """\
+static struct workqueue_struct *__alloc_workqueue(const char *fmt, unsigned int flags, int max_active, va_list args)
+{
+	if ((flags & WQ_POWER_EFFICIENT) && wq_power_efficient)
+		flags |= WQ_UNBOUND;
+}
+"""
+
+
+@pytest.mark.parametrize("source,said", [(IMPLIED, "ordered"), (NOT_IMPLIED, "max_active 1")])
+def test_an_unbound_workqueue_of_one_at_a_time(read, tmp_path, source, said):
+    """In 6.1 it is ordered, in 6.12 only one that is made by alloc_ordered_workqueue or its like."""
+    (tmp_path / "kernel").mkdir()
+    (tmp_path / "kernel" / "workqueue.c").write_text(source)
+    (tmp_path / "one.c").write_text(
+        "int one_start(struct one *o)\n{\n"
+        '\to->a = alloc_workqueue("a", WQ_UNBOUND | WQ_MEM_RECLAIM, 1);\n'
+        '\to->b = alloc_ordered_workqueue("b", WQ_MEM_RECLAIM);\n'
+        '\to->c = create_singlethread_workqueue("c");\n'
+        '\to->d = create_freezable_workqueue("d");\n'
+        '\to->e = alloc_workqueue("e", WQ_UNBOUND | WQ_MEM_RECLAIM, 2);\n'
+        "\treturn 0;\n}\n"
+    )
+    workqueues = read(tmp_path, ["one.c"]).workqueues
+    assert {workqueues.name(made): workqueues.flags(made).split(", ")[0] for made in workqueues.made} == {
+        "a": said,
+        "b": "ordered",
+        "c": "ordered",
+        "d": said,
+        "e": "WQ_MEM_RECLAIM",
+    }
+
+
+def test_wait_queues_entered(drafted):
+    """__add_wait_queue is a wait if the function sleeps after it, and else an entry whose function is called."""
+    found = drafted("entered.c")
+    assert found.open == {("entered.c:10,12", "__add_wait_queue(&e->wait)"): ({"en_sleeps"}, set())}
