@@ -4,9 +4,9 @@
     tests/docs/citations.py [KERNEL ..]
 
 KERNEL is the folder of a kernel's sources. Without one, those in the variable KERNEL are taken, with `:` between them,
-or else Debian's /usr/src/linux-source-6.1.tar.xz, if it is there. In a kernel whose version is that of a file's
-`# Sources:` line each cited line must stand in the cited function. What couldn't be looked up, as there is no such
-kernel, is said at the end.
+or else Debian's /usr/src/linux-source-6.1.tar.xz, if it is there, or else what tests/source/linux_tree.sh has fetched or
+can fetch. In a kernel whose version is that of a file's `# Sources:` line each cited line must stand in the cited
+function. What couldn't be looked up, as there is no such kernel, is said at the end.
 
 The form is checked without a kernel. First of all, texts with mistakes must be found faulty.
 """
@@ -190,6 +190,13 @@ def unpacked(into, texts):
     return into
 
 
+def fetched():
+    """The folder of the sources that tests/source/linux_tree.sh finds or fetches, if any."""
+    asked = subprocess.run(["bash", ROOT / "tests/source/linux_tree.sh"], stdout=subprocess.PIPE, text=True, check=False,
+                           timeout=1800)
+    return asked.stdout.split()
+
+
 def main():
     files = sorted(path for end in ("wq", "assign") for path in (ROOT / "examples").glob(f"*.{end}"))
     texts = [Places(path.name, path.read_text()) for path in files]
@@ -203,6 +210,7 @@ def main():
         kernels = sys.argv[1:] or [name for name in os.environ.get("KERNEL", "").split(":") if name]
         if not kernels and TARBALL.is_file():
             kernels = [unpacked(into, texts)]
+        kernels = kernels or fetched()
         strange = [name for name in kernels if not pathlib.Path(name, "Makefile").is_file()]
         if strange:
             sys.exit(f"citations: there are no sources of a kernel in {' '.join(strange)}")

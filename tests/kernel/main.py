@@ -19,6 +19,7 @@ import os
 import pathlib
 import random
 import re
+import shutil
 import subprocess
 import sys
 import tempfile
@@ -256,6 +257,10 @@ def main(arguments):
     os.environ["WQPLAN"] = os.path.realpath(arguments[0])
     letters = program.LETTERS
     why = missing("6.1")
+    if why and os.geteuid() == 0 and shutil.which("apt-get"):
+        # (a new machine has no lists of packages)
+        subprocess.run(["apt-get", "update", "-q"], stdout=subprocess.DEVNULL, stderr=subprocess.DEVNULL, timeout=600, check=False)
+        why = missing("6.1")
     if why:
         print(f"skipped kernel: {why}")
         return 0

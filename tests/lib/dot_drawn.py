@@ -4,8 +4,8 @@
     dot_drawn.py [SEED [COUNT]]
 
 The drawings are those of the model, tests/model/dot.py, for small declarations with many groups and flushes within a workqueue,
-three quarters of them with an assignment. The same seed makes the same ones. Where there is no program `dot`, nothing is drawn, and
-this is said.
+three quarters of them with an assignment. The same seed makes the same ones. Where there is no program `dot`, Debian's is installed;
+where that may not be, nothing is drawn, and this is said.
 """
 
 import concurrent.futures
@@ -79,10 +79,19 @@ def fault_of(texts):
     return None
 
 
+def has_graphviz():
+    """Whether there is a program `dot`. Where it may, it installs Debian's."""
+    if shutil.which("dot") is None and shutil.which("apt-get") and os.geteuid() == 0:
+        install = "apt-get update -q; DEBIAN_FRONTEND=noninteractive apt-get install -y -q --no-install-recommends graphviz"
+        subprocess.run(install, shell=True, stdin=subprocess.DEVNULL, stdout=subprocess.DEVNULL, stderr=subprocess.DEVNULL,
+                       timeout=900, check=False)
+    return shutil.which("dot") is not None
+
+
 def main(seed="1", count="500"):
     """The exit status."""
-    if shutil.which("dot") is None:
-        print("dot: there is no program dot (apt-get install graphviz), so nothing was drawn")
+    if not has_graphviz():
+        print("dot: skipped: there is no program dot (apt-get install graphviz), so nothing was drawn")
         return 0
     cases = [make_texts(seed, number) for number in range(int(count))]
     with concurrent.futures.ThreadPoolExecutor(os.cpu_count()) as threads:

@@ -15,7 +15,6 @@ import json
 import math
 import os
 import pathlib
-import shutil
 import subprocess
 import sys
 
@@ -145,17 +144,9 @@ def self_test():
         yield "an arrow on another one isn't seen, or one is seen that isn't there"
 
 
-def has_graphviz():
-    """Whether there is a program `dot`, perhaps fetched."""
-    if shutil.which("dot") is None and shutil.which("apt-get") and os.geteuid() == 0:
-        subprocess.run(["apt-get", "install", "-y", "-q", "graphviz"], stdout=subprocess.DEVNULL,
-                       stderr=subprocess.DEVNULL, check=False, timeout=600)
-    return shutil.which("dot") is not None
-
-
 def main(seed="1", count="120"):
     """The exit status."""
-    if not has_graphviz():
+    if not dot_drawn.has_graphviz():
         print("dot: skipped how arrows are laid: there is no program dot, and apt-get doesn't bring graphviz")
         return 0
     faults = list(self_test())

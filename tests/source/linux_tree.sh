@@ -4,7 +4,7 @@
 # had, the status is 1, and standard error says so.
 set -u
 folders='block drivers/block drivers/md drivers/nvme fs/iomap fs/xfs mm net/ceph'
-files='Makefile fs/fs-writeback.c'
+files='Makefile fs/direct-io.c fs/fs-writeback.c fs/inode.c kernel/workqueue.c'
 
 if [ -n "${LINUX_6_1-}" ]; then
     [ -f "$LINUX_6_1/Makefile" ] && echo "$LINUX_6_1" && exit 0
@@ -12,7 +12,8 @@ if [ -n "${LINUX_6_1-}" ]; then
     exit 1
 fi
 cache=${XDG_CACHE_HOME:-${HOME-}/.cache}/wqplan/linux-6.1
-if [ -f "$cache/complete" ]; then
+# (`complete` has the names that were unpacked)
+if [ "$(cat -- "$cache/complete" 2>/dev/null)" = "$folders $files" ]; then
     echo "$cache"
     exit 0
 fi
@@ -20,7 +21,9 @@ half=$cache.half
 rm -rf -- "$half"
 mkdir -p -- "$half" && cd -- "$half" || exit 1
 trap 'rm -rf -- "$half"' EXIT
-if ! timeout 600 apt-get download linux-source-6.1 >/dev/null 2>&1; then
+# (a new machine has no lists of packages)
+if ! timeout 600 apt-get download linux-source-6.1 >/dev/null 2>&1 &&
+    ! timeout 900 sh -c 'apt-get update -q && apt-get download linux-source-6.1' >/dev/null 2>&1; then
     echo "source: Debian's linux-source-6.1 can't be fetched here" >&2
     exit 1
 fi
@@ -31,7 +34,7 @@ done
 dpkg-deb --fsys-tarfile linux-source-6.1_*.deb | tar -xO ./usr/src/linux-source-6.1.tar.xz |
     tar -xJ --strip-components=1 "${wanted[@]}" || exit 1
 rm -- linux-source-6.1_*.deb
-touch complete
+echo "$folders $files" >complete
 rm -rf -- "$cache"
 mv -- "$half" "$cache"
 echo "$cache"
