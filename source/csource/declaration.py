@@ -14,6 +14,8 @@ STACKED = "stacked:"
 # FILE FUNCTION CALL(ARGUMENT): WHY. The argument may hold brackets and colons; after the last bracket comes the colon.
 DISMISSAL = re.compile(r"\s*(\S+\.[chS])\s+(\w+)\s+(\w+)\((.*?)\)\s*:\s+(\S.*)")
 DISMISSED_ITEM = re.compile(r"\s*(\S+\.[chS])\s+(\w+)\s*:\s+(\S.*)")
+# A flush line that a draft offers, and that nobody has decided.
+SUGGESTED = re.compile(r"#flush(?:wq)? ")
 
 FILE = r"[\w./+-]*\w\.[chS]"
 # FILE:LINE, maybe -LINE, maybe a function
@@ -26,7 +28,7 @@ FUNCTION = re.compile(r"\s+(?P<function>[A-Za-z_]\w*)")
 
 @dataclass(frozen=True)
 class Citation:
-    """A line of the source that a comment names. One in the reason of a dismissal decides no site by itself."""
+    """A line of the source that a comment names. In a dismissal's reason, or in `#flush ..`, it decides no site."""
 
     number: int
     column: int
@@ -106,7 +108,8 @@ class Declaration:
                 found.items.append(DeclaredItem(number, words[1], comment))
             if not words and not comment:
                 last_file = ""
-            for citation in citations_in(number, len(before) + 1, comment, last_file):
+            decides = not SUGGESTED.match(line)
+            for citation in citations_in(number, len(before) + 1, comment, last_file, decides):
                 found.citations.append(citation)
                 last_file = citation.file
         return found

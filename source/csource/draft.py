@@ -8,7 +8,7 @@ from .calls import DIRECT, Edge
 from .items import Item
 from .places import FunctionId
 from .program import Ends, Program
-from .reach import path_to
+from .reach import path_to, reached_from
 from .sites import TARGETED, Key, Site
 
 
@@ -37,6 +37,16 @@ class Open:
         """The items that may end it, the most likely first."""
         ended = sorted(self.ends.items, key=lambda function: self.ends.items[function].order)
         return sorted(self.site.targets) or ended
+
+
+@dataclass
+class Uncalled:
+    """A function in a table of operations that may wait, and that no item reaches."""
+
+    function: FunctionId
+    table: str
+    site: Site
+    more: int
 
 
 def is_direct(path: list[Edge]) -> bool:
@@ -104,6 +114,20 @@ class Draft:
             if len(items) > 1 and self.program.workqueues.is_ordered(workqueue) is not False:
                 found.append((workqueue, items))
         return found
+
+    def uncalled(self) -> list[Uncalled]:
+        """Items of other files may call them: these files don't say."""
+        program, found = self.program, {}
+        for place, struct, member, value in program.facts.initialisers:
+            for function in program.facts.resolve(place.file, value):
+                if function in program.reached_by or function in found:
+                    continue
+                reached = reached_from(program.graph, function, program.may_sleep)
+                sites = program.sites_of(reached)
+                if sites:
+                    nearest = min(sites, key=lambda site: len(path_to(reached, site.id)))
+                    found[function] = Uncalled(function, f"{struct or '?'}.{member}", nearest, len(sites) - 1)
+        return list(found.values())
 
     def short(self, file: str) -> str:
         """The name of a file as a citation gives it: without its folder, where one file alone has it."""

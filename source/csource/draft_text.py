@@ -1,16 +1,18 @@
 """What `draft` prints: a declaration, and with --assign an assignment."""
 
 import collections
+import pathlib
+import re
 from typing import Iterable, TextIO
 
 from . import says
-from .calls import Edge
+from .calls import DIRECT, Edge
 from .draft import Draft, Line, Open
 from .items import Item
 from .locks import locks_text
 from .notfollowed import not_followed
 from .places import FunctionId, Place
-from .reach import path_text, roots_of
+from .reach import roots_of
 from .sites import Site
 
 MOST_NAMED = 8
@@ -26,6 +28,18 @@ def some(names: Iterable[str]) -> str:
     """At most so many names."""
     found = sorted(names)
     return ", ".join(found[:MOST_NAMED]) + (" .." if len(found) > MOST_NAMED else "")
+
+
+def word_of(site: Site) -> str:
+    """The kind of a site as the comment of a declared wait says it."""
+    return "done" if site.kind in ("pool", "other") else site.kind
+
+
+def kernel_version(tree: pathlib.Path) -> str:
+    """As the Makefile at the top of a tree says it; '' where there is none."""
+    makefile = tree / "Makefile"
+    text = makefile.read_text(errors="replace") if makefile.is_file() else ""
+    return ".".join(re.findall(r"^(?:VERSION|PATCHLEVEL|SUBLEVEL) *= *(\d+)$", text, re.M)[:3])
 
 
 class Printer:
@@ -53,7 +67,7 @@ class Printer:
         return str(place._replace(file=self.draft.short(place.file)))
 
     def site_place(self, site: Site) -> str:
-        return f"{self.draft.short(site.key.file)}:{', '.join(map(str, site.lines))} {site.key.function}"
+        return ", ".join(self.place(Place(site.key.file, line, site.key.function)) for line in site.lines)
 
     def decide(self, text: str) -> None:
         """A `?` line. What doesn't fit into it follows as comments."""
@@ -63,6 +77,7 @@ class Printer:
         files = self.program.facts.files
         says.head(self.to, f"a draft of {self.program.facts.tree}", len(files))
         says.note(self.to, HOW_TO_READ)
+        self.print_sources()
         self.write(says.wrapped(" ".join(files), "# files: ", "# files: "))
         self.write()
         for item in self.draft.all_items():
@@ -72,6 +87,7 @@ class Printer:
         self.print_open()
         self.print_unknown()
         self.print_beside()
+        self.print_uncalled()
         says.note(
             self.to,
             f"{says.counted(len(self.draft.all_items()), 'item')}. "
@@ -79,16 +95,23 @@ class Printer:
             f"{says.counted(len(self.draft.open), 'site')} to decide.",
         )
 
+    def print_sources(self) -> None:
+        """The version of the kernel and the folders of the files, if the tree is a kernel's."""
+        version = kernel_version(self.program.facts.tree)
+        folders = dict.fromkeys(file.rpartition("/")[0] for file in self.program.facts.files if "/" in file)
+        if version:
+            self.write(", ".join([f"# Sources: Linux {version}", *folders]))
+
     # Items
 
     def print_item(self, item: Item) -> None:
-        """The line, and below it who queues the item: that matters for waits which end only once it has run."""
+        """The line; below it where it is set, and who queues it: that matters for waits which end once it has run."""
         works = ", ".join(sorted(map(str, item.works)))
         queued = "; ".join(self.queueings(item)) or "queued nowhere in these files"
         set_at = ", ".join(dict.fromkeys(self.place(place) for place in item.set_at))
         said = "" if item.name == item.function.name else f"{item.function.name}, "
-        lines = says.wrapped(f"{said}{works}, set at {set_at}; {queued}", f"item {item.name}  # ", "#   ").split("\n")
-        self.write("\n".join(lines))
+        self.write(f"item {item.name}  # {said}{works}, {queued}")
+        self.comment(f"set at {set_at}")
         queuers, others = self.queuers(item)
         if queuers or others:
             self.comment(
@@ -106,12 +129,20 @@ class Printer:
 
     def queueings(self, item: Item) -> Iterable[str]:
         """To which workqueue it is queued, and where."""
-        places: dict[str, list[Place]] = collections.defaultdict(list)
+        places: dict[tuple[str, bool], list[Place]] = collections.defaultdict(list)
         for queueing in item.queueings:
-            names = "/".join(sorted(map(self.program.workqueues.name, queueing.workqueues))) or f"? ({queueing.named})"
-            places[names + (" (or another item is)" if queueing.is_one_of_several else "")].append(queueing.place)
-        for name, at in places.items():
-            yield f"queued to {name} at {', '.join(dict.fromkeys(map(self.place, at)))}"
+            names = "/".join(sorted(map(self.workqueue, queueing.workqueues))) or f"? ({queueing.named})"
+            places[names, queueing.is_one_of_several].append(queueing.place)
+        for (name, is_one_of_several), at in places.items():
+            yield f"queued to {name} at {', '.join(dict.fromkeys(map(self.place, at)))}" + (
+                " (or another item is)" if is_one_of_several else ""
+            )
+
+    def workqueue(self, workqueue: str) -> str:
+        """Its name; or the variable that holds it, if the name is made of parts."""
+        name = self.program.workqueues.name(workqueue)
+        made = self.program.workqueues.made.get(workqueue)
+        return re.split(r"\W+", made.to)[-1] if made and made.to and "%" in name else name
 
     def queuers(self, item: Item) -> tuple[set[str], set[str]]:
         """The items that queue it, and other code that does."""
@@ -150,11 +181,14 @@ class Printer:
 
     def said(self, line: Line) -> str:
         also = f"; also on this workqueue: {self.names(line.also)}" if line.also else ""
-        return f"{line.site.kind} {self.site_place(line.site)}: {line.site.key.call}{self.way(line.path)}{also}"
+        return f"{word_of(line.site)} {self.site_place(line.site)}: {line.site.key.call}{self.way(line.path)}{also}"
 
-    @staticmethod
-    def way(path: list[Edge]) -> str:
-        return f", by {path_text(path)}" if path else ""
+    def way(self, path: list[Edge]) -> str:
+        """The calls that lead there, the last one first."""
+        calls = (
+            self.place(edge.place) + ("" if edge.how == DIRECT else f" by {edge.how}") for edge in reversed(path)
+        )
+        return f", from {', '.join(calls)}" if path else ""
 
     def print_open(self) -> None:
         order = {True: 0, False: 1}
@@ -184,11 +218,10 @@ class Printer:
             self.comment(f"may be ended by code that no item reaches, from {some(one.ends.others)}")
         targets = " ".join(map(self.name, one.targets)) or "TARGET"
         word = "flushwq" if site.kind == "flushwq" else "flush"
-        for function in items:
-            self.write(
-                f"#{word} {self.name(function)} {targets.split()[0] if word == 'flushwq' else targets}  # {site.kind} "
-                f"{self.site_place(site)}"[:4000]
-            )
+        self.write(
+            f"#{word} {self.name(items[0])} {targets.split()[0] if word == 'flushwq' else targets}  # {word_of(site)} "
+            f"{self.site_place(site)}"[:4000]
+        )
         key = site.key._replace(file=self.draft.short(site.key.file))
         self.write(f"## no wait: {key}: ")
 
@@ -220,6 +253,21 @@ class Printer:
             says.note(
                 self.to, "Not followed, for no function of the files is known to stand there: " + " ".join(pointers)
             )
+
+
+    def print_uncalled(self) -> None:
+        """Functions whose callers are in other files."""
+        uncalled = self.draft.uncalled()
+        if uncalled:
+            says.note(
+                self.to,
+                "These stand in tables of operations and may wait, and no item of these files reaches them. Give the "
+                "files of the layer that calls them, too, if it does so from work items:",
+            )
+        for one in uncalled:
+            more = f", and {says.counted(one.more, 'more site')}" if one.more else ""
+            # (a place would cite it, and so decide it)
+            self.comment(f"{one.function.name} ({one.table}): {one.site.key.call} in {one.site.key.function}{more}")
 
 
 def print_assignment(draft: Draft, to: TextIO) -> None:

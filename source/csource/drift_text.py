@@ -32,6 +32,8 @@ class Printer:
                 self.say(
                     f"{word}: {change.place}  [{change.wait.kind}]{ended_by}, in reach of {', '.join(change.items)}"
                 )
+        if drift.vanished:
+            says.note(self.to, "A wait is gone, or it is made by a name now that waits.txt hasn't.")
         for dismissal in drift.dead_decisions():
             self.say(f"{drift.declaration.path}:{dismissal.number}: dismisses {dismissal.key}, which is gone")
         self.print_counts()

@@ -5,7 +5,7 @@ from dataclasses import dataclass, field
 from typing import NamedTuple, Optional
 
 from . import ctext
-from .cells import Address, Function, Workqueue, may_be_same
+from .cells import Address, Function, Global, Workqueue, may_be_same
 from .ctext import Tokens
 from .facts import Facts
 from .holds import Holds
@@ -100,7 +100,7 @@ class Items:
         if call.name.startswith("schedule_"):
             workqueues, named = {"system_wq"}, "system_wq"
         if "kblockd" in call.name:
-            workqueues = {"kblockd"}
+            workqueues = self.kblockd()
         functions = self.queued_by(call.place.id, works)
         if functions:
             for function in functions:
@@ -109,6 +109,11 @@ class Items:
                 )
         elif works or not self.facts.resolve(call.place.file, call.name):
             self.unknown_queueings.append(call)
+
+    def kblockd(self) -> set[str]:
+        """The workqueue of kblockd_schedule_work: the call that makes it, if the files have that."""
+        held = self.holds.lookup(Global("kblockd_workqueue"))
+        return {value.made_at for value in held if isinstance(value, Workqueue)} or {"kblockd"}
 
     def addresses(self, place: Place, words: Tokens) -> set[Address]:
         found = {value for value in self.holds.values(place, words) if isinstance(value, Address)}

@@ -1,16 +1,22 @@
 """What every output says first, and lines of a width that can be read."""
 
+import re
 import textwrap
 from typing import TextIO
 
 WIDTH = 120
+# FILE:LINE FUNCTION: the blank stays one.
+PLACE = re.compile(r"(\S+\.[chS]:\d+) (?=[A-Za-z_])")
+GLUE = "\0"
 
 
 def wrapped(text: str, first: str = "", rest: str = "    ") -> str:
-    """The text in lines; names and paths stay whole."""
-    return textwrap.fill(
-        text, WIDTH, initial_indent=first, subsequent_indent=rest, break_long_words=False, break_on_hyphens=False
+    """The text in lines; names, paths and places stay whole."""
+    whole = PLACE.sub(lambda match: match[1] + GLUE, text)
+    lines = textwrap.fill(
+        whole, WIDTH, initial_indent=first, subsequent_indent=rest, break_long_words=False, break_on_hyphens=False
     )
+    return lines.replace(GLUE, " ")
 
 
 def note(to: TextIO, text: str) -> None:

@@ -245,3 +245,29 @@ def test_a_dismissal_whose_call_is_gone_is_told(trees, wqsource, tmp_path):
         r"\n +", " ", ran.out
     )
     assert ran.status == 1
+
+
+def test_a_line_in_no_function_that_was_parsed(tmp_path, read):
+    """A macro makes the head of the function in the new tree: the line is there, and its function isn't known."""
+    for name, head in (("old", "static void hd_work(struct work_struct *ws)"), ("new", "static HD_CALLBACK(hd_work)")):
+        (tmp_path / name).mkdir()
+        (tmp_path / name / "h.c").write_text(
+            head + "\n{\n\twait_for_completion(&hd.answer_of_the_disk);\n}\n\n"
+            "void hd_init(struct hd *h)\n{\n\tINIT_WORK(&h->work, hd_work);\n}\n"
+        )
+    declaration = Declaration.of("h.wq", "item hd_work\n# h.c:3 hd_work\n")
+    drift = Drift(declaration, read(tmp_path / "old", ["h.c"]), read(tmp_path / "new", ["h.c"]))
+    assert [(now.what, now.text) for _, now in drift.lines] == [
+        ("elsewhere", "the same line is at h.c:3, outside any function that could be parsed")
+    ]
+
+
+def test_a_wait_that_is_gone(trees, wqsource, tmp_path):
+    """Its name may be another one now: the output says so."""
+    declaration = tmp_path / "x.wq"
+    declaration.write_text(DECLARATION)
+    path = trees[1] / "rdisk.c"
+    path.write_text(path.read_text().replace("submit_bio_wait(rd->record)", "rdisk_own_call(rd->record)"))
+    ran = wqsource("drift", "--decl", declaration, "--old", trees[0], "--new", trees[1])
+    assert "wait gone: rdisk.c:18 rdisk_log: submit_bio_wait(rd->record)  [other]" in ran.out
+    assert "# A wait is gone, or it is made by a name now that waits.txt hasn't.\n" in ran.out

@@ -1,0 +1,101 @@
+"""What a draft prints: its form is that of the examples, and it says what its files can't say."""
+
+import re
+import shutil
+import sys
+
+import pytest
+
+from conftest import C_FILES, ROOT
+
+sys.path.append(str(ROOT / "tests" / "docs"))
+
+import citations  # noqa: E402
+
+MAKEFILE = "# SPDX-License-Identifier: GPL-2.0\nVERSION = 6\nPATCHLEVEL = 1\nSUBLEVEL = 192\nEXTRAVERSION =\n"
+
+
+@pytest.fixture
+def kernel(tmp_path):
+    """kernel(file): a tree that looks like a kernel's, with this C file in drivers/x."""
+
+    def made(file):
+        (tmp_path / "Makefile").write_text(MAKEFILE)
+        (tmp_path / "drivers" / "x").mkdir(parents=True, exist_ok=True)
+        shutil.copy(C_FILES / file, tmp_path / "drivers" / "x" / file)
+        return tmp_path
+
+    return made
+
+
+def test_the_form_is_that_of_the_examples(wqsource, kernel):
+    """Every comment cites as examples/README.md says it, and the version and the folders are there."""
+    for file in ("two_inits.c", "kblockd.c", "pool.c", "wrapper.c", "entered.c"):
+        tree = kernel(file)
+        ran = wqsource("draft", "--tree", tree, f"drivers/x/{file}")
+        assert ran.status == 0 and "# Sources: Linux 6.1.192, drivers/x\n" in ran.out
+        # (an item that the file doesn't queue has no workqueue, and a reader must find it)
+        text = "".join(line for line in ran.out.splitlines(True) if "queued nowhere in these files" not in line)
+        checked = citations.Places(file, text.removeprefix(text.partition("\n")[0] + "\n"))
+        assert checked.wrong == [] and checked.version == "6.1.192" and checked.folders == ["drivers/x"], file
+
+
+def test_item_and_flush_lines(wqsource, kernel):
+    """To the byte, by hand."""
+    lines = wqsource("draft", "--tree", kernel("two_inits.c"), "drivers/x/two_inits.c").out.splitlines()
+    at = lines.index("item ti_first  # ti.first_work, queued nowhere in these files")
+    assert lines[at : at + 6] == [
+        "item ti_first  # ti.first_work, queued nowhere in these files",
+        "#   set at two_inits.c:15 ti_set",
+        "item ti_second  # ti.second_work, queued to ti at two_inits.c:20 ti_go",
+        "#   set at two_inits.c:31 ti_start",
+        "#   queued by code that no item reaches, from ti_start",
+        "",
+    ]
+    assert "flush ti_second ti_first  # cancel two_inits.c:10 ti_second: cancel_work_sync" in lines
+
+
+def test_without_a_makefile_there_is_no_version(wqsource):
+    assert "# Sources:" not in wqsource("draft", "--tree", C_FILES, "two_inits.c").out
+
+
+def test_a_site_of_several_lines(wqsource, kernel):
+    """Each line is a place of its own."""
+    out = wqsource("draft", "--tree", kernel("pool.c"), "drivers/x/pool.c").out
+    assert "? done pool.c:26 pool_wait_work, pool.c:27 pool_wait_work: prepare_to_wait(&p->wait)\n" in out
+    assert "#flush pool_wait_work TARGET  # done pool.c:26 pool_wait_work, pool.c:27 pool_wait_work\n" in out
+
+
+def test_what_a_draft_offers_decides_nothing(wqsource, tmp_path):
+    """A site whose `?` line is taken away is left, though the line that was offered cites it."""
+    draft = wqsource("draft", "--tree", C_FILES, "pool.c").out
+    kept = tmp_path / "x.wq"
+    kept.write_text("".join(line for line in draft.splitlines(True) if not line.startswith("?")))
+    ran = wqsource("audit", "--decl", kept, "--tree", C_FILES)
+    assert "left: pool.c:26, 27 pool_wait_work: prepare_to_wait(&p->wait)  [done]" in ran.out and ran.status == 1
+    kept.write_text(kept.read_text().replace("#flush pool_wait_work TARGET ", "flush pool_wait_work pool_give_work "))
+    ran = wqsource("audit", "--decl", kept, "--tree", C_FILES)
+    assert "left: " not in ran.out and ran.status == 0
+
+
+def test_functions_whose_callers_are_elsewhere(wqsource):
+    """un_queue_rq waits twice, and no item of the file reaches it. un_commit_rqs waits for nothing, and un_work calls
+    un_map_queues."""
+    out = wqsource("draft", "--tree", C_FILES, "uncalled.c").out
+    _, found, said = out.partition("# These stand in tables of operations and may wait, and no item of these files ")
+    assert found and re.findall(r"^#   (\w+ \(.*)$", said, re.M) == [
+        "un_queue_rq (blk_mq_ops.queue_rq): flush_work in un_queue_rq, and 1 more site"
+    ]
+    assert "stand in tables" not in wqsource("draft", "--tree", C_FILES, "ops.c").out
+
+
+def test_a_workqueue_has_one_line(wqsource, tmp_path):
+    """kblockd is reached by its variable and by kblockd_schedule_work."""
+    out = tmp_path / "out.assign"
+    assert wqsource("draft", "--assign", out, "--tree", C_FILES, "kblockd.c").status == 0
+    assert [line for line in out.read_text().splitlines() if not line.startswith("#")] == [
+        "wq 0 kb_first kb_second  # kblockd, kblockd.c:19 kb_init, WQ_MEM_RECLAIM"
+    ]
+    # without the call that makes it, it has its name
+    assert wqsource("draft", "--assign", out, "--tree", C_FILES, "uncalled.c").status == 0
+    assert "wq 0 un_work  # kblockd\n" in out.read_text()
