@@ -185,9 +185,7 @@ class Printer:
 
     def way(self, path: list[Edge]) -> str:
         """The calls that lead there, the last one first."""
-        calls = (
-            self.place(edge.place) + ("" if edge.how == DIRECT else f" by {edge.how}") for edge in reversed(path)
-        )
+        calls = (self.place(edge.place) + ("" if edge.how == DIRECT else f" by {edge.how}") for edge in reversed(path))
         return f", from {', '.join(calls)}" if path else ""
 
     def print_open(self) -> None:
@@ -253,7 +251,6 @@ class Printer:
             says.note(
                 self.to, "Not followed, for no function of the files is known to stand there: " + " ".join(pointers)
             )
-
 
     def print_uncalled(self) -> None:
         """Functions whose callers are in other files."""

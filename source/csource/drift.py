@@ -1,9 +1,11 @@
 """`drift`: what has changed between two trees for a declaration."""
 
 import collections
+import re
 from dataclasses import dataclass, field
 from typing import NamedTuple, Optional
 
+from .backstop import blanked
 from .cited import Cited
 from .declaration import Citation, Declaration, Dismissal
 from .moved import MOVED, SAME, Mapping
@@ -102,6 +104,15 @@ class Drift:
             for item in self.declaration.items
             if self.cited.items[item.name] and not self.new_cited.items[item.name]
         ]
+
+    def named_at(self, item: str) -> str:
+        """Where the new tree names the functions of an item that it has lost: then these couldn't be parsed."""
+        names = "|".join({function.name for function in self.cited.items[item]})
+        for file, text in self.new.facts.texts.items():
+            found = re.search(rf"\b(?:{names})\b", blanked(text))
+            if found:
+                return f"{file}:{text.count(chr(10), 0, found.start()) + 1}"
+        return ""
 
     def never_found(self) -> list[str]:
         return [item.name for item in self.declaration.items if not self.cited.items[item.name]]

@@ -60,7 +60,9 @@ class Printer:
         for name in drift.never_found():
             self.say(f"item {name}: no work function of the old tree")
         for name in drift.lost_items():
-            self.say(f"item {name}: its work function is gone")
+            at = drift.named_at(name)
+            why = f"couldn't be parsed, or is made no work item: its name is at {at}" if at else "is gone"
+            self.say(f"item {name}: its work function {why}")
         for name, before, after in drift.requeued():
             self.say(
                 f"item {name}: was queued to {' '.join(sorted(before)) or '?'}, now to {' '.join(sorted(after)) or '?'}"

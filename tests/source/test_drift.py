@@ -262,6 +262,25 @@ def test_a_line_in_no_function_that_was_parsed(tmp_path, read):
     ]
 
 
+@pytest.mark.parametrize(
+    "new,named",
+    [
+        ("static HD_CALLBACK(hd_work)\n{\n}\n\nvoid hd_init(void)\n{\n\tINIT_WORK(&hd, hd_work);\n}\n", "h.c:1"),
+        ("/* hd_work was here */\nvoid hd_init(void)\n{\n}\n", ""),
+    ],
+)
+def test_a_work_function_that_is_not_found_again(tmp_path, read, new, named):
+    """What the new tree still names isn't gone."""
+    old = "static void hd_work(struct work_struct *ws)\n{\n}\n\nvoid hd_init(void)\n{\n\tINIT_WORK(&hd, hd_work);\n}\n"
+    for name, text in (("old", old), ("new", new)):
+        (tmp_path / name).mkdir()
+        (tmp_path / name / "h.c").write_text(text)
+    drift = Drift(
+        Declaration.of("h.wq", "item hd_work\n"), *(read(tmp_path / name, ["h.c"]) for name in ("old", "new"))
+    )
+    assert drift.lost_items() == ["hd_work"] and drift.named_at("hd_work") == named
+
+
 def test_a_wait_that_is_gone(trees, wqsource, tmp_path):
     """Its name may be another one now: the output says so."""
     declaration = tmp_path / "x.wq"
