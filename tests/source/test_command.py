@@ -162,9 +162,11 @@ def test_kinds_of_the_kernels_calls():
         "other": "lock_page lock_buffer blk_mq_freeze_queue submit_bio submit_bio_wait filemap_fdatawrite "
         "invalidate_inode_pages2 truncate_pagecache iput schedule_on_each_cpu work_on_cpu vfs_fsync synchronize_srcu "
         "blk_mq_alloc_request dm_io blkdev_issue_flush kernel_sendmsg sb_start_write del_gendisk "
-        "balance_dirty_pages_ratelimited",
+        "balance_dirty_pages_ratelimited generic_write_sync device_del bdi_unregister blkdev_zone_mgmt "
+        "blk_zone_issue_zeroout",
         "enter": "__add_wait_queue __add_wait_queue_entry_tail",
-        "never": "cancel_work cancel_delayed_work msleep synchronize_rcu rcu_barrier mutex_trylock mutex_unlock",
+        "never": "cancel_work cancel_delayed_work msleep synchronize_rcu rcu_barrier mutex_trylock mutex_unlock "
+        "bt_wait_ptr is_flush_rq poll_wait",
         "wake": "wake_up wake_up_process complete complete_all",
         "queue": "queue_work mod_delayed_work schedule_work queue_delayed_work kthread_queue_work "
         "kblockd_schedule_work",
