@@ -272,15 +272,15 @@ for arc in 'xfs_end_io xfs_blockgc_worker' 'xfs_blockgc_worker xfs_end_io' 'xfs_
 done
 hangs 'xfs: the kernel, without a free block' xfs.full.wq xfs.assign
 
-# nbd: four workqueues, safe, though the least is four as well. A line for whoever runs already would be a false alarm.
-counts nbd 6 8 6 4
-answers nbd 'plan 4' nbd_dev_remove_work recv_work blk_mq_run_work_fn nbd_dead_link_work
-without_cancel nbd 4
+# nbd: five workqueues, safe, though the least is five as well. A line for whoever runs already would be a false alarm.
+counts nbd 8 15 8 5
+answers nbd 'plan 5' nbd_dev_remove_work wb_workfn recv_work blk_mq_run_work_fn nbd_dead_link_work
+without_cancel nbd 5
 plan_is_least nbd
 run deadlock nbd.wq nbd.assign
 ends 'nbd: the kernel' 0 safe
-draws nbd 'plan of 4 workqueues, 3 waits in bold: items 6, workqueues 4, arrows 8, red 0, bold 3' nbd.wq
-draws 'nbd: the kernel' 'safe: items 6, workqueues 4, arrows 8, red 0, bold 0' nbd.wq nbd.assign
+draws nbd 'plan of 5 workqueues, 4 waits in bold: items 8, workqueues 5, arrows 15, red 0, bold 4' nbd.wq
+draws 'nbd: the kernel' 'safe: items 8, workqueues 5, arrows 15, red 0, bold 0' nbd.wq nbd.assign
 { cat nbd.wq && echo 'flush blk_mq_timeout_work blk_mq_run_work_fn'; } >nbd.alarm.wq
 hangs 'nbd: the kernel, with a line for what runs already' nbd.alarm.wq nbd.assign
 
