@@ -39,6 +39,7 @@ class Audit:
         self.used: set[Dismissal] = set()
         self.reach = {item.name: self.reached(item.name) for item in declaration.items}
         self.reached_functions = {function for reached in self.reach.values() for function in reached}
+        self.note_dismissed_calls()
         self.take_sites()
         self.neighbours = self.find_neighbours()
         self.take_faults()
@@ -94,6 +95,13 @@ class Audit:
             for found, step in reached_from(self.program.graph, function, self.follows).items():
                 reached.setdefault(found, step)
         return reached
+
+    def note_dismissed_calls(self) -> None:
+        """A dismissed call in reach counts, though another one led to its function before."""
+        for function in self.reached_functions:
+            for edges in self.program.graph.edges.get(function, {}).values():
+                for edge in filter(self.program.may_sleep, edges):
+                    self.dismisses(key_of(edge.call))
 
     def follows(self, edge: Edge) -> bool:
         return self.program.may_sleep(edge) and not self.dismisses(key_of(edge.call))

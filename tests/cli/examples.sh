@@ -271,6 +271,13 @@ for arc in 'xfs_end_io xfs_blockgc_worker' 'xfs_blockgc_worker xfs_end_io' 'xfs_
     is "xfs: without a free block, on a circle: $arc" "arc $arc" "$(grep -x "arc $arc" out)"
 done
 hangs 'xfs: the kernel, without a free block' xfs.full.wq xfs.assign
+# Where a block of metadata can't be written, its end waits for the log.
+cat xfs.wq xfs.shutdown.wq >xfs.down.wq
+answers xfs.down 'plan 7' xfs_flush_inodes_worker wb_workfn xfs_end_io xfs_btree_split_worker xfs_buf_ioend_work \
+    xlog_cil_push_work xlog_ioend_work
+plan_is_least xfs.down
+run deadlock xfs.down.wq xfs.assign
+ends 'xfs: the kernel, at a shutdown' 0 safe
 
 # nbd: five workqueues, safe, though the least is five as well. A line for whoever runs already would be a false alarm.
 counts nbd 8 15 8 5

@@ -197,3 +197,12 @@ def test_cited_for_other_items_with_the_same_targets(audit):
     assert "cited for other items: wrapper.c:16 wr_first_work: wr_wait(&w->read)" in said
     said, _ = audit(items + line + "flush b read\n", "wrapper.c", tree=C_FILES)
     assert not those(said, "cited for other items")
+
+
+def test_a_dismissed_call_counts_though_its_function_was_reached_before(audit):
+    """tw_work calls tw_wait itself (twice.c:13), and by tw_helper (twice.c:8): only the second call is dismissed."""
+    items = "item tw_work\nitem tw_other\nflush tw_work tw_other  # twice.c:4 tw_wait\n"
+    said, status = audit(items + "# no wait: twice.c tw_helper tw_wait(d): never taken\n", "twice.c", tree=C_FILES)
+    assert status == 0 and not [line for line in said if "isn't in reach" in line]
+    said, status = audit(items + "# no wait: twice.c tw_gone tw_wait(d): never taken\n", "twice.c", tree=C_FILES)
+    assert status == 1 and [line for line in said if "isn't in reach" in line]
