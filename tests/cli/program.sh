@@ -175,8 +175,8 @@ check 'circles: no byte at all' 0 'safe\n' "empty$no_item"
 # Drawings. What is drawn has status 0, also where it is a circle.
 
 # What marks mean, as printf spells it, behind `bold` or `red`.
-bold='bold\\\\lBold: the chain that needs so many workqueues.\\\\l'
-red='red\\\\lRed: while memory is short, a worker may wait for work\\\\lthat only it, or one that waits for it, can do.\\\\l'
+bold='bold\\lBold: the chain that needs so many workqueues.\\l'
+red='red\\lRed: while memory is short, a worker may wait for work\\lthat only it, or one that waits for it, can do.\\l'
 
 # drawing TITLE LINE..: a drawing with these lines between its head and its end.
 drawing() {
