@@ -7,8 +7,10 @@ use Rattle.wq_groups.specs.Assignment.{Assignment}
 use Rattle.wq_graph.specs.declared.arc.WaitArc.{WaitArc}
 use Rattle.wq_graph.specs.Graph.{group_graph}
 use Rattle.wq_core.specs.Wiring.{own_lanes}
+use Rattle.wq_core.specs.Workqueues.{Workqueues, all_rescued}
+use Rattle.wq_deadlock.specs.Judging.{bare_waits}
 use Rattle.wq_plan.specs.Plan.{IsPlan, chain_of}
-use Rattle.wq_cert.specs.Texts.{assignment_of_text, cert_refusal}
+use Rattle.wq_cert.specs.Texts.{workqueues_of_text, cert_refusal}
 use Rattle.wq_meter.specs.Shell.{Given}
 use Rattle.wq_meter.specs.declared.texts.Limits.{Limits}
 use Rattle.wq_commands.specs.declared.end.End.{End}
@@ -31,44 +33,48 @@ abbrev pub plan_title : ℕ → List ℕ
 plan_title workqueues = codes "plan " ++ decimal workqueues
 
 -- `safe`, or `components N` if there are any
-abbrev pub components_title : ℕ → List ℕ
-components_title zero = codes "safe"
-components_title (suc others) = codes "components " ++ decimal (suc others)
+abbrev pub circles_title : ℕ → List ℕ
+circles_title zero = codes "safe"
+circles_title (suc others) = codes "components " ++ decimal (suc others)
+
+-- the same if no flush leads to a workqueue without a rescuer; and `components N, norescuer M` if M flushes do
+abbrev pub components_title : ℕ → ℕ → List ℕ
+components_title zero components = circles_title components
+components_title (suc others) components = codes "components " ++ decimal components ++ codes ", norescuer " ++ decimal (suc others)
 
 -- ---- drawings
 
--- the drawing of what is declared, on the workqueues of this assignment; the flushes of these arcs have this look, and the
--- others are plain
-abbrev pub drawing_of : Declared → Assignment → List ℕ → FlushLook → List WaitArc → List ℕ
-drawing_of s a title look arcs = drawing_text s.table s.partition a title (looks_of (flush_count s.table.waits) look arcs)
+-- the drawing of what is declared, on these workqueues; the flushes of these arcs have this look, and the others are plain
+abbrev pub drawing_of : Declared → Workqueues → List ℕ → FlushLook → List WaitArc → List ℕ
+drawing_of s ws title look arcs = drawing_text s.table s.partition ws title (looks_of (flush_count s.table.waits) look arcs)
 
 -- the plan is drawn; the flushes along the chain of its plan text are bold
 pub record DrawsPlan (s : Declared) (out : List ℕ) : Type 0 where
   pub assignment : Assignment
   pub plan : IsPlan (declared_waits s) assignment
-  pub drawn : out ≡ drawing_of s assignment (plan_title assignment.lanes) Bold (chain_of (group_graph (declared_waits s)) assignment.lane_of_group)
+  pub drawn : out ≡ drawing_of s (all_rescued assignment) (plan_title assignment.lanes) Bold (chain_of (group_graph (declared_waits s)) assignment.lane_of_group)
 
--- an assignment is drawn; the flushes that are on a circle are red
-pub record DrawsCircles (s : Declared) (a : Assignment) (out : List ℕ) : Type 0 where
+-- workqueues are drawn; the flushes that are on a circle are red, and those that lead to a workqueue without a rescuer
+pub record DrawsCircles (s : Declared) (ws : Workqueues) (out : List ℕ) : Type 0 where
   pub components : List (List WaitArc)
-  pub are : AreComponents (declared_waits s) a components
-  pub drawn : out ≡ drawing_of s a (components_title (length components)) Red (all_arcs components)
+  pub are : AreComponents (declared_waits s) ws components
+  pub drawn : out ≡ drawing_of s ws (components_title (length (bare_waits (declared_waits s) ws)) (length components)) Red (all_arcs components ++ bare_waits (declared_waits s) ws)
 
 -- the groups of a declaration are drawn: on the workqueues of their plan or, if they wait in a circle, each on its own
 -- workqueue
 abbrev pub DrawsGroups : Declared → List ℕ → Type 0
-DrawsGroups s out = DrawsPlan s out ⊎ (HasCircle (GroupWaits (declared_waits s)) s.partition.groups × DrawsCircles s (own_lanes s.partition.groups) out)
+DrawsGroups s out = DrawsPlan s out ⊎ (HasCircle (GroupWaits (declared_waits s)) s.partition.groups × DrawsCircles s (all_rescued (own_lanes s.partition.groups)) out)
 
 -- ---- answers
 
--- the answer to an assignment of a declaration's groups
-abbrev pub DrawsAssigned : Declared → Assignment → End → List ℕ → Type 0
-DrawsAssigned s a end out = (end ≡ Good) × DrawsCircles s a out
+-- the answer to workqueues of a declaration's groups
+abbrev pub DrawsAssigned : Declared → Workqueues → End → List ℕ → Type 0
+DrawsAssigned s ws end out = (end ≡ Good) × DrawsCircles s ws out
 
 -- the answer to the text of an assignment of a declaration, or its refusal
 abbrev pub DrawsDeclared : Declared → List ℕ → End → List ℕ → Type 0
 DrawsDeclared s text end out =
-    MatchResult (assignment_of_text s.table.names s.partition text) (λ a. DrawsAssigned s a end out) (λ fault. PrintsRefusal (cert_refusal fault) end out)
+    MatchResult (workqueues_of_text s.table.names s.partition text) (λ ws. DrawsAssigned s ws end out) (λ fault. PrintsRefusal (cert_refusal fault) end out)
 
 -- the answer to the texts of a declaration and an assignment: a refusal of the declaration comes first
 abbrev pub Draws : List ℕ → List ℕ → End → List ℕ → Type 0

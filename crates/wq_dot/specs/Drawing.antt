@@ -8,6 +8,7 @@ use Rattle.wq_groups.specs.Partition.{Partition}
 use Rattle.wq_groups.specs.Assignment.{Assignment, group_lane}
 use Rattle.wq_graph.specs.declared.arc.WaitArc.{WaitArc}
 use Rattle.wq_graph.specs.Graph.{arcs_by_place}
+use Rattle.wq_core.specs.Workqueues.{Workqueues}
 use Rattle.wq_dot.specs.declared.look.FlushLook.{FlushLook}
 use Rattle.wq_dot.specs.declared.look.FlushLook.TheVariants.{Plain, Red, Bold}
 use Rattle.wq_cert.specs.PlanText.{name_of}
@@ -52,16 +53,21 @@ group_lines names (first ∷ second ∷ others) = group_box_lines names first (f
 abbrev pub groups_on : Assignment → ℕ → List ℕ
 groups_on a q = filter (λ g. group_lane a g == q) (range_with_len 0 (length a.lane_of_group))
 
+-- what stands behind the number in the second line of a workqueue: one without a rescuer has a dashed frame, and says so
+abbrev pub frame_text : Bool → List ℕ
+frame_text false = codes "\", style=filled, color=gray92];"
+frame_text true = codes " (no rescuer)\", style=\"filled,dashed\", fillcolor=gray92, color=black];"
+
 -- workqueue q with these groups: its three lines, with those of the groups before the third one
-abbrev pub box_lines : List (List ℕ) → List ℕ → ℕ → List ℕ → List (List ℕ)
-box_lines names group_of q own =
+abbrev pub box_lines : List (List ℕ) → List ℕ → Bool → ℕ → List ℕ → List (List ℕ)
+box_lines names group_of bare q own =
     (codes "  subgraph \"cluster wq " ++ decimal q ++ codes "\" {")
-    ∷ (codes "    graph [label=\"wq " ++ decimal q ++ codes "\", style=filled, color=gray92];")
+    ∷ (codes "    graph [label=\"wq " ++ decimal q ++ frame_text bare)
     ∷ (flat_map (λ g. group_lines names (items_at group_of g)) own ++ (codes "  }" ∷ []))
 
 -- the lines of workqueue q with its groups
-abbrev pub workqueue_box_lines : List (List ℕ) → List ℕ → Assignment → ℕ → List (List ℕ)
-workqueue_box_lines names group_of a q = box_lines names group_of q (groups_on a q)
+abbrev pub workqueue_box_lines : List (List ℕ) → List ℕ → Workqueues → ℕ → List (List ℕ)
+workqueue_box_lines names group_of ws q = box_lines names group_of (slice_index_or ws.bare q false) q (groups_on ws.assignment q)
 
 -- ---- flushes
 
@@ -90,10 +96,10 @@ flush_line names waits looks flush = arrow_line names waits (slice_index_or look
 -- ---- the text
 
 -- all lines: the head, each workqueue from 0 up, each flush in order of place, and the end
-abbrev pub drawing_lines : Table → Partition → Assignment → List ℕ → List FlushLook → List (List ℕ)
-drawing_lines t p a title looks =
+abbrev pub drawing_lines : Table → Partition → Workqueues → List ℕ → List FlushLook → List (List ℕ)
+drawing_lines t p ws title looks =
     head_lines title
-    ++ flat_map (workqueue_box_lines t.names p.group_of a) (range_with_len 0 a.lanes)
+    ++ flat_map (workqueue_box_lines t.names p.group_of ws) (range_with_len 0 ws.assignment.lanes)
     ++ map (flush_line t.names t.waits looks) (arcs_by_place t.waits p.group_of)
     ++ (codes "}" ∷ [])
 
@@ -102,5 +108,5 @@ abbrev pub ended : List ℕ → List ℕ
 ended line = line ++ (10 ∷ [])
 
 -- the text of the drawing
-abbrev pub drawing_text : Table → Partition → Assignment → List ℕ → List FlushLook → List ℕ
-drawing_text t p a title looks = flat_map ended (drawing_lines t p a title looks)
+abbrev pub drawing_text : Table → Partition → Workqueues → List ℕ → List FlushLook → List ℕ
+drawing_text t p ws title looks = flat_map ended (drawing_lines t p ws title looks)

@@ -3,14 +3,16 @@
 //! The rule is that of "The command `dot`" in docs/FORMAT.md. It takes the time and the memory of reading the texts, of the plan,
 //! of the components and of the drawing.
 
-ghost use Rattle.std.specs.Prelude.{◌≡◌, IfOk, None, length, map};
+ghost use Rattle.std.specs.Prelude.{◌≡◌, ◌++◌, IfOk, None, length, map};
 ghost use Rattle.std.specs.List.{All};
 ghost use Rattle.wq_items.specs.Chain.{HasCircle};
 ghost use Rattle.wq_items.specs.Table.{flush_count};
 ghost use Rattle.wq_groups.specs.Declaration.{GroupWaits, declaration_of};
 ghost use Rattle.wq_core.specs.Wiring.{own_lanes};
+ghost use Rattle.wq_core.specs.Workqueues.{all_rescued};
+ghost use Rattle.wq_deadlock.specs.Judging.{bare_waits};
 ghost use Rattle.wq_plan.specs.Solve.{IsPlanned, Solves};
-ghost use Rattle.wq_cert.specs.Texts.{assignment_of_text};
+ghost use Rattle.wq_cert.specs.Texts.{workqueues_of_text};
 ghost use Rattle.wq_commands.specs.declared.why.Which.TheVariants.{Certificate};
 ghost use Rattle.wq_commands.specs.Why.{SaysFault, SaysAssigned, SaysDeclared};
 ghost use Rattle.wq_circles.specs.Components.{AreComponents};
@@ -22,10 +24,11 @@ use crate::drawing::drawing_text;
 use crate::flushes::{bold_flushes, red_flushes};
 use crate::titles::{components_title, plan_title};
 use std::alloc::{AllocError, Allocator};
-use wq_cert::{CertError, read_assignment};
+use wq_cert::{CertError, read_workqueues};
 use wq_circles::components;
 use wq_commands::{Answered, End, Stop, Texts, Which, read_declaration};
-use wq_deadlock::own_lanes;
+use wq_core::Workqueues;
+use wq_deadlock::{bare_waits, own_lanes};
 use wq_graph::WaitArc;
 use wq_groups::{Assignment, Groups};
 use wq_items::ItemTable;
@@ -44,29 +47,32 @@ fn draw_bold<A: Allocator + Copy>(
     requires assigned { length assignment.now.lane_of_group ≡ groups.now.groups }
     requires places { AreMarkable (flush_count table.now.waits) chain.now }
     ensures { IfOk result (λ text. text.items
-        ≡ drawing_of (record { table = table.now; partition = groups.now }) assignment.now title.now FlushLook.Bold chain.now) }
+        ≡ drawing_of (record { table = table.now; partition = groups.now }) (all_rescued assignment.now) title.now FlushLook.Bold chain.now) }
 {
     let looks = bold_flushes(alloc, table, chain)?;
-    drawing_text(alloc, table, groups, assignment, title, looks.as_slice())
+    drawing_text(alloc, table, groups, assignment, &[], title, looks.as_slice())
 }
 
-/// The drawing of an assignment with this title, in which the flushes of these components are red.
+/// The drawing of workqueues with this title, in which the flushes of these components are red, and these.
 fn draw_red<A: Allocator + Copy>(
     alloc: A,
     table: &ItemTable<'_, A>,
     groups: &Groups<A>,
-    assignment: &Assignment<A>,
+    workqueues: &Workqueues<A>,
     title: &[u8],
     components: &[Vec<WaitArc, A>],
+    waits: &[WaitArc],
 ) -> Result<Vec<u8, A>, AllocError>
     requires grouped { length groups.now.group_of ≡ length table.now.names }
-    requires assigned { length assignment.now.lane_of_group ≡ groups.now.groups }
+    requires assigned { length workqueues.now.assignment.lane_of_group ≡ groups.now.groups }
     requires places { All (AreMarkable (flush_count table.now.waits)) (map (λ l. l.items) components.now) }
-    ensures { IfOk result (λ text. text.items ≡ drawing_of (record { table = table.now; partition = groups.now }) assignment.now
-        title.now FlushLook.Red (all_arcs (map (λ l. l.items) components.now))) }
+    requires waits { AreMarkable (flush_count table.now.waits) waits.now }
+    ensures { IfOk result (λ text. text.items ≡ drawing_of (record { table = table.now; partition = groups.now }) workqueues.now
+        title.now FlushLook.Red (all_arcs (map (λ l. l.items) components.now) ++ waits.now)) }
 {
-    let looks = red_flushes(alloc, table, components)?;
-    drawing_text(alloc, table, groups, assignment, title, looks.as_slice())
+    let looks = red_flushes(alloc, table, components, waits)?;
+    let assignment = workqueues.assignment();
+    drawing_text(alloc, table, groups, assignment, workqueues.bare(), title, looks.as_slice())
 }
 
 /// The drawing of the plan of a table's items, with the chain that `solve` gave with it.
@@ -88,47 +94,51 @@ fn draw_plan<A: Allocator + Copy>(
     draw_bold(alloc, table, groups, assignment, title.as_slice(), chain)
 }
 
-/// The drawing of an assignment with these components.
+/// The drawing of workqueues with these components, of which these flushes lead to one without a rescuer.
 fn draw_components<A: Allocator + Copy>(
     alloc: A,
     table: &ItemTable<'_, A>,
     groups: &Groups<A>,
-    assignment: &Assignment<A>,
+    workqueues: &Workqueues<A>,
     components: &[Vec<WaitArc, A>],
+    waits: &[WaitArc],
 ) -> Result<Vec<u8, A>, AllocError>
     requires grouped { length groups.now.group_of ≡ length table.now.names }
-    requires assigned { length assignment.now.lane_of_group ≡ groups.now.groups }
-    requires found { AreComponents (declaration_of table.now groups.now) assignment.now (map (λ l. l.items) components.now) }
-    ensures { IfOk result (λ text. DrawsCircles (record { table = table.now; partition = groups.now }) assignment.now text.items) }
+    requires assigned { length workqueues.now.assignment.lane_of_group ≡ groups.now.groups }
+    requires found { AreComponents (declaration_of table.now groups.now) workqueues.now (map (λ l. l.items) components.now) }
+    requires waits { waits.now ≡ bare_waits (declaration_of table.now groups.now) workqueues.now }
+    ensures { IfOk result (λ text. DrawsCircles (record { table = table.now; partition = groups.now }) workqueues.now text.items) }
 {
     // What holds of every table, of all groups and of every assignment.
     let _items = table.len();
     let _groups = groups.len();
-    let _lanes = assignment.lanes();
-    let title = components_title(alloc, components)?;
+    let _lanes = workqueues.assignment().lanes();
+    let title = components_title(alloc, components, waits)?;
     draw_red(
         alloc,
         table,
         groups,
-        assignment,
+        workqueues,
         title.as_slice(),
         components,
+        waits,
     )
 }
 
-/// The drawing of an assignment, with those flushes marked that lie on a circle.
+/// The drawing of workqueues, with those flushes marked that lie on a circle or lead to a workqueue without a rescuer.
 fn draw_circles<A: Allocator + Copy>(
     alloc: A,
     table: &ItemTable<'_, A>,
     groups: &Groups<A>,
-    assignment: &Assignment<A>,
+    workqueues: &Workqueues<A>,
 ) -> Result<Vec<u8, A>, AllocError>
     requires grouped { length groups.now.group_of ≡ length table.now.names }
-    requires assigned { length assignment.now.lane_of_group ≡ groups.now.groups }
-    ensures { IfOk result (λ text. DrawsCircles (record { table = table.now; partition = groups.now }) assignment.now text.items) }
+    requires assigned { length workqueues.now.assignment.lane_of_group ≡ groups.now.groups }
+    ensures { IfOk result (λ text. DrawsCircles (record { table = table.now; partition = groups.now }) workqueues.now text.items) }
 {
-    let components = components(alloc, table, groups, assignment)?;
-    draw_components(alloc, table, groups, assignment, &components)
+    let components = components(alloc, table, groups, workqueues)?;
+    let waits = bare_waits(alloc, table, groups, workqueues)?;
+    draw_components(alloc, table, groups, workqueues, &components, &waits)
 }
 
 /// The drawing of groups, each of which has a workqueue of its own.
@@ -139,10 +149,11 @@ fn draw_own_lanes<A: Allocator + Copy>(
 ) -> Result<Vec<u8, A>, AllocError>
     requires { length groups.now.group_of ≡ length table.now.names }
     ensures { IfOk result (λ text.
-        DrawsCircles (record { table = table.now; partition = groups.now }) (own_lanes groups.now.groups) text.items) }
+        DrawsCircles (record { table = table.now; partition = groups.now }) (all_rescued (own_lanes groups.now.groups)) text.items) }
 {
     let assignment = own_lanes(alloc, groups)?;
-    draw_circles(alloc, table, groups, &assignment)
+    let workqueues = Workqueues::new(assignment, Vec::new(alloc));
+    draw_circles(alloc, table, groups, &workqueues)
 }
 
 /// The drawing of groups with this answer.
@@ -175,19 +186,19 @@ fn draw_groups<A: Allocator + Copy>(
     draw_answer(alloc, table, groups, &answer)
 }
 
-/// The answer to an assignment of these groups.
+/// The answer to workqueues of these groups.
 fn draw_assigned<A: Allocator + Copy>(
     alloc: A,
     table: &ItemTable<'_, A>,
     groups: &Groups<A>,
-    assignment: &Assignment<A>,
+    workqueues: &Workqueues<A>,
 ) -> Result<Answered<A>, AllocError>
     requires grouped { length groups.now.group_of ≡ length table.now.names }
-    requires assigned { length assignment.now.lane_of_group ≡ groups.now.groups }
-    ensures answer { IfOk result (λ a. DrawsAssigned (record { table = table.now; partition = groups.now }) assignment.now a.end a.text.items) }
+    requires assigned { length workqueues.now.assignment.lane_of_group ≡ groups.now.groups }
+    ensures answer { IfOk result (λ a. DrawsAssigned (record { table = table.now; partition = groups.now }) workqueues.now a.end a.text.items) }
     ensures why { IfOk result (λ a. a.why ≡ None) }
 {
-    let text = draw_circles(alloc, table, groups, assignment)?;
+    let text = draw_circles(alloc, table, groups, workqueues)?;
     Ok(Answered::plain(End::Good, text))
 }
 
@@ -214,15 +225,15 @@ fn draw_declared<A: Allocator + Copy>(
 ) -> Result<Answered<A>, AllocError>
     requires { length groups.now.group_of ≡ length table.now.names }
     ensures answer { IfOk result (λ a. DrawsDeclared (record { table = table.now; partition = groups.now }) text.now a.end a.text.items) }
-    ensures why { IfOk result (λ a. SaysFault Certificate (assignment_of_text table.now.names groups.now text.now) a.why) }
+    ensures why { IfOk result (λ a. SaysFault Certificate (workqueues_of_text table.now.names groups.now text.now) a.why) }
 {
     // What holds of all groups.
     let _groups = groups.len();
-    match read_assignment(alloc, text, table, groups) {
-        Ok(assignment) => {
-            let answer = draw_assigned(alloc, table, groups, &assignment);
+    match read_workqueues(alloc, text, table, groups) {
+        Ok(workqueues) => {
+            let answer = draw_assigned(alloc, table, groups, &workqueues);
             // Written as a call, so that the proof has one step for it.
-            drop(assignment);
+            drop(workqueues);
             answer
         }
         Err(CertError::OutOfMemory) => Err(AllocError),

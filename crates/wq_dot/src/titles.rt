@@ -3,7 +3,7 @@
 //! They are those of "The command `dot`" in docs/FORMAT.md. Making one takes constant time.
 
 ghost use Rattle.std.specs.Prelude.{◌≡◌, ◌<◌, ◌^◌, length, map, IfOk};
-ghost use Rattle.wq_dot.specs.Dotting.{plan_title, components_title};
+ghost use Rattle.wq_dot.specs.Dotting.{plan_title, circles_title, components_title};
 
 use std::alloc::{AllocError, Allocator};
 use wq_graph::WaitArc;
@@ -23,12 +23,12 @@ pub(crate) fn plan_title<A: Allocator + Copy>(
 }
 
 /// `safe`, or `components N` where there are any.
-pub(crate) fn components_title<A: Allocator + Copy>(
+fn circles_title<A: Allocator + Copy>(
     alloc: A,
     components: &[Vec<WaitArc, A>],
 ) -> Result<Vec<u8, A>, AllocError>
     requires { length components.now < 2 ^ 32 }
-    ensures { IfOk result (λ title. title.items ≡ components_title (length components.now)) }
+    ensures { IfOk result (λ title. title.items ≡ circles_title (length components.now)) }
 {
     let mut title = Vec::new(alloc);
     if components.is_empty() {
@@ -37,5 +37,26 @@ pub(crate) fn components_title<A: Allocator + Copy>(
     }
     put(&mut title, b"components")?;
     put_number(&mut title, components.len() as u32)?;
+    Ok(title)
+}
+
+/// The same where no flush leads to a workqueue without a rescuer, and else `components N, norescuer M`.
+pub(crate) fn components_title<A: Allocator + Copy>(
+    alloc: A,
+    components: &[Vec<WaitArc, A>],
+    waits: &[WaitArc],
+) -> Result<Vec<u8, A>, AllocError>
+    requires few { length components.now < 2 ^ 32 }
+    requires waits { length waits.now < 2 ^ 32 }
+    ensures { IfOk result (λ title. title.items ≡ components_title (length waits.now) (length components.now)) }
+{
+    if waits.is_empty() {
+        return circles_title(alloc, components);
+    }
+    let mut title = Vec::new(alloc);
+    put(&mut title, b"components")?;
+    put_number(&mut title, components.len() as u32)?;
+    put(&mut title, b", norescuer")?;
+    put_number(&mut title, waits.len() as u32)?;
     Ok(title)
 }

@@ -3,6 +3,7 @@ use Rattle.std.proofs.lemmas.Result.{IfOk-weaker}
 use Rattle.wq_groups.specs.Declaration.{declaration_of}
 use Rattle.wq_groups.proofs.Declarations.{IsDeclaration-of}
 use Rattle.wq_graph.specs.declared.arc.WaitArc.{WaitArc}
+use Rattle.wq_core.specs.Workqueues.{all_rescued}
 use Rattle.wq_dot.specs.declared.look.FlushLook.TheVariants.{Bold}
 use Rattle.wq_commands.specs.Declaration.{Declared}
 use Rattle.wq_dot.specs.Dotting.{drawing_of, plan_title}
@@ -27,6 +28,6 @@ returns g c =
       plan = c.requires.planned.plan;
       drawn =
           drawn
-          ∙ ap (λ (t : List ℕ). drawing_of s a t Bold c.args.chain.now) title
-          ∙ ap (λ (l : List WaitArc). drawing_of s a (plan_title a.lanes) Bold l) c.requires.planned.longest;
+          ∙ ap (λ (t : List ℕ). drawing_of s (all_rescued a) t Bold c.args.chain.now) title
+          ∙ ap (λ (l : List WaitArc). drawing_of s (all_rescued a) (plan_title a.lanes) Bold l) c.requires.planned.longest;
     }) c.draw_bold.ensures

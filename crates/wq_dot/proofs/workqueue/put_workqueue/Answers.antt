@@ -5,7 +5,7 @@ use Rattle.std.proofs.lemmas.List.{get_or_default}
 use Rattle.std.proofs.lemmas.Result.{on_ok_weaker}
 use Rattle.wq_lines.specs.LineText.{spaced}
 use Rattle.wq_items.specs.Table.{items_at}
-use Rattle.wq_dot.specs.Drawing.{ended, group_lines}
+use Rattle.wq_dot.specs.Drawing.{ended, frame_text, group_lines}
 use Rattle.wq_dot.proofs.Lines.{text_of, text_of-next, text_of-all, box_closed}
 use Rattle.wq_dot.proofs.Pieces.{put_more, put_end, put_line}
 use Rattle.wq_dot.proofs.Workqueues.{items_at-below}
@@ -36,11 +36,12 @@ returns g c =
     let digits = decimal c.args.number in
     let lines : ℕ → List (List ℕ) = λ k. group_lines names (items_at group_of k) in
     let first : List ℕ = codes "  subgraph \"cluster wq " ++ digits ++ codes "\" {" in
-    let second : List ℕ = codes "    graph [label=\"wq " ++ digits ++ codes "\", style=filled, color=gray92];" in
+    let frame : List ℕ = frame_text c.args.bare in
+    let second : List ℕ = codes "    graph [label=\"wq " ++ digits ++ frame in
     let h2 = put_more out (codes "  subgraph \"cluster wq") _ (spaced digits) _ _ c.in_ok-put.ensures.added c.in_ok-put_number.ensures.added (ap (λ (n : ℕ). spaced (decimal n)) c.from.ensures) in
     let h3 = put_end out (codes "  subgraph \"cluster wq" ++ spaced digits) (codes "\" {") _ _ h2 c.in_ok-put-2.ensures.added in
     let k2 = put_more opened (codes "    graph [label=\"wq") _ (spaced digits) _ _ c.in_ok-put-3.ensures.added c.in_ok-put_number-2.ensures.added (ap (λ (n : ℕ). spaced (decimal n)) c.from-2.ensures) in
-    let k3 = put_end opened (codes "    graph [label=\"wq" ++ spaced digits) (codes "\", style=filled, color=gray92];") _ _ k2 c.in_ok-put-4.ensures.added in
+    let k3 = put_end opened (codes "    graph [label=\"wq" ++ spaced digits) frame _ _ k2 (c.in_ok-put-4.ensures.added ∙ ap (λ (l : List ℕ). c.put_number-2.new.out.items ++ l) c.frame_end.ensures) in
     let h4 : c.put-4.new.out.items ≡ out ++ (ended first ++ ended second) = put_line out (ended first) (ended second) _ _ h3 k3 in
     let filled = text_of-all lines c.put-4.new.out.items c.loop-group.out.items own c.loop-group.group-index (omega (arith, c.loop-group-test.false, c.loop-group.auto.group-index-end)) c.loop-group.invariant in
     on_ok_weaker c.put-5.result (λ e. box_closed out first second (codes "  }") (flat_map lines own) _ _ _ h4 filled e) c.put-5.ensures.added
