@@ -3,10 +3,10 @@ use Rattle.std.proofs.Common.{◌≡◌, Bool, false, true, ℕ, ◌+◌, List, 
 use Rattle.std.specs.Prelude.{MatchResult, take}
 use Rattle.std.proofs.lemmas.Result.{MatchResult-weaker}
 use Rattle.wq_text.specs.Refusal.{Refusal}
-use Rattle.wq_groups.specs.Assignment.{Assignment}
+use Rattle.wq_core.specs.Workqueues.{Workqueues}
 use Rattle.wq_meter.specs.Shell.{Given, kept}
 use Rattle.wq_cert.specs.declared.fault.CertError.{CertError}
-use Rattle.wq_cert.specs.Reading.{assignment_reading}
+use Rattle.wq_cert.specs.Reading.{lanes_reading}
 use Rattle.wq_cert.specs.Texts.{cert_refusal, max_certificate}
 use Rattle.wq_cert.proofs.LongCertificates.{text_reading-take}
 use Rattle.wq_commands.specs.declared.end.End.{End}
@@ -22,8 +22,8 @@ use Rattle.wq_dot.specs.Dotting.{DrawsAssigned, DrawsDeclared, DrawsOwn, DrawsTe
 module _ (end : End) (out : List ℕ) where
   DrawsDeclared-take : (text : List ℕ) (s : Declared) → DrawsDeclared s (take (max_certificate + 1) text) end out → DrawsDeclared s text end out
   DrawsDeclared-take text s answer =
-      subst (λ (r : Result Assignment CertError). MatchResult r (λ a. DrawsAssigned s a end out) (λ fault. PrintsRefusal (cert_refusal fault) end out))
-      (text_reading-take (assignment_reading s.table.names s.partition) text) answer
+      subst (λ (r : Result Workqueues CertError). MatchResult r (λ a. DrawsAssigned s a end out) (λ fault. PrintsRefusal (cert_refusal fault) end out))
+      (text_reading-take (lanes_reading s.table.names s.partition) text) answer
 
   pub Draws-take : (declared text : List ℕ) → Draws (take (max_declaration + 1) declared) (take (max_certificate + 1) text) end out → Draws declared text end out
   Draws-take declared text answer =

@@ -37,10 +37,10 @@ abbrev pub circles_title : ℕ → List ℕ
 circles_title zero = codes "safe"
 circles_title (suc others) = codes "components " ++ decimal (suc others)
 
--- the same if no flush leads to a workqueue without a rescuer; and `components N, norescuer M` if M flushes do
+-- the same if no flush leads to a workqueue without a rescuer; and `components N` in any case if so many flushes do
 abbrev pub components_title : ℕ → ℕ → List ℕ
 components_title zero components = circles_title components
-components_title (suc others) components = codes "components " ++ decimal components ++ codes ", norescuer " ++ decimal (suc others)
+components_title (suc others) components = codes "components " ++ decimal components
 
 -- ---- drawings
 

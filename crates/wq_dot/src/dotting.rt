@@ -50,7 +50,15 @@ fn draw_bold<A: Allocator + Copy>(
         ≡ drawing_of (record { table = table.now; partition = groups.now }) (all_rescued assignment.now) title.now FlushLook.Bold chain.now) }
 {
     let looks = bold_flushes(alloc, table, chain)?;
-    drawing_text(alloc, table, groups, assignment, &[], title, looks.as_slice())
+    drawing_text(
+        alloc,
+        table,
+        groups,
+        assignment,
+        &[],
+        title,
+        looks.as_slice(),
+    )
 }
 
 /// The drawing of workqueues with this title, in which the flushes of these components are red, and these.
@@ -72,7 +80,15 @@ fn draw_red<A: Allocator + Copy>(
 {
     let looks = red_flushes(alloc, table, components, waits)?;
     let assignment = workqueues.assignment();
-    drawing_text(alloc, table, groups, assignment, workqueues.bare(), title, looks.as_slice())
+    drawing_text(
+        alloc,
+        table,
+        groups,
+        assignment,
+        workqueues.bare(),
+        title,
+        looks.as_slice(),
+    )
 }
 
 /// The drawing of the plan of a table's items, with the chain that `solve` gave with it.

@@ -40,14 +40,13 @@ fn circles_title<A: Allocator + Copy>(
     Ok(title)
 }
 
-/// The same where no flush leads to a workqueue without a rescuer, and else `components N, norescuer M`.
+/// The same where no flush leads to a workqueue without a rescuer, and else `components N` in any case.
 pub(crate) fn components_title<A: Allocator + Copy>(
     alloc: A,
     components: &[Vec<WaitArc, A>],
     waits: &[WaitArc],
 ) -> Result<Vec<u8, A>, AllocError>
-    requires few { length components.now < 2 ^ 32 }
-    requires waits { length waits.now < 2 ^ 32 }
+    requires { length components.now < 2 ^ 32 }
     ensures { IfOk result (λ title. title.items ≡ components_title (length waits.now) (length components.now)) }
 {
     if waits.is_empty() {
@@ -56,7 +55,5 @@ pub(crate) fn components_title<A: Allocator + Copy>(
     let mut title = Vec::new(alloc);
     put(&mut title, b"components")?;
     put_number(&mut title, components.len() as u32)?;
-    put(&mut title, b", norescuer")?;
-    put_number(&mut title, waits.len() as u32)?;
     Ok(title)
 }

@@ -1,4 +1,4 @@
-use Rattle.std.proofs.Common.{◌≡◌, ◌<◌, ◌^◌, ℕ, List, ◌++◌, length, map, sym, ap, subst, ◌∙◌, arith}
+use Rattle.std.proofs.Common.{◌≡◌, ℕ, List, ◌++◌, length, map, sym, ap, subst, ◌∙◌, arith}
 use Rattle.std.proofs.lemmas.List.{length-map}
 use Rattle.std.proofs.lemmas.Result.{IfOk-weaker}
 use Rattle.wq_items.specs.Table.{flush_count}
@@ -9,15 +9,14 @@ use Rattle.wq_graph.specs.declared.arc.WaitArc.{WaitArc}
 use Rattle.wq_deadlock.specs.Judging.{bare_waits}
 use Rattle.wq_dot.specs.declared.look.FlushLook.TheVariants.{Red}
 use Rattle.wq_commands.specs.Declaration.{Declared}
-use Rattle.wq_circles.proofs.ForBare.{AreBetween-waits}
 use Rattle.wq_circles.proofs.Loops.{length-components}
 use Rattle.wq_dot.specs.Flushes.{AreMarkable, all_arcs}
 use Rattle.wq_dot.specs.Dotting.{drawing_of, components_title}
 use Rattle.wq_dot.proofs.Placed.{AreMarkable-components, AreMarkable-waits}
 use Rattle.wq_dot.proofs.dotting.draw_components.Goals as goal
 
-pub components_title-requires-clause-few : goal.components_title-requires-clause-few
-components_title-requires-clause-few g c =
+pub components_title-requires : goal.components_title-requires
+components_title-requires g c =
     let d = declaration_of c.args.table.now c.args.groups.now in
     let ws = c.args.workqueues.now in
     let declaration = IsDeclaration-of c.args.table.now c.args.groups.now c.len-items.ensures.table c.len-groups.ensures.partition c.requires.grouped in
@@ -25,15 +24,6 @@ components_title-requires-clause-few g c =
     subst (IsAssignment d.groups) c.assignment.ensures (record { one_each = ap (λ (a : Assignment). length a.lane_of_group) c.assignment.ensures ∙ c.requires.assigned; within = c.lanes-lanes.ensures.within }) in
     let few = length-components d ws.assignment ws.bare declaration assignment _ c.requires.found in
     omega (arith, few, ap (λ (a : Assignment). a.lanes) c.assignment.ensures, length-map c.args.components.now (λ v. v.items), c.lanes-lanes.ensures.lanes, c.lanes-lanes.ensures.few)
-
-pub components_title-requires-clause-waits : goal.components_title-requires-clause-waits
-components_title-requires-clause-waits g c =
-    let d = declaration_of c.args.table.now c.args.groups.now in
-    let ws = c.args.workqueues.now in
-    let declaration = IsDeclaration-of c.args.table.now c.args.groups.now c.len-items.ensures.table c.len-groups.ensures.partition c.requires.grouped in
-    let assignment : IsAssignment d.groups ws.assignment =
-    subst (IsAssignment d.groups) c.assignment.ensures (record { one_each = ap (λ (a : Assignment). length a.lane_of_group) c.assignment.ensures ∙ c.requires.assigned; within = c.lanes-lanes.ensures.within }) in
-    subst (λ (l : List WaitArc). length l < 2 ^ 32) (sym c.requires.waits) (AreBetween-waits d ws declaration assignment).0
 
 pub draw_red-requires-clause-places : goal.draw_red-requires-clause-places
 draw_red-requires-clause-places g c =

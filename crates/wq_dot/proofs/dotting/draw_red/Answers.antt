@@ -23,7 +23,7 @@ returns g c =
     IfOk-weaker c.drawing_text.result _ _
     (λ text drawn.
     drawn
-    ∙ ap (λ (l : List FlushLook). drawing_text t p (record { assignment = c.assignment.result.now; bare = c.bare.result.now }) title l) looks
-    ∙ ap (λ (a : Assignment). drawing_text t p (record { assignment = a; bare = c.bare.result.now }) title _) c.assignment.ensures
+    ∙ ap (λ (l : List FlushLook). drawing_text t p (record { assignment = c.assignment-assignment.result.now; bare = c.bare.result.now }) title l) looks
+    ∙ ap (λ (a : Assignment). drawing_text t p (record { assignment = a; bare = c.bare.result.now }) title _) c.assignment-assignment.ensures
     ∙ ap (λ (bare : List Bool). drawing_text t p (record { assignment = c.args.workqueues.now.assignment; bare = bare }) title _) c.bare.ensures)
     c.drawing_text.ensures

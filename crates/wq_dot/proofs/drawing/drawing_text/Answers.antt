@@ -13,8 +13,8 @@ use Rattle.wq_dot.proofs.Lines.{text_of, text_of-more, text_of-line, text_of-who
 use Rattle.wq_dot.proofs.Workqueues.{groups_on-below, groups_on-bucket}
 use Rattle.wq_dot.proofs.drawing.drawing_text.Goals as goal
 
-pub places-requires : goal.places-requires
-places-requires g c =
+pub places-own-requires : goal.places-own-requires
+places-own-requires g c =
     let many = ap length c.in_ok-by_workqueue.ensures.buckets ∙ length-map-range_with_len (places_of c.deref.result.now) 0 c.lanes-workqueues.result in
     omega (arith, many, c.loop-number-test.true)
 
@@ -24,7 +24,7 @@ put_workqueue-requires-clause-own g c =
     let groups = c.args.groups.now.groups in
     let number = c.loop-number.number in
     let made = subst (λ n. c.in_ok-by_workqueue.by_workqueue ≡ buckets_of c.deref.result.now n) c.lanes-workqueues.ensures.lanes c.in_ok-by_workqueue.ensures.buckets in
-    let own = groups_on-bucket a c.deref.result.now c.in_ok-by_workqueue.by_workqueue number c.places.result.now (c.deref.ensures.value ∙ c.in_ok-lanes.ensures) made (omega (arith, c.loop-number-test.true, c.lanes-workqueues.ensures.lanes)) c.places.ensures in
+    let own = groups_on-bucket a c.deref.result.now c.in_ok-by_workqueue.by_workqueue number c.places-own.result.now (c.deref.ensures.value ∙ c.in_ok-lanes.ensures) made (omega (arith, c.loop-number-test.true, c.lanes-workqueues.ensures.lanes)) c.places-own.ensures in
     subst (λ (is : List ℕ). All (λ i. i < groups) is) (sym own) (groups_on-below a groups number c.requires.assigned)
 
 pub loop-number-preserved : goal.loop-number-preserved
@@ -36,7 +36,7 @@ loop-number-preserved g c =
     let number = c.loop-number.number in
     let out = c.put_head.new.out.items in
     let made = subst (λ n. c.in_ok-by_workqueue.by_workqueue ≡ buckets_of c.deref.result.now n) c.lanes-workqueues.ensures.lanes c.in_ok-by_workqueue.ensures.buckets in
-    let own = groups_on-bucket a c.deref.result.now c.in_ok-by_workqueue.by_workqueue number c.places.result.now (c.deref.ensures.value ∙ c.in_ok-lanes.ensures) made (omega (arith, c.loop-number-test.true, c.lanes-workqueues.ensures.lanes)) c.places.ensures in
+    let own = groups_on-bucket a c.deref.result.now c.in_ok-by_workqueue.by_workqueue number c.places-own.result.now (c.deref.ensures.value ∙ c.in_ok-lanes.ensures) made (omega (arith, c.loop-number-test.true, c.lanes-workqueues.ensures.lanes)) c.places-own.ensures in
     c.in_ok-put_workqueue.ensures
     ∙ ap (λ (is : List ℕ). c.loop-number.out.items ++ text_of (box_lines names group_of c.is_bare.result number is)) own
     ∙ ap (λ (bare : Bool). c.loop-number.out.items ++ text_of (box_lines names group_of bare number (groups_on a number))) c.is_bare.ensures

@@ -26,8 +26,8 @@ mark-requires g c =
     subst (λ (m : ℕ). AreMarkable m c.deref.result.now) long
     (subst (AreMarkable n) at (c.requires.places i item.items (omega (arith, c.loop-arcs-test.true, length-map components (λ v. v.items)))))
 
-pub mark-2-requires : goal.mark-2-requires
-mark-2-requires g c =
+pub mark-requires-2 : goal.mark-requires-2
+mark-requires-2 g c =
     let n = flush_count c.args.table.now.waits in
     let components = c.args.components.now in
     let made : c.in_ok-looks.looks.items ≡ replicate c.flushes.result Plain = c.in_ok-looks.ensures.items_if_clones_equal (λ y e. search rules) in
