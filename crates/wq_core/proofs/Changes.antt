@@ -38,10 +38,10 @@ set_same [] q old new was same = refl
 set_same (l ∷ ls) zero old new was same = let is : l ≡ old = cc in ap (λ (b : Bool). b ∷ map (λ (h : HeldLane). h.ordered) ls) (same ∙ ap (λ (h : HeldLane). h.ordered) (sym is))
 set_same (l ∷ ls) (suc q) old new was same = ap (λ (bs : List Bool). l.ordered ∷ bs) (set_same ls q old new was same)
 
-module _ (waits : List (List Target)) (lane_of_item : List ℕ) (helpers : ℕ) (numbers : List (Option ℕ)) (lanes : List HeldLane) (next : ℕ) where
+module _ (waits : List (List Target)) (lane_of_item : List ℕ) (bare : List Bool) (helpers : ℕ) (numbers : List (Option ℕ)) (lanes : List HeldLane) (next : ℕ) where
   -- the machine that the fields hold
   abbrev held_machine : Machine
-  held_machine = machine_of waits lane_of_item helpers lanes next
+  held_machine = machine_of waits lane_of_item bare helpers lanes next
 
   pub held_lane : (q : ℕ) (old : HeldLane) → slice_get lanes q ≡ Some old → lane_at held_machine.state q ≡ old.lane
   held_lane q old was =
@@ -49,13 +49,13 @@ module _ (waits : List (List Target)) (lane_of_item : List ℕ) (helpers : ℕ) 
 
   -- one lane and the next number may change in the fields
   machine_of-set : (q : ℕ) (old new : HeldLane) (later : ℕ) → slice_get lanes q ≡ Some old → new.ordered ≡ old.ordered
-      → machine_of waits lane_of_item helpers (set lanes q new) later ≡ record { wiring = held_machine.wiring; state = record { next = later; lanes = set held_machine.state.lanes q new.lane } }
+      → machine_of waits lane_of_item bare helpers (set lanes q new) later ≡ record { wiring = held_machine.wiring; state = record { next = later; lanes = set held_machine.state.lanes q new.lane } }
   machine_of-set q old new later was same =
       let count = length-set lanes q new in
       let orders = set_same lanes q old new was same in
       let state = map-set (λ (h : HeldLane). h.lane) lanes q new in
       λ t. record {
-        wiring = record { waits = waits; lane_of_item = lane_of_item; lanes = count t; ordered = orders t; helpers = helpers };
+        wiring = record { waits = waits; lane_of_item = lane_of_item; lanes = count t; ordered = orders t; bare = bare; helpers = helpers };
         state = record { next = later; lanes = state t };
       }
 
@@ -68,13 +68,13 @@ module _ (waits : List (List Target)) (lane_of_item : List ℕ) (helpers : ℕ) 
   ]
 
   -- a lawful step whose effect is such a change
-  changed : (m : Machine) (step : Step) (n q : ℕ) (old new : HeldLane) (later : ℕ) → IsHeld waits lane_of_item helpers numbers lanes next → held_machine ≡ m → IsNumberOf m step (Some n) → ¬ UsesUp m.state step
+  changed : (m : Machine) (step : Step) (n q : ℕ) (old new : HeldLane) (later : ℕ) → IsHeld waits lane_of_item bare helpers numbers lanes next → held_machine ≡ m → IsNumberOf m step (Some n) → ¬ UsesUp m.state step
       → slice_get lanes q ≡ Some old → new.room ≡ old.room → new.ordered ≡ old.ordered → new.helpers ≡ old.helpers → later < 2 ^ 32
       → record { next = later; lanes = set held_machine.state.lanes q new.lane } ≡ effect held_machine.wiring held_machine.state step
-      → IsHeld waits lane_of_item helpers (numbers_after held_machine.state step numbers) (set lanes q new) later × IsDone m step n (machine_of waits lane_of_item helpers (set lanes q new) later)
+      → IsHeld waits lane_of_item bare helpers (numbers_after held_machine.state step numbers) (set lanes q new) later × IsDone m step n (machine_of waits lane_of_item bare helpers (set lanes q new) later)
   changed m step n q old new later held view number left was room ordered has small made =
       let lawful : Lawful held_machine.wiring held_machine.state step = subst (λ (k : Machine). Lawful k.wiring k.state step) (sym view) number.0 in
-      let is : machine_of waits lane_of_item helpers (set lanes q new) later ≡ machine_after held_machine step = machine_of-set q old new later was ordered ∙ ap (λ (s : State). record { wiring = held_machine.wiring; state = s }) made in
+      let is : machine_of waits lane_of_item bare helpers (set lanes q new) later ≡ machine_after held_machine step = machine_of-set q old new later was ordered ∙ ap (λ (s : State). record { wiring = held_machine.wiring; state = s }) made in
       let before = held.machine in
       let after : IsMachine (machine_after held_machine step) = record {
         wiring = before.wiring;
@@ -109,7 +109,7 @@ module _ (waits : List (List Target)) (lane_of_item : List ℕ) (helpers : ℕ) 
   numbers_after-step_in q zero (DoFinish i) = refl
   numbers_after-step_in q (suc h) deed = refl
 
-  module _ (m : Machine) (n : ℕ) (old new : HeldLane) (held : IsHeld waits lane_of_item helpers numbers lanes next) (view : held_machine ≡ m) (room : new.room ≡ old.room) (ordered : new.ordered ≡ old.ordered) (has : new.helpers ≡ old.helpers) where
+  module _ (m : Machine) (n : ℕ) (old new : HeldLane) (held : IsHeld waits lane_of_item bare helpers numbers lanes next) (view : held_machine ≡ m) (room : new.room ≡ old.room) (ordered : new.ordered ≡ old.ordered) (has : new.helpers ≡ old.helpers) where
     -- the state with lane q as f makes it
     put : (q : ℕ) (f : Lane → Lane) → slice_get lanes q ≡ Some old → new.lane ≡ f old.lane → record { next = next; lanes = set held_machine.state.lanes q new.lane } ≡ with_lane held_machine.state q (f (lane_at held_machine.state q))
     put q f was is = ap (λ (l : Lane). with_lane held_machine.state q l) (is ∙ ap f (sym (held_lane q old was)))
@@ -117,18 +117,18 @@ module _ (waits : List (List Target)) (lane_of_item : List ℕ) (helpers : ℕ) 
     -- what a context does
     done : (q c : ℕ) (deed : HelpStep) → IsNumberOf m (step_in q c deed) (Some n) → slice_get lanes q ≡ Some old
         → record { next = next; lanes = set held_machine.state.lanes q new.lane } ≡ done_by held_machine.state q c deed
-        → IsHeld waits lane_of_item helpers (numbers_after_deed deed numbers) (set lanes q new) next × IsDone m (step_in q c deed) n (machine_of waits lane_of_item helpers (set lanes q new) next)
+        → IsHeld waits lane_of_item bare helpers (numbers_after_deed deed numbers) (set lanes q new) next × IsDone m (step_in q c deed) n (machine_of waits lane_of_item bare helpers (set lanes q new) next)
     done q c deed number was made =
         let step : Step = step_in q c deed in
         let now = changed m step n q old new next held view number (step_in-number_left m.state q c deed) was room ordered has held.machine.numbers (made ∙ sym (step_in-effect held_machine.wiring held_machine.state q c deed)) in
-        (subst (λ (l : List (Option ℕ)). IsHeld waits lane_of_item helpers l (set lanes q new) next) (numbers_after-step_in q c deed) now.0, now.1)
+        (subst (λ (l : List (Option ℕ)). IsHeld waits lane_of_item bare helpers l (set lanes q new) next) (numbers_after-step_in q c deed) now.0, now.1)
 
     pub finished : (q c i : ℕ) → IsNumberOf m (step_in q c (DoFinish i)) (Some n) → slice_get lanes q ≡ Some old → new.lane ≡ with_finished c old.lane
-        → IsHeld waits lane_of_item helpers numbers (set lanes q new) next × IsDone m (step_in q c (DoFinish i)) n (machine_of waits lane_of_item helpers (set lanes q new) next)
+        → IsHeld waits lane_of_item bare helpers numbers (set lanes q new) next × IsDone m (step_in q c (DoFinish i)) n (machine_of waits lane_of_item bare helpers (set lanes q new) next)
     finished q c i number was is = done q c (DoFinish i) number was (put q (with_finished c) was is)
 
     pub over : (q c : ℕ) (whole : Bool) (b : ℕ) → IsNumberOf m (step_in q c (over_deed whole b)) (Some n) → slice_get lanes q ≡ Some old → new.lane ≡ with_over c old.lane
-        → IsHeld waits lane_of_item helpers numbers (set lanes q new) next × IsDone m (step_in q c (over_deed whole b)) n (machine_of waits lane_of_item helpers (set lanes q new) next)
+        → IsHeld waits lane_of_item bare helpers numbers (set lanes q new) next × IsDone m (step_in q c (over_deed whole b)) n (machine_of waits lane_of_item bare helpers (set lanes q new) next)
     over q c false b number was is = done q c (DoOver b) number was (put q (with_over c) was is)
     over q c true b number was is = done q c (DoOverAll b) number was (put q (with_over c) was is)
 
@@ -140,16 +140,16 @@ module _ (waits : List (List Target)) (lane_of_item : List ℕ) (helpers : ℕ) 
         put q (with_wait c whole b next) was (is ∙ ap (λ (k : ℕ). with_wait c whole b k old.lane) mark)
 
     pub waited : (q c : ℕ) (whole : Bool) (b : ℕ) → IsNumberOf m (step_in q c (wait_deed whole b)) (Some n) → slice_get lanes q ≡ Some old → new.lane ≡ with_wait c whole b n old.lane
-        → IsHeld waits lane_of_item helpers numbers (set lanes q new) next × IsDone m (step_in q c (wait_deed whole b)) n (machine_of waits lane_of_item helpers (set lanes q new) next)
+        → IsHeld waits lane_of_item bare helpers numbers (set lanes q new) next × IsDone m (step_in q c (wait_deed whole b)) n (machine_of waits lane_of_item bare helpers (set lanes q new) next)
     waited q c false b number was is = done q c (DoWait b) number was (marked q c false b was (step_in-gives m.state q c (DoWait b) n number.1) is)
     waited q c true b number was is = done q c (DoWaitAll b) number was (marked q c true b was (step_in-gives m.state q c (DoWaitAll b) n number.1) is)
 
     pub started : (q c i : ℕ) → IsNumberOf m (step_in q c (DoStart i)) (Some n) → slice_get lanes q ≡ Some old → new.lane ≡ with_started c i old.lane
-        → IsHeld waits lane_of_item helpers (set numbers i None) (set lanes q new) next × IsDone m (step_in q c (DoStart i)) n (machine_of waits lane_of_item helpers (set lanes q new) next)
+        → IsHeld waits lane_of_item bare helpers (set numbers i None) (set lanes q new) next × IsDone m (step_in q c (DoStart i)) n (machine_of waits lane_of_item bare helpers (set lanes q new) next)
     started q c i number was is = done q c (DoStart i) number was (put q (with_started c i) was is)
 
     pub cancelled : (q i : ℕ) → q ≡ lane_of m.wiring i → IsNumberOf m (Cancel i) (Some n) → slice_get lanes q ≡ Some old → new.lane ≡ with_cancelled i old.lane
-        → IsHeld waits lane_of_item helpers (set numbers i None) (set lanes q new) next × IsDone m (Cancel i) n (machine_of waits lane_of_item helpers (set lanes q new) next)
+        → IsHeld waits lane_of_item bare helpers (set numbers i None) (set lanes q new) next × IsDone m (Cancel i) n (machine_of waits lane_of_item bare helpers (set lanes q new) next)
     cancelled q i own number was is =
         let at : q ≡ lane_of held_machine.wiring i = own ∙ ap (λ (k : Machine). lane_of k.wiring i) (sym view) in
         changed m (Cancel i) n q old new next held view number (λ u. u) was room ordered has held.machine.numbers (
@@ -157,7 +157,7 @@ module _ (waits : List (List Target)) (lane_of_item : List ℕ) (helpers : ℕ) 
         )
 
     pub queued : (q i : ℕ) → q ≡ lane_of m.wiring i → IsNumberOf m (Queue i) (Some n) → n ≢ 4294967295 → slice_get lanes q ≡ Some old → new.lane ≡ with_queued (record { number = n; item = i }) old.lane
-        → IsHeld waits lane_of_item helpers (set numbers i (Some n)) (set lanes q new) (next + 1) × IsDone m (Queue i) n (machine_of waits lane_of_item helpers (set lanes q new) (next + 1))
+        → IsHeld waits lane_of_item bare helpers (set numbers i (Some n)) (set lanes q new) (next + 1) × IsDone m (Queue i) n (machine_of waits lane_of_item bare helpers (set lanes q new) (next + 1))
     queued q i own number left was is =
         let at : q ≡ lane_of held_machine.wiring i = own ∙ ap (λ (k : Machine). lane_of k.wiring i) (sym view) in
         let given : n ≡ next = number.1 ∙ ap (λ (k : Machine). k.state.next) (sym view) in
@@ -166,4 +166,4 @@ module _ (waits : List (List Target)) (lane_of_item : List ℕ) (helpers : ℕ) 
         ap (λ (l : Lane). record { next = next + 1; lanes = set held_machine.state.lanes q l }) (is ∙ ap (λ (k : ℕ). with_queued (record { number = k; item = i }) old.lane) given ∙ ap lane (sym (held_lane q old was)))
         ∙ ap (λ (p : ℕ). record { next = next + 1; lanes = set held_machine.state.lanes p (lane (lane_at held_machine.state p)) }) at
         ) in
-        (subst (λ (k : ℕ). IsHeld waits lane_of_item helpers (set numbers i (Some k)) (set lanes q new) (next + 1)) (sym given) now.0, now.1)
+        (subst (λ (k : ℕ). IsHeld waits lane_of_item bare helpers (set numbers i (Some k)) (set lanes q new) (next + 1)) (sym given) now.0, now.1)

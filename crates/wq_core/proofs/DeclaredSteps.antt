@@ -1,6 +1,6 @@
 -- Which steps a lane can make, and which of them if its executions flush as declared.
 use Rattle.std.proofs.Common.{◌≡◌, ℕ, ◌<◌, ◌≤◌, inl, inr, ◌↔◌, Bool, true, false, not, List, length, Option, Some, None, refl, sym, ap, subst, ◌∙◌, arith}
-use Rattle.std.specs.Prelude.{slice_get, is_some, IsTrue}
+use Rattle.std.specs.Prelude.{slice_get, is_some, IsTrue, IfSome, IfNone}
 use Rattle.std.proofs.lemmas.Option.{slice_get_within, slice_get_past, slice_get_cases, get_or_from_slice_get}
 use Rattle.wq_items.specs.declared.target.Target.{Target}
 use Rattle.wq_items.specs.Table.{ItemWaitsBy}
@@ -10,13 +10,13 @@ use Rattle.wq_core.specs.declared.entry.Running.{Running}
 use Rattle.wq_core.specs.declared.step.Step.{Step}
 use Rattle.wq_core.specs.declared.step.Step.TheVariants.{Queue, Cancel, Start, Wait, Over, WaitAll, OverAll, Finish, Help}
 use Rattle.wq_core.specs.declared.step.HelpStep.TheVariants.{Start as DoStart, Wait as DoWait, WaitAll as DoWaitAll, Over as DoOver, OverAll as DoOverAll, Finish as DoFinish}
-use Rattle.wq_core.specs.Wiring.{Wiring, HasHelper, declared_by}
+use Rattle.wq_core.specs.Wiring.{Wiring, HasRescuer, HasHelper, declared_by}
 use Rattle.wq_core.specs.State.{Lane, State, lane_at, run_by, RunsIn, Runs, next_of}
 use Rattle.wq_core.specs.Rules.{IsHeldBack, MayStartFirst, MayBeOver, Lawful, wait_of, over_of}
-use Rattle.wq_core.specs.Runs.{KeepsOrder}
+use Rattle.wq_core.specs.Runs.{IsForcedStep, KeepsOrder}
 use Rattle.wq_core.specs.Held.{IsSoundRunning, IsSoundState}
 use Rattle.wq_core.specs.Played.{IsStepOfLane, RescuerCanMove, HelperGoesOn, CanMove, IsDeclaredStep, HasNoDeclaredStep}
-use Rattle.wq_core.proofs.WaitSteps.{waits-lawful, lawful-waits, goes_on-lawful, lawful-goes_on, next-in_order, in_order-next, in_order-goes_on, of_lane-wait_of, of_lane-over_of}
+use Rattle.wq_core.proofs.WaitSteps.{waits-lawful, lawful-waits, goes_on-lawful, lawful-goes_on, next-in_order, in_order-next, in_order-goes_on, of_lane-wait_of, of_lane-over_of, forced-wait_of, forced-over_of}
 use Rattle.wq_core.proofs.Contexts.{MayStart-first}
 use Rattle.wq_core.proofs.LaneLemmas.{same_running, nothing_runs, runs_within, starts_within}
 
@@ -63,17 +63,28 @@ module _ (w : Wiring) (s : State) (q : ℕ) where
     MayStartFirst-next : (e : Entry) → next_of (lane_at s q) ≡ Some e → MayStartFirst (lane_at s q) e.item
     MayStartFirst-next e first = record { idle = idle; entry = e; first = first; of_item = refl }
 
-    pub RescuerCanMove-idle : (next : Option Entry) → next ≡ next_of (lane_at s q) → (b : Bool) → b ≡ is_some next → IsTrue b ↔ RescuerCanMove w s q
-    RescuerCanMove-idle None is b test = (
+    -- the rescuer of a bare lane doesn't start it
+    forced_start : (step : Step) (e : Entry) → IsForcedStep w step → step ≡ Start q e.item → HasRescuer w q
+    forced_start step e forced start = subst (IsForcedStep w) start forced
+
+    pub RescuerCanMove-idle : (next : Option Entry) → IfSome next (λ (e : Entry). HasRescuer w q × (next_of (lane_at s q) ≡ Some e)) → IfNone next (HasRescuer w q → next_of (lane_at s q) ≡ None)
+        → (b : Bool) → b ≡ is_some next → IsTrue b ↔ RescuerCanMove w s q
+    RescuerCanMove-idle None some none b test = (
       (λ t. absurd (let e : false ≡ true = sym test ∙ t in cc)),
       (λ can.
           let starts = starts_only can.0 can.1 can.2 in
-          absurd (let e : None ≡ Some starts.0 = is ∙ starts.1 in cc)),
+          absurd (let e : None ≡ Some starts.0 = sym (none (forced_start can.0 starts.0 can.3 starts.2)) ∙ starts.1 in cc)),
     )
-    RescuerCanMove-idle (Some e) is b test = ((λ t. (Start q e.item, refl, MayStartFirst-next e (sym is))), (λ can. test))
+    RescuerCanMove-idle (Some e) some none b test = ((λ t. (Start q e.item, refl, MayStartFirst-next e some.1, some.0)), (λ can. test))
 
-    pub IsDeclaredStep-start : (e : Entry) → next_of (lane_at s q) ≡ Some e → IsDeclaredStep w s q (Start q e.item)
-    IsDeclaredStep-start e first = record { of_lane = refl; lawful = MayStartFirst-next e first; in_order = tt }
+    pub IsDeclaredStep-start : HasRescuer w q → (e : Entry) → next_of (lane_at s q) ≡ Some e → IsDeclaredStep w s q (Start q e.item)
+    IsDeclaredStep-start rescuer e first = record { of_lane = refl; lawful = MayStartFirst-next e first; forced = rescuer; in_order = tt }
+
+    pub HasNoDeclaredStep-bare : (HasRescuer w q → next_of (lane_at s q) ≡ None) → HasNoDeclaredStep w s q
+    HasNoDeclaredStep-bare none step is =
+        let starts = starts_only step is.of_lane is.lawful in
+        let never : None ≡ Some starts.0 = sym (none (forced_start step starts.0 is.forced starts.2)) ∙ starts.1 in
+        cc
 
     pub HasNoDeclaredStep-idle : next_of (lane_at s q) ≡ None → HasNoDeclaredStep w s q
     HasNoDeclaredStep-idle none step is =
@@ -117,11 +128,16 @@ module _ (w : Wiring) (s : State) (q : ℕ) where
         ((λ t. absurd cc), (λ can. absurd ((over_only flush waits can.0 can.1 can.2).0 (left.0 refl))))
     RescuerCanMove-waiting flush waits false left =
         let done : ¬ IsHeldBack w s flush.whole flush.target flush.mark = λ some. absurd (let e : false ≡ true = left.1 some in cc) in
-        ((λ t. (over_of flush.whole q flush.target, of_lane-over_of q flush.whole flush.target, Lawful-over flush waits done)), (λ can. refl))
+        ((λ t. (over_of flush.whole q flush.target, of_lane-over_of q flush.whole flush.target, Lawful-over flush waits done, forced-over_of w q flush.whole flush.target)), (λ can. refl))
 
     pub IsDeclaredStep-over : (flush : Waiting) → r.waiting ≡ Some flush → (¬ IsHeldBack w s flush.whole flush.target flush.mark) → IsDeclaredStep w s q (over_of flush.whole q flush.target)
     IsDeclaredStep-over flush waits done =
-        record { of_lane = of_lane-over_of q flush.whole flush.target; lawful = Lawful-over flush waits done; in_order = in_order-goes_on w s q flush.whole flush.target }
+        record {
+          of_lane = of_lane-over_of q flush.whole flush.target;
+          lawful = Lawful-over flush waits done;
+          forced = forced-over_of w q flush.whole flush.target;
+          in_order = in_order-goes_on w s q flush.whole flush.target;
+        }
 
     pub HasNoDeclaredStep-waiting : (flush : Waiting) → r.waiting ≡ Some flush → IsHeldBack w s flush.whole flush.target flush.mark → HasNoDeclaredStep w s q
     HasNoDeclaredStep-waiting flush waits left step is = (over_only flush waits step is.of_lane is.lawful).0 left
@@ -162,7 +178,7 @@ module _ (w : Wiring) (s : State) (q : ℕ) where
       Lawful-finish = (r, runs, record { entry = refl; awake = awake })
 
       pub RescuerCanMove-awake : RescuerCanMove w s q
-      RescuerCanMove-awake = (Finish q r.entry.item, refl, Lawful-finish)
+      RescuerCanMove-awake = (Finish q r.entry.item, refl, Lawful-finish, tt)
 
       pub IsDeclaredStep-wait : (t : Target) → slice_get targets r.made ≡ Some t → IsDeclaredStep w s q (wait_of t.whole q t.item)
       IsDeclaredStep-wait t next =
@@ -171,12 +187,13 @@ module _ (w : Wiring) (s : State) (q : ℕ) where
           record {
             of_lane = of_lane-wait_of q t.whole t.item;
             lawful = lawful-waits w s q t.whole t.item (r, runs, record { awake = awake; declared = declared; fewer = within });
+            forced = forced-wait_of w q t.whole t.item;
             in_order = in_order-next w s q t.whole t.item (r, runs, (t, next, refl, refl));
           }
 
       pub IsDeclaredStep-finish : IsSoundRunning w r → slice_get targets r.made ≡ None → IsDeclaredStep w s q (Finish q r.entry.item)
       IsDeclaredStep-finish sound none =
-          record { of_lane = refl; lawful = Lawful-finish; in_order = (r, runs, omega (arith, past, sound.made)) }
+          record { of_lane = refl; lawful = Lawful-finish; forced = tt; in_order = (r, runs, omega (arith, past, sound.made)) }
         where
           past : length targets ≤ r.made
           past = elim (slice_get_cases targets r.made).1 [
@@ -267,7 +284,7 @@ module _ (w : Wiring) (s : State) (q : ℕ) where
 
   -- a rescuer that can make a step has a declared step
   pub IsDeclaredStep-rescuer : IsSoundState w s → RescuerCanMove w s q → (step : Step) × IsDeclaredStep w s q step
-  IsDeclaredStep-rescuer sound (step, of_lane, lawful) = by_running (lane_at s q).running refl
+  IsDeclaredStep-rescuer sound (step, of_lane, lawful, forced) = by_running (lane_at s q).running refl
     where
       by_next : (r : Running) → Runs (lane_at s q) r → r.waiting ≡ None → (o : Option Target) → slice_get (declared_by w r.entry.item) r.made ≡ o → (x : Step) × IsDeclaredStep w s q x
       by_next r runs awake None next = (Finish q r.entry.item, IsDeclaredStep-finish r runs awake (sound.running q 0 r runs) next)
@@ -279,7 +296,9 @@ module _ (w : Wiring) (s : State) (q : ℕ) where
           (over_of flush.whole q flush.target, IsDeclaredStep-over r runs flush waits (over_only r runs flush waits step of_lane lawful).0)
 
       by_running : (o : Option Running) → (lane_at s q).running ≡ o → (x : Step) × IsDeclaredStep w s q x
-      by_running None idle = let (e, first, start) = starts_only idle step of_lane lawful in (Start q e.item, IsDeclaredStep-start idle e first)
+      by_running None idle =
+          let (e, first, start) = starts_only idle step of_lane lawful in
+          (Start q e.item, IsDeclaredStep-start idle (subst (IsForcedStep w) start forced) e first)
       by_running (Some r) runs = by_waiting r runs r.waiting refl
 
   -- so does a lane that can move, where no helper runs anything
@@ -296,7 +315,7 @@ module _ (w : Wiring) (s : State) (q : ℕ) where
 
   -- a lane that can move exists
   pub RescuerCanMove-within : RescuerCanMove w s q → q < length s.lanes
-  RescuerCanMove-within (step, of_lane, lawful) =
+  RescuerCanMove-within (step, of_lane, lawful, forced) =
       by_kind q (λ (x : Step). Lawful w s x → q < length s.lanes) (λ i may. starts_within s q 0 i (MayStart-first (lane_at s q) i may))
       (λ whole b may. let waits = waits-lawful w s q whole b may in runs_within s q 0 waits.0 waits.1)
       (λ whole b may. let goes = goes_on-lawful w s q whole b may in runs_within s q 0 goes.0 goes.1) (λ i may. runs_within s q 0 may.0 may.1) step of_lane lawful

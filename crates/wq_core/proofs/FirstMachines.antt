@@ -11,19 +11,24 @@ use Rattle.wq_groups.specs.Partition.{Partition}
 use Rattle.wq_groups.specs.Assignment.{Assignment, IsAssignment, item_lanes}
 use Rattle.wq_core.specs.declared.lane.LaneShape.{LaneShape}
 use Rattle.wq_core.specs.Wiring.{wiring, with_helpers, max_helpers, helpers_of, items, count_on, is_ordered_lane}
+use Rattle.wq_core.specs.Workqueues.{with_bare}
 use Rattle.wq_core.specs.State.{Lane, idle_lane, lane_at, empty_state}
 use Rattle.wq_core.specs.Held.{HeldLane, Machine, IsMachine, IsHeld, IsNumbering, IsRising, HasRoom, machine_of}
-use Rattle.wq_core.specs.Building.{shape_of, idle_of_shape, first_machine_with}
+use Rattle.wq_core.specs.Building.{shape_of, idle_of_shape, first_machine_on}
 use Rattle.wq_core.proofs.LaneLemmas.{lane_at-empty_state}
 use Rattle.wq_core.proofs.Numbered.{IsNumbering-empty}
 use Rattle.wq_core.proofs.Rising.{IsRising-nil}
 use Rattle.wq_core.proofs.Sound.{IsSoundState-empty}
-use Rattle.wq_core.proofs.Wirings.{IsWiring-wiring, IsWiring-with_helpers}
+use Rattle.wq_core.proofs.Wirings.{IsWiring-wiring, IsWiring-with_bare, IsWiring-with_helpers}
 
-pub IsMachine-first_machine : (d : Declaration) (a : Assignment) (helpers : ℕ) → IsDeclaration d → IsAssignment d.groups a → a.lanes ≤ 4096 → helpers ≤ max_helpers → IsMachine (first_machine_with d a helpers)
-IsMachine-first_machine d a helpers declaration assignment few few_helpers = record {
-  wiring = IsWiring-with_helpers (wiring d a) helpers (IsWiring-wiring d a declaration assignment);
-  state = IsSoundState-empty (with_helpers (wiring d a) helpers);
+-- the machine, whichever lanes are bare
+abbrev pub first_machine_bare : Declaration → Assignment → List Bool → ℕ → Machine
+first_machine_bare d a bare helpers = first_machine_on d (record { assignment = a; bare = bare }) helpers
+
+pub IsMachine-first_machine : (d : Declaration) (a : Assignment) (bare : List Bool) (helpers : ℕ) → IsDeclaration d → IsAssignment d.groups a → a.lanes ≤ 4096 → helpers ≤ max_helpers → IsMachine (first_machine_bare d a bare helpers)
+IsMachine-first_machine d a bare helpers declaration assignment few few_helpers = record {
+  wiring = IsWiring-with_helpers (with_bare (wiring d a) bare) helpers (IsWiring-with_bare (wiring d a) bare (IsWiring-wiring d a declaration assignment));
+  state = IsSoundState-empty (with_helpers (with_bare (wiring d a) bare) helpers);
   few_items = omega (arith, declaration.one_list_each, declaration.partition.few_items);
   few_flushes = declaration.few_flushes;
   few_lanes = few;
@@ -61,7 +66,7 @@ numbered-same n k q there =
 
 -- ---- how the machine is held
 
-module _ (d : Declaration) (a : Assignment) (waits : List (List Target)) (lane_of_item : List ℕ) (helpers : ℕ) (shapes : List LaneShape) (lanes : List HeldLane)
+module _ (d : Declaration) (a : Assignment) (waits : List (List Target)) (lane_of_item : List ℕ) (bare : List Bool) (helpers : ℕ) (shapes : List LaneShape) (lanes : List HeldLane)
     (same_waits : waits ≡ d.waits) (same_lanes : lane_of_item ≡ item_lanes a d.group_of)
     (shaped : shapes ≡ map (shape_of a (record { group_of = d.group_of; groups = d.groups }) lane_of_item) (range_with_len 0 a.lanes))
     (idle : lanes ≡ map (idle_of_shape helpers) shapes) where
@@ -82,9 +87,9 @@ module _ (d : Declaration) (a : Assignment) (waits : List (List Target)) (lane_o
       ap (map (λ (h : HeldLane). h.ordered)) idle ∙ lanes-ordered helpers shapes
       ∙ ap (map (λ (s : LaneShape). s.ordered)) shaped ∙ shapes-ordered a groups lane_of_item (range_with_len 0 a.lanes)
 
-  pub machine_of-first : machine_of waits lane_of_item helpers lanes 0 ≡ first_machine_with d a helpers
+  pub machine_of-first : machine_of waits lane_of_item bare helpers lanes 0 ≡ first_machine_bare d a bare helpers
   machine_of-first = λ t. record {
-    wiring = record { waits = same_waits t; lane_of_item = same_lanes t; lanes = one_lane_each t; ordered = ordered_lanes t; helpers = helpers };
+    wiring = record { waits = same_waits t; lane_of_item = same_lanes t; lanes = one_lane_each t; ordered = ordered_lanes t; bare = bare; helpers = helpers };
     state = record { next = 0; lanes = idle_lanes t };
   }
 
@@ -97,7 +102,7 @@ module _ (d : Declaration) (a : Assignment) (waits : List (List Target)) (lane_o
       let same : count_on lane_of_item p ≡ count_on lane_of_item q = ap (count_on lane_of_item) (numbered-same a.lanes q p numbered) in
       omega (arith, room, count, same)
 
-  has_helpers : (q : ℕ) (h : HeldLane) → slice_get lanes q ≡ Some h → h.helpers ≡ helpers_of (machine_of waits lane_of_item helpers lanes 0).wiring q
+  has_helpers : (q : ℕ) (h : HeldLane) → slice_get lanes q ≡ Some h → h.helpers ≡ helpers_of (machine_of waits lane_of_item bare helpers lanes 0).wiring q
   has_helpers q h there =
       let (shape, at, is) = made-from (idle_of_shape helpers) shapes lanes q h idle there in
       let ordered : get_or (map (λ (l : HeldLane). l.ordered) lanes) q true ≡ h.ordered =
@@ -108,15 +113,15 @@ module _ (d : Declaration) (a : Assignment) (waits : List (List Target)) (lane_o
 
   -- there is room for all items, and no entry is pending
   pub IsHeld-first : (numbers : List (Option ℕ)) (count : ℕ) → IsDeclaration d → IsAssignment d.groups a → a.lanes ≤ 4096 → helpers ≤ max_helpers → numbers ≡ replicate count None → count ≡ length d.waits
-      → IsHeld waits lane_of_item helpers numbers lanes 0
+      → IsHeld waits lane_of_item bare helpers numbers lanes 0
   IsHeld-first numbers count declaration assignment few few_helpers none all =
-      let first : machine_of waits lane_of_item helpers lanes 0 ≡ first_machine_with d a helpers = machine_of-first in
+      let first : machine_of waits lane_of_item bare helpers lanes 0 ≡ first_machine_bare d a bare helpers = machine_of-first in
       let empty : numbers ≡ replicate (items (wiring d a)) None = none ∙ ap (λ (n : ℕ). replicate n None) all in
       record {
-        machine = subst IsMachine (sym first) (IsMachine-first_machine d a helpers declaration assignment few few_helpers);
+        machine = subst IsMachine (sym first) (IsMachine-first_machine d a bare helpers declaration assignment few few_helpers);
         room = has_room;
         helped = has_helpers;
         numbers = subst (λ (m : Machine). IsNumbering m.wiring m.state numbers) (sym first)
-            (subst (IsNumbering (with_helpers (wiring d a) helpers) (empty_state (wiring d a))) (sym empty) (IsNumbering-empty (with_helpers (wiring d a) helpers)));
+            (subst (IsNumbering (with_helpers (with_bare (wiring d a) bare) helpers) (empty_state (wiring d a))) (sym empty) (IsNumbering-empty (with_helpers (with_bare (wiring d a) bare) helpers)));
         rising = subst (λ (m : Machine). (q : ℕ) → IsRising (lane_at m.state q).pending) (sym first) (λ q. subst (λ (l : Lane). IsRising l.pending) (sym (lane_at-empty_state (wiring d a) q)) IsRising-nil);
       }

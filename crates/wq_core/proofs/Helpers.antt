@@ -138,12 +138,12 @@ no_helper-goes_on w s q h (DoOverAll b) only goes (has, (r, runs, may)) = let no
 no_helper-goes_on w s q h (DoFinish i) only goes (has, (r, runs, may)) = let none : h ≡ 0 = only q h r runs in omega (arith, has.0, none)
 
 same-stuck : (w : Wiring) (m n : ℕ) (s : State) → OnlyRescuersRun s → IsStuck (with_helpers w m) s → IsStuck (with_helpers w n) s
-same-stuck w m n s only stuck = record { left = stuck.left; no_step = still }
+same-stuck w m n s only stuck = record { left = stuck.left; rescuer = stuck.rescuer; no_step = still }
   where
-    still : (step : Step) → IsForcedStep step → ¬ Lawful (with_helpers w n) s step
+    still : (step : Step) → IsForcedStep (with_helpers w n) step → ¬ Lawful (with_helpers w n) s step
     still (Queue i) is lawful = is
     still (Cancel i) is lawful = is
-    still (Start q i) is lawful = stuck.no_step (Start q i) tt (same-lawful w n m s (Start q i) (λ help. help) lawful)
+    still (Start q i) is lawful = stuck.no_step (Start q i) is (same-lawful w n m s (Start q i) (λ help. help) lawful)
     still (Wait q b) is lawful = stuck.no_step (Wait q b) tt (same-lawful w n m s (Wait q b) (λ help. help) lawful)
     still (WaitAll q b) is lawful = stuck.no_step (WaitAll q b) tt (same-lawful w n m s (WaitAll q b) (λ help. help) lawful)
     still (Over q b) is lawful = stuck.no_step (Over q b) tt (same-lawful w n m s (Over q b) (λ help. help) lawful)

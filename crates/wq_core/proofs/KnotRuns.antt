@@ -1,5 +1,5 @@
 -- A played run that queues the items of a knot first ends stuck.
-use Rattle.std.proofs.Common.{◌≡◌, ◌≢◌, ℕ, zero, suc, ◌<◌, inl, inr, Bool, true, false, not, eqb, List, [], ◌∷◌, ◌++◌, length, map, get_or, Some, None, refl, sym, ap, subst, ◌∙◌, arith}
+use Rattle.std.proofs.Common.{◌≡◌, ◌≢◌, ℕ, zero, suc, ◌<◌, ◌⊎◌, inl, inr, Bool, true, false, not, eqb, List, [], ◌∷◌, ◌++◌, length, map, get_or, Some, None, refl, sym, ap, subst, ◌∙◌, arith}
 use Rattle.std.specs.Prelude.{AllPairs, Contains, slice_get, find}
 use Rattle.std.specs.List.{All}
 use Rattle.std.proofs.lemmas.Bool.{cases_lt, cond-true, eq-eqb, false_from_ne_true}
@@ -12,7 +12,7 @@ use Rattle.wq_items.proofs.Tables.{targets_of-below}
 use Rattle.wq_items.proofs.Lists.{Contains-filtered}
 use Rattle.wq_core.specs.declared.entry.Entry.{Entry}
 use Rattle.wq_core.specs.declared.step.Step.{Step}
-use Rattle.wq_core.specs.Wiring.{Wiring, IsWiring, items, lane_of, declared_by}
+use Rattle.wq_core.specs.Wiring.{Wiring, IsWiring, HasRescuer, items, lane_of, declared_by}
 use Rattle.wq_core.specs.State.{Lane, State, idle_lane, lane_at, empty_state, run_by, is_running, HasPending, IsUnfinishedOn}
 use Rattle.wq_core.specs.Rules.{MayStartFirst, effect}
 use Rattle.wq_core.specs.Runs.{after, end_of, IsRun, IsCancel, IsHelp, HasNoHelp, IsOnce, queues}
@@ -78,9 +78,9 @@ module _ (w : Wiring) (knot : List ℕ) (wiring : IsWiring w) (is : IsKnot w kno
   all_items : All (λ i. i < items w) (in_order knot (items w))
   all_items = All-in_order knot (items w) items_of_knot
 
-  -- a member of the knot waits, at this place, for this target on the lane of a member
+  -- a member of the knot waits, at this place, for this target on the lane of a member or on a bare lane
   abbrev Member : ℕ → ℕ → Target → Type 0
-  Member m place t = Contains knot m × (slice_get (declared_by w m) place ≡ Some t) × HasLane w knot (lane_of w t.item)
+  Member m place t = Contains knot m × (slice_get (declared_by w m) place ≡ Some t) × (HasLane w knot (lane_of w t.item) ⊎ (¬ HasRescuer w (lane_of w t.item)))
 
   Member-from : (m : ℕ) → Contains knot m → (place : ℕ) × (t : Target) × Member m place t
   Member-from m there =
@@ -90,10 +90,10 @@ module _ (w : Wiring) (knot : List ℕ) (wiring : IsWiring w) (is : IsKnot w kno
   members : AreMembers w Member
   members = record {
     declares = λ m place t member. member.1;
-    among = λ m place t member.
-        let has = member.2 in
-        let other = Member-from has.1 (has.0, has.2, has.3) in
-        (has.1, other.0, other.1, other.2, sym has.4);
+    among = λ m place t member. elim member.2 [
+      | inl has ↦ inl (let other = Member-from has.1 (has.0, has.2, has.3) in (has.1, other.0, other.1, other.2, sym has.4))
+      | inr bare ↦ inr bare
+    ];
     below = λ m place t member.
         let targets : List Target = declared_by w m in
         let each = targets_of-below (items w) w.waits m wiring.targets_are_items place t (slice_get_within targets place t member.1) in
@@ -127,12 +127,12 @@ module _ (w : Wiring) (knot : List ℕ) (wiring : IsWiring w) (is : IsKnot w kno
   none_runs : (q : ℕ) → (lane_at start q).running ≡ None
   none_runs q = running-all_queued w (in_order knot (items w)) (empty_state w) q ∙ ap (λ (l : Lane). l.running) (lane_at-empty_state w q)
 
-  unfinished_at_start : (j q : ℕ) → j < items w → lane_of w j ≡ q → (e : Entry) × IsUnfinishedOn (lane_at start q) e × (e.item ≡ j) × (e.number < start.next)
-  unfinished_at_start j q lt same =
+  pending_entry_at_start : (j q : ℕ) → j < items w → lane_of w j ≡ q → (e : Entry) × Contains (lane_at start q).pending e × (e.item ≡ j) × (e.number < start.next)
+  pending_entry_at_start j q lt same =
       let all : Contains (in_order knot (items w)) j = Contains-in_order knot (items w) j lt in
       let there : Contains (on_lane w q (in_order knot (items w))) j = Contains-filtered (λ i. eqb (lane_of w i) q) (in_order knot (items w)) j (eq-eqb (lane_of w j) q same) all in
       let found = entry_of (lane_at start q).pending j (subst (λ (js : List ℕ). Contains js j) (sym (pending_at_start q)) there) in
-      (found.0, inl found.1, found.2, start_is_sound.given q found.0 (inl found.1))
+      (found.0, found.1, found.2, start_is_sound.given q found.0 (inl found.1))
 
   -- no context runs anything, so the first pending entry is the one that is started next
   only_rescuers : OnlyRescuersRun start
@@ -154,9 +154,12 @@ module _ (w : Wiring) (knot : List ℕ) (wiring : IsWiring w) (is : IsKnot w kno
       record { idle = none_runs (lane_of w m); entry = found.0; first = next; of_item = found.2 }
 
   held_at_start : AreHeldUp w Member start
-  held_at_start m place t member = record {
-    unfinished = λ j lt same. unfinished_at_start j (lane_of w m) lt same;
-    turn = inl (starts_next m member.0);
+  held_at_start = record {
+    up = λ m place t member. record {
+      unfinished = λ j lt same. let e = pending_entry_at_start j (lane_of w m) lt same in (e.0, inl e.1, e.2, e.3);
+      turn = inl (starts_next m member.0);
+    };
+    asleep = λ q bare. record { idle = none_runs q; pending = λ j lt same. pending_entry_at_start j q lt same };
   }
 
   -- ---- while it is played
@@ -195,10 +198,11 @@ module _ (w : Wiring) (knot : List ℕ) (wiring : IsWiring w) (is : IsKnot w kno
     stuck =
         let m : ℕ = get_or knot 0 0 in
         let member = Member-from m (Contains-get_or knot 0 0 is.some) in
-        let held = held_on start more start_is_sound held_at_start played m member.0 member.1 member.2 in
+        let held = (held_on start more start_is_sound held_at_start played).up m member.0 member.1 member.2 in
         let left = held.unfinished m (All-contains (λ i. i < items w) knot m items_of_knot member.2.0) refl in
         record {
           left = record { lane = lane_of w m; entry = left.0; unfinished = left.1 };
+          rescuer = All-contains (λ i. HasRescuer w (lane_of w i)) knot m is.rescued member.2.0;
           no_step = no_step-played w start more played sound_at_end only_at_end;
         }
 

@@ -10,14 +10,14 @@ use Rattle.wq_core.specs.declared.entry.Waiting.{Waiting}
 use Rattle.wq_core.specs.declared.entry.Running.{Running}
 use Rattle.wq_core.specs.declared.step.Step.{Step}
 use Rattle.wq_core.specs.declared.step.Step.TheVariants.{Queue, Cancel, Start, Wait, Over, WaitAll, OverAll, Finish, Help}
-use Rattle.wq_core.specs.Wiring.{Wiring, items, lane_of, declared_by}
+use Rattle.wq_core.specs.Wiring.{Wiring, HasRescuer, items, lane_of, declared_by}
 use Rattle.wq_core.specs.State.{Lane, State, lane_at, with_lane, run_by, with_run_by, pending_of, Runs, IsUnfinishedOn}
 use Rattle.wq_core.specs.Runs.{IsNextWait}
 use Rattle.wq_core.specs.Rules.{IsHeldBack, MayWait, MayBeOver, MayStartFirst, MayFinish, begun, waiting_for, going_on, with_cancelled, with_started, with_wait, with_over, with_finished, effect}
 use Rattle.wq_core.specs.Held.{IsSoundState}
 use Rattle.wq_core.specs.Played.{IsDeclaredStep}
 use Rattle.wq_core.proofs.Contexts.{cases_run_by, run_by_same, pending_kept, same_run, found-pending, MayStart-first}
-use Rattle.wq_core.proofs.LaneLemmas.{cases_with_lane, same_running}
+use Rattle.wq_core.proofs.LaneLemmas.{cases_with_lane, same_running, nothing_runs}
 use Rattle.wq_core.proofs.Rising.{found-one}
 
 -- ---- what stays unfinished on a lane
@@ -147,60 +147,92 @@ module _ (w : Wiring) (n m place : ℕ) (t : Target) (lane : Lane) (held : IsHel
 
 -- ---- states
 
--- members m, each with a place at which it declares a flush of t, which is an item on the lane of a member
+-- members m, each with a place at which it declares a flush of t, which is an item on the lane of a member or on a bare lane
 pub record AreMembers (w : Wiring) (Member : ℕ → ℕ → Target → Type 0) : Type 0 where
   pub declares : (m place : ℕ) (t : Target) → Member m place t → slice_get (declared_by w m) place ≡ Some t
-  pub among : (m place : ℕ) (t : Target) → Member m place t → (k p : ℕ) × (u : Target) × Member k p u × (lane_of w t.item ≡ lane_of w k)
+  pub among : (m place : ℕ) (t : Target) → Member m place t
+      → ((k p : ℕ) × (u : Target) × Member k p u × (lane_of w t.item ≡ lane_of w k)) ⊎ (¬ HasRescuer w (lane_of w t.item))
   pub below : (m place : ℕ) (t : Target) → Member m place t → t.item < items w
 
--- the lanes of all members are held up
-abbrev pub AreHeldUp : Wiring → (ℕ → ℕ → Target → Type 0) → State → Type 0
-AreHeldUp w Member s = (m place : ℕ) (t : Target) → Member m place t → IsHeldUp w s.next m place t (lane_at s (lane_of w m))
+-- no rescuer comes to this lane: its rescuer's place is empty, and each of its items is pending with a number below n
+pub record IsAsleep (w : Wiring) (n q : ℕ) (lane : Lane) : Type 0 where
+  pub idle : lane.running ≡ None
+  pub pending : (j : ℕ) → j < items w → lane_of w j ≡ q → (e : Entry) × Contains lane.pending e × (e.item ≡ j) × (e.number < n)
+
+-- the lanes of all members are held up, and bare lanes are asleep
+pub record AreHeldUp (w : Wiring) (Member : ℕ → ℕ → Target → Type 0) (s : State) : Type 0 where
+  pub up : (m place : ℕ) (t : Target) → Member m place t → IsHeldUp w s.next m place t (lane_at s (lane_of w m))
+  pub asleep : (q : ℕ) → (¬ HasRescuer w q) → IsAsleep w s.next q (lane_at s q)
 
 module _ (w : Wiring) (Member : ℕ → ℕ → Target → Type 0) (members : AreMembers w Member) where
-  AreHeldUp-with_lane : (s : State) (q : ℕ) (lane : Lane) → AreHeldUp w Member s
+  AreHeldUp-with_lane : (s : State) (q : ℕ) (lane : Lane) → AreHeldUp w Member s → ((lane_at s q).running ≡ None → HasRescuer w q)
       → ((m place : ℕ) (t : Target) → Member m place t → IsHeldUp w s.next m place t (lane_at s q) → IsHeldUp w s.next m place t lane) → AreHeldUp w Member (with_lane s q lane)
-  AreHeldUp-with_lane s q lane held keeps m place t member = elim (cases_with_lane s q lane (lane_of w m)) [
-    | inl same ↦ subst (IsHeldUp w s.next m place t) (sym same) (held m place t member)
-    | inr there ↦ (
-        let before : IsHeldUp w s.next m place t (lane_at s q) = subst (λ (p : ℕ). IsHeldUp w s.next m place t (lane_at s p)) there.0 (held m place t member) in
-        subst (IsHeldUp w s.next m place t) (sym there.1) (keeps m place t member before)
-        )
-  ]
+  AreHeldUp-with_lane s q lane held awake keeps = record { up = up; asleep = asleep }
+    where
+      up : (m place : ℕ) (t : Target) → Member m place t → IsHeldUp w s.next m place t (lane_at (with_lane s q lane) (lane_of w m))
+      up m place t member = elim (cases_with_lane s q lane (lane_of w m)) [
+        | inl same ↦ subst (IsHeldUp w s.next m place t) (sym same) (held.up m place t member)
+        | inr there ↦ (
+            let before : IsHeldUp w s.next m place t (lane_at s q) = subst (λ (p : ℕ). IsHeldUp w s.next m place t (lane_at s p)) there.0 (held.up m place t member) in
+            subst (IsHeldUp w s.next m place t) (sym there.1) (keeps m place t member before)
+            )
+      ]
+
+      asleep : (p : ℕ) → (¬ HasRescuer w p) → IsAsleep w s.next p (lane_at (with_lane s q lane) p)
+      asleep p bare = elim (cases_with_lane s q lane p) [
+        | inl same ↦ subst (IsAsleep w s.next p) (sym same) (held.asleep p bare)
+        | inr there ↦ absurd (
+            let idle : (lane_at s q).running ≡ None = subst (λ (k : ℕ). (lane_at s k).running ≡ None) there.0 (held.asleep p bare).idle in
+            bare (subst (HasRescuer w) (sym there.0) (awake idle))
+            )
+      ]
 
   -- the target of a member's wait is unfinished
   target_left : (s : State) → AreHeldUp w Member s → (m place : ℕ) (t : Target) → Member m place t → (r : Running) → IsInWait place t s.next r
       → (whole : Bool) (b : ℕ) → MayBeOver w s whole b r → ⊥
   target_left s held m place t member r wait whole b may =
-      let other = members.among m place t member in
-      let left = (held other.0 other.1 other.2 other.3).unfinished t.item (members.below m place t member) other.4 in
+      let left = by_lane (members.among m place t member) in
       let both : Some wait.flush ≡ Some may.flush = sym wait.waits ∙ may.waits in
       let same : wait.flush ≡ may.flush = cc in
       let item : left.0.item ≡ b = left.2 ∙ sym wait.target ∙ ap (λ (f : Waiting). f.target) same ∙ may.target in
       let mark : wait.flush.mark ≡ may.flush.mark = ap (λ (f : Waiting). f.mark) same in
       let least : s.next ≤ wait.flush.mark = wait.mark in
       let given : left.0.number < s.next = left.3 in
-      let own : lane_of w other.0 ≡ lane_of w b = sym other.4 ∙ ap (lane_of w) (sym left.2) ∙ ap (lane_of w) item in
-      may.done (held_back whole (lane_of w other.0) left.0 left.1 item own (omega arith))
+      let own : lane_of w t.item ≡ lane_of w b = ap (lane_of w) (sym left.2) ∙ ap (lane_of w) item in
+      may.done (held_back whole (lane_of w t.item) left.0 left.1 item own (omega arith))
     where
+      -- its entry, on the lane of a member or on a bare lane
+      by_lane : ((k p : ℕ) × (u : Target) × Member k p u × (lane_of w t.item ≡ lane_of w k)) ⊎ (¬ HasRescuer w (lane_of w t.item))
+          → (e : Entry) × IsUnfinishedOn (lane_at s (lane_of w t.item)) e × (e.item ≡ t.item) × (e.number < s.next)
+      by_lane (inl other) =
+          let e = (held.up other.0 other.1 other.2 other.3).unfinished t.item (members.below m place t member) other.4 in
+          (e.0, subst (λ (q : ℕ). IsUnfinishedOn (lane_at s q) e.0) (sym other.4) e.1, e.2, e.3)
+      by_lane (inr bare) =
+          let e = (held.asleep (lane_of w t.item) bare).pending t.item (members.below m place t member) refl in
+          (e.0, inl e.1, e.2, e.3)
+
       -- an entry of the target holds back a wait of either kind
       held_back : (kind : Bool) (q : ℕ) (e : Entry) → IsUnfinishedOn (lane_at s q) e → e.item ≡ b → q ≡ lane_of w b → e.number < may.flush.mark → IsHeldBack w s kind b may.flush.mark
       held_back false q e unfinished of_item on below = record { lane = q; entry = e; unfinished = unfinished; of_item = of_item; below = below }
       held_back true q e unfinished of_item on below = record { entry = e; unfinished = subst (λ (p : ℕ). IsUnfinishedOn (lane_at s p) e) on unfinished; below = below }
+
+  -- what a rescuer runs isn't on a lane that is asleep
+  runs_awake : (s : State) (p : ℕ) (r : Running) → Runs (lane_at s p) r → (lane_at s p).running ≡ None → HasRescuer w p
+  runs_awake s p r runs idle = absurd (nothing_runs (lane_at s p) 0 idle r runs)
 
   AreHeldUp-waiting : (s : State) (p : ℕ) (whole : Bool) (b : ℕ) → AreHeldUp w Member s → (r : Running) → Runs (lane_at s p) r → MayWait w whole b r → IsNextWait w s p 0 whole b
       → AreHeldUp w Member (with_lane s p (with_wait 0 whole b s.next (lane_at s p)))
   AreHeldUp-waiting s p whole b held r runs may (x, other, next) =
       let in_turn : (u : Target) × (slice_get (declared_by w r.entry.item) r.made ≡ Some u) × (u.item ≡ b) × (u.whole ≡ whole) =
       subst (λ (y : Running). (u : Target) × (slice_get (declared_by w y.entry.item) y.made ≡ Some u) × (u.item ≡ b) × (u.whole ≡ whole)) (same_running (lane_at s p) 0 x r other runs) next in
-      AreHeldUp-with_lane s p (with_wait 0 whole b s.next (lane_at s p)) held (λ m place t member here.
+      AreHeldUp-with_lane s p (with_wait 0 whole b s.next (lane_at s p)) held (runs_awake s p r runs) (λ m place t member here.
       IsHeldUp-waiting w s.next m place t (lane_at s p) here whole b r runs may in_turn.0 in_turn.1 in_turn.2 in_turn.3 (members.declares m place t member)
       )
 
   AreHeldUp-over : (s : State) (p : ℕ) (whole : Bool) (b : ℕ) → AreHeldUp w Member s → (r : Running) → Runs (lane_at s p) r → MayBeOver w s whole b r
       → AreHeldUp w Member (with_lane s p (with_over 0 (lane_at s p)))
   AreHeldUp-over s p whole b held r runs may =
-      AreHeldUp-with_lane s p (with_over 0 (lane_at s p)) held (λ m place t member here.
+      AreHeldUp-with_lane s p (with_over 0 (lane_at s p)) held (runs_awake s p r runs) (λ m place t member here.
       IsHeldUp-over w s.next m place t (lane_at s p) here r runs (λ wait. target_left s held m place t member r wait whole b may)
       )
 
@@ -208,7 +240,7 @@ module _ (w : Wiring) (Member : ℕ → ℕ → Target → Type 0) (members : Ar
   AreHeldUp-effect s q (Queue i) sound held is = absurd is.of_lane
   AreHeldUp-effect s q (Cancel i) sound held is = absurd is.of_lane
   AreHeldUp-effect s q (Start p i) sound held is =
-      AreHeldUp-with_lane s p (with_started 0 i (lane_at s p)) held (λ m place t member here. IsHeldUp-started w s.next m place t (lane_at s p) here i is.lawful (sound.once p))
+      AreHeldUp-with_lane s p (with_started 0 i (lane_at s p)) held (λ idle. is.forced) (λ m place t member here. IsHeldUp-started w s.next m place t (lane_at s p) here i is.lawful (sound.once p))
   AreHeldUp-effect s q (Wait p b) sound held is = AreHeldUp-waiting s p false b held is.lawful.0 is.lawful.1 is.lawful.2 is.in_order
   AreHeldUp-effect s q (WaitAll p b) sound held is = AreHeldUp-waiting s p true b held is.lawful.0 is.lawful.1 is.lawful.2 is.in_order
   AreHeldUp-effect s q (Over p b) sound held is = AreHeldUp-over s p false b held is.lawful.0 is.lawful.1 is.lawful.2
@@ -220,6 +252,6 @@ module _ (w : Wiring) (Member : ℕ → ℕ → Target → Type 0) (members : Ar
           → AreHeldUp w Member (effect w s (Finish p i))
       finishing r runs may x other all =
           let made : r.made ≡ length (declared_by w r.entry.item) = subst (λ (y : Running). y.made ≡ length (declared_by w y.entry.item)) (same_running (lane_at s p) 0 x r other runs) all in
-          AreHeldUp-with_lane s p (with_finished 0 (lane_at s p)) held (λ m place t member here.
+          AreHeldUp-with_lane s p (with_finished 0 (lane_at s p)) held (runs_awake s p r runs) (λ m place t member here.
           absurd (IsHeldUp-finished w s.next m place t (lane_at s p) here r runs may.awake made (members.declares m place t member))
           )

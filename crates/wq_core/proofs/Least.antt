@@ -1,5 +1,5 @@
 -- What a declaration's chains and circles of groups say about its assignments.
-use Rattle.std.proofs.Common.{◌≡◌, ℕ, ◌<◌, List, length, arith}
+use Rattle.std.proofs.Common.{◌≡◌, ℕ, ◌<◌, List, length, refl, arith}
 use Rattle.std.specs.Prelude.{slice_index}
 use Rattle.std.specs.List.{All}
 use Rattle.wq_items.specs.Table.{ItemWaits}
@@ -24,14 +24,14 @@ module _ (d : Declaration) (a : Assignment) (declaration : IsDeclaration d) (ass
       omega (arith, item_lanes-at a d.group_of i (waiting-item d declaration i j declares), item_lanes-at a d.group_of j (awaited-item d declaration i j declares), lower)
 
   IsSafe-groups : ((g h : ℕ) → GroupWaits d g h → group_lane a h < group_lane a g) → IsSafe (wiring d a)
-  IsSafe-groups groups_fall = IsSafe-falls (wiring d a) (λ q. q) (falls groups_fall)
+  IsSafe-groups groups_fall = IsSafe-falls (wiring d a) (λ q. q) refl (falls groups_fall)
 
   Deadlocks-groups : Circle (GroupWaits d) → Deadlocks (wiring d a)
-  Deadlocks-groups circle = Deadlocks-circle (wiring d a) (IsWiring-wiring d a declaration assignment) (Circle-lanes d a circle)
+  Deadlocks-groups circle = Deadlocks-circle (wiring d a) (IsWiring-wiring d a declaration assignment) refl (Circle-lanes d a circle)
 
   Deadlocks-few_lanes : (groups : List ℕ) → IsChain (GroupWaits d) groups → All (λ g. g < d.groups) groups → a.lanes < length groups → Deadlocks (wiring d a)
   Deadlocks-few_lanes groups chain below few =
-      Deadlocks-circle (wiring d a) (IsWiring-wiring d a declaration assignment) (Circle-few_lanes d a groups assignment chain below few)
+      Deadlocks-circle (wiring d a) (IsWiring-wiring d a declaration assignment) refl (Circle-few_lanes d a groups assignment chain below few)
 
 pub Deadlocks-circle_of_groups : (d : Declaration) (a : Assignment) → IsDeclaration d → IsAssignment d.groups a → Circle (GroupWaits d) → Deadlocks (wiring d a)
 Deadlocks-circle_of_groups d a declaration assignment circle = Deadlocks-groups d a declaration assignment circle

@@ -1,3 +1,4 @@
+pub mod BareWaits
 pub mod Changes
 pub mod CircleKnots
 pub mod Contexts

@@ -14,10 +14,11 @@ use Rattle.wq_core.specs.Rules.{IsHeldBack, effect, over_of}
 use Rattle.wq_core.specs.Held.{IsSoundState}
 use Rattle.wq_core.specs.Played.{IsDeclaredStep, HasNoDeclaredStep, IsPlayedFrom}
 use Rattle.wq_core.specs.Work.{work_left}
-use Rattle.wq_core.proofs.DeclaredSteps.{HasNoDeclaredStep-idle, HasNoDeclaredStep-waiting, IsDeclaredStep-start, IsDeclaredStep-over}
+use Rattle.wq_core.proofs.DeclaredSteps.{HasNoDeclaredStep-idle, HasNoDeclaredStep-bare, HasNoDeclaredStep-waiting, IsDeclaredStep-start, IsDeclaredStep-over}
 use Rattle.wq_core.proofs.LaneLemmas.{lane_within, lane_at_past, Contains-nil}
 use Rattle.wq_core.proofs.Plays.{IsRescuerStep-of_lane, awake_moves}
 use Rattle.wq_core.proofs.Sound.{IsSoundState-effect}
+use Rattle.wq_core.proofs.Wirings.{cases_rescuer}
 use Rattle.wq_core.proofs.WorkLemmas.{work_left-rescuer}
 
 -- ---- whether a wait is over
@@ -138,7 +139,10 @@ cases_move w s q sound = by_running (lane_at s q).running refl
   where
     by_next : (lane_at s q).running ≡ None → (o : Option Entry) → next_of (lane_at s q) ≡ o → ((step : Step) × IsDeclaredStep w s q step) ⊎ HasNoDeclaredStep w s q
     by_next idle None none = inr (HasNoDeclaredStep-idle w s q idle none)
-    by_next idle (Some e) first = inl (Start q e.item, IsDeclaredStep-start w s q idle e first)
+    by_next idle (Some e) first = elim (cases_rescuer w q) [
+      | inl rescuer ↦ inl (Start q e.item, IsDeclaredStep-start w s q idle rescuer e first)
+      | inr bare ↦ inr (HasNoDeclaredStep-bare w s q idle (λ rescuer. absurd (bare rescuer)))
+    ]
 
     by_waiting : (r : Running) → Runs (lane_at s q) r → (o : Option Waiting) → r.waiting ≡ o → ((step : Step) × IsDeclaredStep w s q step) ⊎ HasNoDeclaredStep w s q
     by_waiting r runs None waits = inl (awake_moves w s q r sound runs waits)

@@ -16,7 +16,7 @@ use Rattle.wq_core.specs.Runs.{after, IsRunFrom, IsRescuerStep, IsForcedStep, Is
 use Rattle.wq_core.specs.Held.{IsSoundState}
 use Rattle.wq_core.specs.Played.{IsStepOfLane, IsDeclaredStep, HasNoDeclaredStep, IsPlayedFrom}
 use Rattle.wq_core.proofs.Helpers.{OnlyRescuersRun, no_helper-goes_on}
-use Rattle.wq_core.proofs.WaitSteps.{lawful-waits, in_order-next, of_lane-wait_of}
+use Rattle.wq_core.proofs.WaitSteps.{lawful-waits, in_order-next, of_lane-wait_of, forced-wait_of}
 use Rattle.wq_core.proofs.Queued.{one_if}
 
 -- ---- one run after another
@@ -141,30 +141,31 @@ awake_moves w s q r sound runs awake = elim (cases_lt r.made (length (declared_b
         record {
           of_lane = of_lane-wait_of q next.0.whole next.0.item;
           lawful = lawful-waits w s q next.0.whole next.0.item (r, runs, record { awake = awake; declared = next.2; fewer = before });
+          forced = forced-wait_of w q next.0.whole next.0.item;
           in_order = in_order-next w s q next.0.whole next.0.item (r, runs, (next.0, next.1, refl, refl));
         },
       )
       )
   | inr past ↦ (
       let most : r.made ≤ length (declared_by w r.entry.item) = (sound.running q 0 r runs).made in
-      (Finish q r.entry.item, record { of_lane = refl; lawful = (r, runs, record { entry = refl; awake = awake }); in_order = (r, runs, omega arith) })
+      (Finish q r.entry.item, record { of_lane = refl; lawful = (r, runs, record { entry = refl; awake = awake }); forced = tt; in_order = (r, runs, omega arith) })
       )
 ]
 
 -- where only rescuers run something
-moves_as_declared : (w : Wiring) (s : State) (step : Step) → IsSoundState w s → OnlyRescuersRun s → IsForcedStep step → Lawful w s step → (q : ℕ) × (other : Step) × IsDeclaredStep w s q other
+moves_as_declared : (w : Wiring) (s : State) (step : Step) → IsSoundState w s → OnlyRescuersRun s → IsForcedStep w step → Lawful w s step → (q : ℕ) × (other : Step) × IsDeclaredStep w s q other
 moves_as_declared w s (Queue i) sound only is lawful = absurd is
 moves_as_declared w s (Cancel i) sound only is lawful = absurd is
-moves_as_declared w s (Start q i) sound only is lawful = (q, Start q i, record { of_lane = refl; lawful = lawful; in_order = tt })
+moves_as_declared w s (Start q i) sound only is lawful = (q, Start q i, record { of_lane = refl; lawful = lawful; forced = is; in_order = tt })
 moves_as_declared w s (Wait q b) sound only is (r, runs, may) = let move = awake_moves w s q r sound runs may.awake in (q, move.0, move.1)
-moves_as_declared w s (Over q b) sound only is lawful = (q, Over q b, record { of_lane = refl; lawful = lawful; in_order = tt })
+moves_as_declared w s (Over q b) sound only is lawful = (q, Over q b, record { of_lane = refl; lawful = lawful; forced = tt; in_order = tt })
 moves_as_declared w s (WaitAll q b) sound only is (r, runs, may) = let move = awake_moves w s q r sound runs may.awake in (q, move.0, move.1)
-moves_as_declared w s (OverAll q b) sound only is lawful = (q, OverAll q b, record { of_lane = refl; lawful = lawful; in_order = tt })
+moves_as_declared w s (OverAll q b) sound only is lawful = (q, OverAll q b, record { of_lane = refl; lawful = lawful; forced = tt; in_order = tt })
 moves_as_declared w s (Finish q i) sound only is (r, runs, may) = let move = awake_moves w s q r sound runs may.awake in (q, move.0, move.1)
 moves_as_declared w s (Help q h deed) sound only is lawful = absurd (no_helper-goes_on w s q h deed only is lawful)
 
 pub no_step-played : (w : Wiring) (s : State) (steps : List Step) → IsPlayedFrom w s steps → IsSoundState w (after w s steps) → OnlyRescuersRun (after w s steps)
-    → (step : Step) → IsForcedStep step → ¬ Lawful w (after w s steps) step
+    → (step : Step) → IsForcedStep w step → ¬ Lawful w (after w s steps) step
 no_step-played w s steps played sound only step is lawful =
     let move = moves_as_declared w (after w s steps) step sound only is lawful in
     HasNoDeclaredStep-played w s steps played move.0 move.1 move.2

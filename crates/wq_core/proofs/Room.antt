@@ -121,14 +121,14 @@ pending_count w s q wiring sound = subst (λ n. n ≤ count_by (λ l. l == q) w.
         let i_in : i < length ps = omega (arith, less, j_in) in
         sound.once q i j none less j_in (sym (item_at i d i_in) ∙ same ∙ item_at j d j_in)
 
-module _ (waits : List (List Target)) (lane_of_item : List ℕ) (helpers : ℕ) (numbers : List (Option ℕ)) (lanes : List HeldLane) (next : ℕ) (m : Machine) (n q : ℕ) (old : HeldLane)
-    (held : IsHeld waits lane_of_item helpers numbers lanes next) (view : machine_of waits lane_of_item helpers lanes next ≡ m) (was : slice_get lanes q ≡ Some old) where
+module _ (waits : List (List Target)) (lane_of_item : List ℕ) (bare : List Bool) (helpers : ℕ) (numbers : List (Option ℕ)) (lanes : List HeldLane) (next : ℕ) (m : Machine) (n q : ℕ) (old : HeldLane)
+    (held : IsHeld waits lane_of_item bare helpers numbers lanes next) (view : machine_of waits lane_of_item bare helpers lanes next ≡ m) (was : slice_get lanes q ≡ Some old) where
   abbrev before : Machine
-  before = machine_of waits lane_of_item helpers lanes next
+  before = machine_of waits lane_of_item bare helpers lanes next
 
   -- the lane of the machine is the one that is held
   own_lane : lane_at m.state q ≡ old.lane
-  own_lane = ap (λ (k : Machine). lane_at k.state q) (sym view) ∙ held_lane waits lane_of_item helpers numbers lanes next q old was
+  own_lane = ap (λ (k : Machine). lane_at k.state q) (sym view) ∙ held_lane waits lane_of_item bare helpers numbers lanes next q old was
 
   sound_now : IsMachine m
   sound_now = subst IsMachine view held.machine
@@ -144,7 +144,7 @@ module _ (waits : List (List Target)) (lane_of_item : List ℕ) (helpers : ℕ) 
       let there : q < length before.state.lanes = omega (arith, within, held.machine.state.one_each, ap (λ (k : Machine). k.wiring.lanes) view) in
       let lane : lane_at after q ≡ with_queued e old.lane =
       subst (λ r. lane_at (effect before.wiring before.state (Queue i)) r ≡ with_queued e (lane_at before.state r)) at (lane_at-with_lane_same before.state (lane_of before.wiring i) (with_queued e (lane_at before.state (lane_of before.wiring i))) (rw at there))
-      ∙ ap (λ (l : Lane). with_queued e l) (held_lane waits lane_of_item helpers numbers lanes next q old was) in
+      ∙ ap (λ (l : Lane). with_queued e l) (held_lane waits lane_of_item bare helpers numbers lanes next q old was) in
       let longer : length (lane_at after q).pending ≡ length old.lane.pending + 1 = ap (λ (l : Lane). length l.pending) lane ∙ length-append old.lane.pending (e ∷ []) in
       omega (arith, count, longer, held.room q old was)
 
@@ -181,7 +181,7 @@ module _ (waits : List (List Target)) (lane_of_item : List ℕ) (helpers : ℕ) 
   pending_once = subst (λ (l : Lane). AllPairs Differ l.pending) own_lane (sound_now.state.once q)
 
   pub pending_rising : IsRising old.lane.pending
-  pending_rising = subst (λ (l : Lane). IsRising l.pending) (held_lane waits lane_of_item helpers numbers lanes next q old was) (held.rising q)
+  pending_rising = subst (λ (l : Lane). IsRising l.pending) (held_lane waits lane_of_item bare helpers numbers lanes next q old was) (held.rising q)
 
   pub start_numbered : (c i : ℕ) → IsNumberOf m (step_in q c (DoStart i)) (Some n) → i < length numbers
   start_numbered c i number =

@@ -1,5 +1,5 @@
 -- Steps in a row, and machines on which nothing is unfinished.
-use Rattle.std.proofs.Common.{◌≡◌, ℕ, zero, suc, ◌+◌, ◌<◌, ◌≤◌, ◌↔◌, List, [], ◌∷◌, ◌++◌, length, get_or, take, true, refl, sym, subst, ◌∙◌, ap, arith}
+use Rattle.std.proofs.Common.{◌≡◌, ℕ, zero, suc, ◌+◌, ◌<◌, ◌≤◌, ◌↔◌, Bool, List, [], ◌∷◌, ◌++◌, length, get_or, take, true, refl, sym, subst, ◌∙◌, ap, arith}
 use Rattle.std.specs.Prelude.{Some, slice_get}
 use Rattle.std.specs.List.{All}
 use Rattle.std.proofs.lemmas.List.{get_or-map, length-map}
@@ -64,9 +64,9 @@ AreDone-more old middle new steps step n done next =
 
 -- ---- nothing unfinished
 
-module _ (waits : List (List Target)) (lane_of_item : List ℕ) (helpers : ℕ) (lanes : List HeldLane) (next : ℕ) where
+module _ (waits : List (List Target)) (lane_of_item : List ℕ) (bare : List Bool) (helpers : ℕ) (lanes : List HeldLane) (next : ℕ) where
   abbrev held_state : State
-  held_state = (machine_of waits lane_of_item helpers lanes next).state
+  held_state = (machine_of waits lane_of_item bare helpers lanes next).state
 
   held_at : (q : ℕ) (d : HeldLane) → q < length lanes → lane_at held_state q ≡ (get_or lanes q d).lane
   held_at q d lt = get_or-map (λ (h : HeldLane). h.lane) lanes q d idle_lane lt

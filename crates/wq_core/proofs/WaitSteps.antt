@@ -7,7 +7,7 @@ use Rattle.wq_core.specs.declared.step.HelpStep.TheVariants.{Start as DoStart, W
 use Rattle.wq_core.specs.Wiring.{Wiring, lane_of}
 use Rattle.wq_core.specs.State.{State, lane_at, RunsIn, IsUnfinishedOn, HasUnfinishedBelow}
 use Rattle.wq_core.specs.Rules.{MayWait, MayBeOver, Lawful, done_by, effect, IsHeldBack, IsHolder, wait_of, over_of, step_in}
-use Rattle.wq_core.specs.Runs.{KeepsOrder, IsNextWait}
+use Rattle.wq_core.specs.Runs.{IsForcedStep, KeepsOrder, IsNextWait}
 use Rattle.wq_core.specs.Held.{IsSoundState, UsesUp}
 use Rattle.wq_core.specs.Played.{IsStepOfLane}
 use Rattle.wq_core.proofs.Machines.{unfinished-own_lane}
@@ -79,6 +79,14 @@ module _ (w : Wiring) (s : State) (q : ℕ) where
 pub of_lane-wait_of : (q : ℕ) (whole : Bool) (b : ℕ) → IsStepOfLane q (wait_of whole q b)
 of_lane-wait_of q false b = refl
 of_lane-wait_of q true b = refl
+
+pub forced-wait_of : (w : Wiring) (q : ℕ) (whole : Bool) (b : ℕ) → IsForcedStep w (wait_of whole q b)
+forced-wait_of w q false b = tt
+forced-wait_of w q true b = tt
+
+pub forced-over_of : (w : Wiring) (q : ℕ) (whole : Bool) (b : ℕ) → IsForcedStep w (over_of whole q b)
+forced-over_of w q false b = tt
+forced-over_of w q true b = tt
 
 pub of_lane-over_of : (q : ℕ) (whole : Bool) (b : ℕ) → IsStepOfLane q (over_of whole q b)
 of_lane-over_of q false b = refl

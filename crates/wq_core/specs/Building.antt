@@ -4,6 +4,7 @@ use Rattle.wq_groups.specs.Declaration.{Declaration}
 use Rattle.wq_groups.specs.Partition.{Partition}
 use Rattle.wq_groups.specs.Assignment.{Assignment}
 use Rattle.wq_core.specs.Wiring.{wiring, with_helpers, count_on, is_ordered_lane}
+use Rattle.wq_core.specs.Workqueues.{Workqueues, wiring_of}
 use Rattle.wq_core.specs.declared.lane.LaneShape.{LaneShape}
 use Rattle.wq_core.specs.State.{idle_lane, empty_state}
 use Rattle.wq_core.specs.Held.{HeldLane, Machine}
@@ -24,6 +25,10 @@ idle_of_shape helpers shape = record {
   ordered = shape.ordered;
   helpers = if shape.ordered then 0 else helpers;
 }
+
+-- the machine of a declaration and its workqueues with this many helpers, before anything is queued
+abbrev pub first_machine_on : Declaration → Workqueues → ℕ → Machine
+first_machine_on d ws helpers = record { wiring = with_helpers (wiring_of d ws) helpers; state = empty_state (wiring d ws.assignment) }
 
 -- the machine of a declaration and an assignment with this many helpers, before anything is queued
 abbrev pub first_machine_with : Declaration → Assignment → ℕ → Machine

@@ -3,15 +3,17 @@ use Rattle.std.specs.Prelude.{ℕ, ◌<◌, ◌≤◌, List}
 use Rattle.wq_groups.specs.Declaration.{Declaration}
 use Rattle.wq_groups.specs.Assignment.{Assignment, IsAssignment}
 use Rattle.wq_core.specs.declared.step.Step.{Step}
-use Rattle.wq_core.specs.Wiring.{Wiring, wiring, with_helpers, max_helpers}
+use Rattle.wq_core.specs.Wiring.{Wiring, HasRescuer, wiring, with_helpers, max_helpers}
 use Rattle.wq_core.specs.State.{State, HasUnfinished, empty_state}
 use Rattle.wq_core.specs.Rules.{Lawful}
 use Rattle.wq_core.specs.Runs.{IsRun, end_of, IsForcedStep, AsDeclaredFrom, IsOnce, HasNoHelp}
 
--- an entry is unfinished, and no step is lawful but queueings, cancellations and starts of helpers
+-- an entry is unfinished on a lane that has a rescuer, and no step is lawful but queueings, cancellations, starts of helpers and
+-- starts on bare lanes
 pub record IsStuck (w : Wiring) (s : State) : Type 0 where
   pub left : HasUnfinished s
-  pub no_step : (step : Step) → IsForcedStep step → ¬ Lawful w s step
+  pub rescuer : HasRescuer w left.lane
+  pub no_step : (step : Step) → IsForcedStep w step → ¬ Lawful w s step
 
 -- with 0 to 8 helpers of each lane, no run ends stuck. This says something about an assignment only if each item is on one of the
 -- lanes, which has to be said beside it (`IsLeast` says it by `IsAssignment`)

@@ -127,13 +127,14 @@ pub record IsMachine (m : Machine) : Type 0 where
   pub numbers : m.state.next < 2 ^ 32
 
 -- the machine that these fields hold
-abbrev pub machine_of : List (List Target) → List ℕ → ℕ → List HeldLane → ℕ → Machine
-machine_of waits lane_of_item helpers lanes next = record {
+abbrev pub machine_of : List (List Target) → List ℕ → List Bool → ℕ → List HeldLane → ℕ → Machine
+machine_of waits lane_of_item bare helpers lanes next = record {
   wiring = record {
     waits = waits;
     lane_of_item = lane_of_item;
     lanes = length lanes;
     ordered = map (λ (h : HeldLane). h.ordered) lanes;
+    bare = bare;
     helpers = helpers;
   };
   state = record { next = next; lanes = map (λ (h : HeldLane). h.lane) lanes };
@@ -151,12 +152,12 @@ pub record IsNumbering (w : Wiring) (s : State) (numbers : List (Option ℕ)) : 
 
 -- what holds for these fields: the machine is sound; each lane has room for all its items, and has its helpers; the numbers are
 -- those of the pending entries, and they rise on each lane
-pub record IsHeld (waits : List (List Target)) (lane_of_item : List ℕ) (helpers : ℕ) (pending : List (Option ℕ)) (lanes : List HeldLane) (next : ℕ) : Type 0 where
-  pub machine : IsMachine (machine_of waits lane_of_item helpers lanes next)
+pub record IsHeld (waits : List (List Target)) (lane_of_item : List ℕ) (bare : List Bool) (helpers : ℕ) (pending : List (Option ℕ)) (lanes : List HeldLane) (next : ℕ) : Type 0 where
+  pub machine : IsMachine (machine_of waits lane_of_item bare helpers lanes next)
   pub room : (q : ℕ) (h : HeldLane) → slice_get lanes q ≡ Some h → HasRoom lane_of_item q h
-  pub helped : (q : ℕ) (h : HeldLane) → slice_get lanes q ≡ Some h → h.helpers ≡ helpers_of (machine_of waits lane_of_item helpers lanes next).wiring q
-  pub numbers : IsNumbering (machine_of waits lane_of_item helpers lanes next).wiring (machine_of waits lane_of_item helpers lanes next).state pending
-  pub rising : (q : ℕ) → IsRising (lane_at (machine_of waits lane_of_item helpers lanes next).state q).pending
+  pub helped : (q : ℕ) (h : HeldLane) → slice_get lanes q ≡ Some h → h.helpers ≡ helpers_of (machine_of waits lane_of_item bare helpers lanes next).wiring q
+  pub numbers : IsNumbering (machine_of waits lane_of_item bare helpers lanes next).wiring (machine_of waits lane_of_item bare helpers lanes next).state pending
+  pub rising : (q : ℕ) → IsRising (lane_at (machine_of waits lane_of_item bare helpers lanes next).state q).pending
 
 -- ---- steps of a machine
 

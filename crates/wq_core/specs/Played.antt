@@ -7,7 +7,7 @@ use Rattle.wq_core.specs.declared.step.HelpStep.{HelpStep}
 use Rattle.wq_core.specs.Wiring.{Wiring, items}
 use Rattle.wq_core.specs.State.{State}
 use Rattle.wq_core.specs.Rules.{Lawful, effect}
-use Rattle.wq_core.specs.Runs.{KeepsOrder, GoesOn}
+use Rattle.wq_core.specs.Runs.{IsForcedStep, KeepsOrder, GoesOn}
 
 -- the rescuer of lane q makes the step
 abbrev pub IsStepOfLane : ℕ → Step → Type 0
@@ -19,22 +19,23 @@ IsStepOfLane q (OverAll p b) = p ≡ q
 IsStepOfLane q (Finish p i) = p ≡ q
 IsStepOfLane q _ = ⊥
 
--- the rescuer of lane q can make a step
+-- the rescuer of lane q can make a step, or on a bare lane what its worker runs goes on
 abbrev pub RescuerCanMove : Wiring → State → ℕ → Type 0
-RescuerCanMove w s q = (step : Step) × IsStepOfLane q step × Lawful w s step
+RescuerCanMove w s q = (step : Step) × IsStepOfLane q step × Lawful w s step × IsForcedStep w step
 
 -- helper h of lane q can make a step other than a start
 abbrev pub HelperGoesOn : Wiring → State → ℕ → ℕ → Type 0
 HelperGoesOn w s q h = (deed : HelpStep) × GoesOn deed × Lawful w s (Help q h deed)
 
--- lane q can make a step other than a helper's start
+-- lane q can make a step other than a helper's start and, if it is bare, any start
 abbrev pub CanMove : Wiring → State → ℕ → Type 0
 CanMove w s q = RescuerCanMove w s q ⊎ ((h : ℕ) × HelperGoesOn w s q h)
 
--- the step that the rescuer of lane q can make if its executions flush as declared
+-- the step that the rescuer of lane q can make if its executions flush as declared; on a bare lane it is no start
 pub record IsDeclaredStep (w : Wiring) (s : State) (q : ℕ) (step : Step) : Type 0 where
   pub of_lane : IsStepOfLane q step
   pub lawful : Lawful w s step
+  pub forced : IsForcedStep w step
   pub in_order : KeepsOrder w s step
 
 -- it can make no such step

@@ -4,10 +4,10 @@ use Rattle.std.specs.List.{All, count_by}
 use Rattle.wq_items.specs.declared.target.Target.{Target}
 use Rattle.wq_core.specs.declared.entry.Running.{Running}
 use Rattle.wq_core.specs.declared.step.Step.{Step}
-use Rattle.wq_core.specs.declared.step.Step.TheVariants.{Queue, Cancel, Wait, WaitAll, Finish, Help}
+use Rattle.wq_core.specs.declared.step.Step.TheVariants.{Queue, Cancel, Start, Wait, WaitAll, Finish, Help}
 use Rattle.wq_core.specs.declared.step.HelpStep.{HelpStep}
 use Rattle.wq_core.specs.declared.step.HelpStep.TheVariants.{Start as DoStart, Wait as DoWait, WaitAll as DoWaitAll, Finish as DoFinish}
-use Rattle.wq_core.specs.Wiring.{Wiring, items, declared_by}
+use Rattle.wq_core.specs.Wiring.{Wiring, HasRescuer, items, declared_by}
 use Rattle.wq_core.specs.State.{State, lane_at, empty_state, RunsIn}
 use Rattle.wq_core.specs.Rules.{Lawful, effect}
 
@@ -53,12 +53,14 @@ abbrev pub GoesOn : HelpStep → Type 0
 GoesOn (DoStart i) = ⊥
 GoesOn _ = ⊤
 
--- any step but a queueing, a cancellation and a helper's start: what goes on though nobody queues or cancels, and no helper comes
-abbrev pub IsForcedStep : Step → Type 0
-IsForcedStep (Queue i) = ⊥
-IsForcedStep (Cancel i) = ⊥
-IsForcedStep (Help q h deed) = GoesOn deed
-IsForcedStep _ = ⊤
+-- any step but a queueing, a cancellation, a helper's start and a start on a bare lane: what goes on though nobody queues or
+-- cancels, and no helper and no worker comes
+abbrev pub IsForcedStep : Wiring → Step → Type 0
+IsForcedStep w (Queue i) = ⊥
+IsForcedStep w (Cancel i) = ⊥
+IsForcedStep w (Start q i) = HasRescuer w q
+IsForcedStep w (Help q h deed) = GoesOn deed
+IsForcedStep w _ = ⊤
 
 -- ---- executions that flush as declared
 

@@ -2,7 +2,7 @@
 //!
 //! They are about wirings, runs and states alone, whatever code makes the steps.
 
-ghost use Rattle.std.specs.Prelude.{◌≡◌, ℕ, ◌<◌, ◌≤◌, ◌⊎◌, ◌↔◌, List, ◌++◌, length};
+ghost use Rattle.std.specs.Prelude.{◌≡◌, ℕ, ◌<◌, ◌≤◌, ◌⊎◌, ◌↔◌, List, [], ◌∷◌, ◌++◌, length};
 ghost use Rattle.std.specs.List.{All, count_by};
 ghost use Rattle.wq_items.specs.Chain.{IsChain, Circle};
 ghost use Rattle.wq_items.specs.Table.{ItemWaits};
@@ -10,7 +10,7 @@ ghost use Rattle.wq_groups.specs.Declaration.{Declaration, IsDeclaration, GroupW
 ghost use Rattle.wq_groups.specs.Assignment.{Assignment, IsAssignment, group_lane};
 ghost use Rattle.wq_core.specs.declared.entry.Running.{Running};
 ghost use Rattle.wq_core.specs.declared.step.Step.{Step};
-ghost use Rattle.wq_core.specs.Wiring.{Wiring, IsWiring, LaneWaits, wiring, with_helpers, max_helpers, lane_of};
+ghost use Rattle.wq_core.specs.Wiring.{Wiring, IsWiring, HasRescuer, LaneWaits, RescuedWaits, wiring, with_helpers, max_helpers, lane_of};
 ghost use Rattle.wq_core.specs.State.{State, lane_at, RunsIn, HasUnfinished};
 ghost use Rattle.wq_core.specs.Rules.{Lawful, Gives};
 ghost use Rattle.wq_core.specs.Runs.{IsRun, IsRunFrom, end_of, IsRescuerStep, IsForcedStep, IsCancel, HasNoHelp, is_rescuer_step};
@@ -44,11 +44,15 @@ pub fn rescuer_steps_are_bounded()
         count_by is_rescuer_step more ≤ work_left w (end_of w steps) }
 {}
 
-/// Where the lanes have numbers that fall along every declared flush, from the lane of the item that waits to that of
-/// its target, no run ends stuck, whatever the number of helpers.
+/// Where each lane has a rescuer, and the lanes have numbers that fall along every declared flush, from the lane of the item that
+/// waits to that of its target, no run ends stuck, whatever the number of helpers. With bare lanes it is enough that this holds of
+/// each flush of an item whose lane has a rescuer, and that the lane of its target has one, too.
 pub fn falling_numbers_are_safe()
-    ensures { (w : Wiring) (number : ℕ → ℕ) →
+    ensures all_rescued { (w : Wiring) (number : ℕ → ℕ) → w.bare ≡ [] →
         ((i j : ℕ) → ItemWaits w.waits i j → number (lane_of w j) < number (lane_of w i)) → IsSafe w }
+    ensures rescued { (w : Wiring) (number : ℕ → ℕ) →
+        ((i j : ℕ) → ItemWaits w.waits i j → HasRescuer w (lane_of w i) →
+        HasRescuer w (lane_of w j) × (number (lane_of w j) < number (lane_of w i))) → IsSafe w }
 {}
 
 /// The rescuer of a lane has at most one step that flushes as declared.
@@ -63,11 +67,14 @@ pub fn a_lane_that_can_move_has_a_declared_step()
         CanMove w (end_of w steps) q → (step : Step) × IsDeclaredStep w (end_of w steps) q step }
 {}
 
-/// Where no run ends stuck: if a run leaves a state in which no step is lawful but queueings, cancellations and starts of helpers,
-/// nothing is unfinished in that state.
+/// Where no run ends stuck: if a run leaves a state in which no step is lawful but queueings, cancellations, starts of helpers and
+/// starts on bare lanes, nothing is unfinished in that state where each lane has a rescuer, and else nothing on such lanes.
 pub fn at_rest_nothing_is_unfinished()
-    ensures { (w : Wiring) (steps : List Step) → w.helpers ≤ max_helpers → IsSafe w → IsRun w steps →
-        ((step : Step) → IsForcedStep step → ¬ Lawful w (end_of w steps) step) → ¬ HasUnfinished (end_of w steps) }
+    ensures all_rescued { (w : Wiring) (steps : List Step) → w.bare ≡ [] → w.helpers ≤ max_helpers → IsSafe w → IsRun w steps →
+        ((step : Step) → IsForcedStep w step → ¬ Lawful w (end_of w steps) step) → ¬ HasUnfinished (end_of w steps) }
+    ensures rescued { (w : Wiring) (steps : List Step) (left : HasUnfinished (end_of w steps)) → w.helpers ≤ max_helpers →
+        IsSafe w → IsRun w steps → ((step : Step) → IsForcedStep w step → ¬ Lawful w (end_of w steps) step) →
+        ¬ HasRescuer w left.lane }
 {}
 
 /// After a run, no item is run by two contexts.
@@ -100,15 +107,27 @@ pub fn lanes_come_to_wait_in_a_circle()
     ensures of_a_circle { (d : Declaration) (a : Assignment) → Circle (GroupWaits d) → Circle (LaneWaits (wiring d a)) }
 {}
 
-/// Where items hold one another up, the run that queues them before all others and is then played to its end deadlocks.
+/// Where items hold one another up, or a bare lane does, the run that queues them before all others and is then played to its end
+/// deadlocks.
 pub fn a_knot_deadlocks()
     ensures { (w : Wiring) (knot : List ℕ) (steps : List Step) → IsWiring w → IsKnot w knot →
         IsPlayedFrom w (end_of w (queue_order w knot)) steps → DeadlocksBy w (queue_order w knot ++ steps) }
 {}
 
-/// Lanes that wait in a circle deadlock.
+/// Lanes that wait in a circle deadlock, where each has a rescuer.
 pub fn lanes_that_wait_in_a_circle_deadlock()
-    ensures { (w : Wiring) → IsWiring w → Circle (LaneWaits w) → Deadlocks w }
+    ensures all_rescued { (w : Wiring) → IsWiring w → w.bare ≡ [] → Circle (LaneWaits w) → Deadlocks w }
+    ensures rescued { (w : Wiring) → IsWiring w → Circle (RescuedWaits w) → Deadlocks w }
+{}
+
+/// Where an item on a lane that has a rescuer waits for an item on a bare lane, there is a deadlock: queue the item that waits before
+/// all others, and play what is queued to its end.
+pub fn a_wait_for_a_bare_lane_deadlocks()
+    ensures run { (w : Wiring) (i j : ℕ) (steps : List Step) → IsWiring w → ItemWaits w.waits i j → HasRescuer w (lane_of w i) →
+        (¬ HasRescuer w (lane_of w j)) → IsPlayedFrom w (end_of w (queue_order w (i ∷ []))) steps →
+        DeadlocksBy w (queue_order w (i ∷ []) ++ steps) }
+    ensures deadlocks { (w : Wiring) (i j : ℕ) → IsWiring w → ItemWaits w.waits i j → HasRescuer w (lane_of w i) →
+        (¬ HasRescuer w (lane_of w j)) → Deadlocks w }
 {}
 
 /// Where as many groups as there are lanes wait for one another in a chain, an assignment whose lanes fall along all waits of

@@ -18,9 +18,11 @@ mod questions;
 mod step;
 mod targets;
 mod work;
+mod workqueues;
 
 pub use entry::{Entry, Running, Waiting};
 pub use lane::{Lane, LaneShape, MAX_HELPERS};
 pub use lanes::Lanes;
 pub use machine::Core;
 pub use step::{Context, HelpStep, RunError, Step, StepError};
+pub use workqueues::Workqueues;

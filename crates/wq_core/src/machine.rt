@@ -13,11 +13,11 @@ ghost use Rattle.wq_groups.specs.Declaration.{declaration_of};
 ghost use Rattle.wq_core.specs.declared.step.StepError.{StepError};
 ghost use Rattle.wq_core.specs.declared.step.Step.TheVariants.{Queue, Cancel, Start, Help};
 ghost use Rattle.wq_core.specs.declared.step.HelpStep.TheVariants.{Start as DoStart, Finish as DoFinish};
-ghost use Rattle.wq_core.specs.Wiring.{max_helpers, helpers_of, HasContext, items, lane_of, declared_by};
+ghost use Rattle.wq_core.specs.Wiring.{HasRescuer, max_helpers, helpers_of, HasContext, items, lane_of, declared_by};
 ghost use Rattle.wq_core.specs.State.{lane_at, run_by, next_of, IsPendingOn, HasPending, HasUnfinishedBelow, HasUnfinishedOf, HasUnfinished, IsBusyBelow};
 ghost use Rattle.wq_core.specs.Rules.{IsHeldBack, step_in, wait_deed, over_deed};
 ghost use Rattle.wq_core.specs.Held.{IsMachine, IsNumberOf, IsDone, IsRefusal, AreDone, machine_after, HasPendingBelow, RunsBelow, IsRising};
-ghost use Rattle.wq_core.specs.Building.{first_machine, first_machine_with};
+ghost use Rattle.wq_core.specs.Building.{first_machine, first_machine_on, first_machine_with};
 
 use crate::building::{item_lanes, lane_shapes};
 use crate::entry::{Entry, Running};
@@ -26,6 +26,7 @@ use crate::lanes::Lanes;
 use crate::pending::PendingNumbers;
 use crate::step::{HelpStep, RunError, Step, StepError};
 use crate::targets::Targets;
+use crate::workqueues::Workqueues;
 use std::alloc::{AllocError, Allocator};
 use std::marker::Model;
 use wq_groups::{Assignment, Groups, LaneId};
@@ -36,6 +37,7 @@ use wq_items::{ItemId, ItemTable, Target};
 pub struct Core<A: Allocator> {
     targets: Targets<A>,
     lane_of_item: Vec<LaneId, A>,
+    bare: Vec<bool, A>,
     helpers: u8,
     pending: PendingNumbers<A>,
     lanes: Lanes<A>,
@@ -47,9 +49,9 @@ impl<A: Allocator> Model for Core<A> {
 
     ghost Value = { Machine };
 
-    ghost view = { λ m. machine_of m.targets m.lane_of_item.items m.helpers m.lanes m.next };
+    ghost view = { λ m. machine_of m.targets m.lane_of_item.items m.bare.items m.helpers m.lanes m.next };
 
-    ghost invariant = { λ m. IsHeld m.targets m.lane_of_item.items m.helpers m.pending m.lanes m.next };
+    ghost invariant = { λ m. IsHeld m.targets m.lane_of_item.items m.bare.items m.helpers m.pending m.lanes m.next };
 }
 
 impl<A: Allocator + Copy> Core<A> {
@@ -87,6 +89,43 @@ impl<A: Allocator + Copy> Core<A> {
         ensures machine { IfOk result (λ m. m ≡ first_machine_with (declaration_of table.now groups.now) assignment.now helpers) }
         ensures memory { OnErr result (0 < assignment.now.lanes) }
     {
+        Self::made(alloc, table, groups, assignment, Vec::new(alloc), helpers)
+    }
+
+    /// Makes the machine of a declaration and its workqueues, without helpers, before anything is queued.
+    ///
+    /// The only error is out of memory (20), which can't occur where there is no workqueue.
+    pub fn on_workqueues(
+        alloc: A,
+        table: &ItemTable<'_, A>,
+        groups: &Groups<A>,
+        workqueues: &Workqueues<A>,
+    ) -> Result<Self, AllocError>
+        requires grouped { length groups.now.group_of ≡ length table.now.names }
+        requires assigned { length workqueues.now.assignment.lane_of_group ≡ groups.now.groups }
+        ensures machine { IfOk result (λ m. m ≡ first_machine_on (declaration_of table.now groups.now) workqueues.now 0) }
+        ensures memory { OnErr result (0 < workqueues.now.assignment.lanes) }
+    {
+        let bare = workqueues.bare_lanes(alloc)?;
+        Self::made(alloc, table, groups, workqueues.assignment(), bare, 0)
+    }
+
+    /// The machine with these bare lanes and this many helpers.
+    fn made(
+        alloc: A,
+        table: &ItemTable<'_, A>,
+        groups: &Groups<A>,
+        assignment: &Assignment<A>,
+        bare: Vec<bool, A>,
+        helpers: u8,
+    ) -> Result<Self, AllocError>
+        requires grouped { length groups.now.group_of ≡ length table.now.names }
+        requires assigned { length assignment.now.lane_of_group ≡ groups.now.groups }
+        requires few { helpers ≤ max_helpers }
+        ensures machine { IfOk result (λ m.
+            m ≡ first_machine_on (declaration_of table.now groups.now) (record { assignment = assignment.now; bare = bare.items }) helpers) }
+        ensures memory { OnErr result (0 < assignment.now.lanes) }
+    {
         let _lanes = assignment.lanes();
         let lane_of_item = item_lanes(alloc, table.len(), groups, assignment)?;
         let targets = Targets::new(alloc, table)?;
@@ -96,6 +135,7 @@ impl<A: Allocator + Copy> Core<A> {
         Ok(Core {
             targets,
             lane_of_item,
+            bare,
             helpers,
             pending,
             lanes,
@@ -139,6 +179,16 @@ impl<A: Allocator> Core<A> {
             self.helpers
         } else {
             0
+        }
+    }
+
+    /// Whether a lane has a rescuer: it isn't one of the bare lanes.
+    pub fn has_rescuer(&self, q: LaneId) -> bool
+        ensures { IsTrue result ↔ HasRescuer self.now.wiring q }
+    {
+        match self.bare.get(usize::from(q.get())) {
+            Some(is_bare) => !*is_bare,
+            None => true,
         }
     }
 
@@ -611,6 +661,20 @@ impl<A: Allocator> Core<A> {
             at += 1;
         }
         Ok(())
+    }
+
+    /// Whether nothing is unfinished on the lanes that have a rescuer.
+    pub fn is_at_rest(&self) -> bool
+        ensures { IsTrue result ↔ ((left : HasUnfinished self.now.state) → ¬ HasRescuer self.now.wiring left.lane) }
+    {
+        let lanes = self.lanes() as u16;
+        for number in 0..lanes {
+            let q = LaneId::new(number);
+            if self.has_rescuer(q) && !self.lane(q).is_idle() {
+                return false;
+            }
+        }
+        true
     }
 
     /// Whether nothing is unfinished.

@@ -6,15 +6,15 @@
 //! finishes after the last one. `declared` takes constant time, `enabled` takes time in the number of lanes and of helpers, and
 //! `holder` in the logarithm of the number of entries that are pending on a lane. Nothing takes memory.
 
-ghost use Rattle.std.specs.Prelude.{◌≡◌, ◌<◌, ◌↔◌, ℕ, IsTrue, IfSome, IfNone, None, slice_get};
+ghost use Rattle.std.specs.Prelude.{◌≡◌, ◌<◌, ◌↔◌, ℕ, IsTrue, IfSome, IfNone, None, Some, slice_get};
 ghost use Rattle.wq_core.specs.declared.step.Step.{Step};
-ghost use Rattle.wq_core.specs.Wiring.{items, declared_by};
-ghost use Rattle.wq_core.specs.State.{lane_at, Runs};
+ghost use Rattle.wq_core.specs.Wiring.{HasRescuer, items, declared_by};
+ghost use Rattle.wq_core.specs.State.{lane_at, next_of, Runs};
 ghost use Rattle.wq_core.specs.Rules.{IsHeldBack, IsHolder};
 ghost use Rattle.wq_core.specs.Held.{IsMachine};
 ghost use Rattle.wq_core.specs.Played.{RescuerCanMove, HelperGoesOn, CanMove, HasNoDeclaredStep, IsDeclaredStep};
 
-use crate::entry::Running;
+use crate::entry::{Entry, Running};
 use crate::machine::Core;
 use crate::step::Step;
 use std::alloc::Allocator;
@@ -22,12 +22,24 @@ use wq_groups::LaneId;
 use wq_items::{ItemId, Target};
 
 impl<A: Allocator> Core<A> {
-    /// Whether the rescuer of a lane can make a step.
+    /// The entry that an idle rescuer starts next. A bare lane has no rescuer, so nobody is sure to start one there.
+    fn starts_next(&self, q: LaneId) -> Option<Entry>
+        ensures some { IfSome result (λ e. HasRescuer self.now.wiring q × (next_of (lane_at self.now.state q) ≡ Some e)) }
+        ensures none { IfNone result (HasRescuer self.now.wiring q → next_of (lane_at self.now.state q) ≡ None) }
+    {
+        if self.has_rescuer(q) {
+            self.next_on(q)
+        } else {
+            None
+        }
+    }
+
+    /// Whether the rescuer of a lane can make a step, or on a bare lane what its first context runs can go on.
     fn rescuer_can_move(&self, q: LaneId) -> bool
         ensures { IsTrue result ↔ RescuerCanMove self.now.wiring self.now.state q }
     {
         let Some(running) = self.running_on(q) else {
-            return self.next_on(q).is_some();
+            return self.starts_next(q).is_some();
         };
         let Some(flush) = running.waiting else {
             return true;
@@ -62,7 +74,7 @@ impl<A: Allocator> Core<A> {
         false
     }
 
-    /// Whether a lane can make a step other than a helper's start.
+    /// Whether a lane can make a step other than a helper's start and a start on a bare lane.
     fn can_move(&self, q: LaneId) -> bool
         ensures { IsTrue result ↔ CanMove self.now.wiring self.now.state q }
     {
@@ -89,8 +101,8 @@ impl<A: Allocator> Core<A> {
         }
     }
 
-    /// The lowest lane that can make a step: a start of its rescuer, or a wait, the end of a wait or a finish of any of its
-    /// contexts. None only where no lane can.
+    /// The lowest lane that can make a step: a start of its rescuer, if it has one, or a wait, the end of a wait or a finish of any of
+    /// its contexts. None only where no lane can.
     pub fn enabled(&self) -> Option<LaneId>
         ensures some { IfSome result (λ q. CanMove self.now.wiring self.now.state q
             × ((p : ℕ) → p < q → ¬ CanMove self.now.wiring self.now.state p)) }
@@ -115,13 +127,14 @@ impl<A: Allocator> Core<A> {
         self.waits(item).get(made as usize).copied()
     }
 
-    /// The step of an idle rescuer: it starts the first pending entry whose item isn't running, if there is one.
+    /// The step of an idle rescuer: it starts the first pending entry whose item isn't running, if there is one. A bare lane has no
+    /// such step.
     fn declared_idle(&self, q: LaneId) -> Option<Step>
         requires { (lane_at self.now.state q).running ≡ None }
         ensures some { IfSome result (λ step. IsDeclaredStep self.now.wiring self.now.state q step) }
         ensures none { IfNone result (HasNoDeclaredStep self.now.wiring self.now.state q) }
     {
-        let next = self.next_on(q)?;
+        let next = self.starts_next(q)?;
         Some(Step::Start(q, next.item))
     }
 

@@ -8,6 +8,6 @@ use Rattle.wq_core.proofs.machine.Core.pending_entry.Goals as goal
 pub returns-in_err-number-clause-none : goal.returns-in_err-number-clause-none
 returns-in_err-number-clause-none g c =
     let core = c.self.inside in
-    let held = machine_of core.targets core.lane_of_item.items core.helpers core.lanes core.next in
+    let held = machine_of core.targets core.lane_of_item.items core.bare.items core.helpers core.lanes core.next in
     let none = not_numbered held.wiring held.state core.pending c.args.item c.self.invariant.numbers (sym c.of.ensures ∙ c.in_err-number.was) in
     IfNone-holds c.from_residual.result (subst (λ (m : Machine). ¬ HasPending m.state c.args.item) c.self.view_is none)

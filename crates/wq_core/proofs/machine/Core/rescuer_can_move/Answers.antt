@@ -12,7 +12,7 @@ pub returns-in_default : goal.returns-in_default
 returns-in_default g c =
     let m = c.args.self.now in
     let idle : (lane_at m.state c.args.q).running ≡ None = sym c.running_on.ensures.running ∙ c.in_default.is in
-    RescuerCanMove-idle m.wiring m.state c.args.q idle c.next_on.result c.next_on.ensures.next c.is_some.result c.is_some.ensures
+    RescuerCanMove-idle m.wiring m.state c.args.q idle c.starts_next.result c.starts_next.ensures.some c.starts_next.ensures.none c.is_some.result c.is_some.ensures
 
 pub returns-in_default-waiting : goal.returns-in_default-waiting
 returns-in_default-waiting g c =
