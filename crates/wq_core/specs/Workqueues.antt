@@ -1,5 +1,5 @@
 -- Workqueues: an assignment, and which of its lanes are bare, which is to say that they have no rescuer.
-use Rattle.std.specs.Prelude.{ℕ, List, [], Bool}
+use Rattle.std.specs.Prelude.{List, [], Bool}
 use Rattle.wq_groups.specs.Declaration.{Declaration}
 use Rattle.wq_groups.specs.Assignment.{Assignment}
 use Rattle.wq_core.specs.Wiring.{Wiring, wiring}

@@ -6,6 +6,7 @@ pub use Rattle.wq_core.specs.Deadlock
 pub use Rattle.wq_core.specs.Played
 pub mod CircleRun
 pub mod Verdict
+pub mod Judging
 pub mod Bounds
 pub mod Search
 pub mod Stuck

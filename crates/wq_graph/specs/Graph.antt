@@ -1,5 +1,5 @@
 -- Wait graphs: for each vertex, the declared flushes that leave it. Vertices are groups, or lanes.
-use Rattle.std.specs.Prelude.{◌≡◌, ℕ, ◌<◌, ◌≤◌, ◌==◌, List, [], length, map, flat_map, filter, filter_map, find, slice_index, slice_index_or, Option, Contains}
+use Rattle.std.specs.Prelude.{◌≡◌, ℕ, ◌<◌, ◌≤◌, ◌==◌, Bool, false, not, if◌then◌else◌, List, [], length, map, flat_map, filter, filter_map, find, slice_index, slice_index_or, Option, Contains}
 use Rattle.std.specs.List.{All, Any, range_with_len}
 use Rattle.std.specs.List.Sorted.{IsStrictlyIncreasing}
 use Rattle.wq_items.specs.declared.target.Target.{Target}
@@ -62,6 +62,22 @@ arcs_at graph v = slice_index_or graph v []
 -- an arc leads from vertex v to vertex w
 abbrev pub HasArc : List (List WaitArc) → ℕ → ℕ → Type 0
 HasArc graph v w = Any (λ (a : WaitArc). a.head ≡ w) (arcs_at graph v)
+
+-- vertex v is left out, if these say of each vertex in turn whether it is
+abbrev pub is_left_out : List Bool → ℕ → Bool
+is_left_out out v = slice_index_or out v false
+
+-- the arcs that don't lead to a vertex that is left out
+abbrev pub arcs_kept : List Bool → List WaitArc → List WaitArc
+arcs_kept out arcs = filter (λ (a : WaitArc). not (is_left_out out a.head)) arcs
+
+-- the arcs that leave vertex v and are kept: none if v is left out itself
+abbrev pub arcs_without : List Bool → List (List WaitArc) → ℕ → List WaitArc
+arcs_without out graph v = if is_left_out out v then [] else arcs_kept out (arcs_at graph v)
+
+-- the graph without some of its vertices: they keep their numbers, but no arc leaves one or leads to one
+abbrev pub without : List Bool → List (List WaitArc) → List (List WaitArc)
+without out graph = map (arcs_without out graph) (range_with_len 0 (length graph))
 
 -- what holds for every wait graph: at most 4,096 vertices; each arc leads to one of them; the places of a vertex's arcs rise
 pub record IsGraph (graph : List (List WaitArc)) : Type 0 where

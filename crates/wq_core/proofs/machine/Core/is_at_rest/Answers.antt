@@ -1,6 +1,5 @@
-use Rattle.std.proofs.Common.{◌≡◌, ℕ, true, false, not, sym, ap, subst, ◌∙◌, arith, below_more}
-use Rattle.wq_core.specs.Wiring.{HasRescuer}
-use Rattle.wq_core.specs.State.{Lane, lane_at, IsBusy, HasUnfinished}
+use Rattle.std.proofs.Common.{◌≡◌, true, false, sym, subst, ◌∙◌}
+use Rattle.wq_core.specs.State.{Lane, lane_at, IsBusy}
 use Rattle.wq_core.proofs.machine.Core.is_at_rest.Goals as goal
 
 pub returns-then-not-is_idle : goal.returns-then-not-is_idle
