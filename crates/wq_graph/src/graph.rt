@@ -7,10 +7,11 @@
 ghost use Rattle.std.specs.Prelude.{◌≡◌, ◌<◌, ◌≤◌, length, flat_map, IfOk, IfErr};
 ghost use Rattle.std.specs.List.{All};
 ghost use Rattle.wq_groups.specs.Declaration.{declaration_of};
-ghost use Rattle.wq_graph.specs.Graph.{IsGraph, arcs_at, graph_of, group_graph, lane_graph};
+ghost use Rattle.wq_graph.specs.Graph.{IsGraph, arcs_at, graph_of, group_graph, lane_graph, without};
 
 use crate::arc::WaitArc;
 use crate::building::{groups_of_items, item_lanes, sorted_arcs};
+use crate::leaving_out::kept_arcs;
 use std::alloc::{AllocError, Allocator};
 use std::marker::Model;
 use wq_buckets::piece;
@@ -92,6 +93,18 @@ impl<A: Allocator + Copy> WaitGraph<A> {
         let lanes = assignment.lanes();
         let vertex_of = item_lanes(alloc, table.len(), groups, assignment)?;
         Self::of_vertices(alloc, table, vertex_of.as_slice(), lanes)
+    }
+
+    /// The same graph without the vertices of which this says so: no arc leaves one or leads to one. They keep their numbers. A vertex
+    /// past the end of the list stays.
+    ///
+    /// The only error is out of memory (20), which can't occur where there is no vertex.
+    pub fn without(self, alloc: A, left_out: &[bool]) -> Result<Self, AllocError>
+        ensures graph { IfOk result (λ g. g ≡ without left_out.now self) }
+        ensures memory { IfErr result (λ _. 0 < length self) }
+    {
+        let (arcs, begins) = kept_arcs(alloc, &self, left_out)?;
+        Ok(WaitGraph { arcs, begins })
     }
 
     /// How many vertices there are, at most 4,096.

@@ -10,6 +10,7 @@ mod arc;
 mod building;
 mod graph;
 pub mod laws;
+mod leaving_out;
 
 pub use arc::WaitArc;
 pub use building::group_arcs_by_place;
