@@ -12,7 +12,7 @@ use Rattle.wq_core.proofs.KnotRuns.{DeadlocksBy-knot, Deadlocks-knot}
 
 module _ (w : Wiring) (i j : ℕ) (waits : ItemWaits w.waits i j) (rescuer : HasRescuer w (lane_of w i)) (bare : ¬ HasRescuer w (lane_of w j)) where
   -- it is a knot by itself
-  IsKnot-bare : IsKnot w (i ∷ [])
+  pub IsKnot-bare : IsKnot w (i ∷ [])
   IsKnot-bare = record {
     some = omega arith;
     apart = λ h k d lt within. absurd (omega arith);

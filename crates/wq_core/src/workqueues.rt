@@ -43,6 +43,13 @@ impl<A: Allocator> Workqueues<A> {
         &self.assignment
     }
 
+    /// For each workqueue in turn whether it has no rescuer. Those past the end of the list have one.
+    pub fn bare(&self) -> &[bool]
+        ensures { result.now ≡ self.now.bare }
+    {
+        self.bare.as_slice()
+    }
+
     /// Whether a workqueue has no rescuer.
     pub fn is_bare(&self, q: LaneId) -> bool
         ensures { result ≡ slice_index_or self.now.bare q false }

@@ -1,10 +1,11 @@
 -- A circle in which the lanes wait has a run, by which the assignment deadlocks.
-use Rattle.std.proofs.Common.{List, ◌++◌, refl, sym, subst}
+use Rattle.std.proofs.Common.{◌≡◌, List, [], ◌++◌, refl, sym, subst}
 use Rattle.wq_groups.specs.Declaration.{Declaration, IsDeclaration}
 use Rattle.wq_groups.specs.Assignment.{Assignment, IsAssignment}
 use Rattle.wq_graph.specs.declared.arc.WaitArc.{WaitArc}
-use Rattle.wq_graph.specs.Graph.{lane_graph}
-use Rattle.wq_levels.specs.Walks.{IsWalkedCircle}
+use Rattle.wq_graph.specs.Graph.{lane_graph, without}
+use Rattle.wq_graph.proofs.LeavingOut.{without-none}
+use Rattle.wq_levels.specs.Walks.{IsWalkedCircle, LeadsRound}
 use Rattle.wq_levels.proofs.Walks.{LeadsRound-walked}
 use Rattle.wq_core.specs.declared.step.Step.{Step}
 use Rattle.wq_core.specs.Wiring.{Wiring, IsWiring, wiring}
@@ -27,7 +28,10 @@ module _ (d : Declaration) (a : Assignment) (declaration : IsDeclaration d) (ass
   sound = IsWiring-wiring d a declaration assignment
 
   knot : IsKnot w (flushing_items circle)
-  knot = IsKnot-flushing_items d a declaration assignment circle (LeadsRound-walked (lane_graph d a) circle walked)
+  knot =
+      let round = LeadsRound-walked (lane_graph d a) circle walked in
+      let all : lane_graph d a ≡ without [] (lane_graph d a) = sym (without-none [] (lane_graph d a) (λ v. refl)) in
+      IsKnot-flushing_items d a [] declaration assignment circle (subst (λ (g : List (List WaitArc)). LeadsRound g circle) all round)
 
   -- its first items can be queued first, and then all others
   pub IsRun-flushing_items : IsRun w (queue_order w (flushing_items circle))

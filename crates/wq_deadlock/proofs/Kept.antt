@@ -117,25 +117,25 @@ HasNoDeclaredStep-same w s t p same keeps still = moves
     moves : HasNoDeclaredStep w t p
     moves (Queue i) is = is.of_lane
     moves (Cancel i) is = is.of_lane
-    moves (Start k i) is = still (Start k i) (record { of_lane = is.of_lane; lawful = subst (λ (l : Lane). MayStartFirst l i) (lane k is.of_lane) is.lawful; in_order = tt })
+    moves (Start k i) is = still (Start k i) (record { of_lane = is.of_lane; lawful = subst (λ (l : Lane). MayStartFirst l i) (lane k is.of_lane) is.lawful; forced = is.forced; in_order = tt })
     moves (Wait k b) is =
         let l = is.lawful in
         let o = is.in_order in
-        still (Wait k b) (record { of_lane = is.of_lane; lawful = (l.0, runs k l.0 is.of_lane l.1, l.2); in_order = (o.0, runs k o.0 is.of_lane o.1, o.2) })
+        still (Wait k b) (record { of_lane = is.of_lane; lawful = (l.0, runs k l.0 is.of_lane l.1, l.2); forced = tt; in_order = (o.0, runs k o.0 is.of_lane o.1, o.2) })
     moves (Over k b) is =
         let l = is.lawful in
-        still (Over k b) (record { of_lane = is.of_lane; lawful = (l.0, runs k l.0 is.of_lane l.1, over false b k l.0 is.of_lane l.1 l.2); in_order = tt })
+        still (Over k b) (record { of_lane = is.of_lane; lawful = (l.0, runs k l.0 is.of_lane l.1, over false b k l.0 is.of_lane l.1 l.2); forced = tt; in_order = tt })
     moves (WaitAll k b) is =
         let l = is.lawful in
         let o = is.in_order in
-        still (WaitAll k b) (record { of_lane = is.of_lane; lawful = (l.0, runs k l.0 is.of_lane l.1, l.2); in_order = (o.0, runs k o.0 is.of_lane o.1, o.2) })
+        still (WaitAll k b) (record { of_lane = is.of_lane; lawful = (l.0, runs k l.0 is.of_lane l.1, l.2); forced = tt; in_order = (o.0, runs k o.0 is.of_lane o.1, o.2) })
     moves (OverAll k b) is =
         let l = is.lawful in
-        still (OverAll k b) (record { of_lane = is.of_lane; lawful = (l.0, runs k l.0 is.of_lane l.1, over true b k l.0 is.of_lane l.1 l.2); in_order = tt })
+        still (OverAll k b) (record { of_lane = is.of_lane; lawful = (l.0, runs k l.0 is.of_lane l.1, over true b k l.0 is.of_lane l.1 l.2); forced = tt; in_order = tt })
     moves (Finish k i) is =
         let l = is.lawful in
         let o = is.in_order in
-        still (Finish k i) (record { of_lane = is.of_lane; lawful = (l.0, runs k l.0 is.of_lane l.1, l.2); in_order = (o.0, runs k o.0 is.of_lane o.1, o.2) })
+        still (Finish k i) (record { of_lane = is.of_lane; lawful = (l.0, runs k l.0 is.of_lane l.1, l.2); forced = tt; in_order = (o.0, runs k o.0 is.of_lane o.1, o.2) })
     moves (Help k c deed) is = is.of_lane
 
 -- a step finishes an item, or nothing

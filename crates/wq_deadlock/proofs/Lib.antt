@@ -12,3 +12,4 @@ pub mod OnlyRun
 pub mod Named
 pub mod RunLengths
 pub mod RankedLanes
+pub mod BareLanes

@@ -80,7 +80,7 @@ IsPlayedFrom-playing start now steps q playing all = IsPlayedFrom-play start.wir
     none_now p = elim (cases_lt p q) [
       | inl below ↦ playing.below p below
       | inr past ↦ (λ step is.
-          let within : p < length now.state.lanes = RescuerCanMove-within now.wiring now.state p (step, is.of_lane, is.lawful) in
+          let within : p < length now.state.lanes = RescuerCanMove-within now.wiring now.state p (step, is.of_lane, is.lawful, is.forced) in
           let same : now.wiring.lanes ≡ start.wiring.lanes = ap (λ (v : Wiring). v.lanes) playing.wiring in
           absurd (omega (arith, within, playing.sound.one_each, same))
           )

@@ -1,5 +1,5 @@
 -- Lanes by their first groups: however many lanes there are, as many as there are groups decide whether it is safe.
-use Rattle.std.proofs.Common.{◌≡◌, ℕ, zero, suc, ◌<◌, ◌≤◌, ◌⊎◌, inl, inr, cond, eqb, List, [], ◌∷◌, length, map, get_or, Some, sym, ap, subst, ◌∙◌, arith}
+use Rattle.std.proofs.Common.{◌≡◌, ℕ, zero, suc, ◌<◌, ◌≤◌, ◌⊎◌, inl, inr, cond, eqb, List, [], ◌∷◌, length, map, get_or, Some, refl, sym, ap, subst, ◌∙◌, arith}
 use Rattle.std.specs.Prelude.{Contains, slice_index, slice_get}
 use Rattle.std.proofs.lemmas.Bool.{cases_eq, cond-true, cond-false, eq-eqb, ne_eqb}
 use Rattle.std.proofs.lemmas.List.{length-map, get_or-map}
@@ -121,7 +121,7 @@ module _ (d : Declaration) (a : Assignment) (declaration : IsDeclaration d) (ass
 
   IsSafe-renumbered : (ranks : List ℕ) → AreRanks (lane_graph d b) ranks → IsSafe (wiring d a)
   IsSafe-renumbered ranks are =
-      IsSafe-falls (wiring d a) (λ q. slice_index ranks (first_group q)) (λ i j declares.
+      IsSafe-falls (wiring d a) (λ q. slice_index ranks (first_group q)) refl (λ i j declares.
       let item : i < length d.group_of = waiting-item d declaration i j declares in
       let target : j < length d.group_of = awaited-item d declaration i j declares in
       subst (λ (p : ℕ). slice_index ranks p < slice_index ranks (first_group (lane_of (wiring d a) i))) (lane_b j target)
@@ -130,7 +130,7 @@ module _ (d : Declaration) (a : Assignment) (declaration : IsDeclaration d) (ass
 
   Deadlocks-renumbered : (circle : List WaitArc) → IsWalkedCircle (lane_graph d b) circle → Deadlocks (wiring d a)
   Deadlocks-renumbered circle walked =
-      Deadlocks-circle (wiring d a) (IsWiring-wiring d a declaration assignment)
+      Deadlocks-circle (wiring d a) (IsWiring-wiring d a declaration assignment) refl
       (Circle-map (LaneWaits (wiring d b)) (LaneWaits (wiring d a)) (group_lane a) LaneWaits-back (lanes_wait d b declaration one_each few circle walked))
 
   pub IsSafe-or_deadlocks : IsSafe (wiring d a) ⊎ Deadlocks (wiring d a)

@@ -1,5 +1,5 @@
 -- What ranks of the lanes, and circles of lanes, say about an assignment.
-use Rattle.std.proofs.Common.{◌≡◌, ℕ, ◌<◌, ◌≤◌, List, length, subst, ◌∙◌, arith}
+use Rattle.std.proofs.Common.{◌≡◌, ℕ, ◌<◌, ◌≤◌, List, length, refl, subst, ◌∙◌, arith}
 use Rattle.std.specs.Prelude.{slice_index}
 use Rattle.std.proofs.lemmas.List.{length-map}
 use Rattle.std.proofs.lemmas.List.FromFn.{length-map-range_with_len}
@@ -36,7 +36,7 @@ module _ (d : Declaration) (a : Assignment) (declaration : IsDeclaration d) (ass
   lanes_long : length (item_lanes a d.group_of) ≡ length d.group_of
   lanes_long = length-map d.group_of (group_lane a)
 
-  HasArc-items : (i j : ℕ) → ItemWaits d.waits i j → HasArc (lane_graph d a) (lane_of (wiring d a) i) (lane_of (wiring d a) j)
+  pub HasArc-items : (i j : ℕ) → ItemWaits d.waits i j → HasArc (lane_graph d a) (lane_of (wiring d a) i) (lane_of (wiring d a) j)
   HasArc-items i j declares =
       let item : i < length (item_lanes a d.group_of) = omega (arith, waiting-item d declaration i j declares, lanes_long) in
       let target : j < length (item_lanes a d.group_of) = omega (arith, awaited-item d declaration i j declares, lanes_long) in
@@ -58,7 +58,7 @@ module _ (d : Declaration) (a : Assignment) (declaration : IsDeclaration d) (ass
       pub IsSafeByRanks-ranks : IsSafeByRanks d a ranks
       IsSafeByRanks-ranks = record {
         assignment = assignment;
-        safe = IsSafe-falls (wiring d a) (slice_index ranks) fall;
+        safe = IsSafe-falls (wiring d a) (slice_index ranks) refl fall;
         one_each = are.one_each ∙ long;
         are_ranks = are;
         fall = λ i j declares.

@@ -1,5 +1,5 @@
 -- Verdicts on workqueues, of which some may have no rescuer.
-use Rattle.std.specs.Prelude.{◌≡◌, ℕ, ◌&&◌, not, Bool, false, List, [], ◌∷◌, ◌++◌, filter, slice_index_or}
+use Rattle.std.specs.Prelude.{◌≡◌, ℕ, ◌&&◌, not, Bool, false, List, [], ◌∷◌, filter, slice_index_or}
 use Rattle.wq_groups.specs.Declaration.{Declaration}
 use Rattle.wq_groups.specs.Assignment.{IsAssignment, item_lane}
 use Rattle.wq_graph.specs.declared.arc.WaitArc.{WaitArc}
@@ -7,12 +7,10 @@ use Rattle.wq_graph.specs.Graph.{arcs_by_place, lane_graph, without}
 use Rattle.wq_levels.specs.Walks.{IsWalkedCircle}
 use Rattle.wq_core.specs.declared.step.Step.{Step}
 use Rattle.wq_core.specs.Workqueues.{Workqueues, wiring_of}
-use Rattle.wq_core.specs.Runs.{end_of}
 use Rattle.wq_core.specs.Deadlock.{IsSafe, DeadlocksBy}
-use Rattle.wq_core.specs.Played.{IsPlayedFrom, queue_order}
 use Rattle.wq_deadlock.specs.declared.judged.Judged.{Judged}
 use Rattle.wq_deadlock.specs.declared.judged.Judged.TheVariants as judged
-use Rattle.wq_deadlock.specs.CircleRun.{flushing_items}
+use Rattle.wq_deadlock.specs.CircleRun.{flushing_items, IsRunOf}
 
 -- item i, which has this group, is on a workqueue without a rescuer
 abbrev pub is_on_bare : Workqueues → List ℕ → ℕ → Bool
@@ -36,16 +34,13 @@ abbrev pub AreFirst : Declaration → Workqueues → List WaitArc → List ℕ �
 AreFirst d ws (a ∷ more) first = first ≡ a.src ∷ []
 AreFirst d ws [] first = (circle : List WaitArc) × IsWalkedCircle (rescued_graph d ws) circle × (first ≡ flushing_items circle)
 
--- these are workqueues of the declaration's groups. The steps queue these items first, then all others, in declaration order; then
--- they play what is queued to its end, of which no rescuer is left out but those that a workqueue hasn't. They are a run that ends
--- stuck, with each item queued once and flushing as declared
+-- these are workqueues of the declaration's groups; the steps queue these items first, and play what is queued to its end; and they
+-- are a run that ends stuck, with each item queued once and flushing as declared
 pub record IsHang (d : Declaration) (ws : Workqueues) (steps : List Step) : Type 0 where
   pub assignment : IsAssignment d.groups ws.assignment
   pub first : List ℕ
   pub are_first : AreFirst d ws (bare_waits d ws) first
-  pub played : List Step
-  pub is_played : IsPlayedFrom (wiring_of d ws) (end_of (wiring_of d ws) (queue_order (wiring_of d ws) first)) played
-  pub all : steps ≡ queue_order (wiring_of d ws) first ++ played
+  pub is_run : IsRunOf (wiring_of d ws) first steps
   pub deadlocks : DeadlocksBy (wiring_of d ws) steps
 
 -- workqueues of the declaration's groups, no run of which ends stuck

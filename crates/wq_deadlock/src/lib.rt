@@ -8,7 +8,10 @@
 //! graph and its ranks, and, where there is a circle, that of its run.
 #![tactic(auto)]
 
+mod bare;
 mod circles;
+mod hanging;
+mod judged;
 mod judging;
 pub mod laws;
 mod outcome;
@@ -16,8 +19,12 @@ mod playing;
 mod queueing;
 mod safety;
 mod stuck;
+mod workqueues;
 
+pub use bare::{bare_waits, is_on_bare};
 pub use circles::{circle_run, own_lanes};
+pub use judged::Judged;
 pub use judging::verdict;
 pub use outcome::Verdict;
 pub use safety::is_safe;
+pub use workqueues::{judge, rescued_graph};
