@@ -37,3 +37,4 @@ pub mod CutShort
 pub mod JudgedLines
 pub mod LineRows
 pub mod GrowthLemmas
+pub mod SaidLines

@@ -16,7 +16,7 @@ use Rattle.wq_cert.specs.Lines.{CertLine, cert_line}
 use Rattle.wq_cert.specs.Forms.{begins_with, number_of, wq_form, items_of}
 use Rattle.wq_items.specs.Building.{and_then}
 use Rattle.wq_cert.specs.Reading.{Read, and_read, has_stood, splits_group, wq_items, fresh_items, wq_reading, next_workqueues, all_workqueues}
-use Rattle.wq_cert.specs.Noted.{marks, lanes_with, AreNoted, IsNextNoted, AreRead, AreAllRead}
+use Rattle.wq_cert.specs.Noted.{marks, lanes_with, AreNoted, IsNextNoted, AreRead, AreAllRead, said_line}
 use Rattle.wq_cert.specs.Texts.{IsCertFaultOf}
 use Rattle.wq_cert.proofs.ReadLemmas.{IsCertFaultOf-then}
 use Rattle.wq_cert.proofs.WorkqueueLists.{concat-push}
@@ -174,38 +174,38 @@ pub record ReadSoFar (names : List (List ℕ)) (p : Partition) (lines : List Cer
 pub ReadSoFar-none : (names : List (List ℕ)) (p : Partition) (lines : List CertLine) (count : ℕ) (stood : List Bool) (lanes : List (Option ℕ)) → AreNoted p [] count stood lanes → ReadSoFar names p lines count stood lanes lines
 ReadSoFar-none names p lines count stood lanes noted = record { workqueues = []; noted = noted; goes_on = refl }
 
-module _ (names : List (List ℕ)) (p : Partition) (lines : List CertLine) (count : ℕ) (stood : List Bool) (lanes : List (Option ℕ)) (left : List LineView) (h : ReadSoFar names p lines count stood lanes (map cert_line left)) where
+module _ (names : List (List ℕ)) (p : Partition) (lines : List CertLine) (count : ℕ) (stood : List Bool) (lanes : List (Option ℕ)) (bare : Bool) (left : List LineView) (h : ReadSoFar names p lines count stood lanes (map (λ (line : LineView). said_line bare line) left)) where
   step : List CertLine → CertLine → Bool → Result (List ℕ) CertError → Read (List (List ℕ))
   step rest line is_wq r = cond is_wq (and_then (λ items. all_workqueues names p.group_of (h.workqueues ++ (items ∷ [])) rest) r) (Ok (h.workqueues, line ∷ rest))
 
   steps : (line : LineView) (rest : List LineView) → left ≡ line ∷ rest
-      → all_workqueues names p.group_of [] lines ≡ step (map cert_line rest) (cert_line line) (begins_with (codes "wq") (cert_line line).words) (wq_reading names p.group_of h.workqueues (cert_line line))
+      → all_workqueues names p.group_of [] lines ≡ step (map (λ (line : LineView). said_line bare line) rest) (said_line bare line) (begins_with (codes "wq") (said_line bare line).words) (wq_reading names p.group_of h.workqueues (said_line bare line))
   unfolding step
-  steps line rest first = h.goes_on ∙ ap (λ (ls : List LineView). all_workqueues names p.group_of h.workqueues (map cert_line ls)) first
+  steps line rest first = h.goes_on ∙ ap (λ (ls : List LineView). all_workqueues names p.group_of h.workqueues (map (λ (line : LineView). said_line bare line) ls)) first
 
-  pub ReadSoFar-more : (line : LineView) (rest : List LineView) (more_count : ℕ) (more_stood : List Bool) (more_lanes : List (Option ℕ)) → left ≡ line ∷ rest → begins_with (codes "wq") (cert_line line).words ≡ true
-      → IsNextNoted names p h.workqueues (cert_line line) more_count more_stood more_lanes → ReadSoFar names p lines more_count more_stood more_lanes (map cert_line rest)
+  pub ReadSoFar-more : (line : LineView) (rest : List LineView) (more_count : ℕ) (more_stood : List Bool) (more_lanes : List (Option ℕ)) → left ≡ line ∷ rest → begins_with (codes "wq") (said_line bare line).words ≡ true
+      → IsNextNoted names p h.workqueues (said_line bare line) more_count more_stood more_lanes → ReadSoFar names p lines more_count more_stood more_lanes (map (λ (line : LineView). said_line bare line) rest)
   unfolding step
   ReadSoFar-more line rest more_count more_stood more_lanes first is_wq next = record {
     workqueues = h.workqueues ++ (next.items ∷ []);
     noted = next.noted;
-    goes_on = steps line rest first ∙ ap₂ (step (map cert_line rest) (cert_line line)) is_wq next.read;
+    goes_on = steps line rest first ∙ ap₂ (step (map (λ (line : LineView). said_line bare line) rest) (said_line bare line)) is_wq next.read;
   }
 
-  pub ReadSoFar-fault : (line : LineView) (rest : List LineView) (e : CertError) → left ≡ line ∷ rest → begins_with (codes "wq") (cert_line line).words ≡ true → IsCertFaultOf e (wq_reading names p.group_of h.workqueues (cert_line line))
+  pub ReadSoFar-fault : (line : LineView) (rest : List LineView) (e : CertError) → left ≡ line ∷ rest → begins_with (codes "wq") (said_line bare line).words ≡ true → IsCertFaultOf e (wq_reading names p.group_of h.workqueues (said_line bare line))
       → IsCertFaultOf e (all_workqueues names p.group_of [] lines)
   unfolding step
   ReadSoFar-fault line rest e first is_wq fault =
-      IsCertFaultOf-then (λ (items : List ℕ). all_workqueues names p.group_of (h.workqueues ++ (items ∷ [])) (map cert_line rest)) e (wq_reading names p.group_of h.workqueues (cert_line line)) (all_workqueues names p.group_of [] lines)
-      (steps line rest first ∙ ap (λ b. step (map cert_line rest) (cert_line line) b (wq_reading names p.group_of h.workqueues (cert_line line))) is_wq) fault
+      IsCertFaultOf-then (λ (items : List ℕ). all_workqueues names p.group_of (h.workqueues ++ (items ∷ [])) (map (λ (line : LineView). said_line bare line) rest)) e (wq_reading names p.group_of h.workqueues (said_line bare line)) (all_workqueues names p.group_of [] lines)
+      (steps line rest first ∙ ap (λ b. step (map (λ (line : LineView). said_line bare line) rest) (said_line bare line) b (wq_reading names p.group_of h.workqueues (said_line bare line))) is_wq) fault
 
-  pub ReadSoFar-stop : (line : LineView) (rest : List LineView) (at : ℕ) → left ≡ line ∷ rest → begins_with (codes "wq") (cert_line line).words ≡ false → at ≡ line.no → AreAllRead names p lines count stood lanes (Some at)
+  pub ReadSoFar-stop : (line : LineView) (rest : List LineView) (at : ℕ) → left ≡ line ∷ rest → begins_with (codes "wq") (said_line bare line).words ≡ false → at ≡ line.no → AreAllRead names p lines count stood lanes (Some at)
   unfolding step
   ReadSoFar-stop line rest at first other number = record {
     workqueues = h.workqueues;
-    rest = cert_line line ∷ map cert_line rest;
+    rest = said_line bare line ∷ map (λ (line : LineView). said_line bare line) rest;
     noted = h.noted;
-    read = steps line rest first ∙ ap (λ b. step (map cert_line rest) (cert_line line) b (wq_reading names p.group_of h.workqueues (cert_line line))) other;
+    read = steps line rest first ∙ ap (λ b. step (map (λ (line : LineView). said_line bare line) rest) (said_line bare line) b (wq_reading names p.group_of h.workqueues (said_line bare line))) other;
     line = ap (λ (n : ℕ). Some n) number;
   }
 
@@ -214,6 +214,6 @@ module _ (names : List (List ℕ)) (p : Partition) (lines : List CertLine) (coun
     workqueues = h.workqueues;
     rest = [];
     noted = h.noted;
-    read = h.goes_on ∙ ap (λ (ls : List LineView). all_workqueues names p.group_of h.workqueues (map cert_line ls)) none;
+    read = h.goes_on ∙ ap (λ (ls : List LineView). all_workqueues names p.group_of h.workqueues (map (λ (line : LineView). said_line bare line) ls)) none;
     line = refl;
   }

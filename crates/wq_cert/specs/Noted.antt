@@ -3,8 +3,10 @@ use Rattle.std.specs.Prelude.{◌≡◌, ℕ, ◌≤◌, ◌==◌, not, Bool, fa
 use Rattle.std.specs.List.{concat, range_with_len}
 use Rattle.wq_groups.specs.Partition.{Partition}
 use Rattle.wq_groups.specs.Assignment.{max_lanes}
-use Rattle.wq_cert.specs.Lines.{CertLine}
-use Rattle.wq_cert.specs.Reading.{stands_in, workqueue_with, wq_reading, next_workqueues, all_workqueues}
+use Rattle.wq_text.specs.Lines.{LineView}
+use Rattle.wq_text.specs.Words.{words_of}
+use Rattle.wq_cert.specs.Lines.{CertLine, bytes_of}
+use Rattle.wq_cert.specs.Reading.{stands_in, workqueue_with, wq_reading, next_workqueues, all_workqueues, with_wq}
 
 -- for each of n items whether it is in the list
 abbrev pub marks : ℕ → List ℕ → List Bool
@@ -38,6 +40,10 @@ pub record AreRead (names : List (List ℕ)) (p : Partition) (n : ℕ) (lines : 
   pub workqueues : List (List ℕ)
   pub noted : AreNoted p workqueues count stood lanes
   pub read : next_workqueues names p.group_of n [] lines ≡ Ok (workqueues, rest)
+
+-- the line, with `wq` in place of a first word `norescuer` if this is asked for
+abbrev pub said_line : Bool → LineView → CertLine
+said_line bare line = record { no = line.no; words = with_wq bare (bytes_of (words_of line)) }
 
 -- the number of the first line, if there is one
 abbrev pub first_number : List CertLine → Option ℕ

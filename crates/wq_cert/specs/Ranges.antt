@@ -1,7 +1,8 @@
 -- Ranges: what is known about every certificate, assignment and run that is read. Items are counted by their names.
-use Rattle.std.specs.Prelude.{◌≡◌, ℕ, ◌-◌, ◌<◌, ◌≤◌, false, List, length, Some}
+use Rattle.std.specs.Prelude.{◌≡◌, ℕ, ◌-◌, ◌<◌, ◌≤◌, ◌⊎◌, false, List, [], length, Some}
 use Rattle.std.specs.List.{All}
 use Rattle.wq_groups.specs.Assignment.{Assignment, IsAssignment, max_lanes}
+use Rattle.wq_core.specs.Workqueues.{Workqueues}
 use Rattle.wq_core.specs.declared.step.Step.{Step}
 use Rattle.wq_core.specs.Runs.{IsHelp}
 use Rattle.wq_core.specs.State.{max_number}
@@ -21,6 +22,11 @@ IsStepOf items step = (step_item step < items) × (names_far_lane step ≡ false
 pub record IsAssignmentOf (groups : ℕ) (a : Assignment) : Type 0 where
   pub assignment : IsAssignment groups a
   pub few : a.lanes ≤ max_lanes
+
+-- workqueues of this many groups, at most 4,096; of each it is known whether it has a rescuer, or all have one
+pub record AreWorkqueuesOf (groups : ℕ) (ws : Workqueues) : Type 0 where
+  pub assignment : IsAssignmentOf groups ws.assignment
+  pub one_each : (ws.bare ≡ []) ⊎ (length ws.bare ≡ ws.assignment.lanes)
 
 -- fewer than 4,294,967,295 steps, of this many items
 pub record IsRunOf (items : ℕ) (steps : List Step) : Type 0 where

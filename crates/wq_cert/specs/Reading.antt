@@ -1,11 +1,12 @@
 -- Reading: what the lines of a certificate say, or the first fault. Within a line it is the first row of "Refusals of
 -- certificates" in docs/FORMAT.md that applies: the form (40), the numbers (43), items that are there twice (41), groups that
 -- are split (42). An item that is on no workqueue is a fault at no line (41), judged after the last `wq` line.
-use Rattle.std.specs.Prelude.{ℕ, zero, suc, ◌-◌, ◌==◌, ◌||◌, not, nat_le, nat_lt, if◌then◌else◌, Bool, false, List, [], ◌∷◌, ◌++◌, length, map, slice_index, unwrap_or, Option, Some, None, Result, Ok, Err, ok_or, codes}
+use Rattle.std.specs.Prelude.{ℕ, zero, suc, ◌-◌, ◌==◌, ◌||◌, not, nat_le, nat_lt, if◌then◌else◌, Bool, true, false, List, [], ◌∷◌, ◌++◌, length, map, slice_index, unwrap_or, Option, Some, None, Result, Ok, Err, ok_or, bytes_eq, codes}
 use Rattle.std.specs.List.{list_any, list_all, concat, position, range_with_len}
 use Rattle.wq_items.specs.Building.{and_then}
 use Rattle.wq_groups.specs.Partition.{Partition}
 use Rattle.wq_groups.specs.Assignment.{Assignment, max_lanes}
+use Rattle.wq_core.specs.Workqueues.{Workqueues, all_rescued}
 use Rattle.wq_core.specs.declared.step.Step.{Step}
 use Rattle.wq_core.specs.declared.step.Step.TheVariants.{Start, Wait, Over, WaitAll, OverAll, Finish, Help}
 use Rattle.wq_cert.specs.declared.fault.CertError.{CertError}
@@ -214,3 +215,30 @@ abbrev pub assignment_reading : List (List ℕ) → Partition → List CertLine 
 assignment_reading names p lines =
     if begins_plan lines then and_then (λ (plan : PlanCertificate). Ok plan.assignment) (plan_reading names p lines)
     else workqueues_reading names p lines
+
+-- ---- workqueues of which some may have no rescuer
+
+-- the word, or `wq` in place of `norescuer` if this is asked for
+abbrev pub wq_word : Bool → List ℕ → List ℕ
+wq_word false word = word
+wq_word true word = if bytes_eq word (codes "norescuer") then codes "wq" else word
+
+-- the words, the first of them read so
+abbrev pub with_wq : Bool → List (List ℕ) → List (List ℕ)
+with_wq bare [] = []
+with_wq bare (word ∷ words) = wq_word bare word ∷ words
+
+-- a line, with `wq` in place of `norescuer`
+abbrev pub as_wq : CertLine → CertLine
+as_wq line = record line { words = with_wq true line.words }
+
+-- the line of a workqueue without a rescuer
+abbrev pub is_bare_line : CertLine → Bool
+is_bare_line line = begins_with (codes "norescuer") line.words
+
+-- workqueues: a whole plan text if the first word is `plan`. Else `wq` and `norescuer` lines, which are read alike, as if each were
+-- a `wq` line; the workqueues of `norescuer` lines have no rescuer
+abbrev pub lanes_reading : List (List ℕ) → Partition → List CertLine → Result Workqueues CertError
+lanes_reading names p lines =
+    if begins_plan lines then and_then (λ (plan : PlanCertificate). Ok (all_rescued plan.assignment)) (plan_reading names p lines)
+    else and_then (λ (a : Assignment). Ok (record { assignment = a; bare = map is_bare_line lines })) (workqueues_reading names p (map as_wq lines))

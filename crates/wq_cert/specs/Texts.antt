@@ -7,12 +7,13 @@ use Rattle.wq_text.specs.Limits.{limit_fault}
 use Rattle.wq_text.specs.Refusal.{Refusal}
 use Rattle.wq_groups.specs.Partition.{Partition}
 use Rattle.wq_groups.specs.Assignment.{Assignment}
+use Rattle.wq_core.specs.Workqueues.{Workqueues}
 use Rattle.wq_core.specs.declared.step.Step.{Step}
 use Rattle.wq_cert.specs.declared.fault.CertError.{CertError}
 use Rattle.wq_cert.specs.declared.fault.CertError.TheVariants.{BadCertLine, NotAllItems, GroupSplit, NumberOutOfRange, OutOfMemory}
 use Rattle.wq_cert.specs.Certificate.{Certificate}
 use Rattle.wq_cert.specs.Lines.{CertLine, cert_lines}
-use Rattle.wq_cert.specs.Reading.{answer_reading, assignment_reading, run_reading}
+use Rattle.wq_cert.specs.Reading.{answer_reading, assignment_reading, lanes_reading, run_reading}
 
 -- how many bytes a certificate may have
 abbrev pub max_certificate : ℕ
@@ -39,6 +40,10 @@ answer_of names p text = text_reading (answer_reading names p) text
 -- what the text of an assignment says
 abbrev pub assignment_of_text : List (List ℕ) → Partition → List ℕ → Result Assignment CertError
 assignment_of_text names p text = text_reading (assignment_reading names p) text
+
+-- which workqueues the text of an assignment says there are, of which some may have no rescuer
+abbrev pub workqueues_of_text : List (List ℕ) → Partition → List ℕ → Result Workqueues CertError
+workqueues_of_text names p text = text_reading (lanes_reading names p) text
 
 -- what the text of a run says
 abbrev pub run_of : List (List ℕ) → List ℕ → Result (List Step) CertError

@@ -23,7 +23,7 @@ use wq_groups::{Assignment, Groups};
 use wq_items::ItemTable;
 
 /// Whether the first word of the first line is `plan`.
-fn begins_plan(view: &CertView<'_>) -> bool
+pub(crate) fn begins_plan(view: &CertView<'_>) -> bool
     ensures { result ≡ begins_plan (map cert_line view.now) }
 {
     match view.lines().next() {

@@ -4,9 +4,11 @@
 //! may hold, so a line with such a byte before its comment has no form. Each function takes time in the length of the words.
 //! `items_of` and `wq_form` take memory in the number of items.
 
-ghost use Rattle.std.specs.Prelude.{◌≡◌, IfOk, option_map};
+ghost use Rattle.std.specs.Prelude.{◌≡◌, IfOk, option_map, bytes_eq, codes};
 ghost use Rattle.wq_cert.specs.Forms.{number_of, items_of, begins_with, count_form, wq_form, arc_form};
 ghost use Rattle.wq_cert.specs.Lines.{bytes_of, cert_line};
+ghost use Rattle.wq_cert.specs.Noted.{said_line};
+ghost use Rattle.wq_cert.specs.Reading.{wq_word, with_wq};
 
 use std::alloc::{AllocError, Allocator};
 use wq_items::{ItemId, ItemTable};
@@ -17,6 +19,16 @@ pub(crate) fn number_of(word: &[u8]) -> Option<u32>
     ensures { result ≡ number_of word.now }
 {
     number(word)
+}
+
+/// Whether a line is that of a workqueue: its first word is `wq`, or, if this is asked for, `norescuer`.
+pub(crate) fn begins_wq(line: &Line<'_>, bare: bool) -> bool
+    ensures { result ≡ begins_with (codes "wq") (said_line bare line.now).words }
+{
+    match line.words().next() {
+        Some(word) => is_wq(word.bytes(), bare),
+        None => false,
+    }
 }
 
 /// Whether the first word of a line is this one.
@@ -59,13 +71,21 @@ pub(crate) fn items_of<A: Allocator + Copy>(
     Ok(Some(items))
 }
 
-/// `wq Q NAME..`: the number and the items. The only error is out of memory.
+/// Whether a word begins the line of a workqueue: `wq`, or, if this is asked for, `norescuer`.
+fn is_wq(word: &[u8], bare: bool) -> bool
+    ensures { result ≡ bytes_eq (wq_word bare word.now) (codes "wq") }
+{
+    word == b"wq".as_slice() || bare && word == b"norescuer".as_slice()
+}
+
+/// `wq Q NAME..`: the number and the items. `norescuer` may be in place of `wq` if this is asked for. The only error is out of memory.
 pub(crate) fn wq_form<A: Allocator + Copy>(
     alloc: A,
     table: &ItemTable<'_, A>,
     mut words: Words<'_>,
+    bare: bool,
 ) -> Result<Option<(u32, Vec<ItemId, A>)>, AllocError>
-    ensures { IfOk result (λ workqueue. option_map (λ q. (q.0, q.1.items)) workqueue ≡ wq_form table.now.names (bytes_of words.entry)) }
+    ensures { IfOk result (λ workqueue. option_map (λ q. (q.0, q.1.items)) workqueue ≡ wq_form table.now.names (with_wq bare (bytes_of words.entry))) }
 {
     let Some(word) = words.next() else {
         return Ok(None);
@@ -73,7 +93,7 @@ pub(crate) fn wq_form<A: Allocator + Copy>(
     let Some(number) = words.next() else {
         return Ok(None);
     };
-    if word.bytes() != b"wq".as_slice() {
+    if !is_wq(word.bytes(), bare) {
         return Ok(None);
     }
     let Some(number) = number_of(number.bytes()) else {

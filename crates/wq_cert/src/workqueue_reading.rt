@@ -5,12 +5,12 @@
 
 ghost use Rattle.std.specs.Prelude.{◌≡◌, [], length, map, Ok, IfOk, IfErr};
 ghost use Rattle.wq_cert.specs.Lines.{cert_line};
-ghost use Rattle.wq_cert.specs.Noted.{AreRead, AreAllRead};
-ghost use Rattle.wq_cert.specs.Reading.{next_workqueues, all_workqueues, counted_assignment, workqueues_reading};
+ghost use Rattle.wq_cert.specs.Noted.{AreRead, AreAllRead, said_line};
+ghost use Rattle.wq_cert.specs.Reading.{next_workqueues, all_workqueues, counted_assignment, workqueues_reading, as_wq};
 ghost use Rattle.wq_cert.specs.Texts.{IsCertFaultOf};
 
 use crate::fault::CertError;
-use crate::form::begins_with;
+use crate::form::begins_wq;
 use crate::view::CertLines;
 use crate::workqueues::Workqueues;
 use std::alloc::Allocator;
@@ -55,28 +55,50 @@ pub(crate) fn read_counted<A: Allocator + Copy>(
     workqueues.assignment(alloc, groups)
 }
 
-/// Reads the workqueues on these lines, up to the first line with another first word, and the number of that line.
+/// Reads the workqueues on these lines, up to the first line with another first word, and the number of that line. `norescuer` lines are
+/// read as `wq` lines if this is asked for.
 fn read_all_workqueues<A: Allocator + Copy>(
     alloc: A,
     table: &ItemTable<'_, A>,
     groups: &Groups<A>,
     lines: CertLines<'_>,
+    bare: bool,
 ) -> Result<(Workqueues<A>, Option<u32>), CertError>
     requires { length groups.now.group_of ≡ length table.now.names }
-    ensures workqueues { IfOk result (λ r. AreAllRead table.now.names groups.now (map cert_line lines.entry) r.0.count r.0.stood.items r.0.lane_of_group.items r.1) }
-    ensures fault { IfErr result (λ e. IsCertFaultOf e (all_workqueues table.now.names groups.now.group_of [] (map cert_line lines.entry))) }
+    ensures workqueues { IfOk result (λ r. AreAllRead table.now.names groups.now (map (λ line. said_line bare line) lines.entry) r.0.count r.0.stood.items r.0.lane_of_group.items r.1) }
+    ensures fault { IfErr result (λ e. IsCertFaultOf e (all_workqueues table.now.names groups.now.group_of [] (map (λ line. said_line bare line) lines.entry))) }
 {
     let mut workqueues = Workqueues::none(alloc, groups, table.len())?;
     for line in lines {
-        if !begins_with(&line, b"wq") {
+        if !begins_wq(&line, bare) {
             return Ok((workqueues, Some(line.no())));
         }
-        workqueues = workqueues.read(alloc, table, groups, &line)?;
+        workqueues = workqueues.read_line(alloc, table, groups, &line, bare)?;
     }
     Ok((workqueues, None))
 }
 
-/// Reads the assignment on these lines. Each must be the line of a workqueue.
+/// Reads the assignment on these lines. Each must be the line of a workqueue: a `wq` line, or a `norescuer` line if this is asked for.
+fn read_lines<A: Allocator + Copy>(
+    alloc: A,
+    table: &ItemTable<'_, A>,
+    groups: &Groups<A>,
+    lines: CertLines<'_>,
+    bare: bool,
+) -> Result<Assignment<A>, CertError>
+    requires { length groups.now.group_of ≡ length table.now.names }
+    ensures assignment { IfOk result (λ a. workqueues_reading table.now.names groups.now (map (λ line. said_line bare line) lines.entry) ≡ Ok a) }
+    ensures fault { IfErr result (λ e. IsCertFaultOf e (workqueues_reading table.now.names groups.now (map (λ line. said_line bare line) lines.entry))) }
+{
+    let (workqueues, after) = read_all_workqueues(alloc, table, groups, lines, bare)?;
+    let assignment = workqueues.assignment(alloc, groups)?;
+    match after {
+        Some(line) => Err(CertError::BadCertLine { line }),
+        None => Ok(assignment),
+    }
+}
+
+/// Reads the assignment on these lines. Each must be a `wq` line.
 pub(crate) fn read_workqueue_lines<A: Allocator + Copy>(
     alloc: A,
     table: &ItemTable<'_, A>,
@@ -87,10 +109,19 @@ pub(crate) fn read_workqueue_lines<A: Allocator + Copy>(
     ensures assignment { IfOk result (λ a. workqueues_reading table.now.names groups.now (map cert_line lines.entry) ≡ Ok a) }
     ensures fault { IfErr result (λ e. IsCertFaultOf e (workqueues_reading table.now.names groups.now (map cert_line lines.entry))) }
 {
-    let (workqueues, after) = read_all_workqueues(alloc, table, groups, lines)?;
-    let assignment = workqueues.assignment(alloc, groups)?;
-    match after {
-        Some(line) => Err(CertError::BadCertLine { line }),
-        None => Ok(assignment),
-    }
+    read_lines(alloc, table, groups, lines, false)
+}
+
+/// Reads the assignment on these lines. Each must be a `wq` line or a `norescuer` line, which is read as a `wq` line.
+pub(crate) fn read_lane_lines<A: Allocator + Copy>(
+    alloc: A,
+    table: &ItemTable<'_, A>,
+    groups: &Groups<A>,
+    lines: CertLines<'_>,
+) -> Result<Assignment<A>, CertError>
+    requires { length groups.now.group_of ≡ length table.now.names }
+    ensures assignment { IfOk result (λ a. workqueues_reading table.now.names groups.now (map as_wq (map cert_line lines.entry)) ≡ Ok a) }
+    ensures fault { IfErr result (λ e. IsCertFaultOf e (workqueues_reading table.now.names groups.now (map as_wq (map cert_line lines.entry)))) }
+{
+    read_lines(alloc, table, groups, lines, true)
 }

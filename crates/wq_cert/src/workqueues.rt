@@ -8,7 +8,7 @@ ghost use Rattle.std.specs.Prelude.{◌≡◌, ◌<◌, ℕ, ◌∷◌, ◌++◌
 ghost use Rattle.std.specs.List.{All, concat, list_all};
 ghost use Rattle.wq_groups.specs.Partition.{IsPartition};
 ghost use Rattle.wq_cert.specs.Lines.{cert_line};
-ghost use Rattle.wq_cert.specs.Noted.{marks, lanes_with, AreNoted, IsNextNoted, is_other};
+ghost use Rattle.wq_cert.specs.Noted.{marks, lanes_with, AreNoted, IsNextNoted, is_other, said_line};
 ghost use Rattle.wq_cert.specs.Reading.{has_stood, splits_group, fresh_items, wq_items, wq_reading, whole_assignment};
 ghost use Rattle.wq_cert.specs.Texts.{IsCertFaultOf};
 
@@ -30,17 +30,19 @@ pub(crate) struct Workqueues<A: Allocator> {
     lane_of_group: Vec<Option<LaneId>, A>,
 }
 
-/// The items on the next workqueue, from the form and the number of its line, where this many workqueues are before it.
+/// The items on the next workqueue, from the form and the number of its line, where this many workqueues are before it. The line may be
+/// a `norescuer` line if this is asked for.
 fn read_items<A: Allocator + Copy>(
     alloc: A,
     table: &ItemTable<'_, A>,
     place: u16,
     line: &Line<'_>,
+    bare: bool,
 ) -> Result<Vec<ItemId, A>, CertError>
-    ensures items { IfOk result (λ items. wq_items table.now.names place (cert_line line.now) ≡ Ok items.items) }
-    ensures fault { IfErr result (λ e. IsCertFaultOf e (wq_items table.now.names place (cert_line line.now))) }
+    ensures items { IfOk result (λ items. wq_items table.now.names place (said_line bare line.now) ≡ Ok items.items) }
+    ensures fault { IfErr result (λ e. IsCertFaultOf e (wq_items table.now.names place (said_line bare line.now))) }
 {
-    let Some((number, items)) = wq_form(alloc, table, line.words())? else {
+    let Some((number, items)) = wq_form(alloc, table, line.words(), bare)? else {
         return Err(CertError::BadCertLine { line: line.no() });
     };
     if number != u32::from(place) || place >= MAX_ASSIGNED_LANES {
@@ -166,7 +168,27 @@ impl<A: Allocator + Copy> Workqueues<A> {
         })
     }
 
-    /// Adds the next workqueue, from its line.
+    /// Adds the next workqueue, from its line. That may be a `norescuer` line if this is asked for.
+    pub(crate) fn read_line(
+        self,
+        alloc: A,
+        table: &ItemTable<'_, A>,
+        groups: &Groups<A>,
+        line: &Line<'_>,
+        bare: bool,
+    ) -> Result<Self, CertError>
+        requires grouped { length groups.now.group_of ≡ length table.now.names }
+        requires noted { (workqueues : List (List ℕ)) × AreNoted groups.now workqueues self.count self.stood.items self.lane_of_group.items }
+        ensures workqueues { (workqueues : List (List ℕ)) → AreNoted groups.now workqueues self.count self.stood.items self.lane_of_group.items
+            → IfOk result (λ q. IsNextNoted table.now.names groups.now workqueues (said_line bare line.now) q.count q.stood.items q.lane_of_group.items) }
+        ensures fault { (workqueues : List (List ℕ)) → AreNoted groups.now workqueues self.count self.stood.items self.lane_of_group.items
+            → IfErr result (λ e. IsCertFaultOf e (wq_reading table.now.names groups.now.group_of workqueues (said_line bare line.now))) }
+    {
+        let items = read_items(alloc, table, self.count, line, bare)?;
+        self.with(line.no(), groups, items.as_slice())
+    }
+
+    /// Adds the next workqueue, from its `wq` line.
     pub(crate) fn read(
         self,
         alloc: A,
@@ -181,8 +203,7 @@ impl<A: Allocator + Copy> Workqueues<A> {
         ensures fault { (workqueues : List (List ℕ)) → AreNoted groups.now workqueues self.count self.stood.items self.lane_of_group.items
             → IfErr result (λ e. IsCertFaultOf e (wq_reading table.now.names groups.now.group_of workqueues (cert_line line.now))) }
     {
-        let items = read_items(alloc, table, self.count, line)?;
-        self.with(line.no(), groups, items.as_slice())
+        self.read_line(alloc, table, groups, line, false)
     }
 
     /// The assignment to these workqueues, if each item is on one.

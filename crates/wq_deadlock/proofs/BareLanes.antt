@@ -4,16 +4,16 @@ use Rattle.std.specs.Prelude.{Contains, filter, slice_index, ◌&&◌, Result, O
 use Rattle.std.specs.List.{All}
 use Rattle.std.proofs.lemmas.Bool.{cases_Bool, false≢true}
 use Rattle.std.proofs.lemmas.List.{length-map}
-use Rattle.std.proofs.lemmas.List.Elements.{All-contains, All-contains_itself, All-filter, filter_passes}
+use Rattle.std.proofs.lemmas.List.Elements.{All-contains, All-filter, filter_passes}
 use Rattle.std.proofs.lemmas.List.FromFn.{length-map-range_with_len}
 use Rattle.wq_items.specs.Table.{ItemWaits}
 use Rattle.wq_items.proofs.Lists.{Contains-here, Contains-filtered}
 use Rattle.wq_groups.specs.Declaration.{Declaration, IsDeclaration}
-use Rattle.wq_groups.specs.Assignment.{Assignment, IsAssignment, group_lane, item_lane, item_lanes}
+use Rattle.wq_groups.specs.Assignment.{Assignment, IsAssignment, group_lane, item_lanes}
 use Rattle.wq_groups.proofs.Declarations.{waiting-item, awaited-item}
 use Rattle.wq_groups.proofs.Lanes.{item_lanes-at, item_lanes-within}
 use Rattle.wq_graph.specs.declared.arc.WaitArc.{WaitArc}
-use Rattle.wq_graph.specs.Graph.{arc_of, arcs_by_place, arcs_from, lane_graph, without, IsArc}
+use Rattle.wq_graph.specs.Graph.{arc_of, arcs_by_place, arcs_from, lane_graph, IsArc}
 use Rattle.wq_graph.proofs.Graphs.{IsArc-by_place, Contains-by_place, IsGraph-lane_graph}
 use Rattle.wq_graph.proofs.LeavingOut.{length-without, HasArc-without, IsGraph-without}
 use Rattle.wq_levels.specs.Ranks.{AreRanks}
@@ -24,13 +24,13 @@ use Rattle.wq_levels.proofs.Walks.{LeadsRound-walked}
 use Rattle.wq_core.specs.declared.step.Step.{Step}
 use Rattle.wq_core.specs.Wiring.{Wiring, IsWiring, HasRescuer, wiring, lane_of}
 use Rattle.wq_core.specs.Workqueues.{Workqueues, wiring_of}
-use Rattle.wq_core.specs.Deadlock.{IsSafe, DeadlocksBy}
+use Rattle.wq_core.specs.Deadlock.{DeadlocksBy}
 use Rattle.wq_core.specs.Knot.{IsKnot}
 use Rattle.wq_core.proofs.BareWaits.{IsKnot-bare}
 use Rattle.wq_core.proofs.KnotRuns.{DeadlocksBy-knot}
 use Rattle.wq_core.proofs.Safety.{IsSafe-rescued}
 use Rattle.wq_core.proofs.Wirings.{IsWiring-wiring, IsWiring-with_bare, lanes-some}
-use Rattle.wq_deadlock.specs.CircleRun.{flushing_items, IsRunOf}
+use Rattle.wq_deadlock.specs.CircleRun.{IsRunOf}
 use Rattle.wq_deadlock.specs.Judging.{is_on_bare, leads_to_bare, bare_waits, rescued_graph, AreFirst, IsHang, AreSafe}
 use Rattle.wq_deadlock.proofs.CircleKnots.{IsKnot-flushing_items}
 use Rattle.wq_deadlock.proofs.Verdicts.{HasArc-items}

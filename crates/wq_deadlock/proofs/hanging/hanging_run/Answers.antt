@@ -1,4 +1,4 @@
-use Rattle.std.proofs.Common.{◌≡◌, length, refl, sym, ap, subst, ◌∙◌, arith}
+use Rattle.std.proofs.Common.{length, sym, ap, subst, ◌∙◌, arith}
 use Rattle.wq_core.specs.Runs.{IsRunFrom}
 use Rattle.wq_core.specs.State.{State}
 use Rattle.wq_core.specs.Played.{queue_order}

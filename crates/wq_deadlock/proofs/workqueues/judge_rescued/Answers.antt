@@ -1,13 +1,10 @@
-use Rattle.std.proofs.Common.{◌≡◌, ◌<◌, ◌≤◌, List, length, refl, sym, ap, subst, ◌∙◌, arith}
+use Rattle.std.proofs.Common.{◌≤◌, length, ap, subst, ◌∙◌, arith}
 use Rattle.wq_groups.specs.Declaration.{IsDeclaration, declaration_of}
 use Rattle.wq_groups.specs.Assignment.{Assignment, IsAssignment}
 use Rattle.wq_groups.proofs.Declarations.{IsDeclaration-of}
 use Rattle.wq_levels.specs.Walks.{IsWalkedCircle}
-use Rattle.wq_core.specs.Held.{Machine}
-use Rattle.wq_core.specs.Knot.{IsKnot}
 use Rattle.wq_core.proofs.Results.{OnErr-holds}
-use Rattle.wq_deadlock.specs.CircleRun.{IsRunOf}
-use Rattle.wq_deadlock.specs.Judging.{bare_waits, rescued_graph}
+use Rattle.wq_deadlock.specs.Judging.{rescued_graph}
 use Rattle.wq_deadlock.proofs.BareLanes.{AreSafe-ranks, some-lanes}
 use Rattle.wq_deadlock.proofs.workqueues.judge_rescued.Goals as goal
 

@@ -1,10 +1,18 @@
-use Rattle.std.proofs.Common.{◌<◌, ℕ, List, sym, subst₂}
-use Rattle.std.specs.List.{All}
-use Rattle.wq_cert.specs.Lines.{cert_line}
-use Rattle.wq_cert.proofs.NotedLemmas.{wq_items-below}
+use Rattle.std.proofs.Common.{subst}
+use Rattle.std.specs.Prelude.{IfOk, IfErr}
+use Rattle.wq_cert.specs.Lines.{CertLine}
+use Rattle.wq_cert.specs.Noted.{IsNextNoted}
+use Rattle.wq_cert.specs.Reading.{wq_reading}
+use Rattle.wq_cert.specs.Texts.{IsCertFaultOf}
+use Rattle.wq_cert.proofs.SaidLines.{said_line-false}
 use Rattle.wq_cert.proofs.workqueues.Workqueues.read.Goals as goal
 
-pub with-requires-clause-items : goal.with-requires-clause-items
-with-requires-clause-items g c =
-    subst₂ (λ (items : List ℕ) (n : ℕ). All (λ i. i < n) items) (sym c.as_slice.ensures.value) (sym c.requires.grouped)
-    (wq_items-below c.args.table.now.names c.args.self.count (cert_line c.args.line.now) c.in_ok-items.items.items c.in_ok-items.ensures.items)
+pub returns-clause-workqueues : goal.returns-clause-workqueues
+returns-clause-workqueues g c = λ workqueues noted.
+    subst (λ (l : CertLine). IfOk c.read_line.result (λ q. IsNextNoted c.args.table.now.names c.args.groups.now workqueues l q.count q.stood.items q.lane_of_group.items)) (said_line-false c.args.line.now)
+    (c.read_line.ensures.workqueues workqueues noted)
+
+pub returns-clause-fault : goal.returns-clause-fault
+returns-clause-fault g c = λ workqueues noted.
+    subst (λ (l : CertLine). IfErr c.read_line.result (λ e. IsCertFaultOf e (wq_reading c.args.table.now.names c.args.groups.now.group_of workqueues l))) (said_line-false c.args.line.now)
+    (c.read_line.ensures.fault workqueues noted)
