@@ -178,7 +178,7 @@ circle_count-some first n is = (Shows-circle.holds first n is).0
 
 -- ---- by the first word
 
-made_of : {V W : Type 0} (made : V → W) (r : Result V CertError) → NoLineIsAtFault r → NoLineIsAtFault (and_then {W = W} (λ v. Ok (made v)) r)
+pub made_of : {V W : Type 0} (made : V → W) (r : Result V CertError) → NoLineIsAtFault r → NoLineIsAtFault (and_then {W = W} (λ v. Ok (made v)) r)
 made_of made (Ok v) h = tt
 made_of made (Err fault) h = h
 

@@ -38,3 +38,4 @@ pub mod JudgedLines
 pub mod LineRows
 pub mod GrowthLemmas
 pub mod SaidLines
+pub mod LanesRead

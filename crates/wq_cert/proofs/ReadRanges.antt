@@ -166,7 +166,7 @@ module _ (names : List (List ℕ)) (p : Partition) (partition : IsPartition p) (
       let lines = cert_lines (lines_of text) in
       IsCertificateOf-read lines c (few_lines text found.within) (IsReadAs-answer_reading names p lines c found.is_read)
 
-  IsAssignmentOf-read : (lines : List CertLine) (a : Assignment) → IsAssignedBy names p lines a → IsAssignmentOf p.groups a
+  pub IsAssignmentOf-read : (lines : List CertLine) (a : Assignment) → IsAssignedBy names p lines a → IsAssignmentOf p.groups a
   IsAssignmentOf-read lines a (inl e) =
       let spells = SpellsWorkqueues-workqueues_reading names p one_group_each lines a e in
       IsAssignmentOf-spelled spells.workqueues a spells.are spells.assignment

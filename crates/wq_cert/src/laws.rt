@@ -10,17 +10,18 @@ ghost use Rattle.wq_text.specs.Numbers.{Spells};
 ghost use Rattle.wq_items.specs.Table.{Table, IsTable};
 ghost use Rattle.wq_groups.specs.Partition.{Partition, IsPartition};
 ghost use Rattle.wq_groups.specs.Assignment.{Assignment, IsAssignment, item_lane, item_lanes};
+ghost use Rattle.wq_core.specs.Workqueues.{Workqueues};
 ghost use Rattle.wq_core.specs.declared.step.Step.{Step};
 ghost use Rattle.wq_cert.specs.Certificate.{OfPlan, OfCircle, PlanCertificate, CircleCertificate, Certificate};
 ghost use Rattle.wq_cert.specs.CircleText.{circle_text};
 ghost use Rattle.wq_cert.specs.PlanText.{plan_line, plan_text};
 ghost use Rattle.wq_cert.specs.RunText.{run_text};
-ghost use Rattle.wq_cert.specs.Texts.{max_certificate, max_certificate_line, answer_of, assignment_of_text, run_of};
+ghost use Rattle.wq_cert.specs.Texts.{max_certificate, max_certificate_line, answer_of, assignment_of_text, workqueues_of_text, run_of};
 ghost use Rattle.wq_cert.specs.declared.fault.CertError.{CertError};
 ghost use Rattle.wq_cert.specs.declared.fault.CertError.TheVariants.{BadCertLine, NotAllItems};
 ghost use Rattle.wq_cert.specs.FirstFaults.{line_of, NoLineIsAtFault, IsOfTheFirstLine};
 ghost use Rattle.wq_cert.specs.Forms.{number_of, begins_with};
-ghost use Rattle.wq_cert.specs.Ranges.{IsArcOf, IsStepOf, IsAssignmentOf, IsRunOf, IsCertificateOf};
+ghost use Rattle.wq_cert.specs.Ranges.{IsArcOf, IsStepOf, IsAssignmentOf, AreWorkqueuesOf, IsRunOf, IsCertificateOf};
 ghost use Rattle.wq_cert.specs.LineRows.{LineForm, StandsInPlan, StandsInCircle, StandsInRun, BreaksLine, KeepsLine};
 ghost use Rattle.wq_cert.specs.Lines.{CertLine};
 ghost use Rattle.wq_cert.specs.Reading.{assignment_of, plan_reading, circle_reading, run_reading, workqueues_reading};
@@ -34,6 +35,8 @@ pub fn what_is_read_is_in_range()
         length names ≡ length p.group_of → answer_of names p text ≡ Ok c → IsCertificateOf (length names) p.groups c }
     ensures assignment { (names : List (List ℕ)) (p : Partition) (text : List ℕ) (a : Assignment) → IsPartition p →
         length names ≡ length p.group_of → assignment_of_text names p text ≡ Ok a → IsAssignmentOf p.groups a }
+    ensures workqueues { (names : List (List ℕ)) (p : Partition) (text : List ℕ) (ws : Workqueues) → IsPartition p →
+        length names ≡ length p.group_of → workqueues_of_text names p text ≡ Ok ws → AreWorkqueuesOf p.groups ws }
     ensures run { (names : List (List ℕ)) (text : List ℕ) (steps : List Step) → run_of names text ≡ Ok steps →
         IsRunOf (length names) steps }
 {}
@@ -45,11 +48,15 @@ pub fn a_long_certificate_is_refused_by_its_prefix()
         answer_of names p text ≡ Err (BadCertLine 0) }
     ensures assignment { (names : List (List ℕ)) (p : Partition) (text : List ℕ) → max_certificate < length text →
         assignment_of_text names p text ≡ Err (BadCertLine 0) }
+    ensures workqueues { (names : List (List ℕ)) (p : Partition) (text : List ℕ) → max_certificate < length text →
+        workqueues_of_text names p text ≡ Err (BadCertLine 0) }
     ensures run { (names : List (List ℕ)) (text : List ℕ) → max_certificate < length text → run_of names text ≡ Err (BadCertLine 0) }
     ensures prefix_of_answer { (names : List (List ℕ)) (p : Partition) (text : List ℕ) →
         answer_of names p (take (max_certificate + 1) text) ≡ answer_of names p text }
     ensures prefix_of_assignment { (names : List (List ℕ)) (p : Partition) (text : List ℕ) →
         assignment_of_text names p (take (max_certificate + 1) text) ≡ assignment_of_text names p text }
+    ensures prefix_of_workqueues { (names : List (List ℕ)) (p : Partition) (text : List ℕ) →
+        workqueues_of_text names p (take (max_certificate + 1) text) ≡ workqueues_of_text names p text }
     ensures prefix_of_run { (names : List (List ℕ)) (text : List ℕ) → run_of names (take (max_certificate + 1) text) ≡ run_of names text }
 {}
 

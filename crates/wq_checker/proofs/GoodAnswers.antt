@@ -1,5 +1,5 @@
 -- What good certificates imply: safe assignments, lanes that wait in a circle, and runs that deadlock.
-use Rattle.std.proofs.Common.{◌≡◌, ℕ, ◌<◌, List, length, Result, Ok, sym, subst, ◌∙◌, arith}
+use Rattle.std.proofs.Common.{◌≡◌, ℕ, ◌<◌, List, length, Result, Ok, refl, sym, subst, ◌∙◌, arith}
 use Rattle.wq_items.specs.Chain.{Circle}
 use Rattle.wq_groups.specs.Declaration.{Declaration, IsDeclaration}
 use Rattle.wq_groups.specs.Assignment.{Assignment, IsAssignment}
@@ -27,7 +27,7 @@ module _ (d : Declaration) (is : IsDeclaration d) where
   -- if each flush falls, no run ends stuck
   pub IsSafe-fall : (a : Assignment) → AllFall d a → IsSafe (wiring d a)
   IsSafe-fall a falls =
-      IsSafe-falls (wiring d a) (λ l. l) (λ i j waits.
+      IsSafe-falls (wiring d a) (λ l. l) refl (λ i j waits.
       let one = item_lanes-at a d.group_of i (waiting-item d is i j waits) in
       let other = item_lanes-at a d.group_of j (awaited-item d is i j waits) in
       omega (arith, one, other, falls i j waits)
@@ -49,7 +49,7 @@ module _ (d : Declaration) (is : IsDeclaration d) where
   IsLeast-good c asked good = record {
     assignment = asked.assignment;
     safe = IsSafe-fall c.assignment good.falls;
-    fewer = λ b other fewer. Deadlocks-circle (wiring d b) (IsWiring-wiring d b is other) (Circle-fewer c asked good b other fewer);
+    fewer = λ b other fewer. Deadlocks-circle (wiring d b) (IsWiring-wiring d b is other) refl (Circle-fewer c asked good b other fewer);
   }
 
   -- ---- circles
@@ -61,7 +61,7 @@ module _ (d : Declaration) (is : IsDeclaration d) where
   Circle-any c asked joined b = Circle-lanes d b (IsCircleAlong-good c asked joined).circle
 
   pub Deadlocks-any : (c : CircleCertificate) → IsCircleAsked d c → AllJoin d (before_in_circle c.arcs) c.arcs → (b : Assignment) → IsAssignment d.groups b → Deadlocks (wiring d b)
-  Deadlocks-any c asked joined b assignment = Deadlocks-circle (wiring d b) (IsWiring-wiring d b is assignment) (Circle-any c asked joined b)
+  Deadlocks-any c asked joined b assignment = Deadlocks-circle (wiring d b) (IsWiring-wiring d b is assignment) refl (Circle-any c asked joined b)
 
 -- ---- answers
 

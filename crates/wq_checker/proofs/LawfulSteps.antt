@@ -1,6 +1,6 @@
 -- Whether a step is lawful, whether it keeps to the order of its declaration, and whether a state is stuck.
 use Rattle.std.proofs.Common.{◌≡◌, ℕ, zero, suc, ◌+◌, ◌<◌, ◌≤◌, inl, inr, ◌↔◌, Bool, true, false, List, length, Option, Some, None, refl, sym, ap, subst, ◌∙◌, arith}
-use Rattle.std.specs.Prelude.{IsTrue, slice_get, is_some}
+use Rattle.std.specs.Prelude.{IsTrue, IfSome, IfNone, slice_get, is_some}
 use Rattle.std.specs.List.{Any}
 use Rattle.std.proofs.lemmas.Bool.{cases_eq}
 use Rattle.wq_items.specs.declared.target.Target.{Target}
@@ -12,7 +12,7 @@ use Rattle.wq_core.specs.declared.step.Step.{Step}
 use Rattle.wq_core.specs.declared.step.Step.TheVariants.{Queue, Cancel, Start, Wait, Over, WaitAll, OverAll, Finish, Help}
 use Rattle.wq_core.specs.declared.step.HelpStep.{HelpStep}
 use Rattle.wq_core.specs.declared.step.HelpStep.TheVariants.{Start as DoStart, Wait as DoWait, WaitAll as DoWaitAll, Over as DoOver, OverAll as DoOverAll, Finish as DoFinish}
-use Rattle.wq_core.specs.Wiring.{Wiring, HasHelper, helpers_of, items, declared_by}
+use Rattle.wq_core.specs.Wiring.{Wiring, HasRescuer, HasHelper, helpers_of, items, declared_by}
 use Rattle.wq_core.specs.State.{Lane, State, lane_at, run_by, Runs, RunsIn, is_running, next_of, HasPending}
 use Rattle.wq_core.specs.Rules.{IsHeldBack, MayWait, MayBeOver, MayFinish, MayStart, MayStartFirst, MayDo, Lawful}
 use Rattle.wq_core.specs.Runs.{KeepsOrder, KeepsOrderIn, IsNextWait}
@@ -22,8 +22,9 @@ use Rattle.wq_core.specs.Played.{CanMove, RescuerCanMove, HelperGoesOn}
 use Rattle.wq_core.proofs.DeclaredSteps.{RescuerCanMove-idle, RescuerCanMove-waiting, RescuerCanMove-awake, HelperGoesOn-idle, HelperGoesOn-waiting, HelperGoesOn-awake, HelperGoesOn-exists, CanMove-within}
 use Rattle.wq_core.proofs.LaneLemmas.{nothing_runs, same_running}
 use Rattle.wq_core.proofs.Playing.{cases_held_back}
+use Rattle.wq_core.proofs.Wirings.{cases_rescuer as has_rescuer}
 use Rattle.wq_checker.proofs.Decided.{Decided, both, one_of, not_so, alike, cases_below, cases_most, cases_Any, cases_each_below, cases_some_below}
-use Rattle.wq_checker.proofs.StuckStates.{cases_lane, cases_HasUnfinished, IsStuck-can_move, IsStuck-cannot_move}
+use Rattle.wq_checker.proofs.StuckStates.{cases_lane, cases_owed, IsStuck-can_move, IsStuck-cannot_move}
 
 -- ---- what is pending
 
@@ -184,6 +185,14 @@ module _ (w : Wiring) (s : State) where
     cases_rescuer : Decided (RescuerCanMove w s q)
     cases_rescuer = by_running (lane_at s q).running refl
       where
+        is_next : (next : Option Entry) → HasRescuer w q → next_of (lane_at s q) ≡ next → IfSome next (λ (e : Entry). HasRescuer w q × (next_of (lane_at s q) ≡ Some e))
+        is_next None rescuer is = tt
+        is_next (Some e) rescuer is = (rescuer, is)
+
+        no_next : (next : Option Entry) → next_of (lane_at s q) ≡ next → IfNone next (HasRescuer w q → next_of (lane_at s q) ≡ None)
+        no_next None is = λ rescuer. is
+        no_next (Some e) is = tt
+
         by_waiting : (r : Running) → Runs (lane_at s q) r → (o : Option Waiting) → r.waiting ≡ o → Decided (RescuerCanMove w s q)
         by_waiting r runs None awake = inl (RescuerCanMove-awake w s q r runs awake)
         by_waiting r runs (Some f) waits = elim (cases_held_back w s f.whole f.target f.mark) [
@@ -192,9 +201,13 @@ module _ (w : Wiring) (s : State) where
         ]
 
         by_running : (o : Option Running) → (lane_at s q).running ≡ o → Decided (RescuerCanMove w s q)
-        by_running None idle =
-            let next = next_of (lane_at s q) in
-            cases_test (is_some next) (RescuerCanMove-idle w s q idle next refl (is_some next) refl)
+        by_running None idle = elim (has_rescuer w q) [
+          | inl rescuer ↦ (
+              let next = next_of (lane_at s q) in
+              cases_test (is_some next) (RescuerCanMove-idle w s q idle next (is_next next rescuer refl) (no_next next refl) (is_some next) refl)
+              )
+          | inr bare ↦ inr (λ can. absurd (let e : false ≡ true = (RescuerCanMove-idle w s q idle None tt (λ rescuer. absurd (bare rescuer)) false refl).1 can in cc))
+        ]
         by_running (Some r) runs = by_waiting r runs r.waiting refl
 
     cases_helper : (h : ℕ) → Decided (HelperGoesOn w s q h)
@@ -234,9 +247,9 @@ module _ (w : Wiring) (s : State) where
 
   pub cases_IsStuck : IsSoundState w s → Decided (IsStuck w s)
   cases_IsStuck sound = elim (cases_none_moves sound) [
-    | inl none ↦ elim (cases_HasUnfinished s) [
-      | inl left ↦ inl ((IsStuck-cannot_move w s none false ((λ e. absurd (let apart : false ≡ true = e in cc)), (λ nothing. absurd (nothing left)))).0 refl)
-      | inr nothing ↦ inr (λ stuck. nothing stuck.left)
+    | inl none ↦ elim (cases_owed w s) [
+      | inl owed ↦ inl ((IsStuck-cannot_move w s none false ((λ e. absurd (let apart : false ≡ true = e in cc)), (λ nothing. absurd (nothing owed.0 owed.1)))).0 refl)
+      | inr nothing ↦ inr (λ stuck. nothing (stuck.left, stuck.rescuer))
     ]
     | inr some ↦ inr (λ stuck. some (λ q can. IsStuck-can_move w s q can stuck))
   ]

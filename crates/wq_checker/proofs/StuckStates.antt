@@ -1,18 +1,19 @@
 -- States in which an entry is unfinished and no lane can move.
-use Rattle.std.proofs.Common.{◌≡◌, ℕ, zero, suc, ◌⊎◌, inl, inr, ◌↔◌, Bool, true, false, not, List, [], ◌∷◌, get_or, Option, Some, None, refl, sym, ◌∙◌, arith}
+use Rattle.std.proofs.Common.{◌≡◌, ℕ, zero, suc, ◌⊎◌, inl, inr, ◌↔◌, Bool, true, false, not, List, [], ◌∷◌, length, get_or, Option, Some, None, refl, sym, ◌∙◌, arith}
 use Rattle.std.specs.Prelude.{IsTrue}
 use Rattle.wq_core.specs.declared.entry.Entry.{Entry}
 use Rattle.wq_core.specs.declared.entry.Running.{Running}
 use Rattle.wq_core.specs.declared.step.Step.{Step}
 use Rattle.wq_core.specs.declared.step.Step.TheVariants.{Queue, Cancel, Start, Wait, Over, WaitAll, OverAll, Finish, Help}
-use Rattle.wq_core.specs.Wiring.{Wiring}
-use Rattle.wq_core.specs.State.{Lane, State, idle_lane, IsUnfinishedOn, HasUnfinished}
+use Rattle.wq_core.specs.Wiring.{Wiring, HasRescuer}
+use Rattle.wq_core.specs.State.{Lane, State, idle_lane, lane_at, IsUnfinishedOn, HasUnfinished}
 use Rattle.wq_core.specs.Rules.{Lawful}
 use Rattle.wq_core.specs.Runs.{IsForcedStep}
 use Rattle.wq_core.specs.Deadlock.{IsStuck}
-use Rattle.wq_core.specs.Played.{CanMove, IsStepOfLane}
-use Rattle.wq_core.proofs.LaneLemmas.{Contains-nil}
-use Rattle.wq_checker.proofs.Decided.{Decided}
+use Rattle.wq_core.specs.Played.{CanMove}
+use Rattle.wq_core.proofs.LaneLemmas.{Contains-nil, lane_within}
+use Rattle.wq_core.proofs.Wirings.{cases_rescuer}
+use Rattle.wq_checker.proofs.Decided.{Decided, both, cases_some_below}
 
 -- ---- some lane
 
@@ -67,41 +68,43 @@ cases_HasUnfinished s = elim (cases_lane (λ lane. (e : Entry) × IsUnfinishedOn
 
 -- ---- steps and lanes that move
 
-CanMove-forced : (w : Wiring) (s : State) (step : Step) → IsForcedStep step → Lawful w s step → (q : ℕ) × CanMove w s q
+CanMove-forced : (w : Wiring) (s : State) (step : Step) → IsForcedStep w step → Lawful w s step → (q : ℕ) × CanMove w s q
 CanMove-forced w s (Queue i) is lawful = absurd is
 CanMove-forced w s (Cancel i) is lawful = absurd is
-CanMove-forced w s (Start q i) is lawful = (q, inl (Start q i, refl, lawful))
-CanMove-forced w s (Wait q b) is lawful = (q, inl (Wait q b, refl, lawful))
-CanMove-forced w s (Over q b) is lawful = (q, inl (Over q b, refl, lawful))
-CanMove-forced w s (WaitAll q b) is lawful = (q, inl (WaitAll q b, refl, lawful))
-CanMove-forced w s (OverAll q b) is lawful = (q, inl (OverAll q b, refl, lawful))
-CanMove-forced w s (Finish q i) is lawful = (q, inl (Finish q i, refl, lawful))
+CanMove-forced w s (Start q i) is lawful = (q, inl (Start q i, refl, lawful, is))
+CanMove-forced w s (Wait q b) is lawful = (q, inl (Wait q b, refl, lawful, is))
+CanMove-forced w s (Over q b) is lawful = (q, inl (Over q b, refl, lawful, is))
+CanMove-forced w s (WaitAll q b) is lawful = (q, inl (WaitAll q b, refl, lawful, is))
+CanMove-forced w s (OverAll q b) is lawful = (q, inl (OverAll q b, refl, lawful, is))
+CanMove-forced w s (Finish q i) is lawful = (q, inl (Finish q i, refl, lawful, is))
 CanMove-forced w s (Help q h deed) is lawful = (q, inr (h, (deed, is, lawful)))
-
-IsForcedStep-of_lane : (q : ℕ) (step : Step) → IsStepOfLane q step → IsForcedStep step
-IsForcedStep-of_lane q (Queue i) is = is
-IsForcedStep-of_lane q (Cancel i) is = is
-IsForcedStep-of_lane q (Start p i) is = tt
-IsForcedStep-of_lane q (Wait p b) is = tt
-IsForcedStep-of_lane q (Over p b) is = tt
-IsForcedStep-of_lane q (WaitAll p b) is = tt
-IsForcedStep-of_lane q (OverAll p b) is = tt
-IsForcedStep-of_lane q (Finish p i) is = tt
-IsForcedStep-of_lane q (Help p h deed) is = absurd is
 
 -- ---- stuck
 
 module _ (w : Wiring) (s : State) where
   -- if a lane can move, the state isn't stuck
   pub IsStuck-can_move : (q : ℕ) → CanMove w s q → ¬ IsStuck w s
-  IsStuck-can_move q (inl (step, of_lane, lawful)) stuck = stuck.no_step step (IsForcedStep-of_lane q step of_lane) lawful
+  IsStuck-can_move q (inl (step, of_lane, lawful, forced)) stuck = stuck.no_step step forced lawful
   IsStuck-can_move q (inr (h, (deed, goes_on, lawful))) stuck = stuck.no_step (Help q h deed) goes_on lawful
 
-  -- if none can, it is stuck exactly if something is unfinished
-  pub IsStuck-cannot_move : ((q : ℕ) → ¬ CanMove w s q) → (idle : Bool) → (IsTrue idle ↔ (¬ HasUnfinished s)) → IsTrue (not idle) ↔ IsStuck w s
-  IsStuck-cannot_move none true both = ((λ e. absurd cc), (λ stuck. absurd (both.0 refl stuck.left)))
-  IsStuck-cannot_move none false both = ((λ e. stuck (cases_HasUnfinished s)), (λ stuck. refl))
+  -- something is unfinished on a lane that has a rescuer
+  abbrev pub IsOwed : Type 0
+  IsOwed = (left : HasUnfinished s) × HasRescuer w left.lane
+
+  pub cases_owed : Decided IsOwed
+  cases_owed = elim (cases_some_below busy (λ q. both (cases_rescuer w q) (cases_unfinished_on (lane_at s q))) (length s.lanes)) [
+    | inl some ↦ inl (record { lane = some.0; entry = some.2.1.0; unfinished = some.2.1.1 }, some.2.0)
+    | inr none ↦ inr (λ owed. none (owed.0.lane, lane_within s owed.0.lane owed.0.entry owed.0.unfinished, (owed.1, (owed.0.entry, owed.0.unfinished))))
+  ]
     where
-      stuck : HasUnfinished s ⊎ (¬ HasUnfinished s) → IsStuck w s
-      stuck (inl left) = record { left = left; no_step = λ step is lawful. let moves = CanMove-forced w s step is lawful in none moves.0 moves.1 }
-      stuck (inr nothing) = absurd (let e : false ≡ true = both.1 nothing in cc)
+      abbrev busy : ℕ → Type 0
+      busy q = HasRescuer w q × ((e : Entry) × IsUnfinishedOn (lane_at s q) e)
+
+  -- if none can, it is stuck exactly if something is unfinished on such a lane
+  pub IsStuck-cannot_move : ((q : ℕ) → ¬ CanMove w s q) → (rest : Bool) → (IsTrue rest ↔ ((left : HasUnfinished s) → ¬ HasRescuer w left.lane)) → IsTrue (not rest) ↔ IsStuck w s
+  IsStuck-cannot_move none true both = ((λ e. absurd cc), (λ stuck. absurd (both.0 refl stuck.left stuck.rescuer)))
+  IsStuck-cannot_move none false both = ((λ e. stuck cases_owed), (λ stuck. refl))
+    where
+      stuck : Decided IsOwed → IsStuck w s
+      stuck (inl owed) = record { left = owed.0; rescuer = owed.1; no_step = λ step is lawful. let moves = CanMove-forced w s step is lawful in none moves.0 moves.1 }
+      stuck (inr nothing) = absurd (let e : false ≡ true = both.1 (λ left rescuer. nothing (left, rescuer)) in cc)

@@ -7,6 +7,7 @@
 ghost use Rattle.std.specs.Prelude.{◌≡◌, ◌<◌, ◌↔◌, IsTrue, IfOk, OnErr, IfErr, length};
 ghost use Rattle.wq_groups.specs.Declaration.{declaration_of};
 ghost use Rattle.wq_core.specs.Wiring.{wiring};
+ghost use Rattle.wq_core.specs.Workqueues.{wiring_of};
 ghost use Rattle.wq_core.specs.State.{empty_state};
 ghost use Rattle.wq_core.specs.Rules.{Lawful};
 ghost use Rattle.wq_core.specs.Runs.{KeepsOrder};
@@ -18,7 +19,7 @@ ghost use Rattle.wq_checker.specs.Searching.{IsPlayed};
 use crate::once::is_once;
 use crate::run::RunEnd;
 use std::alloc::{AllocError, Allocator};
-use wq_core::{Core, Step};
+use wq_core::{Core, Step, Workqueues};
 use wq_groups::{Assignment, Groups, LaneId};
 use wq_items::ItemTable;
 
@@ -67,11 +68,11 @@ fn play<A: Allocator>(core: &mut Core<A>, steps: &[Step]) -> Result<bool, u32>
     Ok(in_order)
 }
 
-/// Whether an entry is unfinished, and no lane can move.
+/// Whether an entry is unfinished on a lane that has a rescuer, and no lane can move.
 fn is_stuck<A: Allocator>(core: &Core<A>) -> bool
     ensures { IsTrue result ↔ IsStuck core.now.wiring core.now.state }
 {
-    core.enabled().is_none() && !core.is_idle()
+    core.enabled().is_none() && !core.is_at_rest()
 }
 
 /// How a run without helpers that leaves this machine ends.
@@ -97,6 +98,24 @@ fn end_of<A: Allocator + Copy>(
     }
 }
 
+/// How a list of steps ends that are made on a machine without helpers on which nothing was queued yet.
+fn ends<A: Allocator + Copy>(
+    alloc: A,
+    mut core: Core<A>,
+    steps: &[Step],
+) -> Result<RunEnd, AllocError>
+    requires helpers { core.wiring.helpers ≡ 0 }
+    requires empty { core.state ≡ empty_state core.wiring }
+    requires few { length steps.now < 4294967295 }
+    ensures end { IfOk result (λ end. EndsAs core.wiring steps.now end) }
+    ensures memory { OnErr result (0 < core.wiring.lanes) }
+{
+    match play(&mut core, steps) {
+        Ok(in_order) => end_of(alloc, &core, steps, in_order),
+        Err(at) => Ok(RunEnd::NotLawful(at)),
+    }
+}
+
 /// How a list of fewer than 4,294,967,295 steps ends under an assignment of the groups. The only error is out of memory (20),
 /// which can't occur where there is no lane.
 pub fn check_run<A: Allocator + Copy>(
@@ -112,9 +131,24 @@ pub fn check_run<A: Allocator + Copy>(
     ensures end { IfOk result (λ end. EndsAs (wiring (declaration_of table.now groups.now) assignment.now) steps.now end) }
     ensures memory { OnErr result (0 < assignment.now.lanes) }
 {
-    let mut core = Core::new(alloc, table, groups, assignment)?;
-    match play(&mut core, steps) {
-        Ok(in_order) => end_of(alloc, &core, steps, in_order),
-        Err(at) => Ok(RunEnd::NotLawful(at)),
-    }
+    let core = Core::new(alloc, table, groups, assignment)?;
+    ends(alloc, core, steps)
+}
+
+/// The same on workqueues of which some may have no rescuer.
+pub fn check_run_on<A: Allocator + Copy>(
+    alloc: A,
+    table: &ItemTable<'_, A>,
+    groups: &Groups<A>,
+    workqueues: &Workqueues<A>,
+    steps: &[Step],
+) -> Result<RunEnd, AllocError>
+    requires grouped { length groups.now.group_of ≡ length table.now.names }
+    requires assigned { length workqueues.now.assignment.lane_of_group ≡ groups.now.groups }
+    requires few { length steps.now < 4294967295 }
+    ensures end { IfOk result (λ end. EndsAs (wiring_of (declaration_of table.now groups.now) workqueues.now) steps.now end) }
+    ensures memory { OnErr result (0 < workqueues.now.assignment.lanes) }
+{
+    let core = Core::on_workqueues(alloc, table, groups, workqueues)?;
+    ends(alloc, core, steps)
 }

@@ -4,12 +4,12 @@ use Rattle.std.specs.Prelude.{MatchResult, IfErr, IfOk, take}
 use Rattle.std.specs.Result.{IsErrAnd, IsOkAnd}
 use Rattle.std.proofs.lemmas.Result.{MatchResult-weaker}
 use Rattle.wq_text.specs.Refusal.{Refusal}
-use Rattle.wq_groups.specs.Assignment.{Assignment}
+use Rattle.wq_core.specs.Workqueues.{Workqueues}
 use Rattle.wq_core.specs.declared.step.Step.{Step}
 use Rattle.wq_cert.specs.declared.fault.CertError.{CertError}
 use Rattle.wq_cert.specs.Certificate.{Certificate}
-use Rattle.wq_cert.specs.Reading.{answer_reading, assignment_reading, run_reading}
-use Rattle.wq_cert.specs.Texts.{assignment_of_text, cert_refusal, max_certificate}
+use Rattle.wq_cert.specs.Reading.{answer_reading, lanes_reading, run_reading}
+use Rattle.wq_cert.specs.Texts.{workqueues_of_text, cert_refusal, max_certificate}
 use Rattle.wq_cert.proofs.LongCertificates.{text_reading-take}
 use Rattle.wq_meter.specs.Shell.{Given, kept}
 use Rattle.wq_commands.specs.declared.end.End.{End}
@@ -36,10 +36,10 @@ module _ (why : Option Why) where
   pub SaysDeclared-take : (text : List ℕ) → SaysDeclared (take (max_declaration + 1) text) why → SaysDeclared text why
   SaysDeclared-take text says = by_declaration text (λ _. why ≡ None) (λ _. why ≡ None) (λ _ h. h) says
 
-  SaysAssignment-take : (text : List ℕ) (s : Declared) → SaysFault SecondText (assignment_of_text s.table.names s.partition (take (max_certificate + 1) text)) why
-      → SaysFault SecondText (assignment_of_text s.table.names s.partition text) why
+  SaysAssignment-take : (text : List ℕ) (s : Declared) → SaysFault SecondText (workqueues_of_text s.table.names s.partition (take (max_certificate + 1) text)) why
+      → SaysFault SecondText (workqueues_of_text s.table.names s.partition text) why
   SaysAssignment-take text s says =
-      subst (λ (r : Result Assignment CertError). SaysFault SecondText r why) (text_reading-take (assignment_reading s.table.names s.partition) text) says
+      subst (λ (r : Result Workqueues CertError). SaysFault SecondText r why) (text_reading-take (lanes_reading s.table.names s.partition) text) says
 
   pub SaysAssigned-take : (declared text : List ℕ) → SaysAssigned (take (max_declaration + 1) declared) (take (max_certificate + 1) text) why → SaysAssigned declared text why
   SaysAssigned-take declared text says = by_declaration declared _ _ (SaysAssignment-take text) says
@@ -52,16 +52,16 @@ module _ (why : Option Why) where
   pub SaysChecked-take : (declared text : List ℕ) → SaysChecked (take (max_declaration + 1) declared) (take (max_certificate + 1) text) why → SaysChecked declared text why
   SaysChecked-take declared text says = by_declaration declared _ _ (SaysCertificate-take text) says
 
-  SaysRunUnder-take : (steps : List ℕ) (s : Declared) (a : Assignment) → SaysRunUnder s a (take (max_certificate + 1) steps) why → SaysRunUnder s a steps why
+  SaysRunUnder-take : (steps : List ℕ) (s : Declared) (a : Workqueues) → SaysRunUnder s a (take (max_certificate + 1) steps) why → SaysRunUnder s a steps why
   SaysRunUnder-take steps s a says =
       subst (λ (r : Result (List Step) CertError). MatchResult r (λ made. SaysSteps s a made why) (λ fault. why ≡ refused_for Run (cert_refusal fault)))
       (text_reading-take (run_reading s.table.names) steps) says
 
   SaysRun-take : (lanes steps : List ℕ) (s : Declared) → SaysRun s (take (max_certificate + 1) lanes) (take (max_certificate + 1) steps) why → SaysRun s lanes steps why
   SaysRun-take lanes steps s says =
-      MatchResult-weaker (assignment_of_text s.table.names s.partition lanes)
-      (subst (λ (r : Result Assignment CertError). MatchResult r (λ a. SaysRunUnder s a (take (max_certificate + 1) steps) why) (λ fault. why ≡ refused_for SecondText (cert_refusal fault)))
-      (text_reading-take (assignment_reading s.table.names s.partition) lanes) says)
+      MatchResult-weaker (workqueues_of_text s.table.names s.partition lanes)
+      (subst (λ (r : Result Workqueues CertError). MatchResult r (λ a. SaysRunUnder s a (take (max_certificate + 1) steps) why) (λ fault. why ≡ refused_for SecondText (cert_refusal fault)))
+      (text_reading-take (lanes_reading s.table.names s.partition) lanes) says)
       (λ a h. SaysRunUnder-take steps s a h) (λ fault refused. refused)
 
   pub SaysReplayed-take : (declared lanes steps : List ℕ) → SaysReplayed (take (max_declaration + 1) declared) (take (max_certificate + 1) lanes) (take (max_certificate + 1) steps) why → SaysReplayed declared lanes steps why

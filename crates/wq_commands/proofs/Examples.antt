@@ -18,7 +18,7 @@ use Rattle.wq_core.specs.declared.entry.Waiting.{Waiting}
 use Rattle.wq_core.specs.declared.entry.Running.{Running}
 use Rattle.wq_core.specs.declared.step.Step.{Step}
 use Rattle.wq_core.specs.declared.step.Step.TheVariants.{Queue, Start, Wait}
-use Rattle.wq_core.specs.Wiring.{Wiring, declared_by}
+use Rattle.wq_core.specs.Wiring.{Wiring, HasRescuer, declared_by}
 use Rattle.wq_core.specs.State.{State, idle_lane, lane_at, with_lane}
 use Rattle.wq_core.specs.Rules.{IsHeldBack, effect, wait_of, with_wait}
 use Rattle.wq_core.specs.Played.{IsDeclaredStep, HasNoDeclaredStep, IsPlayedFrom}
@@ -91,7 +91,7 @@ module _ (arc : WaitArc) (own : arc.head ≡ 0) where
 abbrev e : Entry
 e = record { number = 0; item = 0 }
 
-module _ (w : Wiring) (next : ℕ) (behind : List Entry) (t : Target) (declares : slice_get (declared_by w 0) 0 ≡ Some t) where
+module _ (w : Wiring) (next : ℕ) (behind : List Entry) (t : Target) (declares : slice_get (declared_by w 0) 0 ≡ Some t) (rescuer : HasRescuer w 0) where
   abbrev queued : State
   queued = record { next = next; lanes = record idle_lane { pending = e ∷ behind } ∷ [] }
 
@@ -114,13 +114,13 @@ module _ (w : Wiring) (next : ℕ) (behind : List Entry) (t : Target) (declares 
     hangs : (q : ℕ) → HasNoDeclaredStep w waiting q
     hangs q step is =
         let flush : Waiting = record { target = t.item; whole = t.whole; mark = next } in
-        let only : q < 1 = RescuerCanMove-within w waiting q (step, is.of_lane, is.lawful) in
+        let only : q < 1 = RescuerCanMove-within w waiting q (step, is.of_lane, is.lawful, is.forced) in
         let here : IsDeclaredStep w waiting 0 step = subst (λ (k : ℕ). IsDeclaredStep w waiting k step) (omega (arith, only)) is in
         HasNoDeclaredStep-waiting w waiting 0 asleep refl flush refl left step here
 
     played : IsPlayedFrom w queued (Start 0 0 ∷ wait_of t.whole 0 t.item ∷ [])
     played = (
-      (0, IsDeclaredStep-start w queued 0 refl e refl, λ p lower. absurd (omega (arith, lower))),
+      (0, IsDeclaredStep-start w queued 0 refl rescuer e refl, λ p lower. absurd (omega (arith, lower))),
       (
         (0, IsDeclaredStep-wait w started 0 (record { entry = e; made = 0; waiting = None }) refl refl t declares, λ p lower. absurd (omega (arith, lower))),
         subst (λ (s : State). (q : ℕ) → HasNoDeclaredStep w s q) (sym (begun t.whole)) hangs,
@@ -133,7 +133,7 @@ abbrev own_target : Bool → Target
 own_target whole = record { item = 0; whole = whole; place = 0 }
 
 abbrev self : Bool → Wiring
-self whole = record { waits = (own_target whole ∷ []) ∷ []; lane_of_item = 0 ∷ []; lanes = 1; ordered = false ∷ []; helpers = 0 }
+self whole = record { waits = (own_target whole ∷ []) ∷ []; lane_of_item = 0 ∷ []; lanes = 1; ordered = false ∷ []; bare = []; helpers = 0 }
 
 abbrev run_of_a : Bool → List Step
 run_of_a whole = Queue 0 ∷ Start 0 0 ∷ wait_of whole 0 0 ∷ []
@@ -142,14 +142,14 @@ abbrev arc_of_a : WaitArc
 arc_of_a = record { src = 0; dst = 0; head = 0; place = 0 }
 
 -- its own entry is unfinished
-held_by_itself : (whole : Bool) → IsHeldBack (self whole) (waiting (self whole) 1 [] (own_target whole) refl) whole 0 1
-held_by_itself false = record { lane = 0; entry = e; unfinished = inr (0, asleep (self false) 1 [] (own_target false) refl, refl, refl); of_item = refl; below = omega arith }
-held_by_itself true = record { entry = e; unfinished = inr (0, asleep (self true) 1 [] (own_target true) refl, refl, refl); below = omega arith }
+held_by_itself : (whole : Bool) → IsHeldBack (self whole) (waiting (self whole) 1 [] (own_target whole) refl refl) whole 0 1
+held_by_itself false = record { lane = 0; entry = e; unfinished = inr (0, asleep (self false) 1 [] (own_target false) refl refl, refl, refl); of_item = refl; below = omega arith }
+held_by_itself true = record { entry = e; unfinished = inr (0, asleep (self true) 1 [] (own_target true) refl refl, refl, refl); below = omega arith }
 
 hangs_itself : (whole : Bool) → IsCircleRun (self whole) (arc_of_a ∷ []) (run_of_a whole)
 hangs_itself whole = record {
   played = Start 0 0 ∷ wait_of whole 0 0 ∷ [];
-  is_played = played (self whole) 1 [] (own_target whole) refl (held_by_itself whole);
+  is_played = played (self whole) 1 [] (own_target whole) refl refl (held_by_itself whole);
   all = refl;
 }
 
@@ -168,7 +168,7 @@ own_workqueue_flush = record { circle = arc_of_a ∷ []; walked = round arc_of_a
 -- ---- a flush within a group
 
 abbrev pair : Wiring
-pair = record { waits = (record { item = 1; whole = false; place = 0 } ∷ []) ∷ [] ∷ []; lane_of_item = 0 ∷ 0 ∷ []; lanes = 1; ordered = true ∷ []; helpers = 0 }
+pair = record { waits = (record { item = 1; whole = false; place = 0 } ∷ []) ∷ [] ∷ []; lane_of_item = 0 ∷ 0 ∷ []; lanes = 1; ordered = true ∷ []; bare = []; helpers = 0 }
 
 abbrev run_of_pair : List Step
 run_of_pair = Queue 0 ∷ Queue 1 ∷ Start 0 0 ∷ Wait 0 1 ∷ []
@@ -179,7 +179,7 @@ hangs_next =
     let t : Target = record { item = 1; whole = false; place = 0 } in
     record {
       played = Start 0 0 ∷ Wait 0 1 ∷ [];
-      is_played = played pair 2 (other ∷ []) t refl (record { lane = 0; entry = other; unfinished = inl (0, omega arith, refl); of_item = refl; below = omega arith });
+      is_played = played pair 2 (other ∷ []) t refl refl (record { lane = 0; entry = other; unfinished = inl (0, omega arith, refl); of_item = refl; below = omega arith });
       all = refl;
     }
 

@@ -3,12 +3,12 @@ use Rattle.std.proofs.Common.{ℕ, ◌+◌, List, Result, subst}
 use Rattle.std.specs.Prelude.{MatchResult, take}
 use Rattle.std.proofs.lemmas.Result.{MatchResult-weaker}
 use Rattle.wq_text.specs.Refusal.{Refusal}
-use Rattle.wq_groups.specs.Assignment.{Assignment}
+use Rattle.wq_core.specs.Workqueues.{Workqueues}
 use Rattle.wq_core.specs.declared.step.Step.{Step}
 use Rattle.wq_cert.specs.declared.fault.CertError.{CertError}
 use Rattle.wq_cert.specs.Certificate.{Certificate}
-use Rattle.wq_cert.specs.Reading.{answer_reading, assignment_reading, run_reading}
-use Rattle.wq_cert.specs.Texts.{assignment_of_text, cert_refusal, max_certificate}
+use Rattle.wq_cert.specs.Reading.{answer_reading, lanes_reading, run_reading}
+use Rattle.wq_cert.specs.Texts.{workqueues_of_text, cert_refusal, max_certificate}
 use Rattle.wq_cert.proofs.LongCertificates.{text_reading-take}
 use Rattle.wq_commands.specs.declared.end.End.{End}
 use Rattle.wq_commands.specs.Answer.{PrintsRefusal}
@@ -34,8 +34,8 @@ module _ (end : End) (out : List ℕ) where
 
   JudgesDeclared-take : (text : List ℕ) (s : Declared) → JudgesDeclared s (take (max_certificate + 1) text) end out → JudgesDeclared s text end out
   JudgesDeclared-take text s answer =
-      subst (λ (r : Result Assignment CertError). MatchResult r (λ a. JudgesAssigned s a end out) (λ fault. PrintsRefusal (cert_refusal fault) end out))
-      (text_reading-take (assignment_reading s.table.names s.partition) text) answer
+      subst (λ (r : Result Workqueues CertError). MatchResult r (λ a. JudgesAssigned s a end out) (λ fault. PrintsRefusal (cert_refusal fault) end out))
+      (text_reading-take (lanes_reading s.table.names s.partition) text) answer
 
   pub Judges-take : (declared text : List ℕ) → Judges (take (max_declaration + 1) declared) (take (max_certificate + 1) text) end out → Judges declared text end out
   Judges-take declared text answer =
@@ -43,15 +43,15 @@ module _ (end : End) (out : List ℕ) where
       (subst (λ (d : Result Declared Refusal). MatchResult d (λ s. JudgesDeclared s (take (max_certificate + 1) text) end out) (λ r. PrintsRefusal r end out)) (declaration-take declared) answer)
       (JudgesDeclared-take text) (λ r refused. refused)
 
-  ReplaysAssigned-take : (s : Declared) (steps : List ℕ) (a : Assignment) → ReplaysAssigned s a (take (max_certificate + 1) steps) end out → ReplaysAssigned s a steps end out
+  ReplaysAssigned-take : (s : Declared) (steps : List ℕ) (a : Workqueues) → ReplaysAssigned s a (take (max_certificate + 1) steps) end out → ReplaysAssigned s a steps end out
   ReplaysAssigned-take s steps a replays =
       subst (λ (r : Result (List Step) CertError). MatchResult r (λ made. AnswersReplay s a made end out) (λ fault. PrintsRefusal (cert_refusal fault) end out)) (text_reading-take (run_reading s.table.names) steps) replays
 
   ReplaysDeclared-take : (lanes steps : List ℕ) (s : Declared) → ReplaysDeclared s (take (max_certificate + 1) lanes) (take (max_certificate + 1) steps) end out → ReplaysDeclared s lanes steps end out
   ReplaysDeclared-take lanes steps s replays =
-      MatchResult-weaker (assignment_of_text s.table.names s.partition lanes)
-      (subst (λ (r : Result Assignment CertError). MatchResult r (λ a. ReplaysAssigned s a (take (max_certificate + 1) steps) end out) (λ fault. PrintsRefusal (cert_refusal fault) end out))
-      (text_reading-take (assignment_reading s.table.names s.partition) lanes) replays)
+      MatchResult-weaker (workqueues_of_text s.table.names s.partition lanes)
+      (subst (λ (r : Result Workqueues CertError). MatchResult r (λ a. ReplaysAssigned s a (take (max_certificate + 1) steps) end out) (λ fault. PrintsRefusal (cert_refusal fault) end out))
+      (text_reading-take (lanes_reading s.table.names s.partition) lanes) replays)
       (ReplaysAssigned-take s steps) (λ fault refused. refused)
 
   pub ReplaysRun-take : (text lanes steps : List ℕ) → ReplaysRun (take (max_declaration + 1) text) (take (max_certificate + 1) lanes) (take (max_certificate + 1) steps) end out → ReplaysRun text lanes steps end out

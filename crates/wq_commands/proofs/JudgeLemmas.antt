@@ -1,31 +1,29 @@
 -- Verdicts on assignments: a text has one, and a run that is printed is replayed to a deadlock.
-use Rattle.std.proofs.Common.{◌≡◌, ℕ, ◌+◌, ◌≤◌, inl, inr, List, length, Result, Ok, Err, refl, sym, ap, subst, ◌∙◌, arith}
+use Rattle.std.proofs.Common.{◌≡◌, ℕ, ◌+◌, ◌≤◌, inl, inr, List, [], ◌∷◌, length, Result, Ok, Err, refl, sym, ap, subst, ◌∙◌, arith}
 use Rattle.std.specs.Prelude.{MatchResult}
 use Rattle.wq_text.specs.Refusal.{Refusal}
 use Rattle.wq_groups.specs.Declaration.{IsDeclaration}
-use Rattle.wq_groups.specs.Assignment.{Assignment}
 use Rattle.wq_graph.specs.declared.arc.WaitArc.{WaitArc}
 use Rattle.wq_graph.specs.Graph.{lane_graph, IsGraph}
 use Rattle.wq_graph.proofs.Graphs.{IsGraph-lane_graph}
-use Rattle.wq_levels.specs.Walks.{IsWalkedCircle}
+use Rattle.wq_graph.proofs.LeavingOut.{IsGraph-without}
 use Rattle.wq_levels.proofs.Existence.{AreRanks-or_walk}
 use Rattle.wq_levels.proofs.OneCircle.{IsWalkedCircle-unique}
 use Rattle.wq_core.specs.declared.step.Step.{Step}
-use Rattle.wq_core.specs.Wiring.{wiring}
+use Rattle.wq_core.specs.Workqueues.{Workqueues, wiring_of}
 use Rattle.wq_core.specs.Deadlock.{IsSafe, DeadlocksBy}
-use Rattle.wq_deadlock.specs.CircleRun.{IsCircleRun}
-use Rattle.wq_deadlock.specs.Verdict.{IsDeadlock}
-use Rattle.wq_deadlock.proofs.CircleRuns.{IsCircleRun-exists}
-use Rattle.wq_deadlock.proofs.OnlyRun.{same_circle_run}
+use Rattle.wq_deadlock.specs.CircleRun.{flushing_items, IsRunOf}
+use Rattle.wq_deadlock.specs.Judging.{bare_waits, rescued_graph, AreFirst, IsHang}
+use Rattle.wq_deadlock.proofs.BareLanes.{IsWiring-workqueues, IsKnot-first, IsRunOf-exists, IsHang-run, AreSafe-ranks}
+use Rattle.wq_deadlock.proofs.OnlyRun.{same_run_of}
 use Rattle.wq_deadlock.proofs.Renumbered.{not_safe-by}
-use Rattle.wq_deadlock.proofs.Verdicts.{IsSafeByRanks-ranks, IsDeadlock-walked}
 use Rattle.wq_cert.specs.declared.fault.CertError.{CertError}
 use Rattle.wq_lines.specs.LineText.{line_text}
-use Rattle.wq_cert.specs.Ranges.{IsAssignmentOf}
+use Rattle.wq_cert.specs.Ranges.{AreWorkqueuesOf}
 use Rattle.wq_cert.specs.RunText.{run_text}
-use Rattle.wq_cert.specs.Texts.{assignment_of_text, run_of, cert_refusal}
+use Rattle.wq_cert.specs.Texts.{workqueues_of_text, run_of, cert_refusal}
 use Rattle.wq_cert.proofs.PrintedRuns.{run_of-printed}
-use Rattle.wq_cert.proofs.ReadRanges.{IsAssignmentOf-assignment_of_text}
+use Rattle.wq_cert.proofs.ReadRanges.{AreWorkqueuesOf-workqueues_of_text}
 use Rattle.wq_cert.proofs.TextLength.{length-run_text}
 use Rattle.wq_checker.specs.declared.run.RunEnd.TheVariants.{Deadlock}
 use Rattle.wq_commands.specs.declared.end.End.{End}
@@ -36,24 +34,24 @@ use Rattle.wq_commands.specs.Declaration.{Declared, declaration}
 use Rattle.wq_commands.specs.Replaying.{replay_words, AnswersReplay, ReplaysAssigned, ReplaysDeclared, ReplaysRun}
 use Rattle.wq_commands.proofs.AnswerLemmas.{IsSound, IsSound-declaration, IsDeclaration-sound}
 use Rattle.wq_commands.proofs.CheckLemmas.{MatchResult-ok}
-use Rattle.wq_commands.proofs.NamedSteps.{IsStepOf-deadlock, length-deadlock}
+use Rattle.wq_commands.proofs.NamedSteps.{IsStepOf-hang, length-hang}
 
 -- ---- a declaration and an assignment of it
 
-module _ (s : Declared) (sound : IsSound s) (a : Assignment) (assigned : IsAssignmentOf s.partition.groups a) where
+module _ (s : Declared) (sound : IsSound s) (a : Workqueues) (assigned : AreWorkqueuesOf s.partition.groups a) where
   is_declaration : IsDeclaration (declared_waits s)
   is_declaration = IsDeclaration-sound s sound
 
-  graph : IsGraph (lane_graph (declared_waits s) a)
-  graph = IsGraph-lane_graph (declared_waits s) a is_declaration assigned.assignment assigned.few
+  graph : IsGraph (rescued_graph (declared_waits s) a)
+  graph = IsGraph-without a.bare (lane_graph (declared_waits s) a.assignment) (IsGraph-lane_graph (declared_waits s) a.assignment is_declaration assigned.assignment.assignment assigned.assignment.few)
 
   -- ---- the run is printed and read back
 
   -- so its text says them
-  run_of-deadlock : (steps : List Step) → DeadlocksBy (wiring (declared_waits s) a) steps → run_of s.table.names (run_text s.table.names steps) ≡ Ok steps
+  run_of-deadlock : (steps : List Step) → DeadlocksBy (wiring_of (declared_waits s) a) steps → run_of s.table.names (run_text s.table.names steps) ≡ Ok steps
   run_of-deadlock steps deadlocks =
-      let named = IsStepOf-deadlock s sound a assigned steps deadlocks in
-      let few : length steps ≤ 65536 = omega (arith, length-deadlock s sound a assigned steps deadlocks) in
+      let named = IsStepOf-hang s sound a assigned.assignment steps deadlocks in
+      let few : length steps ≤ 65536 = omega (arith, length-hang s sound a assigned.assignment steps deadlocks) in
       run_of-printed s.table sound.table steps named (length-run_text s.table.names sound.table.named steps named few)
 
   ReplaysAssigned-judged : (out : List ℕ) → JudgesAssigned s a Bad out → ReplaysAssigned s a out Bad (line_text (replay_words Deadlock))
@@ -63,14 +61,20 @@ module _ (s : Declared) (sound : IsSound s) (a : Assignment) (assigned : IsAssig
 
   -- ---- the one verdict
 
-  same_run : (one other : List Step) → IsDeadlock (declared_waits s) a one → IsDeadlock (declared_waits s) a other → one ≡ other
-  same_run one other first second =
-      let w = wiring (declared_waits s) a in
-      let same : first.circle ≡ second.circle = IsWalkedCircle-unique (lane_graph (declared_waits s) a) graph first.circle second.circle first.walked second.walked in
-      same_circle_run w second.circle one other (subst (λ (circle : List WaitArc). IsCircleRun w circle one) same first.is_run) second.is_run
+  -- the same items are queued first
+  same_first : (waits : List WaitArc) (one other : List ℕ) → AreFirst (declared_waits s) a waits one → AreFirst (declared_waits s) a waits other → one ≡ other
+  same_first (x ∷ more) one other first second = first ∙ sym second
+  same_first [] one other (circle, walked, is) (round, walked_too, is_too) =
+      is ∙ ap flushing_items (IsWalkedCircle-unique (rescued_graph (declared_waits s) a) graph circle round walked walked_too) ∙ sym is_too
 
-  not_both : (steps : List Step) → IsSafe (wiring (declared_waits s) a) → IsDeadlock (declared_waits s) a steps → ⊥
-  not_both steps safe deadlock = not_safe-by (wiring (declared_waits s) a) steps deadlock.deadlocks safe
+  same_run : (one other : List Step) → IsHang (declared_waits s) a one → IsHang (declared_waits s) a other → one ≡ other
+  same_run one other first second =
+      let w = wiring_of (declared_waits s) a in
+      let same : first.first ≡ second.first = same_first (bare_waits (declared_waits s) a) first.first second.first first.are_first second.are_first in
+      same_run_of w second.first one other (subst (λ (is : List ℕ). IsRunOf w is one) same first.is_run) second.is_run
+
+  not_both : (steps : List Step) → IsSafe (wiring_of (declared_waits s) a) → IsHang (declared_waits s) a steps → ⊥
+  not_both steps safe deadlock = not_safe-by (wiring_of (declared_waits s) a) steps deadlock.deadlocks safe
 
   JudgesAssigned-unique : (end other : End) (out printed : List ℕ) → JudgesAssigned s a end out → JudgesAssigned s a other printed → (end ≡ other) × (out ≡ printed)
   JudgesAssigned-unique Good Good out printed one two = (refl, one.2 ∙ sym two.2)
@@ -81,47 +85,56 @@ module _ (s : Declared) (sound : IsSound s) (a : Assignment) (assigned : IsAssig
   JudgesAssigned-unique Bad Refused out printed one two = absurd two
   JudgesAssigned-unique Refused other out printed one two = absurd one
 
-  IsDeadlock-exists : (circle : List WaitArc) → IsWalkedCircle (lane_graph (declared_waits s) a) circle → (steps : List Step) × IsDeadlock (declared_waits s) a steps
-  IsDeadlock-exists circle walked =
-      let run = IsCircleRun-exists (declared_waits s) a is_declaration assigned.assignment circle walked in
-      (run.0, IsDeadlock-walked (declared_waits s) a is_declaration assigned.assignment assigned.few circle walked run.0 run.1)
+  IsHang-exists : (first : List ℕ) → AreFirst (declared_waits s) a (bare_waits (declared_waits s) a) first → (steps : List Step) × IsHang (declared_waits s) a steps
+  IsHang-exists first are =
+      let w = wiring_of (declared_waits s) a in
+      let knot = IsKnot-first (declared_waits s) a is_declaration assigned.assignment.assignment (bare_waits (declared_waits s) a) refl first are in
+      let run = IsRunOf-exists w first (IsWiring-workqueues (declared_waits s) a is_declaration assigned.assignment.assignment) knot in
+      (run.0, IsHang-run (declared_waits s) a is_declaration assigned.assignment.assignment first run.0 are run.1)
+
+  hangs : (first : List ℕ) → AreFirst (declared_waits s) a (bare_waits (declared_waits s) a) first → (end : End) × (out : List ℕ) × JudgesAssigned s a end out
+  hangs first are = let hang = IsHang-exists first are in (Bad, run_text s.table.names hang.0, (hang.0, hang.1, refl))
 
   JudgesAssigned-exist : (end : End) × (out : List ℕ) × JudgesAssigned s a end out
-  JudgesAssigned-exist = elim (AreRanks-or_walk (lane_graph (declared_waits s) a) graph) [
-    | inl ranks ↦
-        let safe = IsSafeByRanks-ranks (declared_waits s) a is_declaration assigned.assignment assigned.few ranks.0 ranks.1 in
-        (Good, safe_text, (safe.assignment, safe.safe, refl))
-    | inr walk ↦ let deadlock = IsDeadlock-exists walk.0 walk.1 in (Bad, run_text s.table.names deadlock.0, (deadlock.0, deadlock.1, refl))
-  ]
+  JudgesAssigned-exist = by_waits (bare_waits (declared_waits s) a) refl
+    where
+      by_waits : (waits : List WaitArc) → bare_waits (declared_waits s) a ≡ waits → (end : End) × (out : List ℕ) × JudgesAssigned s a end out
+      by_waits (x ∷ more) is = hangs (x.src ∷ []) (subst (λ (l : List WaitArc). AreFirst (declared_waits s) a l (x.src ∷ [])) (sym is) refl)
+      by_waits [] is = elim (AreRanks-or_walk (rescued_graph (declared_waits s) a) graph) [
+        | inl ranks ↦
+            let safe = AreSafe-ranks (declared_waits s) a is_declaration assigned.assignment.assignment assigned.assignment.few is ranks.0 ranks.1 in
+            (Good, safe_text, (safe.assignment, safe.safe, refl))
+        | inr walk ↦ hangs (flushing_items walk.0) (subst (λ (l : List WaitArc). AreFirst (declared_waits s) a l (flushing_items walk.0)) (sym is) (walk.0, walk.1, refl))
+      ]
 
 -- ---- a text of an assignment
 
 module _ (s : Declared) (sound : IsSound s) where
   -- what is read of it
-  abbrev IsKnown : Result Assignment CertError → Type 0
-  IsKnown r = (a : Assignment) → r ≡ Ok a → IsAssignmentOf s.partition.groups a
+  abbrev IsKnown : Result Workqueues CertError → Type 0
+  IsKnown r = (a : Workqueues) → r ≡ Ok a → AreWorkqueuesOf s.partition.groups a
 
-  known : (text : List ℕ) → IsKnown (assignment_of_text s.table.names s.partition text)
-  known text a is = IsAssignmentOf-assignment_of_text s.table.names s.partition sound.partition (sym sound.one_group_each) text a is
+  known : (text : List ℕ) → IsKnown (workqueues_of_text s.table.names s.partition text)
+  known text a is = AreWorkqueuesOf-workqueues_of_text s.table.names s.partition sound.partition (sym sound.one_group_each) text a is
 
-  judged_once : (r : Result Assignment CertError) → IsKnown r → (end other : End) (out printed : List ℕ)
+  judged_once : (r : Result Workqueues CertError) → IsKnown r → (end other : End) (out printed : List ℕ)
       → MatchResult r (λ a. JudgesAssigned s a end out) (λ fault. PrintsRefusal (cert_refusal fault) end out)
       → MatchResult r (λ a. JudgesAssigned s a other printed) (λ fault. PrintsRefusal (cert_refusal fault) other printed) → (end ≡ other) × (out ≡ printed)
   judged_once (Ok a) is end other out printed one two = JudgesAssigned-unique s sound a (is a refl) end other out printed one two
   judged_once (Err fault) is end other out printed one two = (one.0 ∙ sym two.0, one.1 ∙ sym two.1)
 
   JudgesDeclared-unique : (text : List ℕ) (end other : End) (out printed : List ℕ) → JudgesDeclared s text end out → JudgesDeclared s text other printed → (end ≡ other) × (out ≡ printed)
-  JudgesDeclared-unique text = judged_once (assignment_of_text s.table.names s.partition text) (known text)
+  JudgesDeclared-unique text = judged_once (workqueues_of_text s.table.names s.partition text) (known text)
 
-  judged : (r : Result Assignment CertError) → IsKnown r
+  judged : (r : Result Workqueues CertError) → IsKnown r
       → (end : End) × (out : List ℕ) × MatchResult r (λ a. JudgesAssigned s a end out) (λ fault. PrintsRefusal (cert_refusal fault) end out)
   judged (Ok a) is = JudgesAssigned-exist s sound a (is a refl)
   judged (Err fault) is = (Refused, refusal_text (cert_refusal fault), (refl, refl))
 
   JudgesDeclared-exist : (text : List ℕ) → (end : End) × (out : List ℕ) × JudgesDeclared s text end out
-  JudgesDeclared-exist text = judged (assignment_of_text s.table.names s.partition text) (known text)
+  JudgesDeclared-exist text = judged (workqueues_of_text s.table.names s.partition text) (known text)
 
-  replayed : (out said : List ℕ) (r : Result Assignment CertError) → ((a : Assignment) → r ≡ Ok a → JudgesAssigned s a Bad out → ReplaysAssigned s a out Bad said)
+  replayed : (out said : List ℕ) (r : Result Workqueues CertError) → ((a : Workqueues) → r ≡ Ok a → JudgesAssigned s a Bad out → ReplaysAssigned s a out Bad said)
       → MatchResult r (λ a. JudgesAssigned s a Bad out) (λ fault. PrintsRefusal (cert_refusal fault) Bad out)
       → MatchResult r (λ a. ReplaysAssigned s a out Bad said) (λ fault. PrintsRefusal (cert_refusal fault) Bad said)
   replayed out said (Ok a) replays judges = replays a refl judges
@@ -129,7 +142,7 @@ module _ (s : Declared) (sound : IsSound s) where
 
   ReplaysDeclared-judged : (text out : List ℕ) → JudgesDeclared s text Bad out → ReplaysDeclared s text out Bad (line_text (replay_words Deadlock))
   ReplaysDeclared-judged text out =
-      replayed out (line_text (replay_words Deadlock)) (assignment_of_text s.table.names s.partition text) (λ a is. ReplaysAssigned-judged s sound a (known text a is) out)
+      replayed out (line_text (replay_words Deadlock)) (workqueues_of_text s.table.names s.partition text) (λ a is. ReplaysAssigned-judged s sound a (known text a is) out)
 
 -- ---- texts of a declaration and an assignment
 

@@ -2,12 +2,11 @@
 use Rattle.std.proofs.Common.{◌≡◌, ℕ, List, Option, None, Result, Ok, Err, refl, sym, ap, ap₂, ◌∙◌}
 use Rattle.std.specs.Prelude.{MatchResult}
 use Rattle.wq_meter.specs.Shell.{HasOneAnswer}
-use Rattle.wq_groups.specs.Assignment.{Assignment}
 use Rattle.wq_core.specs.declared.step.Step.{Step}
-use Rattle.wq_core.specs.Wiring.{wiring}
+use Rattle.wq_core.specs.Workqueues.{Workqueues, wiring_of}
 use Rattle.wq_cert.specs.declared.fault.CertError.{CertError}
 use Rattle.wq_cert.specs.Certificate.{Certificate}
-use Rattle.wq_cert.specs.Texts.{answer_of, assignment_of_text, cert_refusal, run_of}
+use Rattle.wq_cert.specs.Texts.{answer_of, workqueues_of_text, cert_refusal, run_of}
 use Rattle.wq_checker.specs.Answers.{IsAsked}
 use Rattle.wq_checker.proofs.OneAnswer.{one_answer, one_end}
 use Rattle.wq_commands.specs.declared.end.End.{End}
@@ -45,21 +44,21 @@ module _ (why other : Option Why) where
 
   pub SaysAssigned-unique : (declared assigned : List ℕ) → SaysAssigned declared assigned why → SaysAssigned declared assigned other → why ≡ other
   SaysAssigned-unique declared assigned =
-      said_once (declaration declared) (λ s. SaysFault SecondText (assignment_of_text s.table.names s.partition assigned) why)
-      (λ s. SaysFault SecondText (assignment_of_text s.table.names s.partition assigned) other) (refused_for Declaration)
-      (λ s is. SaysFault-unique SecondText (assignment_of_text s.table.names s.partition assigned))
+      said_once (declaration declared) (λ s. SaysFault SecondText (workqueues_of_text s.table.names s.partition assigned) why)
+      (λ s. SaysFault SecondText (workqueues_of_text s.table.names s.partition assigned) other) (refused_for Declaration)
+      (λ s is. SaysFault-unique SecondText (workqueues_of_text s.table.names s.partition assigned))
 
-  SaysSteps-unique : (s : Declared) (a : Assignment) (steps : List Step) → SaysSteps s a steps why → SaysSteps s a steps other → why ≡ other
-  SaysSteps-unique s a steps one two = one.2 ∙ ap unlawful (one_end (wiring (declared_waits s) a) steps one.0 two.0 one.1 two.1) ∙ sym two.2
+  SaysSteps-unique : (s : Declared) (a : Workqueues) (steps : List Step) → SaysSteps s a steps why → SaysSteps s a steps other → why ≡ other
+  SaysSteps-unique s a steps one two = one.2 ∙ ap unlawful (one_end (wiring_of (declared_waits s) a) steps one.0 two.0 one.1 two.1) ∙ sym two.2
 
-  SaysRunUnder-unique : (s : Declared) (a : Assignment) (run : List ℕ) → SaysRunUnder s a run why → SaysRunUnder s a run other → why ≡ other
+  SaysRunUnder-unique : (s : Declared) (a : Workqueues) (run : List ℕ) → SaysRunUnder s a run why → SaysRunUnder s a run other → why ≡ other
   SaysRunUnder-unique s a run =
       said_once (run_of s.table.names run) (λ steps. SaysSteps s a steps why) (λ steps. SaysSteps s a steps other) (λ fault. refused_for Run (cert_refusal fault))
       (λ steps is. SaysSteps-unique s a steps)
 
   SaysRun-unique : (s : Declared) (assigned run : List ℕ) → SaysRun s assigned run why → SaysRun s assigned run other → why ≡ other
   SaysRun-unique s assigned run =
-      said_once (assignment_of_text s.table.names s.partition assigned) (λ a. SaysRunUnder s a run why) (λ a. SaysRunUnder s a run other)
+      said_once (workqueues_of_text s.table.names s.partition assigned) (λ a. SaysRunUnder s a run why) (λ a. SaysRunUnder s a run other)
       (λ fault. refused_for SecondText (cert_refusal fault)) (λ a is. SaysRunUnder-unique s a run)
 
   SaysReplayed-unique : (declared assigned run : List ℕ) → SaysReplayed declared assigned run why → SaysReplayed declared assigned run other → why ≡ other

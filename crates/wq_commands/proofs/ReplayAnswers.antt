@@ -1,10 +1,9 @@
 -- A declaration, an assignment and a run have one answer.
 use Rattle.std.proofs.Common.{◌≡◌, ℕ, List, refl, sym, ap, ◌∙◌}
-use Rattle.wq_groups.specs.Assignment.{Assignment}
 use Rattle.wq_core.specs.declared.step.Step.{Step}
-use Rattle.wq_core.specs.Wiring.{wiring}
+use Rattle.wq_core.specs.Workqueues.{Workqueues, wiring_of}
 use Rattle.wq_lines.specs.LineText.{line_text}
-use Rattle.wq_cert.specs.Texts.{assignment_of_text, run_of, cert_refusal}
+use Rattle.wq_cert.specs.Texts.{workqueues_of_text, run_of, cert_refusal}
 use Rattle.wq_checker.specs.declared.run.RunEnd.{RunEnd}
 use Rattle.wq_checker.proofs.OneAnswer.{one_end}
 use Rattle.wq_checker.proofs.RunsDecided.{an_end}
@@ -14,25 +13,25 @@ use Rattle.wq_commands.specs.Declaration.{Declared, declaration}
 use Rattle.wq_commands.specs.Replaying.{replay_words, replay_end, AnswersReplay, ReplaysAssigned, ReplaysDeclared, ReplaysRun}
 use Rattle.wq_commands.proofs.Refusals.{MatchResult-unique, MatchResult-exist, PrintsRefusal-unique, PrintsRefusal-exist}
 
-AnswersReplay-unique : (s : Declared) (a : Assignment) (steps : List Step) (end other : End) (out printed : List ℕ) → AnswersReplay s a steps end out → AnswersReplay s a steps other printed
+AnswersReplay-unique : (s : Declared) (a : Workqueues) (steps : List Step) (end other : End) (out printed : List ℕ) → AnswersReplay s a steps end out → AnswersReplay s a steps other printed
     → (end ≡ other) × (out ≡ printed)
 AnswersReplay-unique s a steps end other out printed one two =
-    let same : one.run_end ≡ two.run_end = one_end (wiring (declared_waits s) a) steps one.run_end two.run_end one.ends two.ends in
+    let same : one.run_end ≡ two.run_end = one_end (wiring_of (declared_waits s) a) steps one.run_end two.run_end one.ends two.ends in
     (one.status ∙ ap replay_end same ∙ sym two.status, one.printed ∙ ap (λ (e : RunEnd). line_text (replay_words e)) same ∙ sym two.printed)
 
-AnswersReplay-exist : (s : Declared) (a : Assignment) (steps : List Step) → (end : End) × (out : List ℕ) × AnswersReplay s a steps end out
+AnswersReplay-exist : (s : Declared) (a : Workqueues) (steps : List Step) → (end : End) × (out : List ℕ) × AnswersReplay s a steps end out
 AnswersReplay-exist s a steps =
-    let ended = an_end (wiring (declared_waits s) a) steps in
+    let ended = an_end (wiring_of (declared_waits s) a) steps in
     (replay_end ended.0, line_text (replay_words ended.0), record { run_end = ended.0; ends = ended.1; status = refl; printed = refl })
 
 module _ (steps : List ℕ) where
-  ReplaysAssigned-unique : (s : Declared) (a : Assignment) (end other : End) (out printed : List ℕ) → ReplaysAssigned s a steps end out → ReplaysAssigned s a steps other printed
+  ReplaysAssigned-unique : (s : Declared) (a : Workqueues) (end other : End) (out printed : List ℕ) → ReplaysAssigned s a steps end out → ReplaysAssigned s a steps other printed
       → (end ≡ other) × (out ≡ printed)
   ReplaysAssigned-unique s a end other out printed =
       MatchResult-unique (run_of s.table.names steps) (AnswersReplay s a) (λ fault. PrintsRefusal (cert_refusal fault)) end other out printed
       (λ made read. AnswersReplay-unique s a made end other out printed) (λ fault. PrintsRefusal-unique (cert_refusal fault) end other out printed)
 
-  ReplaysAssigned-exist : (s : Declared) (a : Assignment) → (end : End) × (out : List ℕ) × ReplaysAssigned s a steps end out
+  ReplaysAssigned-exist : (s : Declared) (a : Workqueues) → (end : End) × (out : List ℕ) × ReplaysAssigned s a steps end out
   ReplaysAssigned-exist s a =
       MatchResult-exist (run_of s.table.names steps) (AnswersReplay s a) (λ fault. PrintsRefusal (cert_refusal fault)) (λ made read. AnswersReplay-exist s a made) (λ fault. PrintsRefusal-exist (cert_refusal fault))
 
@@ -40,12 +39,12 @@ module _ (steps : List ℕ) where
     ReplaysDeclared-unique : (s : Declared) (end other : End) (out printed : List ℕ) → ReplaysDeclared s lanes steps end out → ReplaysDeclared s lanes steps other printed
         → (end ≡ other) × (out ≡ printed)
     ReplaysDeclared-unique s end other out printed =
-        MatchResult-unique (assignment_of_text s.table.names s.partition lanes) (λ a. ReplaysAssigned s a steps) (λ fault. PrintsRefusal (cert_refusal fault)) end other out printed
+        MatchResult-unique (workqueues_of_text s.table.names s.partition lanes) (λ a. ReplaysAssigned s a steps) (λ fault. PrintsRefusal (cert_refusal fault)) end other out printed
         (λ a read. ReplaysAssigned-unique s a end other out printed) (λ fault. PrintsRefusal-unique (cert_refusal fault) end other out printed)
 
     ReplaysDeclared-exist : (s : Declared) → (end : End) × (out : List ℕ) × ReplaysDeclared s lanes steps end out
     ReplaysDeclared-exist s =
-        MatchResult-exist (assignment_of_text s.table.names s.partition lanes) (λ a. ReplaysAssigned s a steps) (λ fault. PrintsRefusal (cert_refusal fault)) (λ a read. ReplaysAssigned-exist s a)
+        MatchResult-exist (workqueues_of_text s.table.names s.partition lanes) (λ a. ReplaysAssigned s a steps) (λ fault. PrintsRefusal (cert_refusal fault)) (λ a read. ReplaysAssigned-exist s a)
         (λ fault. PrintsRefusal-exist (cert_refusal fault))
 
 pub ReplaysRun-unique : (text lanes steps : List ℕ) (end other : End) (out printed : List ℕ) → ReplaysRun text lanes steps end out → ReplaysRun text lanes steps other printed → (end ≡ other) × (out ≡ printed)

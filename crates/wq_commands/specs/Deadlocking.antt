@@ -1,13 +1,13 @@
 -- The answer to a declaration and an assignment: that the assignment is safe, or else its deadlocking run.
 use Rattle.std.specs.Prelude.{◌≡◌, ℕ, List, [], ◌∷◌, codes, MatchResult}
-use Rattle.wq_groups.specs.Assignment.{Assignment, IsAssignment}
+use Rattle.wq_groups.specs.Assignment.{IsAssignment}
 use Rattle.wq_core.specs.declared.step.Step.{Step}
-use Rattle.wq_core.specs.Wiring.{wiring}
+use Rattle.wq_core.specs.Workqueues.{Workqueues, wiring_of}
 use Rattle.wq_core.specs.Deadlock.{IsSafe}
-use Rattle.wq_deadlock.specs.Verdict.{IsDeadlock}
+use Rattle.wq_deadlock.specs.Judging.{IsHang}
 use Rattle.wq_lines.specs.LineText.{line_text}
 use Rattle.wq_cert.specs.RunText.{run_text}
-use Rattle.wq_cert.specs.Texts.{assignment_of_text, cert_refusal}
+use Rattle.wq_cert.specs.Texts.{workqueues_of_text, cert_refusal}
 use Rattle.wq_commands.specs.declared.end.End.{End}
 use Rattle.wq_commands.specs.declared.end.End.TheVariants.{Good, Bad, Refused}
 use Rattle.wq_commands.specs.Answer.{declared_waits, PrintsRefusal}
@@ -17,18 +17,18 @@ use Rattle.wq_commands.specs.Declaration.{Declared, declaration}
 abbrev pub safe_text : List ℕ
 safe_text = line_text (codes "safe" ∷ [])
 
--- the verdict on an assignment of a declaration's groups is printed: `safe` if no run ends stuck; else the deadlocking run.
--- This is the run of the circle in which the workqueues wait. It ends stuck, with each item queued once and flushing as
--- declared
-abbrev pub JudgesAssigned : Declared → Assignment → End → List ℕ → Type 0
-JudgesAssigned s a Good out = IsAssignment s.partition.groups a × IsSafe (wiring (declared_waits s) a) × (out ≡ safe_text)
-JudgesAssigned s a Bad out = (steps : List Step) × IsDeadlock (declared_waits s) a steps × (out ≡ run_text s.table.names steps)
-JudgesAssigned s a Refused out = ⊥
+-- the verdict on workqueues of a declaration's groups is printed: `safe` if no run ends stuck; else the run by which they hang. It
+-- ends stuck, with each item queued once and flushing as declared. The items that it queues first are those of the circle in which
+-- the workqueues wait that have a rescuer, or the first that waits for one whose workqueue has none
+abbrev pub JudgesAssigned : Declared → Workqueues → End → List ℕ → Type 0
+JudgesAssigned s ws Good out = IsAssignment s.partition.groups ws.assignment × IsSafe (wiring_of (declared_waits s) ws) × (out ≡ safe_text)
+JudgesAssigned s ws Bad out = (steps : List Step) × IsHang (declared_waits s) ws steps × (out ≡ run_text s.table.names steps)
+JudgesAssigned s ws Refused out = ⊥
 
 -- the verdict on the text of an assignment of a declaration, or its refusal
 abbrev pub JudgesDeclared : Declared → List ℕ → End → List ℕ → Type 0
 JudgesDeclared s text end out =
-    MatchResult (assignment_of_text s.table.names s.partition text) (λ a. JudgesAssigned s a end out) (λ fault. PrintsRefusal (cert_refusal fault) end out)
+    MatchResult (workqueues_of_text s.table.names s.partition text) (λ ws. JudgesAssigned s ws end out) (λ fault. PrintsRefusal (cert_refusal fault) end out)
 
 -- the verdict on the texts of a declaration and an assignment: a refusal of the declaration comes first
 abbrev pub Judges : List ℕ → List ℕ → End → List ℕ → Type 0

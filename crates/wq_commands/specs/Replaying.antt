@@ -1,10 +1,9 @@
 -- The answer to a declaration, an assignment and a run: how the run ends.
 use Rattle.std.specs.Prelude.{◌≡◌, ℕ, List, [], ◌∷◌, codes, decimal, MatchResult}
-use Rattle.wq_groups.specs.Assignment.{Assignment}
 use Rattle.wq_core.specs.declared.step.Step.{Step}
-use Rattle.wq_core.specs.Wiring.{wiring}
+use Rattle.wq_core.specs.Workqueues.{Workqueues, wiring_of}
 use Rattle.wq_lines.specs.LineText.{line_text}
-use Rattle.wq_cert.specs.Texts.{assignment_of_text, run_of, cert_refusal}
+use Rattle.wq_cert.specs.Texts.{workqueues_of_text, run_of, cert_refusal}
 use Rattle.wq_checker.specs.declared.run.RunEnd.{RunEnd}
 use Rattle.wq_checker.specs.declared.run.RunEnd.TheVariants.{NotLawful, Deadlock, Stuck, Free}
 use Rattle.wq_checker.specs.RunEnds.{EndsAs}
@@ -28,23 +27,23 @@ replay_end Stuck = Bad
 replay_end (NotLawful n) = Bad
 
 -- how these steps end under an assignment of a declaration is printed
-pub record AnswersReplay (s : Declared) (a : Assignment) (steps : List Step) (end : End) (out : List ℕ) : Type 0 where
+pub record AnswersReplay (s : Declared) (ws : Workqueues) (steps : List Step) (end : End) (out : List ℕ) : Type 0 where
   pub run_end : RunEnd
-  pub ends : EndsAs (wiring (declared_waits s) a) steps run_end
+  pub ends : EndsAs (wiring_of (declared_waits s) ws) steps run_end
   pub status : end ≡ replay_end run_end
   pub printed : out ≡ line_text (replay_words run_end)
 
 -- the answer to a run under an assignment of a declaration
-abbrev pub ReplaysAssigned : Declared → Assignment → List ℕ → End → List ℕ → Type 0
-ReplaysAssigned s a text end out =
+abbrev pub ReplaysAssigned : Declared → Workqueues → List ℕ → End → List ℕ → Type 0
+ReplaysAssigned s ws text end out =
     MatchResult (run_of s.table.names text)
-    (λ steps. AnswersReplay s a steps end out)
+    (λ steps. AnswersReplay s ws steps end out)
     (λ fault. PrintsRefusal (cert_refusal fault) end out)
 
 -- the answer to an assignment of a declaration and a run
 abbrev pub ReplaysDeclared : Declared → List ℕ → List ℕ → End → List ℕ → Type 0
 ReplaysDeclared s assigned text end out =
-    MatchResult (assignment_of_text s.table.names s.partition assigned) (λ a. ReplaysAssigned s a text end out) (λ fault. PrintsRefusal (cert_refusal fault) end out)
+    MatchResult (workqueues_of_text s.table.names s.partition assigned) (λ ws. ReplaysAssigned s ws text end out) (λ fault. PrintsRefusal (cert_refusal fault) end out)
 
 -- the answer to the texts of a declaration, an assignment and a run; if any is refused, the refusal of the first such text is
 -- printed

@@ -1,12 +1,11 @@
 -- What is said beside an answer: which text is refused, and for what; what a certificate lacks; or which step isn't lawful.
 use Rattle.std.specs.Prelude.{◌≡◌, List, ℕ, Option, Some, None, Result, Ok, Err, MatchResult}
 use Rattle.wq_text.specs.Refusal.{Refusal}
-use Rattle.wq_groups.specs.Assignment.{Assignment}
 use Rattle.wq_core.specs.declared.step.Step.{Step}
-use Rattle.wq_core.specs.Wiring.{wiring}
+use Rattle.wq_core.specs.Workqueues.{Workqueues, wiring_of}
 use Rattle.wq_cert.specs.declared.fault.CertError.{CertError}
 use Rattle.wq_cert.specs.Certificate.{Certificate}
-use Rattle.wq_cert.specs.Texts.{answer_of, assignment_of_text, run_of, cert_refusal}
+use Rattle.wq_cert.specs.Texts.{answer_of, workqueues_of_text, run_of, cert_refusal}
 use Rattle.wq_checker.specs.declared.answer.Yes.{Yes}
 use Rattle.wq_checker.specs.declared.answer.No.{No}
 use Rattle.wq_checker.specs.Answers.{AnswersCertificate}
@@ -35,7 +34,7 @@ SaysFault which read why = MatchResult read (λ _. why ≡ None) (λ fault. why 
 -- a declaration and an assignment of it: the first of them that is refused
 abbrev pub SaysAssigned : List ℕ → List ℕ → Option Why → Type 0
 SaysAssigned declared assigned why =
-    MatchResult (declaration declared) (λ s. SaysFault SecondText (assignment_of_text s.table.names s.partition assigned) why) (λ r. why ≡ refused_for Declaration r)
+    MatchResult (declaration declared) (λ s. SaysFault SecondText (workqueues_of_text s.table.names s.partition assigned) why) (λ r. why ≡ refused_for Declaration r)
 
 -- which step isn't lawful, if a run ends like this
 abbrev pub unlawful : RunEnd → Option Why
@@ -43,17 +42,17 @@ unlawful (ends.NotLawful n) = Some (NotLawful n)
 unlawful _ = None
 
 -- how these steps end under an assignment says which of them isn't lawful, if one isn't
-abbrev pub SaysSteps : Declared → Assignment → List Step → Option Why → Type 0
-SaysSteps s a steps why = (run_end : RunEnd) × EndsAs (wiring (declared_waits s) a) steps run_end × (why ≡ unlawful run_end)
+abbrev pub SaysSteps : Declared → Workqueues → List Step → Option Why → Type 0
+SaysSteps s ws steps why = (run_end : RunEnd) × EndsAs (wiring_of (declared_waits s) ws) steps run_end × (why ≡ unlawful run_end)
 
 -- a run under an assignment of a declaration: it is refused, or a step isn't lawful, or there is nothing to say
-abbrev pub SaysRunUnder : Declared → Assignment → List ℕ → Option Why → Type 0
-SaysRunUnder s a run why = MatchResult (run_of s.table.names run) (λ steps. SaysSteps s a steps why) (λ fault. why ≡ refused_for Run (cert_refusal fault))
+abbrev pub SaysRunUnder : Declared → Workqueues → List ℕ → Option Why → Type 0
+SaysRunUnder s ws run why = MatchResult (run_of s.table.names run) (λ steps. SaysSteps s ws steps why) (λ fault. why ≡ refused_for Run (cert_refusal fault))
 
 -- an assignment of a declaration, and a run
 abbrev pub SaysRun : Declared → List ℕ → List ℕ → Option Why → Type 0
 SaysRun s assigned run why =
-    MatchResult (assignment_of_text s.table.names s.partition assigned) (λ a. SaysRunUnder s a run why)
+    MatchResult (workqueues_of_text s.table.names s.partition assigned) (λ ws. SaysRunUnder s ws run why)
     (λ fault. why ≡ refused_for SecondText (cert_refusal fault))
 
 -- a declaration, an assignment of it, and a run: the first of them that is refused

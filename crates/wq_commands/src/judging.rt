@@ -6,9 +6,9 @@
 ghost use Rattle.std.specs.Prelude.{◌≡◌, IfOk, None, length};
 ghost use Rattle.wq_groups.specs.Declaration.{declaration_of};
 ghost use Rattle.wq_cert.specs.RunText.{run_text};
-ghost use Rattle.wq_deadlock.specs.Verdict.{IsDeadlock, IsVerdict};
+ghost use Rattle.wq_deadlock.specs.Judging.{IsHang, IsJudged};
 ghost use Rattle.wq_commands.specs.Deadlocking.{safe_text, JudgesAssigned, JudgesDeclared, Judges};
-ghost use Rattle.wq_cert.specs.Texts.{assignment_of_text};
+ghost use Rattle.wq_cert.specs.Texts.{workqueues_of_text};
 ghost use Rattle.wq_commands.specs.declared.why.Which.TheVariants.{Certificate};
 ghost use Rattle.wq_commands.specs.Why.{SaysFault, SaysAssigned};
 
@@ -16,10 +16,10 @@ use crate::declaration::{Stop, read_declaration};
 use crate::end::End;
 use crate::why::{Answered, Which};
 use std::alloc::{AllocError, Allocator};
-use wq_cert::{CertError, read_assignment, run_text};
-use wq_core::Step;
-use wq_deadlock::{Verdict, verdict};
-use wq_groups::{Assignment, Groups};
+use wq_cert::{CertError, read_workqueues, run_text};
+use wq_core::{Step, Workqueues};
+use wq_deadlock::{Judged, judge as judge_workqueues};
+use wq_groups::Groups;
 use wq_items::ItemTable;
 use wq_lines::{put, put_end};
 
@@ -35,66 +35,66 @@ pub fn safe_text<A: Allocator + Copy>(alloc: A) -> Result<Vec<u8, A>, AllocError
     Ok(out)
 }
 
-/// The text of the run by which an assignment deadlocks.
+/// The text of the run by which workqueues hang.
 fn deadlock_text<A: Allocator + Copy>(
     alloc: A,
     table: &ItemTable<'_, A>,
     groups: &Groups<A>,
-    assignment: &Assignment<A>,
+    workqueues: &Workqueues<A>,
     steps: &[Step],
 ) -> Result<Vec<u8, A>, AllocError>
     requires grouped { length groups.now.group_of ≡ length table.now.names }
-    requires assigned { length assignment.now.lane_of_group ≡ groups.now.groups }
-    requires deadlock { IsDeadlock (declaration_of table.now groups.now) assignment.now steps.now }
+    requires assigned { length workqueues.now.assignment.lane_of_group ≡ groups.now.groups }
+    requires deadlock { IsHang (declaration_of table.now groups.now) workqueues.now steps.now }
     ensures { IfOk result (λ text. text.items ≡ run_text table.now.names steps.now) }
 {
     // What holds of every table, of all groups and of every assignment.
     let _items = table.len();
     let _groups = groups.len();
-    let _lanes = assignment.lanes();
+    let _lanes = workqueues.assignment().lanes();
     run_text(alloc, table, steps)
 }
 
-/// What is printed of this verdict on an assignment.
+/// What is printed of this verdict on workqueues.
 fn print_verdict<A: Allocator + Copy>(
     alloc: A,
     table: &ItemTable<'_, A>,
     groups: &Groups<A>,
-    assignment: &Assignment<A>,
-    verdict: &Verdict<A>,
+    workqueues: &Workqueues<A>,
+    judged: &Judged<A>,
 ) -> Result<Answered<A>, AllocError>
     requires grouped { length groups.now.group_of ≡ length table.now.names }
-    requires assigned { length assignment.now.lane_of_group ≡ groups.now.groups }
-    requires judged { IsVerdict (declaration_of table.now groups.now) assignment.now verdict.now }
-    ensures answer { IfOk result (λ a. JudgesAssigned (record { table = table.now; partition = groups.now }) assignment.now a.end a.text.items) }
+    requires assigned { length workqueues.now.assignment.lane_of_group ≡ groups.now.groups }
+    requires judged { IsJudged (declaration_of table.now groups.now) workqueues.now judged.now }
+    ensures answer { IfOk result (λ a. JudgesAssigned (record { table = table.now; partition = groups.now }) workqueues.now a.end a.text.items) }
     ensures why { IfOk result (λ a. a.why ≡ None) }
 {
-    match verdict {
-        Verdict::Safe(_) => {
+    match judged {
+        Judged::Safe => {
             let text = safe_text(alloc)?;
             Ok(Answered::plain(End::Good, text))
         }
-        Verdict::Deadlock(steps) => {
-            let text = deadlock_text(alloc, table, groups, assignment, steps)?;
+        Judged::Deadlock(steps) => {
+            let text = deadlock_text(alloc, table, groups, workqueues, steps)?;
             Ok(Answered::plain(End::Bad, text))
         }
     }
 }
 
-/// The answer to an assignment of these groups.
+/// The answer to workqueues of these groups.
 fn judge_assigned<A: Allocator + Copy>(
     alloc: A,
     table: &ItemTable<'_, A>,
     groups: &Groups<A>,
-    assignment: &Assignment<A>,
+    workqueues: &Workqueues<A>,
 ) -> Result<Answered<A>, AllocError>
     requires grouped { length groups.now.group_of ≡ length table.now.names }
-    requires assigned { length assignment.now.lane_of_group ≡ groups.now.groups }
-    ensures answer { IfOk result (λ a. JudgesAssigned (record { table = table.now; partition = groups.now }) assignment.now a.end a.text.items) }
+    requires assigned { length workqueues.now.assignment.lane_of_group ≡ groups.now.groups }
+    ensures answer { IfOk result (λ a. JudgesAssigned (record { table = table.now; partition = groups.now }) workqueues.now a.end a.text.items) }
     ensures why { IfOk result (λ a. a.why ≡ None) }
 {
-    let verdict = verdict(alloc, table, groups, assignment)?;
-    print_verdict(alloc, table, groups, assignment, &verdict)
+    let judged = judge_workqueues(alloc, table, groups, workqueues)?;
+    print_verdict(alloc, table, groups, workqueues, &judged)
 }
 
 /// The answer to the text of an assignment of these groups.
@@ -106,15 +106,15 @@ fn judge_declared<A: Allocator + Copy>(
 ) -> Result<Answered<A>, AllocError>
     requires { length groups.now.group_of ≡ length table.now.names }
     ensures answer { IfOk result (λ a. JudgesDeclared (record { table = table.now; partition = groups.now }) text.now a.end a.text.items) }
-    ensures why { IfOk result (λ a. SaysFault Certificate (assignment_of_text table.now.names groups.now text.now) a.why) }
+    ensures why { IfOk result (λ a. SaysFault Certificate (workqueues_of_text table.now.names groups.now text.now) a.why) }
 {
     // What holds of all groups.
     let _groups = groups.len();
-    match read_assignment(alloc, text, table, groups) {
-        Ok(assignment) => {
-            let answer = judge_assigned(alloc, table, groups, &assignment);
+    match read_workqueues(alloc, text, table, groups) {
+        Ok(workqueues) => {
+            let answer = judge_assigned(alloc, table, groups, &workqueues);
             // Written as a call, so that the proof has one step for it.
-            drop(assignment);
+            drop(workqueues);
             answer
         }
         Err(CertError::OutOfMemory) => Err(AllocError),

@@ -11,10 +11,10 @@ use crate::declaration::{Stop, read_declaration};
 use crate::end::End;
 use crate::why::{Answered, Which, Why};
 use std::alloc::{AllocError, Allocator};
-use wq_cert::{CertError, read_assignment, read_run};
-use wq_checker::{RunEnd, check_run};
-use wq_core::Step;
-use wq_groups::{Assignment, Groups};
+use wq_cert::{CertError, read_run, read_workqueues};
+use wq_checker::{RunEnd, check_run_on};
+use wq_core::{Step, Workqueues};
+use wq_groups::Groups;
 use wq_items::ItemTable;
 use wq_lines::{put, put_end, put_number};
 
@@ -76,16 +76,16 @@ fn replay_steps<A: Allocator + Copy>(
     alloc: A,
     table: &ItemTable<'_, A>,
     groups: &Groups<A>,
-    assignment: &Assignment<A>,
+    workqueues: &Workqueues<A>,
     steps: &[Step],
 ) -> Result<Answered<A>, AllocError>
     requires grouped { length groups.now.group_of ≡ length table.now.names }
-    requires assigned { length assignment.now.lane_of_group ≡ groups.now.groups }
+    requires assigned { length workqueues.now.assignment.lane_of_group ≡ groups.now.groups }
     requires few { length steps.now < 4294967295 }
-    ensures answer { IfOk result (λ a. AnswersReplay (record { table = table.now; partition = groups.now }) assignment.now steps.now a.end a.text.items) }
-    ensures why { IfOk result (λ a. SaysSteps (record { table = table.now; partition = groups.now }) assignment.now steps.now a.why) }
+    ensures answer { IfOk result (λ a. AnswersReplay (record { table = table.now; partition = groups.now }) workqueues.now steps.now a.end a.text.items) }
+    ensures why { IfOk result (λ a. SaysSteps (record { table = table.now; partition = groups.now }) workqueues.now steps.now a.why) }
 {
-    let end = check_run(alloc, table, groups, assignment, steps)?;
+    let end = check_run_on(alloc, table, groups, workqueues, steps)?;
     let text = replay_text(alloc, end)?;
     Ok(Answered {
         end: replay_end(end),
@@ -94,25 +94,25 @@ fn replay_steps<A: Allocator + Copy>(
     })
 }
 
-/// The answer to an assignment of these groups and the text of a run.
+/// The answer to workqueues of these groups and the text of a run.
 fn replay_assigned<A: Allocator + Copy>(
     alloc: A,
     table: &ItemTable<'_, A>,
     groups: &Groups<A>,
-    assignment: &Assignment<A>,
+    workqueues: &Workqueues<A>,
     text: &[u8],
 ) -> Result<Answered<A>, AllocError>
     requires grouped { length groups.now.group_of ≡ length table.now.names }
-    requires assigned { length assignment.now.lane_of_group ≡ groups.now.groups }
-    ensures answer { IfOk result (λ a. ReplaysAssigned (record { table = table.now; partition = groups.now }) assignment.now text.now a.end a.text.items) }
-    ensures why { IfOk result (λ a. SaysRunUnder (record { table = table.now; partition = groups.now }) assignment.now text.now a.why) }
+    requires assigned { length workqueues.now.assignment.lane_of_group ≡ groups.now.groups }
+    ensures answer { IfOk result (λ a. ReplaysAssigned (record { table = table.now; partition = groups.now }) workqueues.now text.now a.end a.text.items) }
+    ensures why { IfOk result (λ a. SaysRunUnder (record { table = table.now; partition = groups.now }) workqueues.now text.now a.why) }
 {
     // What holds of every table and of all groups.
     let _items = table.len();
     let _groups = groups.len();
     match read_run(alloc, text, table) {
         Ok(steps) => {
-            let answer = replay_steps(alloc, table, groups, assignment, steps.as_slice());
+            let answer = replay_steps(alloc, table, groups, workqueues, steps.as_slice());
             // Written as a call, so that the proof has one step for it.
             drop(steps);
             answer
@@ -137,10 +137,10 @@ fn replay_declared<A: Allocator + Copy>(
     // What holds of every table and of all groups.
     let _items = table.len();
     let _groups = groups.len();
-    match read_assignment(alloc, assigned, table, groups) {
-        Ok(assignment) => {
-            let answer = replay_assigned(alloc, table, groups, &assignment, text);
-            drop(assignment);
+    match read_workqueues(alloc, assigned, table, groups) {
+        Ok(workqueues) => {
+            let answer = replay_assigned(alloc, table, groups, &workqueues, text);
+            drop(workqueues);
             answer
         }
         Err(CertError::OutOfMemory) => Err(AllocError),

@@ -1,5 +1,5 @@
 -- What holds of workqueues of which some have no rescuer: which items hold up others for good, and when no run ends stuck.
-use Rattle.std.proofs.Common.{◌≡◌, ℕ, ◌<◌, ◌≤◌, Bool, true, false, not, List, [], ◌∷◌, length, get_or, refl, sym, ap, subst, ◌∙◌, arith, inl, inr}
+use Rattle.std.proofs.Common.{◌≡◌, ℕ, ◌<◌, ◌≤◌, Bool, true, false, not, List, [], ◌∷◌, ◌++◌, length, get_or, refl, sym, ap, subst, ◌∙◌, arith, inl, inr}
 use Rattle.std.specs.Prelude.{Contains, filter, slice_index, ◌&&◌, Result, Ok, Err, IfErr, OnErr}
 use Rattle.std.specs.List.{All}
 use Rattle.std.proofs.lemmas.Bool.{cases_Bool, false≢true}
@@ -26,8 +26,12 @@ use Rattle.wq_core.specs.Wiring.{Wiring, IsWiring, HasRescuer, wiring, lane_of}
 use Rattle.wq_core.specs.Workqueues.{Workqueues, wiring_of}
 use Rattle.wq_core.specs.Deadlock.{DeadlocksBy}
 use Rattle.wq_core.specs.Knot.{IsKnot}
+use Rattle.wq_core.specs.Played.{queue_order}
+use Rattle.wq_core.specs.Runs.{end_of}
 use Rattle.wq_core.proofs.BareWaits.{IsKnot-bare}
-use Rattle.wq_core.proofs.KnotRuns.{DeadlocksBy-knot}
+use Rattle.wq_core.proofs.KnotRuns.{DeadlocksBy-knot, IsRun-queue_order}
+use Rattle.wq_core.proofs.Playing.{IsPlayedFrom-exists}
+use Rattle.wq_core.proofs.Sound.{IsSoundState-end_of}
 use Rattle.wq_core.proofs.Safety.{IsSafe-rescued}
 use Rattle.wq_core.proofs.Wirings.{IsWiring-wiring, IsWiring-with_bare, lanes-some}
 use Rattle.wq_deadlock.specs.CircleRun.{IsRunOf}
@@ -70,6 +74,13 @@ lanes-arcs d a declaration assignment some =
 pub OnErr-some : {V E : Type 0} (r : Result V E) (n : ℕ) (P : Type 0) → IfErr r (λ _. 0 < n) → ((0 < n) → P) → OnErr r P
 OnErr-some (Ok v) n P some then = tt
 OnErr-some (Err e) n P some then = then some
+
+-- items that hold one another up have a run
+pub IsRunOf-exists : (w : Wiring) (first : List ℕ) → IsWiring w → IsKnot w first → (steps : List Step) × IsRunOf w first steps
+IsRunOf-exists w first wiring knot =
+    let start = queue_order w first in
+    let played = IsPlayedFrom-exists w (end_of w start) (IsSoundState-end_of w start (IsRun-queue_order w first wiring knot)) in
+    (start ++ played.0, record { played = played.0; is_played = played.1; all = refl })
 
 module _ (d : Declaration) (ws : Workqueues) (declaration : IsDeclaration d) (assignment : IsAssignment d.groups ws.assignment) where
   abbrev w : Wiring

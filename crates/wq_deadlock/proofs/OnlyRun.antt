@@ -9,7 +9,7 @@ use Rattle.wq_core.specs.Rules.{effect}
 use Rattle.wq_core.specs.Runs.{end_of}
 use Rattle.wq_core.specs.Played.{IsDeclaredStep, HasNoDeclaredStep, IsPlayedFrom, queue_order}
 use Rattle.wq_core.proofs.DeclaredSteps.{declared_steps_equal}
-use Rattle.wq_deadlock.specs.CircleRun.{flushing_items, IsCircleRun}
+use Rattle.wq_deadlock.specs.CircleRun.{flushing_items, IsRunOf, IsCircleRun}
 
 -- the lowest lane that can move has one step
 same_lowest : (w : Wiring) (s : State) (p q : ℕ) (a b : Step) → IsDeclaredStep w s p a → ((r : ℕ) → r < p → HasNoDeclaredStep w s r) → IsDeclaredStep w s q b → ((r : ℕ) → r < q → HasNoDeclaredStep w s r) → a ≡ b
@@ -29,6 +29,12 @@ same_played w s (a ∷ more) (b ∷ others) played played_too =
     let step : a ≡ b = same_lowest w s played.0.0 played_too.0.0 a b played.0.1 played.0.2 played_too.0.1 played_too.0.2 in
     let rest : more ≡ others = same_played w (effect w s a) more others played.1 (subst (λ (x : Step). IsPlayedFrom w (effect w s x) others) (sym step) played_too.1) in
     ap (λ (x : Step). x ∷ more) step ∙ ap (λ (xs : List Step). b ∷ xs) rest
+
+pub same_run_of : (w : Wiring) (first : List ℕ) (one other : List Step) → IsRunOf w first one → IsRunOf w first other → one ≡ other
+same_run_of w first one other run run_too =
+    run.all
+    ∙ ap (λ (xs : List Step). queue_order w first ++ xs) (same_played w (end_of w (queue_order w first)) run.played run_too.played run.is_played run_too.is_played)
+    ∙ sym run_too.all
 
 pub same_circle_run : (w : Wiring) (circle : List WaitArc) (one other : List Step) → IsCircleRun w circle one → IsCircleRun w circle other → one ≡ other
 same_circle_run w circle one other run run_too =

@@ -3,7 +3,7 @@ use Rattle.std.specs.Prelude.{◌≡◌, ℕ, List, [], ◌∷◌, ◌++◌, Opt
 use Rattle.wq_text.specs.Refusal.{Refusal}
 use Rattle.wq_cert.specs.declared.fault.CertError.{CertError}
 use Rattle.wq_cert.specs.declared.fault.CertError.TheVariants.{OutOfMemory}
-use Rattle.wq_cert.specs.Texts.{answer_of, assignment_of_text, run_of, cert_refusal}
+use Rattle.wq_cert.specs.Texts.{answer_of, workqueues_of_text, run_of, cert_refusal}
 use Rattle.wq_cert.specs.Certificate.{Certificate}
 use Rattle.wq_checker.specs.declared.answer.Yes.{Yes}
 use Rattle.wq_checker.specs.declared.answer.No.{No}
@@ -27,7 +27,7 @@ declaration_refusal text = refusal_of (λ r. r) (declaration text)
 -- what a certificate of a declaration is refused for
 abbrev pub certificate_refusal : CertificateKind → Declared → List ℕ → Option Refusal
 certificate_refusal Answer s text = refusal_of cert_refusal (answer_of s.table.names s.partition text)
-certificate_refusal Assignment s text = refusal_of cert_refusal (assignment_of_text s.table.names s.partition text)
+certificate_refusal Assignment s text = refusal_of cert_refusal (workqueues_of_text s.table.names s.partition text)
 certificate_refusal Run s text = refusal_of cert_refusal (run_of s.table.names text)
 
 -- what a certificate is refused for, if the declaration isn't refused

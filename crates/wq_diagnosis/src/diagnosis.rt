@@ -12,7 +12,7 @@ ghost use Rattle.wq_diagnosis.specs.Refused.{no_item_note, Diagnoses, DiagnosesN
 
 use crate::further::push_further;
 use std::alloc::{AllocError, Allocator};
-use wq_cert::{CertError, read_answer, read_assignment, read_run};
+use wq_cert::{CertError, read_answer, read_run, read_workqueues};
 use wq_checker::{No, check_answer};
 use wq_commands::{Declaration, Stop, read_declaration};
 use wq_findings::{
@@ -345,7 +345,7 @@ fn fault_of<A: Allocator + Copy>(
     let Declaration { table, groups } = declared;
     match kind {
         CertificateKind::Answer => read_answer(alloc, text, table, groups).err(),
-        CertificateKind::Assignment => read_assignment(alloc, text, table, groups).err(),
+        CertificateKind::Assignment => read_workqueues(alloc, text, table, groups).err(),
         CertificateKind::Run => read_run(alloc, text, table).err(),
     }
 }

@@ -13,7 +13,7 @@ use crate::diagnosis::{Source, lines_of, put_line, put_lines};
 use crate::unlawful::{Unlawful, reason_of};
 use std::alloc::{AllocError, Allocator};
 use std::fmt;
-use wq_cert::{CertError, read_assignment, read_run};
+use wq_cert::{CertError, read_run, read_workqueues};
 use wq_commands::{Declaration, Stop, read_declaration};
 use wq_core::{Core, Step};
 use wq_findings::{Excerpt, Hint, Mark, Marks, Quoted, put_place};
@@ -385,10 +385,11 @@ fn of_declared<A: Allocator + Copy>(
     // What holds of every table and of all groups.
     let _items = declared.table.len();
     let _groups = declared.groups.len();
-    match read_assignment(alloc, assignment, &declared.table, &declared.groups) {
-        Ok(assignment) => {
-            let said = of_run(alloc, declared, &assignment, run, number);
-            drop(assignment);
+    match read_workqueues(alloc, assignment, &declared.table, &declared.groups) {
+        Ok(workqueues) => {
+            // Which steps are lawful doesn't depend on rescuers.
+            let said = of_run(alloc, declared, workqueues.assignment(), run, number);
+            drop(workqueues);
             said
         }
         Err(CertError::OutOfMemory) => Err(AllocError),

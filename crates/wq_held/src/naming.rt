@@ -21,7 +21,7 @@ pub trait Naming: Ledger {
 impl Naming for Brand {
     ghost use Rattle.std.specs.Prelude.{[]};
 
-    ghost wiring = { record { waits = []; lane_of_item = []; lanes = 0; ordered = []; helpers = 0 } };
+    ghost wiring = { record { waits = []; lane_of_item = []; lanes = 0; ordered = []; bare = []; helpers = 0 } };
 
     ghost rows = { 0 };
 }

@@ -1,4 +1,4 @@
-use Rattle.wq_cert.specs.Reading.{answer_reading, assignment_reading, run_reading}
+use Rattle.wq_cert.specs.Reading.{answer_reading, assignment_reading, lanes_reading, run_reading}
 use Rattle.wq_cert.proofs.LongCertificates.{text_reading-long, text_reading-take}
 use Rattle.wq_cert.proofs.laws.a_long_certificate_is_refused_by_its_prefix.Goals as goal
 
@@ -19,3 +19,9 @@ returns-clause-prefix_of_assignment c = λ names p. text_reading-take (assignmen
 
 pub returns-clause-prefix_of_run : goal.returns-clause-prefix_of_run
 returns-clause-prefix_of_run c = λ names. text_reading-take (run_reading names)
+
+pub returns-clause-workqueues : goal.returns-clause-workqueues
+returns-clause-workqueues c = λ names p. text_reading-long (lanes_reading names p)
+
+pub returns-clause-prefix_of_workqueues : goal.returns-clause-prefix_of_workqueues
+returns-clause-prefix_of_workqueues c = λ names p. text_reading-take (lanes_reading names p)

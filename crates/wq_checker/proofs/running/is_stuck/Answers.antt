@@ -12,7 +12,7 @@ from_none (Some x) P none p = absurd cc
 pub returns-then-is_none : goal.returns-then-is_none
 returns-then-is_none g c =
     let m = c.args.core.now in
-    IsStuck-cannot_move m.wiring m.state (from_none c.enabled.result ((q : ℕ) → ¬ CanMove m.wiring m.state q) c.if-is_none.ensures c.enabled.ensures.none) c.is_idle.result c.is_idle.ensures
+    IsStuck-cannot_move m.wiring m.state (from_none c.enabled.result ((q : ℕ) → ¬ CanMove m.wiring m.state q) c.if-is_none.ensures c.enabled.ensures.none) c.is_at_rest.result c.is_at_rest.ensures
 
 -- what holds where there is something
 from_some : (o : Option ℕ) (P : ℕ → Type 0) → is_some o ≡ true → IfSome o P → (q : ℕ) × P q
