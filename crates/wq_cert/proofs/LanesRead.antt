@@ -1,7 +1,5 @@
 -- Workqueues that are read, of which some may have no rescuer: what is known of them, and of texts that name none of these.
-use Rattle.std.proofs.Common.{◌≡◌, ℕ, ◌+◌, ◌<◌, ◌≤◌, ◌⊎◌, inl, inr, Bool, true, false, cond, List, [], ◌∷◌, length, map, get_or, take, Result, Ok, Err, refl, sym, ap, subst, ◌∙◌, arith}
-use Rattle.std.specs.Prelude.{codes, bytes_eq}
-use Rattle.std.specs.List.{All}
+use Rattle.std.proofs.Common.{◌≡◌, ℕ, ◌≤◌, inl, inr, Bool, true, false, cond, List, [], ◌∷◌, length, map, Result, Ok, refl, sym, ap, subst, arith}
 use Rattle.std.proofs.lemmas.List.{length-map}
 use Rattle.std.proofs.lemmas.List.FromFn.{length-enumerate_from}
 use Rattle.wq_text.specs.Lines.{LineView, lines_of}
@@ -15,9 +13,8 @@ use Rattle.wq_cert.specs.FirstFaults.{NoLineIsAtFault}
 use Rattle.wq_cert.specs.Growth.{BeginsWell}
 use Rattle.wq_cert.specs.Lines.{CertLine, cert_line, cert_lines}
 use Rattle.wq_cert.specs.PlanText.{workqueue_line}
-use Rattle.wq_cert.specs.Ranges.{IsAssignmentOf, AreWorkqueuesOf}
+use Rattle.wq_cert.specs.Ranges.{AreWorkqueuesOf}
 use Rattle.wq_cert.specs.Reading.{begins_plan, plan_reading, workqueues_reading, as_wq, is_bare_line, lanes_reading}
-use Rattle.wq_cert.specs.Spelled.{words_of_lines, workqueue_lines}
 use Rattle.wq_cert.specs.Texts.{workqueues_of_text}
 use Rattle.wq_cert.proofs.GrowthLemmas.{made_of}
 use Rattle.wq_cert.proofs.ReadRanges.{IsReadSo-text_reading, IsAssignmentOf-read}

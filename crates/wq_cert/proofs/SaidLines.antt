@@ -1,5 +1,5 @@
 -- Lines of which a first word `norescuer` is read as `wq`, or isn't.
-use Rattle.std.proofs.Common.{◌≡◌, ℕ, Bool, true, false, List, [], ◌∷◌, map, refl, ap, ap₂, ◌∙◌}
+use Rattle.std.proofs.Common.{◌≡◌, ℕ, true, false, List, [], ◌∷◌, map, refl, ap, ap₂}
 use Rattle.wq_text.specs.Lines.{LineView}
 use Rattle.wq_text.specs.Words.{words_of}
 use Rattle.wq_cert.specs.Lines.{CertLine, bytes_of, cert_line}

@@ -6,18 +6,21 @@ use Rattle.wq_items.specs.Chain.{Circle}
 use Rattle.wq_groups.specs.Declaration.{GroupWaits, IsDeclaration}
 use Rattle.wq_groups.specs.Assignment.{Assignment, IsAssignment}
 use Rattle.wq_graph.specs.declared.arc.WaitArc.{WaitArc}
-use Rattle.wq_graph.specs.Graph.{HasArc, lane_graph}
+use Rattle.wq_graph.specs.Graph.{HasArc, arcs_by_place, lane_graph}
+use Rattle.wq_graph.proofs.LeavingOut.{without-none}
 use Rattle.wq_graph.proofs.Graphs.{GroupWaits-HasArc}
 use Rattle.wq_core.specs.Wiring.{wiring, own_lanes}
+use Rattle.wq_core.specs.Workqueues.{Workqueues, wiring_of, all_rescued}
 use Rattle.wq_core.specs.Deadlock.{IsSafe}
 use Rattle.wq_core.proofs.CircleKnots.{Deadlocks-circle}
 use Rattle.wq_core.proofs.LaneCircles.{Circle-map, Circle-lanes}
 use Rattle.wq_core.proofs.Wirings.{IsWiring-wiring}
+use Rattle.wq_deadlock.specs.Judging.{bare_waits}
 use Rattle.wq_deadlock.proofs.OwnLanes.{IsAssignment-own_lanes, lane_graph-own_lanes}
 use Rattle.wq_deadlock.proofs.Renumbered.{not_safe-by, not_safe-deadlocks}
 use Rattle.wq_cert.specs.Ranges.{IsAssignmentOf}
-use Rattle.wq_cert.specs.Texts.{assignment_of_text, cert_refusal}
-use Rattle.wq_cert.proofs.ReadRanges.{IsAssignmentOf-assignment_of_text}
+use Rattle.wq_cert.specs.Texts.{workqueues_of_text, cert_refusal}
+use Rattle.wq_cert.proofs.LanesRead.{AreWorkqueuesOf-workqueues_of_text}
 use Rattle.wq_meter.specs.Shell.{HasOneAnswer}
 use Rattle.wq_commands.specs.declared.end.End.{End}
 use Rattle.wq_commands.specs.declared.end.End.TheVariants.{Good, Bad, Refused}
@@ -30,8 +33,9 @@ use Rattle.wq_commands.proofs.CircleRuns.{IsAssignmentOf-own_lanes}
 use Rattle.wq_commands.proofs.OneOutcome.{SaysAssigned-unique, SaysDeclared-unique, same_outcome}
 use Rattle.wq_commands.proofs.PromiseLemmas.{ShowsAnswer-answers}
 use Rattle.wq_circles.specs.Components.{AreComponents}
-use Rattle.wq_circles.specs.ComponentsText.{components_text}
-use Rattle.wq_circles.specs.Circling.{CirclesAssigned, CirclesDeclared, Circles, CirclesTexts, OwnCircles}
+use Rattle.wq_circles.specs.ComponentsText.{circles_text}
+use Rattle.wq_circles.specs.Circling.{PrintsComponents, CirclesAssigned, CirclesDeclared, Circles, CirclesTexts, OwnCircles}
+use Rattle.wq_circles.proofs.ForBare.{no_waits}
 use Rattle.wq_circles.proofs.Safe.{AreComponents-unique, IsSafe-none, none-IsSafe, none_or_circle}
 
 -- what follows from two answers to the same thing, which was read or not
@@ -45,19 +49,26 @@ refused_once end other out printed r one two = (one.0 ∙ sym two.0, one.1 ∙ s
 
 -- ---- one answer
 
-CirclesAssigned-unique : (s : Declared) (a : Assignment) (end other : End) (out printed : List ℕ) → CirclesAssigned s a end out → CirclesAssigned s a other printed → (end ≡ other) × (out ≡ printed)
-CirclesAssigned-unique s a Good Good out printed one two = (refl, one.1 ∙ sym two.1)
-CirclesAssigned-unique s a Good Bad out printed one two = absurd (two.some (AreComponents-unique (declared_waits s) a two.components [] two.are one.0))
+-- what is printed has a component, or a flush that leads to a workqueue without a rescuer
+neither : {out : List ℕ} (s : Declared) (ws : Workqueues) (prints : PrintsComponents s ws out) → prints.components ≡ [] → bare_waits (declared_waits s) ws ≡ [] → ⊥
+neither s ws prints none no_waits = elim prints.some [
+  | inl some ↦ some none
+  | inr some ↦ some no_waits
+]
+
+CirclesAssigned-unique : (s : Declared) (a : Workqueues) (end other : End) (out printed : List ℕ) → CirclesAssigned s a end out → CirclesAssigned s a other printed → (end ≡ other) × (out ≡ printed)
+CirclesAssigned-unique s a Good Good out printed one two = (refl, one.2 ∙ sym two.2)
+CirclesAssigned-unique s a Good Bad out printed one two = absurd (neither s a two (AreComponents-unique (declared_waits s) a two.components [] two.are one.0) one.1)
 CirclesAssigned-unique s a Good Refused out printed one two = absurd two
-CirclesAssigned-unique s a Bad Good out printed one two = absurd (one.some (AreComponents-unique (declared_waits s) a one.components [] one.are two.0))
+CirclesAssigned-unique s a Bad Good out printed one two = absurd (neither s a one (AreComponents-unique (declared_waits s) a one.components [] one.are two.0) two.1)
 CirclesAssigned-unique s a Bad Bad out printed one two =
-    (refl, one.text ∙ ap (components_text s.table.names) (AreComponents-unique (declared_waits s) a one.components two.components one.are two.are) ∙ sym two.text)
+    (refl, one.text ∙ ap (λ (c : List (List WaitArc)). circles_text s.table.names c (bare_waits (declared_waits s) a)) (AreComponents-unique (declared_waits s) a one.components two.components one.are two.are) ∙ sym two.text)
 CirclesAssigned-unique s a Bad Refused out printed one two = absurd two
 CirclesAssigned-unique s a Refused other out printed one two = absurd one
 
 CirclesDeclared-unique : (s : Declared) (text : List ℕ) (end other : End) (out printed : List ℕ) → CirclesDeclared s text end out → CirclesDeclared s text other printed → (end ≡ other) × (out ≡ printed)
 CirclesDeclared-unique s text end other out printed =
-    matched (assignment_of_text s.table.names s.partition text) (λ a. CirclesAssigned s a end out) (λ a. CirclesAssigned s a other printed) (λ fault. PrintsRefusal (cert_refusal fault) end out) (λ fault. PrintsRefusal (cert_refusal fault) other printed)
+    matched (workqueues_of_text s.table.names s.partition text) (λ a. CirclesAssigned s a end out) (λ a. CirclesAssigned s a other printed) (λ fault. PrintsRefusal (cert_refusal fault) end out) (λ fault. PrintsRefusal (cert_refusal fault) other printed)
     ((end ≡ other) × (out ≡ printed)) (λ a is. CirclesAssigned-unique s a end other out printed) (λ fault. refused_once end other out printed (cert_refusal fault))
 
 pub Circles-unique : (declared text : List ℕ) (end other : End) (out printed : List ℕ) → Circles declared text end out → Circles declared text other printed → (end ≡ other) × (out ≡ printed)
@@ -67,8 +78,8 @@ Circles-unique declared text end other out printed =
 
 pub OwnCircles-unique : (declared : List ℕ) (end other : End) (out printed : List ℕ) → OwnCircles declared end out → OwnCircles declared other printed → (end ≡ other) × (out ≡ printed)
 OwnCircles-unique declared end other out printed =
-    matched (declaration declared) (λ s. CirclesAssigned s (own_lanes s.partition.groups) end out) (λ s. CirclesAssigned s (own_lanes s.partition.groups) other printed) (λ r. PrintsRefusal r end out) (λ r. PrintsRefusal r other printed)
-    ((end ≡ other) × (out ≡ printed)) (λ s is. CirclesAssigned-unique s (own_lanes s.partition.groups) end other out printed) (refused_once end other out printed)
+    matched (declaration declared) (λ s. CirclesAssigned s (all_rescued (own_lanes s.partition.groups)) end out) (λ s. CirclesAssigned s (all_rescued (own_lanes s.partition.groups)) other printed) (λ r. PrintsRefusal r end out) (λ r. PrintsRefusal r other printed)
+    ((end ≡ other) × (out ≡ printed)) (λ s is. CirclesAssigned-unique s (all_rescued (own_lanes s.partition.groups)) end other out printed) (refused_once end other out printed)
 
 pub CirclesTexts-unique : (assigned : Bool) → HasOneAnswer (CirclesTexts assigned)
 CirclesTexts-unique true texts one other out printed first second =
@@ -80,18 +91,20 @@ CirclesTexts-unique false texts one other out printed first second =
 
 -- ---- the end of a verdict
 
-module _ (s : Declared) (sound : IsSound s) (a : Assignment) (assigned : IsAssignmentOf s.partition.groups a) where
+module _ (s : Declared) (sound : IsSound s) (ws : Workqueues) (assigned : IsAssignmentOf s.partition.groups ws.assignment) where
   is_declaration : IsDeclaration (declared_waits s)
   is_declaration = IsDeclaration-sound s sound
 
-  safe : AreComponents (declared_waits s) a [] → IsSafe (wiring (declared_waits s) a)
-  safe are = IsSafe-none (declared_waits s) a is_declaration assigned.assignment [] are assigned.few refl
+  safe : AreComponents (declared_waits s) ws [] → bare_waits (declared_waits s) ws ≡ [] → IsSafe (wiring_of (declared_waits s) ws)
+  safe are no_waits = IsSafe-none (declared_waits s) ws.assignment ws.bare is_declaration assigned.assignment [] are assigned.few refl no_waits
 
-  ends_as_judged : (end other : End) (out printed : List ℕ) → CirclesAssigned s a end out → JudgesAssigned s a other printed → end ≡ other
+  ends_as_judged : (end other : End) (out printed : List ℕ) → CirclesAssigned s ws end out → JudgesAssigned s ws other printed → end ≡ other
   ends_as_judged Good Good out printed one two = refl
-  ends_as_judged Good Bad out printed one two = absurd (not_safe-by (wiring (declared_waits s) a) two.0 two.1.deadlocks (safe one.0))
+  ends_as_judged Good Bad out printed one two = absurd (not_safe-by (wiring_of (declared_waits s) ws) two.0 two.1.deadlocks (safe one.0 one.1))
   ends_as_judged Good Refused out printed one two = absurd two
-  ends_as_judged Bad Good out printed one two = absurd (one.some (none-IsSafe (declared_waits s) a is_declaration assigned.assignment one.components one.are two.1))
+  ends_as_judged Bad Good out printed one two =
+      let none = none-IsSafe (declared_waits s) ws.assignment ws.bare is_declaration assigned.assignment one.components one.are two.1 in
+      absurd (neither s ws one none.0 none.1)
   ends_as_judged Bad Bad out printed one two = refl
   ends_as_judged Bad Refused out printed one two = absurd two
   ends_as_judged Refused other out printed one two = absurd one
@@ -100,9 +113,9 @@ pub Circles-judged : (declared text : List ℕ) (end other : End) (out printed :
 Circles-judged declared text end other out printed =
     matched (declaration declared) (λ s. CirclesDeclared s text end out) (λ s. JudgesDeclared s text other printed) (λ r. PrintsRefusal r end out) (λ r. PrintsRefusal r other printed) (end ≡ other)
     (λ s is.
-    matched (assignment_of_text s.table.names s.partition text) (λ a. CirclesAssigned s a end out) (λ a. JudgesAssigned s a other printed) (λ fault. PrintsRefusal (cert_refusal fault) end out) (λ fault. PrintsRefusal (cert_refusal fault) other printed) (end ≡ other)
+    matched (workqueues_of_text s.table.names s.partition text) (λ a. CirclesAssigned s a end out) (λ a. JudgesAssigned s a other printed) (λ fault. PrintsRefusal (cert_refusal fault) end out) (λ fault. PrintsRefusal (cert_refusal fault) other printed) (end ≡ other)
     (λ a read. let sound = IsSound-declaration declared s is in
-    ends_as_judged s sound a (IsAssignmentOf-assignment_of_text s.table.names s.partition sound.partition (sym sound.one_group_each) text a read) end other out printed)
+    ends_as_judged s sound a (IsAssignmentOf-workqueues_of_text s.table.names s.partition sound.partition (sym sound.one_group_each) text a read) end other out printed)
     (λ fault one two. one.0 ∙ sym two.0))
     (λ r one two. one.0 ∙ sym two.0)
 
@@ -117,23 +130,27 @@ module _ (s : Declared) (sound : IsSound s) where
   no_plan a circle assignment =
       let groups = subst (λ (g : List (List WaitArc)). Circle (HasArc g)) (lane_graph-own_lanes (declared_waits s) declares) circle in
       let waits = Circle-map _ (GroupWaits (declared_waits s)) (λ g. g) (λ p q arc. (GroupWaits-HasArc (declared_waits s) declares p q).1 arc) groups in
-      not_safe-deadlocks (wiring (declared_waits s) a) (Deadlocks-circle (wiring (declared_waits s) a) (IsWiring-wiring (declared_waits s) a declares assignment) (Circle-lanes (declared_waits s) a waits))
+      not_safe-deadlocks (wiring (declared_waits s) a) (Deadlocks-circle (wiring (declared_waits s) a) (IsWiring-wiring (declared_waits s) a declares assignment) refl (Circle-lanes (declared_waits s) a waits))
 
-  ends_as_planned : (end other : End) (out printed : List ℕ) → CirclesAssigned s (own_lanes s.partition.groups) end out → ShowsDeclared s other printed → end ≡ other
+  ends_as_planned : (end other : End) (out printed : List ℕ) → CirclesAssigned s (all_rescued (own_lanes s.partition.groups)) end out → ShowsDeclared s other printed → end ≡ other
   ends_as_planned Good Good out printed one two = refl
   ends_as_planned Good Bad out printed one two =
       let own = own_lanes s.partition.groups in
-      absurd (not_safe-deadlocks (wiring (declared_waits s) own) (two.kept.deadlocks own (IsAssignment-own_lanes s.partition.groups)) (safe s sound own (IsAssignmentOf-own_lanes s sound) one.0))
+      absurd (not_safe-deadlocks (wiring (declared_waits s) own) (two.kept.deadlocks own (IsAssignment-own_lanes s.partition.groups)) (safe s sound (all_rescued own) (IsAssignmentOf-own_lanes s sound) one.0 one.1))
   ends_as_planned Good Refused out printed one two = absurd two
-  ends_as_planned Bad Good out printed one two = elim (none_or_circle (declared_waits s) (own_lanes s.partition.groups) declares (IsAssignment-own_lanes s.partition.groups) one.components one.are) [
-    | inl none ↦ absurd (one.some none)
-    | inr circle ↦ absurd (no_plan two.kept.assignment circle two.kept.least.assignment two.kept.least.safe)
-  ]
+  ends_as_planned Bad Good out printed one two =
+      let own = own_lanes s.partition.groups in
+      elim (none_or_circle (declared_waits s) own [] declares (IsAssignment-own_lanes s.partition.groups) one.components one.are) [
+        | inl none ↦ absurd (neither s (all_rescued own) one none (no_waits own s.partition.group_of (arcs_by_place (declared_waits s).waits s.partition.group_of)))
+        | inr circle ↦
+            let kept = subst (λ (g : List (List WaitArc)). Circle (HasArc g)) (without-none [] (lane_graph (declared_waits s) own) (λ v. refl)) circle in
+            absurd (no_plan two.kept.assignment kept two.kept.least.assignment two.kept.least.safe)
+      ]
   ends_as_planned Bad Bad out printed one two = refl
   ends_as_planned Bad Refused out printed one two = absurd two
   ends_as_planned Refused other out printed one two = absurd one
 
 pub OwnCircles-planned : (declared : List ℕ) (end other : End) (out printed : List ℕ) → OwnCircles declared end out → Answers declared other printed → end ≡ other
 OwnCircles-planned declared end other out printed circles answers =
-    matched (declaration declared) (λ s. CirclesAssigned s (own_lanes s.partition.groups) end out) (λ s. ShowsDeclared s other printed) (λ r. PrintsRefusal r end out) (λ r. other ≡ Refused) (end ≡ other)
+    matched (declaration declared) (λ s. CirclesAssigned s (all_rescued (own_lanes s.partition.groups)) end out) (λ s. ShowsDeclared s other printed) (λ r. PrintsRefusal r end out) (λ r. other ≡ Refused) (end ≡ other)
     (λ s is. ends_as_planned s (IsSound-declaration declared s is) end other out printed) (λ r one two. one.0 ∙ sym two) circles (ShowsAnswer-answers declared other printed answers)

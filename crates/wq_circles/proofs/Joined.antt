@@ -1,5 +1,5 @@
 -- The assignment in which workqueues that lead to one another are joined.
-use Rattle.std.proofs.Common.{◌≡◌, ℕ, ◌+◌, ◌<◌, ◌≤◌, ◌==◌, not, inl, List, [], ◌∷◌, ◌++◌, length, map, get_or, take, cond, true, false, append-nil, refl, sym, ap, subst, ◌∙◌, arith}
+use Rattle.std.proofs.Common.{◌≡◌, ℕ, ◌+◌, ◌<◌, ◌≤◌, ◌==◌, not, inl, Bool, List, [], ◌∷◌, ◌++◌, length, map, get_or, take, cond, true, false, append-nil, refl, sym, ap, subst, ◌∙◌, arith}
 use Rattle.std.specs.Prelude.{Some, slice_get, slice_index}
 use Rattle.std.specs.List.{All, filter, range_with_len}
 use Rattle.std.proofs.lemmas.Bool.{cond-true, cond-false}
@@ -11,8 +11,9 @@ use Rattle.wq_groups.specs.Declaration.{Declaration}
 use Rattle.wq_groups.specs.Assignment.{Assignment, IsAssignment, item_lanes}
 use Rattle.wq_graph.specs.declared.arc.WaitArc.{WaitArc}
 use Rattle.wq_graph.specs.Graph.{HasArc, arcs_from, lane_graph}
+use Rattle.wq_graph.proofs.LeavingOut.{length-without}
 use Rattle.wq_circles.specs.Leading.{AreLowest}
-use Rattle.wq_circles.specs.Components.{joined, loops_at}
+use Rattle.wq_circles.specs.Components.{joined, kept_graph, loops_at}
 
 -- what is at a place within a list isn't the default
 pub same_default : (xs : List ℕ) (k d : ℕ) → k < length xs → get_or xs k d ≡ slice_index xs k
@@ -77,11 +78,11 @@ loops_below-none graph v n done arcs so_far is long none =
     ∙ ap (λ (l : List (List WaitArc)). loops_below graph v ++ l) (sym (cond-false (not (length (loops_at graph v) == 0)) (loops_at graph v ∷ []) [] empty))
     ∙ sym (loops_below-more graph v)
 
--- the lowest vertices of the graph of the lanes, one for each lane
-pub AreLowest-graph : (d : Declaration) (a : Assignment) (graph : List (List WaitArc)) (lowest : List ℕ) → graph ≡ lane_graph d a → AreLowest (HasArc graph) (length graph) lowest
-    → AreLowest (HasArc (lane_graph d a)) a.lanes lowest
-AreLowest-graph d a graph lowest is are =
-    subst (λ (n : ℕ). AreLowest (HasArc (lane_graph d a)) n lowest) (length-map-range_with_len (arcs_from d.waits (item_lanes a d.group_of)) 0 a.lanes)
+-- the lowest vertices of the graph of the lanes that aren't bare, one for each lane
+pub AreLowest-graph : (d : Declaration) (a : Assignment) (bare : List Bool) (graph : List (List WaitArc)) (lowest : List ℕ) → graph ≡ kept_graph d a bare → AreLowest (HasArc graph) (length graph) lowest
+    → AreLowest (HasArc (kept_graph d a bare)) a.lanes lowest
+AreLowest-graph d a bare graph lowest is are =
+    subst (λ (n : ℕ). AreLowest (HasArc (kept_graph d a bare)) n lowest) (length-without bare (lane_graph d a) ∙ length-map-range_with_len (arcs_from d.waits (item_lanes a d.group_of)) 0 a.lanes)
     (subst (λ (h : List (List WaitArc)). AreLowest (HasArc h) (length h) lowest) is are)
 
 -- if there is a group, there is a lane

@@ -1,3 +1,4 @@
+pub mod KeptLanes
 pub mod Leading
 pub mod Once
 pub mod Turned
@@ -14,3 +15,4 @@ mod Answered
 mod Promised
 mod Printed
 pub mod Taking
+pub mod ForBare

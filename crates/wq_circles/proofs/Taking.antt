@@ -3,11 +3,11 @@ use Rattle.std.proofs.Common.{◌≡◌, Bool, false, true, ℕ, ◌+◌, List, 
 use Rattle.std.specs.Prelude.{MatchResult, take}
 use Rattle.std.proofs.lemmas.Result.{MatchResult-weaker}
 use Rattle.wq_text.specs.Refusal.{Refusal}
-use Rattle.wq_groups.specs.Assignment.{Assignment}
+use Rattle.wq_core.specs.Workqueues.{Workqueues, all_rescued}
 use Rattle.wq_core.specs.Wiring.{own_lanes}
 use Rattle.wq_meter.specs.Shell.{Given, kept}
 use Rattle.wq_cert.specs.declared.fault.CertError.{CertError}
-use Rattle.wq_cert.specs.Reading.{assignment_reading}
+use Rattle.wq_cert.specs.Reading.{lanes_reading}
 use Rattle.wq_cert.specs.Texts.{cert_refusal, max_certificate}
 use Rattle.wq_cert.proofs.LongCertificates.{text_reading-take}
 use Rattle.wq_commands.specs.declared.end.End.{End}
@@ -23,8 +23,8 @@ use Rattle.wq_circles.specs.Circling.{CirclesAssigned, CirclesDeclared, Circles,
 module _ (end : End) (out : List ℕ) where
   CirclesDeclared-take : (text : List ℕ) (s : Declared) → CirclesDeclared s (take (max_certificate + 1) text) end out → CirclesDeclared s text end out
   CirclesDeclared-take text s answer =
-      subst (λ (r : Result Assignment CertError). MatchResult r (λ a. CirclesAssigned s a end out) (λ fault. PrintsRefusal (cert_refusal fault) end out))
-      (text_reading-take (assignment_reading s.table.names s.partition) text) answer
+      subst (λ (r : Result Workqueues CertError). MatchResult r (λ a. CirclesAssigned s a end out) (λ fault. PrintsRefusal (cert_refusal fault) end out))
+      (text_reading-take (lanes_reading s.table.names s.partition) text) answer
 
   pub Circles-take : (declared text : List ℕ) → Circles (take (max_declaration + 1) declared) (take (max_certificate + 1) text) end out → Circles declared text end out
   Circles-take declared text answer =
@@ -34,7 +34,7 @@ module _ (end : End) (out : List ℕ) where
 
   pub OwnCircles-take : (declared : List ℕ) → OwnCircles (take (max_declaration + 1) declared) end out → OwnCircles declared end out
   OwnCircles-take declared answer =
-      subst (λ (d : Result Declared Refusal). MatchResult d (λ s. CirclesAssigned s (own_lanes s.partition.groups) end out) (λ r. PrintsRefusal r end out)) (declaration-take declared) answer
+      subst (λ (d : Result Declared Refusal). MatchResult d (λ s. CirclesAssigned s (all_rescued (own_lanes s.partition.groups)) end out) (λ r. PrintsRefusal r end out)) (declaration-take declared) answer
 
 -- ---- the command
 

@@ -1,9 +1,10 @@
 -- The answer to a declaration and an assignment: the flushes that are on a circle.
-use Rattle.std.specs.Prelude.{◌≡◌, ◌≢◌, Bool, false, true, ℕ, List, [], MatchResult}
-use Rattle.wq_groups.specs.Assignment.{Assignment}
+use Rattle.std.specs.Prelude.{◌≡◌, ◌≢◌, ◌⊎◌, Bool, false, true, ℕ, List, [], MatchResult}
 use Rattle.wq_graph.specs.declared.arc.WaitArc.{WaitArc}
 use Rattle.wq_core.specs.Wiring.{own_lanes}
-use Rattle.wq_cert.specs.Texts.{assignment_of_text, cert_refusal}
+use Rattle.wq_core.specs.Workqueues.{Workqueues, all_rescued}
+use Rattle.wq_deadlock.specs.Judging.{bare_waits}
+use Rattle.wq_cert.specs.Texts.{workqueues_of_text, cert_refusal}
 use Rattle.wq_meter.specs.Shell.{Given}
 use Rattle.wq_meter.specs.declared.texts.Limits.{Limits}
 use Rattle.wq_commands.specs.declared.end.End.{End}
@@ -15,25 +16,26 @@ use Rattle.wq_commands.specs.Deadlocking.{safe_text}
 use Rattle.wq_commands.specs.Declaration.{Declared, declaration}
 use Rattle.wq_commands.specs.Why.{SaysAssigned, SaysDeclared}
 use Rattle.wq_circles.specs.Components.{AreComponents}
-use Rattle.wq_circles.specs.ComponentsText.{components_text}
+use Rattle.wq_circles.specs.ComponentsText.{circles_text}
 
--- these are the components of an assignment, at least one, and they are printed
-pub record PrintsComponents (s : Declared) (a : Assignment) (out : List ℕ) : Type 0 where
+-- these are the components of these workqueues, or some flush leads to one that has no rescuer; and both are printed
+pub record PrintsComponents (s : Declared) (ws : Workqueues) (out : List ℕ) : Type 0 where
   pub components : List (List WaitArc)
-  pub some : components ≢ []
-  pub are : AreComponents (declared_waits s) a components
-  pub text : out ≡ components_text s.table.names components
+  pub some : (components ≢ []) ⊎ (bare_waits (declared_waits s) ws ≢ [])
+  pub are : AreComponents (declared_waits s) ws components
+  pub text : out ≡ circles_text s.table.names components (bare_waits (declared_waits s) ws)
 
--- the components of an assignment of a declaration's groups are printed, or `safe` if there are none
-abbrev pub CirclesAssigned : Declared → Assignment → End → List ℕ → Type 0
-CirclesAssigned s a Good out = AreComponents (declared_waits s) a [] × (out ≡ safe_text)
-CirclesAssigned s a Bad out = PrintsComponents s a out
-CirclesAssigned s a Refused out = ⊥
+-- the components of workqueues of a declaration's groups are printed, and the flushes that lead to one that has no rescuer; or
+-- `safe` if there are none of either
+abbrev pub CirclesAssigned : Declared → Workqueues → End → List ℕ → Type 0
+CirclesAssigned s ws Good out = AreComponents (declared_waits s) ws [] × (bare_waits (declared_waits s) ws ≡ []) × (out ≡ safe_text)
+CirclesAssigned s ws Bad out = PrintsComponents s ws out
+CirclesAssigned s ws Refused out = ⊥
 
 -- the answer to the text of an assignment of a declaration, or its refusal
 abbrev pub CirclesDeclared : Declared → List ℕ → End → List ℕ → Type 0
 CirclesDeclared s text end out =
-    MatchResult (assignment_of_text s.table.names s.partition text) (λ a. CirclesAssigned s a end out) (λ fault. PrintsRefusal (cert_refusal fault) end out)
+    MatchResult (workqueues_of_text s.table.names s.partition text) (λ ws. CirclesAssigned s ws end out) (λ fault. PrintsRefusal (cert_refusal fault) end out)
 
 -- the answer to the texts of a declaration and an assignment: a refusal of the declaration comes first
 abbrev pub Circles : List ℕ → List ℕ → End → List ℕ → Type 0
@@ -42,7 +44,7 @@ Circles declared text end out = MatchResult (declaration declared) (λ s. Circle
 -- the answer to only the text of a declaration: each group has its own workqueue, with the group's number
 abbrev pub OwnCircles : List ℕ → End → List ℕ → Type 0
 OwnCircles declared end out =
-    MatchResult (declaration declared) (λ s. CirclesAssigned s (own_lanes s.partition.groups) end out) (λ r. PrintsRefusal r end out)
+    MatchResult (declaration declared) (λ s. CirclesAssigned s (all_rescued (own_lanes s.partition.groups)) end out) (λ r. PrintsRefusal r end out)
 
 -- ---- the command, with an assignment or without one
 

@@ -1,5 +1,5 @@
 -- Components texts: how many components there are, and the arcs of each.
-use Rattle.std.specs.Prelude.{ℕ, ◌<◌, ◌^◌, List, [], ◌∷◌, length, map, flat_map, codes, decimal}
+use Rattle.std.specs.Prelude.{ℕ, ◌<◌, ◌^◌, List, [], ◌∷◌, ◌++◌, length, map, flat_map, codes, decimal}
 use Rattle.std.specs.List.{All}
 use Rattle.wq_graph.specs.declared.arc.WaitArc.{WaitArc}
 use Rattle.wq_lines.specs.LineText.{line_text}
@@ -25,6 +25,20 @@ components_lines names components = components_line (length components) ∷ flat
 -- the components text
 abbrev pub components_text : List (List ℕ) → List (List WaitArc) → List ℕ
 components_text names components = flat_map line_text (components_lines names components)
+
+-- `norescuer M`
+abbrev pub bare_line : ℕ → List (List ℕ)
+bare_line arcs = codes "norescuer" ∷ decimal arcs ∷ []
+
+-- the lines of flushes that lead to workqueues without a rescuer, as words: none if there are no such flushes, and else
+-- `norescuer M` and an `arc` line for each
+abbrev pub bare_lines : List (List ℕ) → List WaitArc → List (List (List ℕ))
+bare_lines names [] = []
+bare_lines names (a ∷ arcs) = bare_line (length (a ∷ arcs)) ∷ map (λ (b : WaitArc). arc_line names (ends_of b)) (a ∷ arcs)
+
+-- the whole text: the components, and the flushes that lead to workqueues without a rescuer
+abbrev pub circles_text : List (List ℕ) → List (List WaitArc) → List WaitArc → List ℕ
+circles_text names components waits = components_text names components ++ flat_map line_text (bare_lines names waits)
 
 -- fewer than 4,294,967,296 arcs, each from one of this many items to one of them
 abbrev pub AreBetween : ℕ → List WaitArc → Type 0

@@ -6,62 +6,68 @@
 ghost use Rattle.std.specs.Prelude.{◌≡◌, IfOk, None, length, map};
 ghost use Rattle.wq_groups.specs.Declaration.{declaration_of};
 ghost use Rattle.wq_core.specs.Wiring.{own_lanes};
-ghost use Rattle.wq_cert.specs.Texts.{assignment_of_text};
+ghost use Rattle.wq_core.specs.Workqueues.{all_rescued};
+ghost use Rattle.wq_deadlock.specs.Judging.{bare_waits};
+ghost use Rattle.wq_cert.specs.Texts.{workqueues_of_text};
 ghost use Rattle.wq_commands.specs.declared.why.Which.TheVariants.{Certificate};
 ghost use Rattle.wq_commands.specs.Why.{SaysFault, SaysAssigned, SaysDeclared};
 ghost use Rattle.wq_circles.specs.Components.{AreComponents};
 ghost use Rattle.wq_circles.specs.Circling.{CirclesAssigned, CirclesDeclared, Circles, CirclesTexts, OwnCircles};
 
 use crate::joining::components;
-use crate::printing::components_text;
+use crate::printing::circles_text;
 use std::alloc::{AllocError, Allocator};
-use wq_cert::{CertError, read_assignment};
+use wq_cert::{CertError, read_workqueues};
 use wq_commands::{Answered, End, Stop, Texts, Which, read_declaration, safe_text};
-use wq_deadlock::own_lanes;
+use wq_core::Workqueues;
+use wq_deadlock::{bare_waits, own_lanes};
 use wq_graph::WaitArc;
-use wq_groups::{Assignment, Groups};
+use wq_groups::Groups;
 use wq_items::ItemTable;
 
-/// The answer where these components are found.
+/// The answer where these components are found, and these flushes lead to workqueues without a rescuer.
 fn print_components<A: Allocator + Copy>(
     alloc: A,
     table: &ItemTable<'_, A>,
     groups: &Groups<A>,
-    assignment: &Assignment<A>,
+    workqueues: &Workqueues<A>,
     components: &[Vec<WaitArc, A>],
+    waits: &[WaitArc],
 ) -> Result<Answered<A>, AllocError>
     requires grouped { length groups.now.group_of ≡ length table.now.names }
-    requires assigned { length assignment.now.lane_of_group ≡ groups.now.groups }
-    requires found { AreComponents (declaration_of table.now groups.now) assignment.now (map (λ l. l.items) components.now) }
-    ensures answer { IfOk result (λ a. CirclesAssigned (record { table = table.now; partition = groups.now }) assignment.now a.end a.text.items) }
+    requires assigned { length workqueues.now.assignment.lane_of_group ≡ groups.now.groups }
+    requires found { AreComponents (declaration_of table.now groups.now) workqueues.now (map (λ l. l.items) components.now) }
+    requires waits { waits.now ≡ bare_waits (declaration_of table.now groups.now) workqueues.now }
+    ensures answer { IfOk result (λ a. CirclesAssigned (record { table = table.now; partition = groups.now }) workqueues.now a.end a.text.items) }
     ensures why { IfOk result (λ a. a.why ≡ None) }
 {
     // What holds of every table, of all groups and of every assignment.
     let _items = table.len();
     let _groups = groups.len();
-    let _lanes = assignment.lanes();
-    if components.is_empty() {
+    let _lanes = workqueues.assignment().lanes();
+    if components.is_empty() && waits.is_empty() {
         let text = safe_text(alloc)?;
         return Ok(Answered::plain(End::Good, text));
     }
-    let text = components_text(alloc, table, components)?;
+    let text = circles_text(alloc, table, components, waits)?;
     Ok(Answered::plain(End::Bad, text))
 }
 
-/// The answer to an assignment of these groups.
+/// The answer to workqueues of these groups.
 fn circle_assigned<A: Allocator + Copy>(
     alloc: A,
     table: &ItemTable<'_, A>,
     groups: &Groups<A>,
-    assignment: &Assignment<A>,
+    workqueues: &Workqueues<A>,
 ) -> Result<Answered<A>, AllocError>
     requires grouped { length groups.now.group_of ≡ length table.now.names }
-    requires assigned { length assignment.now.lane_of_group ≡ groups.now.groups }
-    ensures answer { IfOk result (λ a. CirclesAssigned (record { table = table.now; partition = groups.now }) assignment.now a.end a.text.items) }
+    requires assigned { length workqueues.now.assignment.lane_of_group ≡ groups.now.groups }
+    ensures answer { IfOk result (λ a. CirclesAssigned (record { table = table.now; partition = groups.now }) workqueues.now a.end a.text.items) }
     ensures why { IfOk result (λ a. a.why ≡ None) }
 {
-    let components = components(alloc, table, groups, assignment)?;
-    print_components(alloc, table, groups, assignment, &components)
+    let components = components(alloc, table, groups, workqueues)?;
+    let waits = bare_waits(alloc, table, groups, workqueues)?;
+    print_components(alloc, table, groups, workqueues, &components, &waits)
 }
 
 /// The answer to the text of an assignment of these groups.
@@ -73,15 +79,15 @@ fn circle_declared<A: Allocator + Copy>(
 ) -> Result<Answered<A>, AllocError>
     requires { length groups.now.group_of ≡ length table.now.names }
     ensures answer { IfOk result (λ a. CirclesDeclared (record { table = table.now; partition = groups.now }) text.now a.end a.text.items) }
-    ensures why { IfOk result (λ a. SaysFault Certificate (assignment_of_text table.now.names groups.now text.now) a.why) }
+    ensures why { IfOk result (λ a. SaysFault Certificate (workqueues_of_text table.now.names groups.now text.now) a.why) }
 {
     // What holds of all groups.
     let _groups = groups.len();
-    match read_assignment(alloc, text, table, groups) {
-        Ok(assignment) => {
-            let answer = circle_assigned(alloc, table, groups, &assignment);
+    match read_workqueues(alloc, text, table, groups) {
+        Ok(workqueues) => {
+            let answer = circle_assigned(alloc, table, groups, &workqueues);
             // Written as a call, so that the proof has one step for it.
-            drop(assignment);
+            drop(workqueues);
             answer
         }
         Err(CertError::OutOfMemory) => Err(AllocError),
@@ -96,11 +102,12 @@ fn circle_groups<A: Allocator + Copy>(
     groups: &Groups<A>,
 ) -> Result<Answered<A>, AllocError>
     requires { length groups.now.group_of ≡ length table.now.names }
-    ensures answer { IfOk result (λ a. CirclesAssigned (record { table = table.now; partition = groups.now }) (own_lanes groups.now.groups) a.end a.text.items) }
+    ensures answer { IfOk result (λ a. CirclesAssigned (record { table = table.now; partition = groups.now }) (all_rescued (own_lanes groups.now.groups)) a.end a.text.items) }
     ensures why { IfOk result (λ a. a.why ≡ None) }
 {
     let assignment = own_lanes(alloc, groups)?;
-    circle_assigned(alloc, table, groups, &assignment)
+    let workqueues = Workqueues::new(assignment, Vec::new(alloc));
+    circle_assigned(alloc, table, groups, &workqueues)
 }
 
 /// The answer to both texts.

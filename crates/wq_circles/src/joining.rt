@@ -8,10 +8,12 @@
 ghost use Rattle.std.specs.Prelude.{◌≡◌, ◌<◌, length, map, IfOk, OnErr};
 ghost use Rattle.std.specs.List.{All};
 ghost use Rattle.wq_groups.specs.Declaration.{declaration_of};
-ghost use Rattle.wq_circles.specs.Components.{joined, loops_at, loops, AreComponents};
+ghost use Rattle.wq_circles.specs.Components.{joined, kept_graph, loops_at, loops, AreComponents};
 
 use crate::together::lowest;
 use std::alloc::{AllocError, Allocator};
+use wq_core::Workqueues;
+use wq_deadlock::rescued_graph;
 use wq_graph::{WaitArc, WaitGraph};
 use wq_groups::{Assignment, GroupId, Groups, LaneId};
 use wq_items::ItemTable;
@@ -91,26 +93,46 @@ fn loops<A: Allocator + Copy>(
     Ok(lists)
 }
 
-/// The components of an assignment, each as its arcs. The groups are those of this table, and the assignment has a lane for each
-/// of them.
-///
-/// The only error is out of memory (20), which can't occur where there is no lane.
-pub fn components<A: Allocator + Copy>(
+/// The loops where lanes are joined, of those that aren't bare.
+fn loops_joined<A: Allocator + Copy>(
     alloc: A,
     table: &ItemTable<'_, A>,
     groups: &Groups<A>,
     assignment: &Assignment<A>,
+    bare: &[bool],
+    lowest: &[u16],
 ) -> Result<Vec<Vec<WaitArc, A>, A>, AllocError>
     requires grouped { length groups.now.group_of ≡ length table.now.names }
     requires assigned { length assignment.now.lane_of_group ≡ groups.now.groups }
-    ensures components { IfOk result (λ lists. AreComponents (declaration_of table.now groups.now) assignment.now (map (λ l. l.items) lists.items)) }
+    requires one_each { length lowest.now ≡ assignment.now.lanes }
+    requires within { All (λ q. q < assignment.now.lanes) lowest.now }
+    ensures loops { IfOk result (λ lists. map (λ l. l.items) lists.items
+        ≡ loops (kept_graph (declaration_of table.now groups.now) (joined assignment.now lowest.now) bare.now)) }
     ensures memory { OnErr result (0 < assignment.now.lanes) }
 {
     // Each group has one of the lanes.
     let _lanes = assignment.lanes();
-    let graph = WaitGraph::of_lanes(alloc, table, groups, assignment)?;
-    let lowest = lowest(alloc, &graph)?;
-    let joined = join(alloc, groups, assignment, lowest.as_slice())?;
+    let joined = join(alloc, groups, assignment, lowest)?;
     let graph = WaitGraph::of_lanes(alloc, table, groups, &joined)?;
+    let graph = graph.without(alloc, bare)?;
     loops(alloc, &graph)
+}
+
+/// The components of workqueues that have a rescuer, each as its arcs. The groups are those of this table, and each has a workqueue.
+///
+/// The only error is out of memory (20), which can't occur where there is no workqueue.
+pub fn components<A: Allocator + Copy>(
+    alloc: A,
+    table: &ItemTable<'_, A>,
+    groups: &Groups<A>,
+    workqueues: &Workqueues<A>,
+) -> Result<Vec<Vec<WaitArc, A>, A>, AllocError>
+    requires grouped { length groups.now.group_of ≡ length table.now.names }
+    requires assigned { length workqueues.now.assignment.lane_of_group ≡ groups.now.groups }
+    ensures components { IfOk result (λ lists. AreComponents (declaration_of table.now groups.now) workqueues.now (map (λ l. l.items) lists.items)) }
+    ensures memory { OnErr result (0 < workqueues.now.assignment.lanes) }
+{
+    let graph = rescued_graph(alloc, table, groups, workqueues)?;
+    let lowest = lowest(alloc, &graph)?;
+    loops_joined(alloc, table, groups, workqueues.assignment(), workqueues.bare(), lowest.as_slice())
 }

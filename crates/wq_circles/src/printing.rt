@@ -5,7 +5,7 @@
 ghost use Rattle.std.specs.Prelude.{◌≡◌, ◌<◌, ◌++◌, ◌^◌, length, map, flat_map, IfOk, OnOk};
 ghost use Rattle.std.specs.List.{All};
 ghost use Rattle.wq_lines.specs.LineText.{line_text};
-ghost use Rattle.wq_circles.specs.ComponentsText.{components_line, component_line, component_lines, components_text, AreBetween};
+ghost use Rattle.wq_circles.specs.ComponentsText.{components_line, component_line, component_lines, components_text, bare_line, bare_lines, circles_text, AreBetween};
 
 use std::alloc::{AllocError, Allocator};
 use wq_cert::put_arc_line;
@@ -73,5 +73,56 @@ pub fn components_text<A: Allocator + Copy>(
     for arcs in components {
         put_component(&mut out, table, arcs)?;
     }
+    Ok(out)
+}
+
+/// Adds `norescuer M`.
+fn put_bare_line<A: Allocator + Copy>(
+    out: &mut Vec<u8, A>,
+    arcs: &[WaitArc],
+) -> Result<(), AllocError>
+    requires { length arcs.now < 2 ^ 32 }
+    ensures { OnOk result (out.new.items ≡ out.old.items ++ line_text (bare_line (length arcs.now))) }
+{
+    put(out, b"norescuer")?;
+    put_number(out, arcs.len() as u32)?;
+    put_end(out)
+}
+
+/// Adds flushes that lead to workqueues without a rescuer: `norescuer M` and the arcs, where there are any.
+fn put_bare<A: Allocator + Copy>(
+    out: &mut Vec<u8, A>,
+    table: &ItemTable<'_, A>,
+    arcs: &[WaitArc],
+) -> Result<(), AllocError>
+    requires { AreBetween (length table.now.names) arcs.now }
+    ensures { OnOk result (out.new.items ≡ out.old.items ++ flat_map line_text (bare_lines table.now.names arcs.now)) }
+{
+    if arcs.is_empty() {
+        return Ok(());
+    }
+    put_bare_line(out, arcs)?;
+    for arc in arcs {
+        put_arc_line(out, table, (arc.src, arc.dst))?;
+    }
+    Ok(())
+}
+
+/// The text of components, and of flushes that lead to workqueues without a rescuer.
+///
+/// The only error is out of memory (20).
+pub fn circles_text<A: Allocator + Copy>(
+    alloc: A,
+    table: &ItemTable<'_, A>,
+    components: &[Vec<WaitArc, A>],
+    waits: &[WaitArc],
+) -> Result<Vec<u8, A>, AllocError>
+    requires few { length components.now < 2 ^ 32 }
+    requires between { All (AreBetween (length table.now.names)) (map (λ l. l.items) components.now) }
+    requires waits { AreBetween (length table.now.names) waits.now }
+    ensures { IfOk result (λ text. text.items ≡ circles_text table.now.names (map (λ l. l.items) components.now) waits.now) }
+{
+    let mut out = components_text(alloc, table, components)?;
+    put_bare(&mut out, table, waits)?;
     Ok(out)
 }
