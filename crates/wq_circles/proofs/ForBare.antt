@@ -6,12 +6,15 @@ use Rattle.std.specs.List.Sorted.{IsStrictlyIncreasing}
 use Rattle.std.proofs.lemmas.Bool.{cases_Bool, false≢true}
 use Rattle.std.proofs.lemmas.List.Elements.{Contains-get_or}
 use Rattle.std.proofs.lemmas.List.Kept.{AllPairs-filter}
+use Rattle.std.proofs.lemmas.List.Sums.{length-filter, count_by-le-length}
+use Rattle.wq_items.specs.Table.{ItemWaits}
 use Rattle.wq_items.proofs.Lists.{Contains-filtered}
+use Rattle.wq_items.proofs.Tables.{ItemWaits-below}
 use Rattle.wq_groups.specs.Declaration.{Declaration, IsDeclaration}
 use Rattle.wq_groups.specs.Assignment.{Assignment, IsAssignment, item_lane}
 use Rattle.wq_graph.specs.declared.arc.WaitArc.{WaitArc}
 use Rattle.wq_graph.specs.Graph.{arc_of, arcs_by_place, IsArc}
-use Rattle.wq_graph.proofs.Arcs.{ByPlace-arc, ByPlace-arcs_by_place}
+use Rattle.wq_graph.proofs.Arcs.{src-below, ByPlace-arc, ByPlace-arcs_by_place}
 use Rattle.wq_graph.proofs.Graphs.{Contains-by_place}
 use Rattle.wq_graph.proofs.ListLemmas.{IsStrictlyIncreasing-map}
 use Rattle.wq_core.specs.Wiring.{HasRescuer}
@@ -19,6 +22,7 @@ use Rattle.wq_core.specs.Workqueues.{Workqueues, wiring_of, all_rescued}
 use Rattle.wq_deadlock.specs.Judging.{is_on_bare, leads_to_bare, bare_waits}
 use Rattle.wq_deadlock.proofs.BareLanes.{IsArc-bare_waits}
 use Rattle.wq_circles.specs.CirclesPromise.{AreForBare}
+use Rattle.wq_circles.specs.ComponentsText.{AreBetween}
 use Rattle.wq_circles.specs.Flushes.{HasFlush, IsDeclaredFlush}
 
 both_ends : (src dst : Bool) → (not src && dst) ≡ true → (src ≡ false) × (dst ≡ true)
@@ -59,6 +63,19 @@ module _ (d : Declaration) (ws : Workqueues) (declaration : IsDeclaration d) (as
       let at = λ (k : ℕ) (inside : k < length all). (ByPlace-arc d.waits d.group_of declaration.places_are_numbered all placed k e inside).1 in
       omega (arith, lt, at i (omega (arith, lt, within)), at j within)
       )
+      )
+
+  IsArc-between : (b : WaitArc) → IsArc d.waits d.group_of b → (b.src < length d.group_of) × (b.dst < length d.group_of)
+  IsArc-between b arc =
+      let t = arc.declared in
+      let waits : ItemWaits d.waits b.src b.dst = (t.0, t.1, t.2, t.3, t.4.0) in
+      (omega (arith, src-below d.waits d.group_of b arc, declaration.one_list_each), ItemWaits-below (length d.group_of) d.waits declaration.targets_are_items b.src b.dst waits)
+
+  pub AreBetween-waits : AreBetween (length d.group_of) (bare_waits d ws)
+  AreBetween-waits =
+      let all = arcs_by_place d.waits d.group_of in (
+        omega (arith, length-filter (leads_to_bare ws d.group_of) all, count_by-le-length (leads_to_bare ws d.group_of) all, (ByPlace-arcs_by_place d.waits d.group_of declaration.places_are_numbered).long, declaration.few_flushes),
+        λ k e within. IsArc-between _ (IsArc-bare_waits d ws declaration assignment (get_or (bare_waits d ws) k e) (Contains-get_or (bare_waits d ws) k e within)).0,
       )
 
   pub AreForBare-waits : AreForBare d ws (bare_waits d ws)

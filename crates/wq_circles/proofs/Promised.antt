@@ -108,7 +108,7 @@ KeepsCircles-answers declared text end out =
     (λ s is.
     by_case (workqueues_of_text s.table.names s.partition text) (λ a. CirclesAssigned s a end out) (λ a. KeepsAssigned s a end out) (λ fault. PrintsRefusal (cert_refusal fault) end out) (λ fault. end ≡ Refused)
     (λ a read. let sound = IsSound-declaration declared s is in
-    kept s sound a (IsAssignmentOf-workqueues_of_text s.table.names s.partition sound.partition (sym sound.one_group_each) text a read) end out)
+    kept s sound a (AreWorkqueuesOf-workqueues_of_text s.table.names s.partition sound.partition (sym sound.one_group_each) text a read).assignment end out)
     (λ fault refused. refused.0))
     (λ r refused. refused.0)
 

@@ -1,18 +1,20 @@
 //! Laws about components, as contracts of functions with empty bodies. No code runs here: the clauses are the laws.
 //!
 //! They say, in the words of docs/FORMAT.md, "The command `circles`", what components are: of arcs, and of the workqueues that
-//! lead to one another. `LaneWaits` says which workqueue waits for which, and `Leads` of it which leads to which. The last two
-//! are about the lowest-numbered vertices of a wait graph.
+//! lead to one another. `RescuedWaits` says which workqueue with a rescuer waits for which, and `Leads` of it which leads to which.
+//! The last two are about the lowest-numbered vertices of a wait graph.
 
 ghost use Rattle.std.specs.Prelude.{◌≡◌, ◌≤◌, ◌↔◌, Bool, ℕ, ◌<◌, List, length, slice_index, ◌≢◌, [], map, AllPairs};
 ghost use Rattle.std.specs.List.{All};
 ghost use Rattle.std.specs.List.Sorted.{IsStrictlyIncreasing};
 ghost use Rattle.wq_groups.specs.Declaration.{Declaration, IsDeclaration};
-ghost use Rattle.wq_groups.specs.Assignment.{Assignment, IsAssignment, item_lane};
+ghost use Rattle.wq_groups.specs.Assignment.{IsAssignment, item_lane};
 ghost use Rattle.wq_graph.specs.declared.arc.WaitArc.{WaitArc};
 ghost use Rattle.wq_graph.specs.Graph.{HasArc};
-ghost use Rattle.wq_core.specs.Wiring.{LaneWaits, wiring};
+ghost use Rattle.wq_core.specs.Wiring.{RescuedWaits};
+ghost use Rattle.wq_core.specs.Workqueues.{Workqueues, wiring_of};
 ghost use Rattle.wq_core.specs.Deadlock.{IsSafe};
+ghost use Rattle.wq_deadlock.specs.Judging.{bare_waits};
 ghost use Rattle.wq_meter.specs.Shell.{HasOneAnswer};
 ghost use Rattle.wq_commands.specs.declared.end.End.{End};
 ghost use Rattle.wq_commands.specs.Answer.{Answers};
@@ -23,48 +25,48 @@ ghost use Rattle.wq_circles.specs.CirclesPromise.{KeepsCircles, KeepsOwnCircles}
 ghost use Rattle.wq_circles.specs.Components.{AreComponents};
 ghost use Rattle.wq_circles.specs.Flushes.{IsInComponents, AreInOneComponent, IsDeclaredFlush, IsBefore};
 
-/// A flush is in a component exactly where the workqueue of its target leads to that of its item. Nothing but declared flushes is
-/// in a component.
+/// A flush is in a component exactly where the workqueue of its target leads to that of its item, by way of workqueues that have a
+/// rescuer. Nothing but declared flushes is in a component.
 pub fn what_lies_on_a_circle_is_in_a_component()
-    ensures same { (d : Declaration) (a : Assignment) (components : List (List WaitArc)) (b : WaitArc) → IsDeclaration d →
-        IsAssignment d.groups a → AreComponents d a components → IsDeclaredFlush d.waits b →
-        (IsInComponents components b ↔ Leads (LaneWaits (wiring d a)) (item_lane a d.group_of b.dst) (item_lane a d.group_of b.src)) }
-    ensures declared { (d : Declaration) (a : Assignment) (components : List (List WaitArc)) → IsDeclaration d →
-        IsAssignment d.groups a → AreComponents d a components → All (All (IsDeclaredFlush d.waits)) components }
+    ensures same { (d : Declaration) (ws : Workqueues) (components : List (List WaitArc)) (b : WaitArc) → IsDeclaration d →
+        IsAssignment d.groups ws.assignment → AreComponents d ws components → IsDeclaredFlush d.waits b →
+        (IsInComponents components b ↔ Leads (RescuedWaits (wiring_of d ws)) (item_lane ws.assignment d.group_of b.dst) (item_lane ws.assignment d.group_of b.src)) }
+    ensures declared { (d : Declaration) (ws : Workqueues) (components : List (List WaitArc)) → IsDeclaration d →
+        IsAssignment d.groups ws.assignment → AreComponents d ws components → All (All (IsDeclaredFlush d.waits)) components }
 {}
 
 /// Two flushes that lie on circles are in one component exactly where their items' workqueues are one, or each leads to the
 /// other; and no component is empty.
 pub fn a_component_is_of_workqueues_that_lead_to_one_another()
-    ensures together { (d : Declaration) (a : Assignment) (components : List (List WaitArc)) (b c : WaitArc) → IsDeclaration d →
-        IsAssignment d.groups a → AreComponents d a components → IsInComponents components b → IsInComponents components c →
+    ensures together { (d : Declaration) (ws : Workqueues) (components : List (List WaitArc)) (b c : WaitArc) → IsDeclaration d →
+        IsAssignment d.groups ws.assignment → AreComponents d ws components → IsInComponents components b → IsInComponents components c →
         (AreInOneComponent components b c
-        ↔ AreTogether (LaneWaits (wiring d a)) (item_lane a d.group_of b.src) (item_lane a d.group_of c.src)) }
-    ensures some { (d : Declaration) (a : Assignment) (components : List (List WaitArc)) → AreComponents d a components →
+        ↔ AreTogether (RescuedWaits (wiring_of d ws)) (item_lane ws.assignment d.group_of b.src) (item_lane ws.assignment d.group_of c.src)) }
+    ensures some { (d : Declaration) (ws : Workqueues) (components : List (List WaitArc)) → AreComponents d ws components →
         All (λ (arcs : List WaitArc). arcs ≢ []) components }
 {}
 
 /// The arcs of a component are in order of place, and the components are in the order of their lowest-numbered workqueues. So no
 /// flush is in two components, or twice in one.
 pub fn components_are_in_order()
-    ensures places { (d : Declaration) (a : Assignment) (components : List (List WaitArc)) → IsDeclaration d →
-        IsAssignment d.groups a → AreComponents d a components →
+    ensures places { (d : Declaration) (ws : Workqueues) (components : List (List WaitArc)) → IsDeclaration d →
+        IsAssignment d.groups ws.assignment → AreComponents d ws components →
         All (λ (arcs : List WaitArc). IsStrictlyIncreasing (map (λ (b : WaitArc). b.place) arcs)) components }
-    ensures workqueues { (d : Declaration) (a : Assignment) (components : List (List WaitArc)) → IsDeclaration d →
-        IsAssignment d.groups a → AreComponents d a components →
-        AllPairs (IsBefore (LaneWaits (wiring d a)) (item_lane a d.group_of)) components }
+    ensures workqueues { (d : Declaration) (ws : Workqueues) (components : List (List WaitArc)) → IsDeclaration d →
+        IsAssignment d.groups ws.assignment → AreComponents d ws components →
+        AllPairs (IsBefore (RescuedWaits (wiring_of d ws)) (item_lane ws.assignment d.group_of)) components }
 {}
 
-/// There is no component exactly where no run ends stuck.
+/// There is no component, and no flush leads to a workqueue without a rescuer, exactly where no run ends stuck.
 pub fn no_component_is_safe()
-    ensures { (d : Declaration) (a : Assignment) (components : List (List WaitArc)) → IsDeclaration d → IsAssignment d.groups a →
-        a.lanes ≤ 4096 → AreComponents d a components → ((components ≡ []) ↔ IsSafe (wiring d a)) }
+    ensures { (d : Declaration) (ws : Workqueues) (components : List (List WaitArc)) → IsDeclaration d → IsAssignment d.groups ws.assignment →
+        ws.assignment.lanes ≤ 4096 → AreComponents d ws components → (((components ≡ []) × (bare_waits d ws ≡ [])) ↔ IsSafe (wiring_of d ws)) }
 {}
 
-/// An assignment has only one list of components.
+/// Workqueues have only one list of components.
 pub fn components_are_the_only_ones()
-    ensures { (d : Declaration) (a : Assignment) (one other : List (List WaitArc)) →
-        AreComponents d a one → AreComponents d a other → one ≡ other }
+    ensures { (d : Declaration) (ws : Workqueues) (one other : List (List WaitArc)) →
+        AreComponents d ws one → AreComponents d ws other → one ≡ other }
 {}
 
 /// A declaration and an assignment, or a declaration alone, have at most one answer: one end, and one text that is printed. There
@@ -81,8 +83,9 @@ pub fn circles_have_one_answer()
     ensures command { (assigned : Bool) → HasOneAnswer (CirclesTexts assigned) }
 {}
 
-/// An answer keeps its promise. Where `safe` is printed, no run ends stuck. Where components are printed, some run deadlocks, and
-/// exactly those declared flushes are printed whose target's workqueue leads to that of their item.
+/// An answer keeps its promise. Where `safe` is printed, no run ends stuck. Else some run deadlocks, and exactly those declared flushes
+/// are printed whose target's workqueue leads to that of their item by way of workqueues that have a rescuer, and, after `norescuer`,
+/// those that lead from a workqueue that has a rescuer to one that has none.
 pub fn circles_keep_their_promise()
     ensures assigned { (declared text : List ℕ) (end : End) (out : List ℕ) →
         Circles declared text end out → KeepsCircles declared text end out }

@@ -21,5 +21,5 @@ mod walk;
 
 pub use circles::{CirclesCommand, circles_cmd, own_circles_cmd};
 pub use joining::components;
-pub use printing::components_text;
+pub use printing::{circles_text, components_text};
 pub use together::lowest;

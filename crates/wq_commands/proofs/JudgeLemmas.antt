@@ -23,7 +23,7 @@ use Rattle.wq_cert.specs.Ranges.{AreWorkqueuesOf}
 use Rattle.wq_cert.specs.RunText.{run_text}
 use Rattle.wq_cert.specs.Texts.{workqueues_of_text, run_of, cert_refusal}
 use Rattle.wq_cert.proofs.PrintedRuns.{run_of-printed}
-use Rattle.wq_cert.proofs.ReadRanges.{AreWorkqueuesOf-workqueues_of_text}
+use Rattle.wq_cert.proofs.LanesRead.{AreWorkqueuesOf-workqueues_of_text}
 use Rattle.wq_cert.proofs.TextLength.{length-run_text}
 use Rattle.wq_checker.specs.declared.run.RunEnd.TheVariants.{Deadlock}
 use Rattle.wq_commands.specs.declared.end.End.{End}

@@ -3,7 +3,7 @@ use Rattle.wq_circles.proofs.Safe.{flushes}
 use Rattle.wq_circles.proofs.laws.what_lies_on_a_circle_is_in_a_component.Goals as goal
 
 pub returns-clause-same : goal.returns-clause-same
-returns-clause-same c = λ d a components b declaration assignment are flush. lie d a declaration assignment components are b flush
+returns-clause-same c = λ d ws components b declaration assignment are flush. lie d ws.assignment ws.bare declaration assignment components are b flush
 
 pub returns-clause-declared : goal.returns-clause-declared
-returns-clause-declared c = λ d a components declaration assignment are. flushes d a declaration assignment components are
+returns-clause-declared c = λ d ws components declaration assignment are. flushes d ws.assignment ws.bare declaration assignment components are

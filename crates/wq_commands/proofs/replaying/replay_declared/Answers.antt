@@ -1,5 +1,5 @@
 use Rattle.std.proofs.Common.{sym}
-use Rattle.wq_cert.proofs.ReadRanges.{AreWorkqueuesOf-workqueues_of_text}
+use Rattle.wq_cert.proofs.LanesRead.{AreWorkqueuesOf-workqueues_of_text}
 use Rattle.wq_commands.proofs.replaying.replay_declared.Goals as goal
 
 pub replay_assigned-answer-requires-clause-assigned : goal.replay_assigned-answer-requires-clause-assigned
