@@ -91,14 +91,14 @@ module _ (w : Wiring) (s : State) where
   abbrev pub IsOwed : Type 0
   IsOwed = (left : HasUnfinished s) × HasRescuer w left.lane
 
+  abbrev busy : ℕ → Type 0
+  busy q = HasRescuer w q × ((e : Entry) × IsUnfinishedOn (lane_at s q) e)
+
   pub cases_owed : Decided IsOwed
   cases_owed = elim (cases_some_below busy (λ q. both (cases_rescuer w q) (cases_unfinished_on (lane_at s q))) (length s.lanes)) [
     | inl some ↦ inl (record { lane = some.0; entry = some.2.1.0; unfinished = some.2.1.1 }, some.2.0)
     | inr none ↦ inr (λ owed. none (owed.0.lane, lane_within s owed.0.lane owed.0.entry owed.0.unfinished, (owed.1, (owed.0.entry, owed.0.unfinished))))
   ]
-    where
-      abbrev busy : ℕ → Type 0
-      busy q = HasRescuer w q × ((e : Entry) × IsUnfinishedOn (lane_at s q) e)
 
   -- if none can, it is stuck exactly if something is unfinished on such a lane
   pub IsStuck-cannot_move : ((q : ℕ) → ¬ CanMove w s q) → (rest : Bool) → (IsTrue rest ↔ ((left : HasUnfinished s) → ¬ HasRescuer w left.lane)) → IsTrue (not rest) ↔ IsStuck w s

@@ -1,5 +1,5 @@
 -- Lanes that fall from each group to those that it waits for let no run end stuck.
-use Rattle.std.proofs.Common.{ℕ, ◌<◌, arith}
+use Rattle.std.proofs.Common.{refl, ℕ, ◌<◌, arith}
 use Rattle.std.specs.Prelude.{slice_index}
 use Rattle.wq_groups.specs.Declaration.{Declaration, GroupWaits, IsDeclaration}
 use Rattle.wq_groups.specs.Assignment.{Assignment, group_lane}
