@@ -188,7 +188,11 @@ fn stray_hint<A: Allocator + Copy>(
     if let Some(text) = text_with(word) {
         return Ok(Hint::LooksLike(text));
     }
-    let known: &[&'static str] = if next == 0 { &["wq", "plan"] } else { &["wq"] };
+    let known: &[&'static str] = if next == 0 {
+        &["wq", "norescuer", "plan"]
+    } else {
+        &["wq", "norescuer"]
+    };
     Ok(match most_like(alloc, word, known)? {
         Some(meant) => Hint::Directive(meant),
         None => Hint::Nothing,

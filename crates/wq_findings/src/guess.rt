@@ -114,6 +114,7 @@ pub(crate) fn text_with(word: &[u8]) -> Option<&'static str> {
     };
     match word {
         "plan" | "wq" | "chain" => Some("a plan or an assignment"),
+        "norescuer" => Some("an assignment"),
         "circle" => Some("a circle"),
         "run" | "queue" | "cancel" | "start" | "wait" | "over" | "waitwq" | "overwq" | "finish" =>
             Some("a run"),

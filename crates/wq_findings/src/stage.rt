@@ -27,7 +27,7 @@ pub enum Stage {
     Plan,
     /// `circle N`.
     Circle,
-    /// The `wq` line of this number; this many are left, or nothing says how many.
+    /// The `wq` line of this number; this many are left, or nothing says how many. Where nothing does, it may be a `norescuer` line.
     Workqueue { next: u32, left: Option<u32> },
     /// `chain N`.
     Chain,
@@ -119,7 +119,7 @@ impl Stage {
         }
     }
 
-    /// Whether a `wq` line may be here, and nothing says how many are left.
+    /// Whether a `wq` or `norescuer` line may be here, and nothing says how many are left.
     pub(crate) fn is_open(self) -> bool {
         matches!(self, Stage::Workqueue { left: None, .. })
     }
@@ -134,6 +134,7 @@ impl Stage {
         let first: &[u8] = match self {
             Stage::Plan => b"plan",
             Stage::Circle => b"circle",
+            Stage::Workqueue { left: None, .. } => return is_lane(word),
             Stage::Workqueue { .. } => b"wq",
             Stage::Chain => b"chain",
             Stage::ChainArc { .. } | Stage::CircleArc { .. } => b"arc",
@@ -207,6 +208,11 @@ impl Shape {
 /// Whether a word begins a step that names no workqueue.
 fn is_call(word: &[u8]) -> bool {
     word == b"queue".as_slice() || word == b"cancel".as_slice()
+}
+
+/// Whether a word begins the line of a workqueue in an assignment.
+fn is_lane(word: &[u8]) -> bool {
+    word == b"wq".as_slice() || word == b"norescuer".as_slice()
 }
 
 /// Whether a word begins a step.
