@@ -115,7 +115,7 @@ Circles-judged declared text end other out printed =
     (λ s is.
     matched (workqueues_of_text s.table.names s.partition text) (λ a. CirclesAssigned s a end out) (λ a. JudgesAssigned s a other printed) (λ fault. PrintsRefusal (cert_refusal fault) end out) (λ fault. PrintsRefusal (cert_refusal fault) other printed) (end ≡ other)
     (λ a read. let sound = IsSound-declaration declared s is in
-    ends_as_judged s sound a (IsAssignmentOf-workqueues_of_text s.table.names s.partition sound.partition (sym sound.one_group_each) text a read) end other out printed)
+    ends_as_judged s sound a (AreWorkqueuesOf-workqueues_of_text s.table.names s.partition sound.partition (sym sound.one_group_each) text a read).assignment end other out printed)
     (λ fault one two. one.0 ∙ sym two.0))
     (λ r one two. one.0 ∙ sym two.0)
 

@@ -1,9 +1,8 @@
 -- The flushes that are printed because they lead to a workqueue without a rescuer.
-use Rattle.std.proofs.Common.{◌≡◌, ℕ, ◌<◌, ◌↔◌, inl, inr, Bool, true, false, not, List, [], ◌∷◌, length, map, get_or, refl, sym, ap, ◌∙◌, subst, arith}
-use Rattle.std.specs.Prelude.{Contains, AllPairs, filter, ◌&&◌}
-use Rattle.std.specs.List.{All}
+use Rattle.std.proofs.Common.{◌≡◌, ℕ, ◌<◌, Bool, true, false, not, List, [], ◌∷◌, length, map, get_or, refl, sym, ap, ◌∙◌, arith}
+use Rattle.std.specs.Prelude.{filter, ◌&&◌}
 use Rattle.std.specs.List.Sorted.{IsStrictlyIncreasing}
-use Rattle.std.proofs.lemmas.Bool.{cases_Bool, false≢true}
+use Rattle.std.proofs.lemmas.Bool.{false≢true}
 use Rattle.std.proofs.lemmas.List.Elements.{Contains-get_or}
 use Rattle.std.proofs.lemmas.List.Kept.{AllPairs-filter}
 use Rattle.std.proofs.lemmas.List.Sums.{length-filter, count_by-le-length}
@@ -51,8 +50,8 @@ module _ (d : Declaration) (ws : Workqueues) (declaration : IsDeclaration d) (as
       (there.0, x, there.1, there.2, (refl, flush.4.0, flush.4.1))
     where
       bare : (o : Bool) → (¬ o ≡ false) → o ≡ true
-      bare true no = refl
-      bare false no = absurd (no refl)
+      bare true rescued = refl
+      bare false rescued = absurd (rescued refl)
 
   rise : IsStrictlyIncreasing (map (λ (b : WaitArc). b.place) (bare_waits d ws))
   rise =

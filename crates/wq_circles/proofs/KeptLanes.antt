@@ -1,7 +1,7 @@
 -- The wait graph of the lanes that aren't bare.
 use Rattle.std.proofs.Common.{◌≡◌, ◌≢◌, ℕ, ◌<◌, ◌≤◌, ◌↔◌, inl, inr, Bool, true, false, not, List, [], ◌∷◌, length, map, get_or, refl, sym, ap, subst, ◌∙◌, arith}
 use Rattle.std.specs.Prelude.{Contains, filter, slice_index, if◌then◌else◌}
-use Rattle.std.specs.List.{All, range_with_len}
+use Rattle.std.specs.List.{All}
 use Rattle.std.specs.List.Sorted.{IsStrictlyIncreasing}
 use Rattle.std.proofs.lemmas.List.Elements.{All-contains, Contains-get_or}
 use Rattle.std.proofs.lemmas.List.FromFn.{length-map-range_with_len}
@@ -11,14 +11,14 @@ use Rattle.wq_items.specs.Chain.{IsChain, last_of}
 use Rattle.wq_groups.specs.Declaration.{Declaration, IsDeclaration}
 use Rattle.wq_groups.specs.Assignment.{Assignment, IsAssignment, item_lanes}
 use Rattle.wq_graph.specs.declared.arc.WaitArc.{WaitArc}
-use Rattle.wq_graph.specs.Graph.{HasArc, IsArc, IsGraph, arcs_at, arcs_from, lane_graph, is_left_out, arcs_kept, without}
+use Rattle.wq_graph.specs.Graph.{HasArc, IsArc, IsGraph, arcs_at, arcs_from, lane_graph, is_left_out, arcs_kept}
 use Rattle.wq_graph.proofs.Graphs.{AreArcsFrom-lane_graph, VertexWaits-lane_graph, IsGraph-lane_graph}
 use Rattle.wq_graph.proofs.LeavingOut.{length-without, arcs_at-without, Contains-without, HasArc-without, IsGraph-without}
 use Rattle.wq_graph.proofs.ListLemmas.{IsStrictlyIncreasing-map, AllPairs-from_map}
 use Rattle.wq_items.proofs.Lists.{Contains-filtered}
 use Rattle.wq_core.specs.Wiring.{RescuedWaits, wiring}
 use Rattle.wq_core.specs.Workqueues.{with_bare}
-use Rattle.wq_circles.specs.Leading.{Leads, AreTogether, AreLowest}
+use Rattle.wq_circles.specs.Leading.{Leads, AreTogether}
 use Rattle.wq_circles.specs.Components.{kept_graph}
 
 -- a lane isn't bare

@@ -78,24 +78,24 @@ module _ (d : Declaration) (a : Assignment) (bare : List Bool) (declaration : Is
 -- ---- answers
 
 module _ (s : Declared) (sound : IsSound s) where
-  kept : (ws : Workqueues) → IsAssignmentOf s.partition.groups ws.assignment → (end : End) (out : List ℕ) → CirclesAssigned s ws end out → KeepsAssigned s ws end out
-  kept ws assigned Good out circles = (
+  kept : (a : Workqueues) → IsAssignmentOf s.partition.groups a.assignment → (end : End) (out : List ℕ) → CirclesAssigned s a end out → KeepsAssigned s a end out
+  kept a assigned Good out circles = (
     assigned.assignment,
-    IsSafe-none (declared_waits s) ws.assignment ws.bare (IsDeclaration-sound s sound) assigned.assignment [] circles.0 assigned.few refl circles.1,
+    IsSafe-none (declared_waits s) a.assignment a.bare (IsDeclaration-sound s sound) assigned.assignment [] circles.0 assigned.few refl circles.1,
     circles.2,
   )
-  kept ws assigned Bad out circles = (
+  kept a assigned Bad out circles = (
     assigned.assignment,
     record {
-      deadlocks = Deadlocks-some (declared_waits s) ws.assignment ws.bare (IsDeclaration-sound s sound) assigned.assignment circles.components circles.are circles.some;
+      deadlocks = Deadlocks-some (declared_waits s) a.assignment a.bare (IsDeclaration-sound s sound) assigned.assignment circles.components circles.are circles.some;
       components = circles.components;
-      waits = bare_waits (declared_waits s) ws;
-      are = AreOnCircles-components (declared_waits s) ws.assignment ws.bare (IsDeclaration-sound s sound) assigned.assignment circles.components circles.are;
-      for_bare = AreForBare-waits (declared_waits s) ws (IsDeclaration-sound s sound) assigned.assignment;
+      waits = bare_waits (declared_waits s) a;
+      are = AreOnCircles-components (declared_waits s) a.assignment a.bare (IsDeclaration-sound s sound) assigned.assignment circles.components circles.are;
+      for_bare = AreForBare-waits (declared_waits s) a (IsDeclaration-sound s sound) assigned.assignment;
       text = circles.text;
     },
   )
-  kept ws assigned Refused out circles = absurd circles
+  kept a assigned Refused out circles = absurd circles
 
 -- what is said about a value that was read or not, case by case
 by_case : {V E : Type 0} (r : Result V E) (P Q : V → Type 0) (F G : E → Type 0) → ((v : V) → r ≡ Ok v → P v → Q v) → ((e : E) → F e → G e) → MatchResult r P F → MatchResult r Q G

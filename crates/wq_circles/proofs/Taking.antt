@@ -1,5 +1,5 @@
 -- The text that was read, and the text that there was: the answer to the prefix that was read is the answer to the text.
-use Rattle.std.proofs.Common.{◌≡◌, Bool, false, true, ℕ, ◌+◌, List, Result, subst}
+use Rattle.std.proofs.Common.{Bool, false, true, ℕ, ◌+◌, List, Result, subst}
 use Rattle.std.specs.Prelude.{MatchResult, take}
 use Rattle.std.proofs.lemmas.Result.{MatchResult-weaker}
 use Rattle.wq_text.specs.Refusal.{Refusal}

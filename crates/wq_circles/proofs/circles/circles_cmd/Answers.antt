@@ -1,5 +1,5 @@
 use Rattle.std.proofs.lemmas.Result.{IfOk-weaker}
-use Rattle.std.proofs.Common.{◌≡◌, List, ℕ, true}
+use Rattle.std.proofs.Common.{List, ℕ, true}
 use Rattle.wq_meter.specs.Meter.{WritesWhole}
 use Rattle.wq_circles.specs.CirclesInput.{CirclesInput, KeepsCirclesOfInput}
 use Rattle.wq_circles.proofs.Promised.{KeepsCirclesOfInput-answered}

@@ -1,5 +1,5 @@
 use Rattle.std.proofs.lemmas.Result.{IfOk-weaker}
-use Rattle.std.proofs.Common.{◌≡◌, List, ℕ, false}
+use Rattle.std.proofs.Common.{List, ℕ, false}
 use Rattle.wq_meter.specs.Meter.{WritesWhole}
 use Rattle.wq_circles.specs.CirclesInput.{OwnCirclesInput, KeepsOwnCirclesOfInput}
 use Rattle.wq_circles.proofs.Promised.{KeepsOwnCirclesOfInput-answered}

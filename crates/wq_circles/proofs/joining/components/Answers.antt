@@ -1,6 +1,6 @@
-use Rattle.std.proofs.Common.{ℕ, ◌<◌, Bool, List, length, sym, ap, subst, ◌∙◌, arith}
+use Rattle.std.proofs.Common.{ℕ, ◌<◌, Bool, List, length, sym, ap, subst, ◌∙◌}
 use Rattle.std.specs.List.{All}
-use Rattle.std.proofs.lemmas.Result.{IfOk-weaker, on_err_weaker}
+use Rattle.std.proofs.lemmas.Result.{IfOk-weaker}
 use Rattle.wq_groups.specs.Declaration.{declaration_of}
 use Rattle.wq_groups.specs.Assignment.{Assignment}
 use Rattle.wq_graph.specs.Graph.{HasArc}

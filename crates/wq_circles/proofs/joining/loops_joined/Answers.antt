@@ -1,4 +1,4 @@
-use Rattle.std.proofs.Common.{◌≡◌, ℕ, ◌<◌, List, length, map, sym, ap, subst, ◌∙◌, arith}
+use Rattle.std.proofs.Common.{◌<◌, List, length, ap, ◌∙◌, arith}
 use Rattle.std.proofs.lemmas.List.FromFn.{length-map-range_with_len}
 use Rattle.std.proofs.lemmas.Result.{IfOk-weaker, on_err_weaker}
 use Rattle.wq_items.proofs.WaitLemmas.{OnErr-always}
@@ -7,7 +7,7 @@ use Rattle.wq_groups.specs.Assignment.{item_lanes}
 use Rattle.wq_graph.specs.declared.arc.WaitArc.{WaitArc}
 use Rattle.wq_graph.specs.Graph.{arcs_from, lane_graph, without}
 use Rattle.wq_graph.proofs.LeavingOut.{length-without}
-use Rattle.wq_circles.specs.Components.{joined, kept_graph, loops}
+use Rattle.wq_circles.specs.Components.{joined, loops}
 use Rattle.wq_circles.proofs.Joined.{some_lane}
 use Rattle.wq_circles.proofs.joining.loops_joined.Goals as goal
 
