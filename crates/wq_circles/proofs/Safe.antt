@@ -42,7 +42,7 @@ pub AreComponents-unique : (d : Declaration) (ws : Workqueues) (one other : List
 AreComponents-unique d ws one other first second =
     first.are
     ∙ ap (λ (l : List ℕ). loops (kept_graph d (joined ws.assignment l) ws.bare))
-        (AreLowest-unique (HasArc (kept_graph d ws.assignment ws.bare)) ws.assignment.lanes first.lowest second.lowest first.are_lowest second.are_lowest)
+    (AreLowest-unique (HasArc (kept_graph d ws.assignment ws.bare)) ws.assignment.lanes first.lowest second.lowest first.are_lowest second.are_lowest)
     ∙ sym second.are
 
 -- no component is empty

@@ -134,5 +134,12 @@ pub fn components<A: Allocator + Copy>(
 {
     let graph = rescued_graph(alloc, table, groups, workqueues)?;
     let lowest = lowest(alloc, &graph)?;
-    loops_joined(alloc, table, groups, workqueues.assignment(), workqueues.bare(), lowest.as_slice())
+    loops_joined(
+        alloc,
+        table,
+        groups,
+        workqueues.assignment(),
+        workqueues.bare(),
+        lowest.as_slice(),
+    )
 }
