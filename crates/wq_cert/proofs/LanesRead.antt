@@ -23,10 +23,10 @@ use Rattle.wq_cert.proofs.SpelledTexts.{SpellsWorkqueues-workqueues_reading}
 use Rattle.std.specs.List.{enumerate_from}
 
 -- the workqueues of a plan, and those of lines
-abbrev of_plan : PlanCertificate → Result Workqueues CertError
+abbrev pub of_plan : PlanCertificate → Result Workqueues CertError
 of_plan plan = Ok (all_rescued plan.assignment)
 
-abbrev of_lines : List CertLine → Assignment → Result Workqueues CertError
+abbrev pub of_lines : List CertLine → Assignment → Result Workqueues CertError
 of_lines lines a = Ok (record { assignment = a; bare = map is_bare_line lines })
 
 module _ (names : List (List ℕ)) (p : Partition) (one_group_each : length names ≡ length p.group_of) where

@@ -39,3 +39,4 @@ pub mod LineRows
 pub mod GrowthLemmas
 pub mod SaidLines
 pub mod LanesRead
+pub mod AllRescued

@@ -3,10 +3,11 @@
 //!
 //! They are about the definitions of what is printed and of what is read, whatever code prints and reads.
 
-ghost use Rattle.std.specs.Prelude.{◌≡◌, ℕ, ◌+◌, ◌<◌, ◌≤◌, ◌==◌, if◌then◌else◌, List, [], ◌∷◌, ◌++◌, length, Option, IfSome, Ok, ◌≢◌, ◌↔◌, take, AllPairs, Some, None, Err, codes, true, false};
-ghost use Rattle.std.specs.List.{All};
+ghost use Rattle.std.specs.Prelude.{◌≡◌, ℕ, ◌+◌, ◌<◌, ◌≤◌, ◌==◌, if◌then◌else◌, List, [], ◌∷◌, ◌++◌, length, Option, IfSome, Ok, ◌≢◌, ◌↔◌, take, AllPairs, Some, None, Err, codes, true, false, slice_index_or};
+ghost use Rattle.std.specs.List.{All, list_any};
 ghost use Rattle.wq_text.specs.Lines.{LineView, lines_of};
 ghost use Rattle.wq_text.specs.Numbers.{Spells};
+ghost use Rattle.wq_items.specs.Building.{and_then};
 ghost use Rattle.wq_items.specs.Table.{Table, IsTable};
 ghost use Rattle.wq_groups.specs.Partition.{Partition, IsPartition};
 ghost use Rattle.wq_groups.specs.Assignment.{Assignment, IsAssignment, item_lane, item_lanes};
@@ -23,8 +24,8 @@ ghost use Rattle.wq_cert.specs.FirstFaults.{line_of, NoLineIsAtFault, IsOfTheFir
 ghost use Rattle.wq_cert.specs.Forms.{number_of, begins_with};
 ghost use Rattle.wq_cert.specs.Ranges.{IsArcOf, IsStepOf, IsAssignmentOf, AreWorkqueuesOf, IsRunOf, IsCertificateOf};
 ghost use Rattle.wq_cert.specs.LineRows.{LineForm, StandsInPlan, StandsInCircle, StandsInRun, BreaksLine, KeepsLine};
-ghost use Rattle.wq_cert.specs.Lines.{CertLine};
-ghost use Rattle.wq_cert.specs.Reading.{assignment_of, plan_reading, circle_reading, run_reading, workqueues_reading};
+ghost use Rattle.wq_cert.specs.Lines.{CertLine, cert_lines};
+ghost use Rattle.wq_cert.specs.Reading.{assignment_of, is_bare_line, plan_reading, circle_reading, run_reading, workqueues_reading};
 ghost use Rattle.wq_cert.specs.WorkqueueRows.{AreFirstWorkqueues, BreaksWorkqueueRow, AllStand, begins_workqueue};
 ghost use Rattle.wq_cert.specs.Spelled.{words_of_lines, words_of_text, workqueue_lines, IsOnWorkqueue, AreWorkqueues, SpellsPlan, SpellsCircle, SpellsRun, SpellsWorkqueues, SpellsCertificate, SpellsAssignment, KeepsLimits};
 
@@ -39,6 +40,17 @@ pub fn what_is_read_is_in_range()
         length names ≡ length p.group_of → workqueues_of_text names p text ≡ Ok ws → AreWorkqueuesOf p.groups ws }
     ensures run { (names : List (List ℕ)) (text : List ℕ) (steps : List Step) → run_of names text ≡ Ok steps →
         IsRunOf (length names) steps }
+{}
+
+/// A text of workqueues in which no line begins with `norescuer` says what it says as the text of an assignment, or is refused as
+/// that is; and each of its workqueues has a rescuer.
+pub fn a_text_without_norescuer_lines_is_that_of_an_assignment()
+    ensures assignment { (names : List (List ℕ)) (p : Partition) (text : List ℕ) →
+        list_any is_bare_line (cert_lines (lines_of text)) ≡ false →
+        and_then (λ (ws : Workqueues). Ok ws.assignment) (workqueues_of_text names p text) ≡ assignment_of_text names p text }
+    ensures rescuers { (names : List (List ℕ)) (p : Partition) (text : List ℕ) (ws : Workqueues) (q : ℕ) →
+        list_any is_bare_line (cert_lines (lines_of text)) ≡ false →
+        workqueues_of_text names p text ≡ Ok ws → slice_index_or ws.bare q false ≡ false }
 {}
 
 /// Certificates that are too long are all refused in the same way, and the bytes up to the first one too many show it. What comes

@@ -18,13 +18,13 @@ mod lanes_reading;
 pub mod laws;
 mod limits;
 mod line_reading;
+mod noted_workqueues;
 mod opening;
 mod plan_printing;
 mod run_printing;
 mod run_reading;
 mod view;
 mod workqueue_reading;
-mod workqueues;
 
 pub use answer::CertAnswer;
 pub use answer_reading::read_answer;

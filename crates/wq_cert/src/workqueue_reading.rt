@@ -11,25 +11,25 @@ ghost use Rattle.wq_cert.specs.Texts.{IsCertFaultOf};
 
 use crate::fault::CertError;
 use crate::form::begins_wq;
+use crate::noted_workqueues::NotedWorkqueues;
 use crate::view::CertLines;
-use crate::workqueues::Workqueues;
 use std::alloc::Allocator;
 use wq_groups::{Assignment, Groups};
 use wq_items::ItemTable;
 
 /// Reads this many workqueues, each on one of the next lines.
-fn read_workqueues<A: Allocator + Copy>(
+fn read_next_workqueues<A: Allocator + Copy>(
     alloc: A,
     table: &ItemTable<'_, A>,
     groups: &Groups<A>,
     count: u32,
     lines: &mut CertLines<'_>,
-) -> Result<Workqueues<A>, CertError>
+) -> Result<NotedWorkqueues<A>, CertError>
     requires { length groups.now.group_of ≡ length table.now.names }
     ensures workqueues { IfOk result (λ q. AreRead table.now.names groups.now count (map cert_line lines.old) q.count q.stood.items q.lane_of_group.items (map cert_line lines.new)) }
     ensures fault { IfErr result (λ e. IsCertFaultOf e (next_workqueues table.now.names groups.now.group_of count [] (map cert_line lines.old))) }
 {
-    let mut workqueues = Workqueues::none(alloc, groups, table.len())?;
+    let mut workqueues = NotedWorkqueues::none(alloc, groups, table.len())?;
     for i in 0..count {
         let Some(line) = lines.next() else {
             return Err(CertError::BadCertLine { line: 0 });
@@ -51,7 +51,7 @@ pub(crate) fn read_counted<A: Allocator + Copy>(
     ensures assignment { IfOk result (λ a. counted_assignment table.now.names groups.now count (map cert_line lines.old) ≡ Ok (a, map cert_line lines.new)) }
     ensures fault { IfErr result (λ e. IsCertFaultOf e (counted_assignment table.now.names groups.now count (map cert_line lines.old))) }
 {
-    let workqueues = read_workqueues(alloc, table, groups, count, lines)?;
+    let workqueues = read_next_workqueues(alloc, table, groups, count, lines)?;
     workqueues.assignment(alloc, groups)
 }
 
@@ -63,12 +63,12 @@ fn read_all_workqueues<A: Allocator + Copy>(
     groups: &Groups<A>,
     lines: CertLines<'_>,
     bare: bool,
-) -> Result<(Workqueues<A>, Option<u32>), CertError>
+) -> Result<(NotedWorkqueues<A>, Option<u32>), CertError>
     requires { length groups.now.group_of ≡ length table.now.names }
     ensures workqueues { IfOk result (λ r. AreAllRead table.now.names groups.now (map (λ line. said_line bare line) lines.entry) r.0.count r.0.stood.items r.0.lane_of_group.items r.1) }
     ensures fault { IfErr result (λ e. IsCertFaultOf e (all_workqueues table.now.names groups.now.group_of [] (map (λ line. said_line bare line) lines.entry))) }
 {
-    let mut workqueues = Workqueues::none(alloc, groups, table.len())?;
+    let mut workqueues = NotedWorkqueues::none(alloc, groups, table.len())?;
     for line in lines {
         if !begins_wq(&line, bare) {
             return Ok((workqueues, Some(line.no())));

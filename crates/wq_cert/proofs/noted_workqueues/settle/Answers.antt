@@ -1,6 +1,6 @@
 use Rattle.std.proofs.Common.{◌∙◌, sym}
 use Rattle.wq_cert.proofs.LaneLemmas.{NextMember-read, Settled-split, Settled-more}
-use Rattle.wq_cert.proofs.workqueues.settle.Goals as goal
+use Rattle.wq_cert.proofs.noted_workqueues.settle.Goals as goal
 
 pub returns-then-is_other : goal.returns-then-is_other
 returns-then-is_other g c =

@@ -1,6 +1,6 @@
 use Rattle.std.proofs.Common.{◌∙◌}
 use Rattle.wq_cert.proofs.StoodLemmas.{NextItem-read, Marked-twice, Marked-more}
-use Rattle.wq_cert.proofs.workqueues.mark.Goals as goal
+use Rattle.wq_cert.proofs.noted_workqueues.mark.Goals as goal
 
 pub returns-then-is_marked : goal.returns-then-is_marked
 returns-then-is_marked g c =

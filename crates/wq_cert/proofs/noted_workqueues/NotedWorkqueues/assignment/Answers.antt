@@ -4,7 +4,7 @@ use Rattle.std.specs.List.{list_all}
 use Rattle.std.specs.Option.{IfSome}
 use Rattle.wq_groups.specs.Assignment.{Assignment}
 use Rattle.wq_cert.proofs.WholeLemmas.{whole_assignment-none, whole_assignment-all, lanes-below}
-use Rattle.wq_cert.proofs.workqueues.Workqueues.assignment.Goals as goal
+use Rattle.wq_cert.proofs.noted_workqueues.NotedWorkqueues.assignment.Goals as goal
 
 pub returns-then-not-are_all_marked-clause-fault : goal.returns-then-not-are_all_marked-clause-fault
 returns-then-not-are_all_marked-clause-fault g c = λ workqueues noted.

@@ -21,7 +21,7 @@ use wq_text::Line;
 
 /// What is known of the workqueues that were read so far.
 #[derive(Drop)]
-pub(crate) struct Workqueues<A: Allocator> {
+pub(crate) struct NotedWorkqueues<A: Allocator> {
     /// How many there are.
     count: u16,
     /// For each item, whether it is on one.
@@ -123,7 +123,7 @@ fn lanes_of<A: Allocator>(
         .collect(alloc)
 }
 
-impl<A: Allocator + Copy> Workqueues<A> {
+impl<A: Allocator + Copy> NotedWorkqueues<A> {
     /// No workqueue yet, for this many items in these groups.
     pub(crate) fn none(alloc: A, groups: &Groups<A>, items: u16) -> Result<Self, AllocError>
         requires { length groups.now.group_of ≡ items }
@@ -131,7 +131,7 @@ impl<A: Allocator + Copy> Workqueues<A> {
     {
         let stood = vec![in alloc; false; usize::from(items)]?;
         let lane_of_group = vec![in alloc; None; usize::from(groups.len())]?;
-        Ok(Workqueues {
+        Ok(NotedWorkqueues {
             count: 0,
             stood,
             lane_of_group,
@@ -149,7 +149,7 @@ impl<A: Allocator + Copy> Workqueues<A> {
         ensures fault { (workqueues : List (List ℕ)) → AreNoted groups.now workqueues self.count self.stood.items self.lane_of_group.items
             → IfErr result (λ e. fresh_items groups.now.group_of (concat workqueues) line items.now ≡ Err e) }
     {
-        let Workqueues {
+        let NotedWorkqueues {
             count,
             stood,
             lane_of_group,
@@ -161,7 +161,7 @@ impl<A: Allocator + Copy> Workqueues<A> {
         let Some(lane_of_group) = settle(lane_of_group, groups, lane, items) else {
             return Err(CertError::GroupSplit { line });
         };
-        Ok(Workqueues {
+        Ok(NotedWorkqueues {
             count: count + 1,
             stood,
             lane_of_group,

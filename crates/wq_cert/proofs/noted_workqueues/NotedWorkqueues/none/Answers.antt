@@ -1,7 +1,7 @@
 use Rattle.std.proofs.Common.{◌≡◌, false, None, sym, ap, ◌∙◌, rules}
 use Rattle.std.specs.Prelude.{replicate}
 use Rattle.wq_cert.proofs.NotedLemmas.{AreNoted-none}
-use Rattle.wq_cert.proofs.workqueues.Workqueues.none.Goals as goal
+use Rattle.wq_cert.proofs.noted_workqueues.NotedWorkqueues.none.Goals as goal
 
 pub returns : goal.returns
 returns g c =

@@ -5,7 +5,7 @@ use Rattle.wq_cert.specs.Noted.{IsNextNoted}
 use Rattle.wq_cert.specs.Reading.{wq_reading}
 use Rattle.wq_cert.specs.Texts.{IsCertFaultOf}
 use Rattle.wq_cert.proofs.SaidLines.{said_line-false}
-use Rattle.wq_cert.proofs.workqueues.Workqueues.read.Goals as goal
+use Rattle.wq_cert.proofs.noted_workqueues.NotedWorkqueues.read.Goals as goal
 
 pub returns-clause-workqueues : goal.returns-clause-workqueues
 returns-clause-workqueues g c = λ workqueues noted.

@@ -1,7 +1,7 @@
 use Rattle.std.proofs.Common.{map, rules}
 use Rattle.wq_cert.specs.Lines.{cert_line}
 use Rattle.wq_cert.proofs.NotedLemmas.{ReadSome-more, ReadSome-fault, ReadSome-short}
-use Rattle.wq_cert.proofs.workqueue_reading.read_workqueues.Goals as goal
+use Rattle.wq_cert.proofs.workqueue_reading.read_next_workqueues.Goals as goal
 
 pub returns-in_default-clause-fault : goal.returns-in_default-clause-fault
 returns-in_default-clause-fault g c =

@@ -3,7 +3,7 @@ use Rattle.std.specs.List.{All, concat}
 use Rattle.wq_cert.proofs.StoodLemmas.{length-marks}
 use Rattle.wq_cert.proofs.LaneLemmas.{length-lanes_with}
 use Rattle.wq_cert.proofs.NotedLemmas.{fresh_items-fresh, AreNoted-more}
-use Rattle.wq_cert.proofs.workqueues.Workqueues.with.Goals as goal
+use Rattle.wq_cert.proofs.noted_workqueues.NotedWorkqueues.with.Goals as goal
 
 pub mark-requires : goal.mark-requires
 mark-requires g c =

@@ -2,7 +2,7 @@ use Rattle.std.proofs.Common.{◌<◌, ℕ, List, sym, subst₂}
 use Rattle.std.specs.List.{All}
 use Rattle.wq_cert.specs.Noted.{said_line}
 use Rattle.wq_cert.proofs.NotedLemmas.{wq_items-below}
-use Rattle.wq_cert.proofs.workqueues.Workqueues.read_line.Goals as goal
+use Rattle.wq_cert.proofs.noted_workqueues.NotedWorkqueues.read_line.Goals as goal
 
 pub with-requires-clause-items : goal.with-requires-clause-items
 with-requires-clause-items g c =
