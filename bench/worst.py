@@ -132,10 +132,38 @@ def padded(line, count, most):
     return line * min(count, most // len(line))
 
 
+def leading_last():
+    """Half of the items flush falling ones of their own half, the others flush any; the last flush leads from the first half to the other."""
+    numbers = random.Random(5)
+    low = [tuple(sorted(numbers.sample(range(HALF), 2))) for _ in range(FLUSHES // 2)]
+    high = [(HALF + numbers.randrange(HALF), numbers.randrange(ITEMS)) for _ in range(FLUSHES - 1 - len(low))]
+    return [flush for both in zip(low, high) for flush in both] + low[len(high):] + [(HALF - 1, LAST)]
+
+
+def all_lead():
+    """Each flush leads from the first half of the items to the other."""
+    return [(place % HALF, HALF + place * 7 % HALF) for place in range(FLUSHES)]
+
+
+def leading_and_circle():
+    """The first half flush the next one, around, and each of these flushes comes again; the last flush leads to the other half."""
+    return [(place % HALF, (place + 1) % HALF) for place in range(FLUSHES - 1)] + [(0, LAST)]
+
+
 # ---- assignments and runs
 
 def workqueues(queues, name=short):
     return "".join(f"wq {q}" + "".join(f" {name(i)}" for i in items) + "\n" for q, items in enumerate(queues))
+
+
+def half_bare(name=short, comment=""):
+    """Each item on its own workqueue, of which the second half have no rescuer."""
+    return "".join(f"{'wq' if i < HALF else 'norescuer'} {i} {name(i)}{comment}\n" for i in range(ITEMS))
+
+
+def half_on_one_bare(name=short):
+    """The first half of the items on workqueues of their own, the others together on one without a rescuer."""
+    return workqueues([[i] for i in range(HALF)], name) + f"norescuer {HALF}" + "".join(f" {name(i)}" for i in range(HALF, ITEMS)) + "\n"
 
 
 def one():
@@ -241,6 +269,15 @@ def declarations():
     yield "groups of two, a chain of them", declaration(ITEMS, [(i, (i + 2) % ITEMS) for i in range(ITEMS - 2) for _ in range(4)], [[i, i + 1] for i in range(0, ITEMS, 2)])
 
 
+def bare_declarations():
+    """Of each a name, and the declaration, whose second half of items is for workqueues without a rescuer."""
+    yield "only the last of 16,384 flushes leads to no rescuer", declaration(ITEMS, leading_last())
+    yield "16,384 flushes lead to no rescuer", declaration(ITEMS, all_lead())
+    yield "16,384 flushes of workqueues lead to no rescuer", declaration(ITEMS, all_lead(), words=["flushwq"])
+    yield "a circle of 2,048, and one flush leads to no rescuer", declaration(ITEMS, leading_and_circle())
+    yield "no flush of one on a workqueue without a rescuer", declaration(ITEMS, [(HALF + place % HALF, place % ITEMS) for place in range(FLUSHES)])
+
+
 COLLIDING = "names that collide for the seed 0"
 
 
@@ -294,6 +331,17 @@ def cases(program, folder, write, most_run=MOST_CERTIFICATE):
         yield "plan", name, [path]
         yield "deadlock", name, [path, queues]
         yield "replay", name, [path, queues, write(program.answer("deadlock", folder, path, queues))]
+    for name, text in bare_declarations():
+        path = write(text)
+        for kind, assignment in [("2,048 workqueues without a rescuer", half_bare()), ("one workqueue without a rescuer", half_on_one_bare()),
+                                 ("2,048 named workqueues without a rescuer", half_bare(comment=f"  # {'x' * 63}, "))]:
+            queues = write(assignment)
+            yield "deadlock", f"{name}, {kind}", [path, queues]
+            yield "circles", f"{name}, {kind}", [path, queues]
+            yield "dot", f"{name}, {kind}", [path, queues]
+            run = program.answer("deadlock", folder, path, queues)
+            if run.startswith("run"):
+                yield "replay", f"{name}, {kind}", [path, queues, write(run)]
     for name, text in texts():
         path = write(text)
         yield "plan", name, [path]

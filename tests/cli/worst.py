@@ -53,6 +53,10 @@ CASES = {
     ("replay", "the last of 4,096 entries cancelled and queued"),
     ("replay", "4,096 entries rotated"),
     ("check", "a plan below lines of a space, with an item that isn't above its target"),
+    ("deadlock", "only the last of 16,384 flushes leads to no rescuer, 2,048 workqueues without a rescuer"),
+    ("replay", "16,384 flushes of workqueues lead to no rescuer, one workqueue without a rescuer"),
+    ("circles", "16,384 flushes lead to no rescuer, 2,048 workqueues without a rescuer"),
+    ("dot", "16,384 flushes lead to no rescuer, 2,048 named workqueues without a rescuer"),
 } | REFUSED
 
 
