@@ -95,7 +95,7 @@ module _ (s : Declared) (sound : IsSound s) (a : Workqueues) (assigned : AreWork
   hangs : (first : List ℕ) → AreFirst (declared_waits s) a (bare_waits (declared_waits s) a) first → (end : End) × (out : List ℕ) × JudgesAssigned s a end out
   hangs first are = let hang = IsHang-exists first are in (Bad, run_text s.table.names hang.0, (hang.0, hang.1, refl))
 
-  JudgesAssigned-exist : (end : End) × (out : List ℕ) × JudgesAssigned s a end out
+  pub JudgesAssigned-exist : (end : End) × (out : List ℕ) × JudgesAssigned s a end out
   JudgesAssigned-exist = by_waits (bare_waits (declared_waits s) a) refl
     where
       by_waits : (waits : List WaitArc) → bare_waits (declared_waits s) a ≡ waits → (end : End) × (out : List ℕ) × JudgesAssigned s a end out

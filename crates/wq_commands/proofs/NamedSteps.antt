@@ -36,7 +36,7 @@ IsStepOf-named w few (OverAll q b) named own = (named.1, near q w.lanes named.0 
 IsStepOf-named w few (Finish q i) named own = (named.1, near q w.lanes named.0 few, own)
 IsStepOf-named w few (Help q h deed) named own = (named.1, near q w.lanes named.0 few, own)
 
-steps_of-named : (w : Wiring) → w.lanes ≤ 4096 → (steps : List Step) → All (IsNamed w) steps → HasNoHelp steps → All (IsStepOf (items w)) steps
+pub steps_of-named : (w : Wiring) → w.lanes ≤ 4096 → (steps : List Step) → All (IsNamed w) steps → HasNoHelp steps → All (IsStepOf (items w)) steps
 steps_of-named w few steps named own = λ k d within. IsStepOf-named w few (get_or steps k d) (named k d within) (own k d within)
 
 module _ (s : Declared) (sound : IsSound s) (ws : Workqueues) (assigned : IsAssignmentOf s.partition.groups ws.assignment) (steps : List Step) (deadlocks : DeadlocksBy (wiring_of (declared_waits s) ws) steps) where
