@@ -12,7 +12,7 @@ use Rattle.wq_core.specs.Workqueues.{Workqueues}
 use Rattle.wq_dot.specs.declared.look.FlushLook.{FlushLook}
 use Rattle.wq_dot.specs.declared.look.FlushLook.TheVariants.{Plain, Red, Bold}
 use Rattle.wq_cert.specs.PlanText.{name_of}
-use Rattle.wq_dot.specs.Labels.{label_text}
+use Rattle.wq_dot.specs.Labels.{label_text, numbered}
 use Rattle.wq_dot.specs.Tooltips.{tooltip_text}
 
 -- ---- the head
@@ -65,7 +65,7 @@ frame_text false = codes "style=filled, color=gray92"
 abbrev pub frame_line : List (List ℕ) → Bool → ℕ → List ℕ
 frame_line called bare q =
     codes "    graph [label=\"\", " ++ frame_text bare
-    ++ codes "]; \"wq " ++ decimal q ++ codes "\" [" ++ label_text called bare q ++ codes "shape=plaintext, style=\"\", fontsize=14];"
+    ++ codes "]; \"" ++ numbered q ++ codes "\" [" ++ label_text called bare q ++ codes "shape=plaintext, style=\"\", fontsize=14];"
 
 -- workqueue q with these groups: its three lines, with those of the groups before the third one. `called` has the names of the
 -- workqueues

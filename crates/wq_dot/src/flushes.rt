@@ -54,7 +54,7 @@ pub(crate) fn red_flushes<A: Allocator + Copy>(
     components: &[Vec<WaitArc, A>],
     waits: &[WaitArc],
 ) -> Result<Vec<FlushLook, A>, AllocError>
-    requires components { All (AreMarkable (flush_count table.now.waits)) (map (λ l. l.items) components.now) }
+    requires places { All (AreMarkable (flush_count table.now.waits)) (map (λ l. l.items) components.now) }
     requires waits { AreMarkable (flush_count table.now.waits) waits.now }
     ensures { IfOk result (λ looks. looks.items
         ≡ looks_of (flush_count table.now.waits) FlushLook.Red (all_arcs (map (λ l. l.items) components.now) ++ waits.now)) }

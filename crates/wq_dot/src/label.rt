@@ -13,7 +13,10 @@ use wq_lines::{put, put_number};
 use wq_names::name_at;
 
 /// Adds the number of a workqueue.
-fn put_numbered<A: Allocator + Copy>(out: &mut Vec<u8, A>, number: u16) -> Result<(), AllocError>
+pub(crate) fn put_numbered<A: Allocator + Copy>(
+    out: &mut Vec<u8, A>,
+    number: u16,
+) -> Result<(), AllocError>
     ensures { OnOk result (out.new.items ≡ out.old.items ++ numbered number) }
 {
     put(out, b"wq")?;

@@ -8,7 +8,7 @@ ghost use Rattle.std.specs.List.{All};
 ghost use Rattle.wq_dot.specs.Drawing.{box_lines, ended, frame_line, frame_text};
 
 use crate::group::put_group;
-use crate::label::put_label;
+use crate::label::{put_label, put_numbered};
 use std::alloc::{AllocError, Allocator};
 use wq_groups::{GroupId, Groups};
 use wq_items::ItemTable;
@@ -36,8 +36,8 @@ fn put_frame<A: Allocator + Copy>(
 {
     put(out, b"    graph [label=\"\", ")?;
     put(out, frame_text(bare))?;
-    put(out, b"]; \"wq")?;
-    put_number(out, u32::from(number))?;
+    put(out, b"]; \"")?;
+    put_numbered(out, number)?;
     put(out, b"\" [")?;
     put_label(out, called, bare, number)?;
     put(out, b"shape=plaintext, style=\"\", fontsize=14];\n")
