@@ -1,5 +1,5 @@
 -- Names of workqueues: how the comments of an assignment text call them.
-use Rattle.std.specs.Prelude.{ℕ, ◌-◌, ◌==◌, ◌&&◌, ◌||◌, nat_le, cond, Bool, List, [], length, map, filter, take, codes}
+use Rattle.std.specs.Prelude.{ℕ, ◌-◌, ◌==◌, ◌&&◌, ◌||◌, nat_le, cond, Bool, List, [], length, map, filter, take, slice_index_or, codes}
 use Rattle.std.specs.List.{before_first, list_all, suffix_len}
 use Rattle.wq_text.specs.Lines.{LineView, lines_of}
 use Rattle.wq_text.specs.Words.{is_blank, words_of}
@@ -38,3 +38,7 @@ is_workqueue_line line = begins_with (codes "wq") (bytes_of (words_of line)) || 
 -- the names of the workqueues in the text of an assignment, from workqueue 0 on; no byte for one that has none
 abbrev pub names_of : List ℕ → List (List ℕ)
 names_of text = map (λ (line : LineView). name_on line.bytes) (filter is_workqueue_line (lines_of text))
+
+-- the number of the workqueue, as its line spells it: the second word
+abbrev pub spelled_number : LineView → List ℕ
+spelled_number line = slice_index_or (bytes_of (words_of line)) 1 []

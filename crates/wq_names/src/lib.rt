@@ -6,6 +6,7 @@
 #![tactic(auto)]
 
 mod comment;
+pub mod laws;
 mod names;
 
 pub use comment::comment_body;
