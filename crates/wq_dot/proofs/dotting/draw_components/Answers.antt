@@ -1,4 +1,4 @@
-use Rattle.std.proofs.Common.{◌≡◌, ◌<◌, ◌^◌, ◌++◌, ℕ, Bool, List, length, map, sym, ap, ap₂, subst, ◌∙◌, arith}
+use Rattle.std.proofs.Common.{◌++◌, ℕ, Bool, List, length, map, sym, ap, ap₂, subst, ◌∙◌, arith}
 use Rattle.std.proofs.lemmas.List.FromFn.{length-map-range_with_len}
 use Rattle.std.proofs.lemmas.Result.{IfOk-weaker}
 use Rattle.wq_items.specs.Table.{flush_count}
@@ -6,14 +6,13 @@ use Rattle.wq_groups.specs.Declaration.{declaration_of}
 use Rattle.wq_groups.specs.Assignment.{Assignment, IsAssignment}
 use Rattle.wq_groups.proofs.Declarations.{IsDeclaration-of}
 use Rattle.wq_graph.specs.declared.arc.WaitArc.{WaitArc}
-use Rattle.wq_deadlock.specs.Judging.{bare_waits}
 use Rattle.wq_dot.specs.declared.look.FlushLook.{FlushLook}
 use Rattle.wq_dot.specs.declared.look.FlushLook.TheVariants.{Red}
 use Rattle.wq_commands.specs.Declaration.{Declared}
 use Rattle.wq_circles.proofs.ForBare.{AreBetween-waits}
 use Rattle.wq_dot.specs.Drawing.{drawing_text}
 use Rattle.wq_dot.specs.Flushes.{AreMarkable, all_arcs, look_at, looks_of, marked}
-use Rattle.wq_dot.specs.Dotting.{circles_title, declared_looks, drawing_of, hanging_arcs}
+use Rattle.wq_dot.specs.Dotting.{circles_title}
 use Rattle.wq_dot.proofs.Placed.{AreMarkable-components, AreMarkable-waits}
 use Rattle.wq_dot.proofs.dotting.draw_components.Goals as goal
 
