@@ -231,13 +231,12 @@ def read_arrows(reader, drawing):
 
 
 def must_be_turned(reader, arrows, turned, on_bare):
-    """Of arrows that go both ways between two items, those that are turned are all those of one of the two. If both are on
-    workqueues with a rescuer, these arrows lie on a circle."""
+    """Of arrows that go both ways between two items, those that are turned are all those of one of the two. They lie on a circle,
+    or lead to no rescuer, unless they are of an item on a workqueue without one."""
     ways = {}
     for (item, target, colour, _), back in zip(arrows, turned):
         ways.setdefault((item, target), set()).add(back)
-        reader.must(colour == "red" or not back or colour == "black" and not on_bare.isdisjoint((item, target)),
-                    "an arrow is drawn from its target, and isn't red")
+        reader.must(not back or colour == ("black" if item in on_bare else "red"), "an arrow is drawn from its target in the wrong colour")
     for (item, target), backs in ways.items():
         reader.must(len(backs) == 1, "arrows of one item and one target are drawn from either")
         other = ways.get((target, item)) if item != target else None
