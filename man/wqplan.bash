@@ -80,7 +80,7 @@ _wqplan() {
             codes+=' TooManyItems TooManyFlushes GroupedTwice ExtraWord BadCertLine NotAllItems GroupSplit'
             codes+=' NumberOutOfRange NotFalling ChainBroken LengthDiffers CircleBroken RunBroken TooManyLanes read'
             codes+=" memory thread tally write plan wq chain arc circle run yes no 'not lawful' deadlock stuck open"
-            codes+=' safe components workqueues refused fault item flush flushwq ordered'
+            codes+=' safe components norescuer workqueues refused fault item flush flushwq ordered'
             mapfile -t COMPREPLY < <(compgen -W "$codes" -- "$word")
             # The blank of `not lawful` belongs to the word.
             COMPREPLY=("${COMPREPLY[@]// /\\ }")

@@ -272,8 +272,8 @@ def print_assignment(draft: Draft, to: TextIO) -> None:
     program = draft.program
     says.note(
         to,
-        f"wqsource: the workqueues of {program.facts.tree}, as far as its files say them. `safe` has the precondition "
-        "that each has a rescuer. A `?` line is to be decided.",
+        f"wqsource: the workqueues of {program.facts.tree}, as far as its files say them. Those on `norescuer` lines have "
+        "no rescuer. A `?` line is to be decided.",
     )
     on: dict[str, list[Item]] = collections.defaultdict(list)
     nowhere = []
@@ -298,6 +298,7 @@ def print_assignment(draft: Draft, to: TextIO) -> None:
                 ],
             )
         )
-        print(f"{'? ' if shared else ''}wq {number} {' '.join(item.name for item in items)}  # {said}", file=to)
+        word = "norescuer" if program.workqueues.lacks_rescuer(workqueue) else "wq"
+        print(f"{'? ' if shared else ''}{word} {number} {' '.join(item.name for item in items)}  # {said}", file=to)
     if nowhere:
         print(f"? wq ? {' '.join(item.name for item in nowhere)}  # their workqueue isn't known", file=to)

@@ -75,6 +75,10 @@ class Workqueues:
         found.append("WQ_UNBOUND" if "WQ_UNBOUND" in text else "")
         return ", ".join(filter(None, found))
 
+    def lacks_rescuer(self, workqueue: str) -> bool:
+        """Whether it has no rescuer, as far as the files say."""
+        return is_system(workqueue) if workqueue not in self.made else NO_RESCUER in self.flags(workqueue)
+
     def is_ordered(self, workqueue: str) -> Optional[bool]:
         """Whether it is ordered; None if that depends on the kernel, which isn't known."""
         text = self.flags(workqueue)

@@ -20,7 +20,7 @@ import programs  # noqa: E402  (in tests/lib)
 FORMAT = (ROOT / "docs/FORMAT.md").read_text()
 # Where texts and their limits are described: not histories, nor what is worked out.
 TEXTS = ["Lines, words and numbers", "Names", "Limits", "Certificates"]
-FORMS = ["Plan texts", "Circle texts", "Run texts", "Refusals"]
+FORMS = ["Plan texts", "Circle texts", "Run texts", "Certificates", "Refusals"]
 # The words of steps.
 STEPS = ["queue", "cancel", "start", "wait", "waitwq", "over", "overwq", "finish"]
 # A drawing is a text of Graphviz, and no page shows it.

@@ -99,3 +99,14 @@ def test_a_workqueue_has_one_line(wqsource, tmp_path):
     # without the call that makes it, it has its name
     assert wqsource("draft", "--assign", out, "--tree", C_FILES, "uncalled.c").status == 0
     assert "wq 0 un_work  # kblockd\n" in out.read_text()
+
+
+def test_a_workqueue_without_a_rescuer(wqsource, tmp_path):
+    """nr-plain is made without WQ_MEM_RECLAIM, and the kernel's own have no rescuer either."""
+    out = tmp_path / "out.assign"
+    assert wqsource("draft", "--assign", out, "--tree", C_FILES, "no_rescuer.c").status == 0
+    assert [line for line in out.read_text().splitlines() if not line.startswith("#")] == [
+        "wq 0 nr_kept  # nr-kept, no_rescuer.c:16 nr_init, WQ_MEM_RECLAIM",
+        "norescuer 1 nr_plain  # nr-plain, no_rescuer.c:17 nr_init, NO WQ_MEM_RECLAIM: no rescuer, WQ_UNBOUND",
+        "norescuer 2 nr_system  # system_wq, no rescuer",
+    ]

@@ -274,8 +274,8 @@ const NOT_ALL_ITEMS: Explanation = (
     "NotAllItems",
     "41 NotAllItems\n",
     "\
-`refused 41 line N`: line N, a `wq` line, has an item twice, or one that a `wq`
-line above it has. With line 0 an item is on no `wq` line.
+`refused 41 line N`: line N, a `wq` or `norescuer` line, has an item twice, or
+one that such a line above it has. With line 0 an item is on no such line.
 
 The rule: docs/FORMAT.md, \"Certificates\"
 
@@ -285,8 +285,8 @@ To see it:
     wqplan deadlock decl assign
 
 To mend it:
-Put each item of the declaration on just one `wq` line. Those of a plan end
-where its K says so.
+Put each item of the declaration on just one `wq` or `norescuer` line. The `wq`
+lines of a plan end where its K says so.
 ",
 );
 
@@ -295,8 +295,8 @@ const GROUP_SPLIT: Explanation = (
     "GroupSplit",
     "42 GroupSplit\n",
     "\
-`refused 42 line N`: line N, a `wq` line, has an item that shares an `ordered`
-line with one that is on a `wq` line above.
+`refused 42 line N`: line N, a `wq` or `norescuer` line, has an item that shares
+an `ordered` line with one that is on such a line above.
 
 The rule: docs/FORMAT.md, \"Certificates\"
 
@@ -306,8 +306,8 @@ To see it:
     wqplan deadlock decl assign
 
 To mend it:
-Put all items of the `ordered` line on one `wq` line. If they may be on
-different workqueues, take them off the `ordered` line.
+Put all items of the `ordered` line on one workqueue. If they may be on
+different ones, take them off the `ordered` line.
 ",
 );
 
@@ -317,8 +317,9 @@ const NUMBER_OUT_OF_RANGE: Explanation = (
     "43 NumberOutOfRange\n",
     "\
 `refused 43 line N`: a number of line N is out of its range. The `wq` lines are
-numbered 0, 1, 2 and so on; `plan`, `chain` and `circle` have at most 4,096,
-`circle` at least 1; and no step is on a workqueue above 4,095.
+numbered 0, 1, 2 and so on, in an assignment together with `norescuer` lines;
+`plan`, `chain` and `circle` have at most 4,096, `circle` at least 1; and no
+step is on a workqueue above 4,095.
 
 The rule: docs/FORMAT.md, \"Certificates\"
 
@@ -328,8 +329,8 @@ To see it:
     wqplan deadlock decl assign
 
 To mend it:
-Number the workqueues from 0 on, in order. Write a `wq` line without names for
-one that is empty.
+Number the workqueues from 0 on, in order, with a rescuer or without. Write a
+line without names for one that is empty.
 ",
 );
 

@@ -41,7 +41,8 @@ To see it:
 
 What to do:
 Queue these items on one workqueue. Lines of this form are an assignment, too:
-write those of the driver as it is today, and ask `wqplan deadlock`.
+write those of the driver as it is today, with `norescuer` in place of `wq` for
+a workqueue without `WQ_MEM_RECLAIM`, and ask `wqplan deadlock`.
 ",
 );
 
@@ -113,10 +114,10 @@ const RUN: Explanation = (
     "run answer\n",
     "\
 `run M`: the M steps below it may happen in this order while memory is short,
-and at their end nothing can go on. `queue` puts an item on its workqueue,
-`start` runs it in the workqueue's rescuer, the one context that is sure to be
-there, `wait` and `over` begin and end a flush in it, `waitwq` and `overwq` one
-of a whole workqueue, and `finish` ends it.
+and at their end nothing is sure to go on. `queue` puts an item on its
+workqueue, `start` runs it in the workqueue's rescuer, the one context that is
+sure to be there, `wait` and `over` begin and end a flush in it, `waitwq` and
+`overwq` one of a whole workqueue, and `finish` ends it.
 
 The rule: docs/FORMAT.md, \"Run texts\"
 
@@ -127,9 +128,9 @@ To see it:
 
 What to do:
 Look at the last `wait` or `waitwq` of each workqueue: each waits for an item
-that another one of them holds up, or that is behind it. `wqplan circles` prints
-the flushes that cause it, and `wqplan plan` workqueues on which it can't
-happen.
+that another one of them holds up, that is behind it, or that is on a workqueue
+without a rescuer. `wqplan circles` prints the flushes that cause it, and
+`wqplan plan` workqueues on which it can't happen.
 ",
 );
 
@@ -205,9 +206,9 @@ const DEADLOCK: Explanation = (
     "deadlock",
     "deadlock answer\n",
     "\
-`deadlock`: at the end of the run that was replayed nothing can go on, though
-each item was queued just once, none was cancelled, and each made its declared
-flushes in their order. So the assignment isn't safe.
+`deadlock`: at the end of the run that was replayed nothing is sure to go on,
+though each item was queued just once, none was cancelled, and each made its
+declared flushes in their order. So the assignment isn't safe.
 
 The rule: docs/FORMAT.md, \"Steps\"
 
@@ -229,8 +230,8 @@ const STUCK: Explanation = (
     "stuck",
     "stuck answer\n",
     "\
-`stuck`: at the end of the run that was replayed nothing can go on, so the
-assignment isn't safe. It isn't called `deadlock`, since an item was queued
+`stuck`: at the end of the run that was replayed nothing is sure to go on, so
+the assignment isn't safe. It isn't called `deadlock`, since an item was queued
 twice or never, or was cancelled, or didn't flush as declared.
 
 The rule: docs/FORMAT.md, \"Steps\"
@@ -253,9 +254,9 @@ const OPEN: Explanation = (
     "open",
     "open answer\n",
     "\
-`open`: at the end of the run that was replayed something can still go on, or
-everything is finished. So this run shows no hang. It doesn't say that the
-assignment is safe.
+`open`: at the end of the run that was replayed something is sure to go on, or
+nothing is unfinished but what is on workqueues without a rescuer. So this run
+shows no hang. It doesn't say that the assignment is safe.
 
 The rule: docs/FORMAT.md, \"The command `replay`\"
 
@@ -278,7 +279,9 @@ const SAFE: Explanation = (
 `safe`: under this assignment no order of what happens ends in a hang while
 memory is short, as far as the declaration has all waits, and whether workqueues
 have other workers beside their rescuers or not. Where `circles` was given no
-assignment, that of a workqueue for each group is meant.
+assignment, that of a workqueue for each group is meant. It says nothing of
+items on `norescuer` lines: nobody is sure to run them. Standard error names
+them.
 
 The rule: docs/FORMAT.md, \"The command `deadlock`\"
 
@@ -288,9 +291,11 @@ To see it:
     wqplan deadlock decl assign
 
 What to do:
-See that each of these workqueues has a rescuer (`WQ_MEM_RECLAIM`): `safe` means
-nothing for the items of one without it, such as `system_wq`, nor for what waits
-for them. Ask again when an item or a wait is added.
+See that each workqueue without `WQ_MEM_RECLAIM`, such as `system_wq`, has a
+`norescuer` line in place of a `wq` line. If somebody on the reclaim path waits
+for one of its items, as writeback does, declare that wait as an item of its
+own, on a `wq` line: `item writeback`, `flush writeback x`. Ask again when an
+item or a wait is added.
 ",
 );
 
@@ -301,7 +306,8 @@ const COMPONENTS: Explanation = (
     "\
 `components N`: some items can hang while memory is short. There are N sets of
 workqueues that wait for each other, and below each `component` line are the
-flushes of one of them, all of which lie on circles.
+flushes of one of them, all of which lie on circles. N is 0 where only flushes
+of items on workqueues without a rescuer are printed.
 
 The rule: docs/FORMAT.md, \"The command `circles`\"
 
@@ -313,6 +319,30 @@ What to do:
 Take flushes out of the driver until no circle is left, or put items on other
 workqueues: `wqplan plan` prints an assignment if there is one. `wqplan dot`
 draws these flushes in red.
+",
+);
+
+const NORESCUER: Explanation = (
+    None,
+    "norescuer",
+    "norescuer answer\n",
+    "\
+`norescuer M`: the M flushes below it are of items on workqueues without a
+rescuer, by items on workqueues that have one. While memory is short, nobody is
+sure to run what they wait for, so each of them alone can hang. In an assignment
+`norescuer Q NAME..` says that workqueue Q has no rescuer.
+
+The rule: docs/FORMAT.md, \"The command `circles`\"
+
+To see it:
+    printf 'item a\\nitem b\\nflush a b\\n' > decl
+    printf 'wq 0 a\\nnorescuer 1 b\\n' > assign
+    wqplan circles decl assign
+
+What to do:
+Allocate the workqueue of the target with `WQ_MEM_RECLAIM`, and write `wq` for
+it. Or queue the target on another workqueue that has a rescuer: ask again then.
+Or take the wait out.
 ",
 );
 
@@ -454,7 +484,7 @@ at once. An assignment doesn't say which workqueues are ordered.
 );
 
 /// The explanations of the words of answers and of the directives, in the order of docs/FORMAT.md.
-pub static WORDS: [Explanation; 21] = [
+pub static WORDS: [Explanation; 22] = [
     PLAN, WQ, CHAIN, ARC, CIRCLE, RUN, YES, NO, NOT_LAWFUL, DEADLOCK, STUCK, OPEN, SAFE,
-    COMPONENTS, WORKQUEUES, REFUSED, FAULT, ITEM, FLUSH, FLUSHWQ, ORDERED,
+    COMPONENTS, NORESCUER, WORKQUEUES, REFUSED, FAULT, ITEM, FLUSH, FLUSHWQ, ORDERED,
 ];

@@ -21,7 +21,7 @@ pub(crate) const DEADLOCK: &str =
 pub(crate) const REPLAY: &str = "Reads a declaration, an assignment and a run, prints how it ends";
 
 /// What `circles` does.
-pub(crate) const CIRCLES: &str = "Reads a declaration, prints all flushes on circles, or `safe`";
+pub(crate) const CIRCLES: &str = "Reads a declaration, prints all flushes that can hang, or `safe`";
 
 /// What `dot` does.
 pub(crate) const DOT: &str = "Reads a declaration, prints a drawing of it for Graphviz";
