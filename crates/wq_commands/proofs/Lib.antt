@@ -8,6 +8,8 @@ pub mod CheckLemmas
 pub mod InputLemmas
 pub mod CommandLemmas
 pub mod JudgeLemmas
+pub mod SameRescuers
+pub mod AllRescued
 pub mod NamedSteps
 mod DeclaredLines
 pub mod DeclaredLemmas

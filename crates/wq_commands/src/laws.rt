@@ -2,23 +2,31 @@
 //!
 //! The examples are computed by the definitions, so that a reader can compare them with those of the format.
 
-ghost use Rattle.std.specs.Prelude.{◌≡◌, ℕ, ◌+◌, ◌<◌, ◌≤◌, List, length, take, codes, Ok, Err, option_map};
+ghost use Rattle.std.specs.Prelude.{◌≡◌, ◌↔◌, false, ℕ, ◌+◌, ◌<◌, ◌≤◌, List, length, [], take, codes, Ok, Err, option_map};
 ghost use Rattle.std.specs.Result.{result_ok};
 ghost use Rattle.wq_items.specs.Table.{IsTable};
 ghost use Rattle.wq_groups.specs.Partition.{IsPartition};
-ghost use Rattle.wq_groups.specs.Declaration.{IsDeclaration};
-ghost use Rattle.std.specs.List.{All};
+ghost use Rattle.wq_groups.specs.Declaration.{Declaration, IsDeclaration};
+ghost use Rattle.std.specs.List.{All, list_any};
 ghost use Rattle.wq_text.specs.Lines.{LineView, lines_of};
 ghost use Rattle.wq_groups.specs.Assignment.{Assignment};
 ghost use Rattle.wq_core.specs.declared.step.Step.{Step};
-ghost use Rattle.wq_core.specs.Wiring.{wiring, own_lanes};
+ghost use Rattle.wq_core.specs.Wiring.{HasRescuer, wiring, own_lanes};
+ghost use Rattle.wq_core.specs.Workqueues.{Workqueues, wiring_of};
+ghost use Rattle.wq_core.specs.Deadlock.{IsSafe, DeadlocksBy};
 ghost use Rattle.wq_graph.specs.declared.arc.WaitArc.{WaitArc};
-ghost use Rattle.wq_graph.specs.Graph.{group_graph};
+ghost use Rattle.wq_graph.specs.Graph.{group_graph, lane_graph};
 ghost use Rattle.wq_levels.specs.Walks.{IsWalkedCircle};
 ghost use Rattle.wq_plan.specs.Plan.{IsPlan};
 ghost use Rattle.wq_lines.specs.LineText.{line_text};
 ghost use Rattle.wq_checker.specs.declared.run.RunEnd.TheVariants.{Deadlock};
+ghost use Rattle.wq_cert.specs.Lines.{cert_lines};
+ghost use Rattle.wq_cert.specs.Reading.{is_bare_line};
+ghost use Rattle.wq_checker.specs.declared.run.RunEnd.{RunEnd};
+ghost use Rattle.wq_checker.specs.RunEnds.{EndsAs};
 ghost use Rattle.wq_deadlock.specs.CircleRun.{IsCircleRun};
+ghost use Rattle.wq_deadlock.specs.Judging.{IsHang, bare_waits, rescued_graph};
+ghost use Rattle.wq_deadlock.specs.Verdict.{IsDeadlock};
 ghost use Rattle.wq_commands.specs.Answer.{Answers, declared_waits, text_of_plan, text_of_circle};
 ghost use Rattle.wq_commands.specs.DeclaredIn.{declared_in, named_of};
 ghost use Rattle.wq_commands.specs.Promise.{KeepsPromise};
@@ -29,6 +37,7 @@ ghost use Rattle.wq_commands.specs.Checking.{Checks};
 ghost use Rattle.wq_commands.specs.YesIsTrue.{YesIsTrue};
 ghost use Rattle.wq_commands.specs.Replaying.{replay_words, ReplaysRun};
 ghost use Rattle.wq_commands.specs.Deadlocking.{Judges};
+ghost use Rattle.wq_commands.specs.AllRescued.{JudgesAllRescued, ReplaysAllRescued};
 ghost use Rattle.wq_commands.specs.Commands.{Plans, ChecksTexts, JudgesTexts, ReplaysTexts};
 ghost use Rattle.wq_meter.specs.Shell.{HasOneAnswer};
 ghost use Rattle.wq_commands.specs.Declaration.{Declared, declaration, max_declaration};
@@ -219,4 +228,31 @@ pub fn what_a_text_declares_is_a_declaration()
     ensures partition { (text : List ℕ) (s : Declared) → declaration text ≡ Ok s → IsPartition s.partition }
     ensures one_group_each { (text : List ℕ) (s : Declared) → declaration text ≡ Ok s →
         length s.partition.group_of ≡ length s.table.names }
+{}
+
+/// Where each workqueue has a rescuer, it makes no difference that some might have had none: no run ends stuck, a run deadlocks or
+/// ends in any other way, exactly where that is so of the assignment. The same circle is found, and the same run is printed.
+pub fn workqueues_that_have_rescuers_are_an_assignment()
+    ensures safe { (d : Declaration) (ws : Workqueues) → ((q : ℕ) → HasRescuer (wiring_of d ws) q) →
+        (IsSafe (wiring_of d ws) ↔ IsSafe (wiring d ws.assignment)) }
+    ensures deadlocks { (d : Declaration) (ws : Workqueues) (steps : List Step) → ((q : ℕ) → HasRescuer (wiring_of d ws) q) →
+        (DeadlocksBy (wiring_of d ws) steps ↔ DeadlocksBy (wiring d ws.assignment) steps) }
+    ensures ends { (d : Declaration) (ws : Workqueues) (steps : List Step) (e : RunEnd) → ((q : ℕ) → HasRescuer (wiring_of d ws) q) →
+        (EndsAs (wiring_of d ws) steps e ↔ EndsAs (wiring d ws.assignment) steps e) }
+    ensures waits { (d : Declaration) (ws : Workqueues) → ((q : ℕ) → HasRescuer (wiring_of d ws) q) → bare_waits d ws ≡ [] }
+    ensures graph { (d : Declaration) (ws : Workqueues) → ((q : ℕ) → HasRescuer (wiring_of d ws) q) →
+        rescued_graph d ws ≡ lane_graph d ws.assignment }
+    ensures run { (d : Declaration) (ws : Workqueues) (steps : List Step) → IsDeclaration d → ws.assignment.lanes ≤ 4096 →
+        ((q : ℕ) → HasRescuer (wiring_of d ws) q) → (IsHang d ws steps ↔ IsDeadlock d ws.assignment steps) }
+{}
+
+/// A text of workqueues in which no line begins with `norescuer` keeps the answers that it has as the text of an assignment: `deadlock`
+/// and `replay` say of it what is so where each workqueue has a rescuer.
+pub fn a_text_without_norescuer_lines_keeps_its_answers()
+    ensures deadlock { (declared text : List ℕ) (end : End) (out : List ℕ) →
+        list_any is_bare_line (cert_lines (lines_of text)) ≡ false →
+        (Judges declared text end out ↔ JudgesAllRescued declared text end out) }
+    ensures replay { (declared text steps : List ℕ) (end : End) (out : List ℕ) →
+        list_any is_bare_line (cert_lines (lines_of text)) ≡ false →
+        (ReplaysRun declared text steps end out ↔ ReplaysAllRescued declared text steps end out) }
 {}
