@@ -10,6 +10,8 @@ pub mod CommandLemmas
 pub mod JudgeLemmas
 pub mod SameRescuers
 pub mod AllRescued
+pub mod PlansJudged
+pub mod HangLemmas
 pub mod NamedSteps
 mod DeclaredLines
 pub mod DeclaredLemmas

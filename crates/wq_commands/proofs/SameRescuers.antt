@@ -1,12 +1,12 @@
 -- Wirings that differ only in how they say which lanes have a rescuer: they have the same runs, and the same states are stuck.
-use Rattle.std.proofs.Common.{◌≡◌, ℕ, ◌<◌, Bool, true, false, List, [], ◌∷◌, slice_index_or, refl, sym, subst, ◌∙◌}
+use Rattle.std.proofs.Common.{◌≡◌, ℕ, Bool, true, false, List, [], ◌∷◌, slice_index_or, refl, subst, ◌∙◌}
 use Rattle.std.specs.Prelude.{◌-◌, take}
 use Rattle.wq_core.specs.declared.step.Step.{Step}
 use Rattle.wq_core.specs.declared.step.Step.TheVariants.{Queue, Cancel, Start, Wait, Over, WaitAll, OverAll, Finish, Help}
 use Rattle.wq_core.specs.declared.step.HelpStep.{HelpStep}
 use Rattle.wq_core.specs.declared.step.HelpStep.TheVariants.{Start as DoStart, Wait as DoWait, WaitAll as DoWaitAll, Over as DoOver, OverAll as DoOverAll, Finish as DoFinish}
 use Rattle.wq_core.specs.declared.entry.Running.{Running}
-use Rattle.wq_core.specs.Wiring.{Wiring, HasRescuer, with_helpers}
+use Rattle.wq_core.specs.Wiring.{Wiring, with_helpers}
 use Rattle.wq_core.specs.Workqueues.{with_bare}
 use Rattle.wq_core.specs.State.{State, empty_state}
 use Rattle.wq_core.specs.Rules.{MayWait, MayBeOver, MayDo, Lawful, effect}
