@@ -16,3 +16,4 @@ mod Promised
 mod Printed
 pub mod Taking
 pub mod ForBare
+mod FirstItems
