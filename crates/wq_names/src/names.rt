@@ -69,24 +69,13 @@ pub fn name_on<'a>(line: &Line<'a>) -> &'a [u8]
     if is_name(called) { called } else { &[] }
 }
 
-/// Whether the first word of a line is `wq` or `norescuer`.
-fn begins_workqueue(line: &Line<'_>) -> bool
+/// Whether a line is that of a workqueue, with a rescuer or without.
+fn is_workqueue_line(line: &Line<'_>) -> bool
     ensures { result ≡ is_workqueue_line line.now }
 {
     match line.words().next() {
         Some(word) => word.bytes() == b"wq".as_slice() || word.bytes() == b"norescuer".as_slice(),
         None => false,
-    }
-}
-
-/// Whether a line is that of a workqueue, with a rescuer or without. Empty lines and comments, of which a text may have millions, are
-/// told by their first byte.
-fn is_workqueue_line(line: &Line<'_>) -> bool
-    ensures { result ≡ is_workqueue_line line.now }
-{
-    match line.bytes() {
-        [] | [b'#', ..] => false,
-        _ => begins_workqueue(line),
     }
 }
 
