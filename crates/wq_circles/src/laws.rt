@@ -59,8 +59,8 @@ pub fn components_are_in_order()
         AllPairs (IsBefore (RescuedWaits (wiring_of d ws)) (item_lane ws.assignment d.group_of)) components }
 {}
 
-/// There is no component, and no flush leads from a workqueue that has a rescuer to one that has none, exactly where no run ends
-/// stuck.
+/// There is no component, and no flush leads from a workqueue that has a rescuer to one that has none, exactly where
+/// no run ends stuck.
 pub fn no_component_is_safe()
     ensures { (d : Declaration) (ws : Workqueues) (components : List (List WaitArc)) → IsDeclaration d → IsAssignment d.groups ws.assignment →
         ws.assignment.lanes ≤ 4096 → AreComponents d ws components → (((components ≡ []) × (bare_waits d ws ≡ [])) ↔ IsSafe (wiring_of d ws)) }
@@ -104,20 +104,23 @@ pub fn the_end_is_that_of_the_other_commands()
         OwnCircles declared end out → Answers declared other printed → end ≡ other }
 {}
 
-/// The flushes that `deadlock` and `circles` take as leading to no rescuer are exactly those that lead from a workqueue that has a
-/// rescuer to one that has none, in order of place.
+/// The flushes that `deadlock` and `circles` take as leading to no rescuer are exactly those that lead from a
+/// workqueue that has a rescuer to one that has none, in order of place.
 pub fn flushes_that_lead_to_no_rescuer_are_these()
-    ensures { (d : Declaration) (ws : Workqueues) → IsDeclaration d → IsAssignment d.groups ws.assignment → AreForBare d ws (bare_waits d ws) }
+    ensures { (d : Declaration) (ws : Workqueues) → IsDeclaration d → IsAssignment d.groups ws.assignment →
+        AreForBare d ws (bare_waits d ws) }
 {}
 
-/// Where there is no such flush, the workqueues of the items that the run of `deadlock` queues first wait in a circle: each has a
-/// rescuer and waits for the next, and the last for the first.
+/// Where there is no such flush, the workqueues of the items that the run of `deadlock` queues first wait in a
+/// circle: each has a rescuer and waits for the next, and the last for the first.
 pub fn the_first_items_go_round()
-    ensures first { (d : Declaration) (ws : Workqueues) (first : List ℕ) → IsDeclaration d → IsAssignment d.groups ws.assignment →
-        AreFirst d ws [] first → (circle : Circle (RescuedWaits (wiring_of d ws)))
+    ensures first { (d : Declaration) (ws : Workqueues) (first : List ℕ) → IsDeclaration d →
+        IsAssignment d.groups ws.assignment → AreFirst d ws [] first →
+        (circle : Circle (RescuedWaits (wiring_of d ws)))
         × (circle.first ∷ circle.others ≡ map (item_lane ws.assignment d.group_of) first) }
-    ensures run { (d : Declaration) (ws : Workqueues) (steps : List Step) (hang : IsHang d ws steps) → IsDeclaration d →
-        bare_waits d ws ≡ [] → (circle : Circle (RescuedWaits (wiring_of d ws)))
+    ensures run { (d : Declaration) (ws : Workqueues) (steps : List Step) (hang : IsHang d ws steps) →
+        IsDeclaration d → bare_waits d ws ≡ [] →
+        (circle : Circle (RescuedWaits (wiring_of d ws)))
         × (circle.first ∷ circle.others ≡ map (item_lane ws.assignment d.group_of) hang.first) }
 {}
 
