@@ -9,7 +9,7 @@ pub mod InputLemmas
 pub mod CommandLemmas
 pub mod JudgeLemmas
 mod SameRescuers
-mod AllRescued
+pub mod AllRescued
 mod PlansJudged
 mod HangLemmas
 pub mod NamedSteps
