@@ -17,3 +17,4 @@ mod Printed
 pub mod Taking
 pub mod ForBare
 mod FirstItems
+mod AllRescued

@@ -144,19 +144,19 @@ of_assignment : (r : Result Workqueues CertError) (P : Workqueues → Type 0) (Q
 of_assignment (Ok ws) P Q F same = same ws refl
 of_assignment (Err fault) P Q F same = (λ h. h, λ h. h)
 
-of_declared : (r : Result Declared Refusal) (P Q : Declared → Type 0) (F : Refusal → Type 0) → ((s : Declared) → r ≡ Ok s → P s ↔ Q s) → MatchResult r P F ↔ MatchResult r Q F
+pub of_declared : (r : Result Declared Refusal) (P Q : Declared → Type 0) (F : Refusal → Type 0) → ((s : Declared) → r ≡ Ok s → P s ↔ Q s) → MatchResult r P F ↔ MatchResult r Q F
 of_declared (Ok s) P Q F same = same s refl
 of_declared (Err fault) P Q F same = (λ h. h, λ h. h)
 
 module _ (assigned : List ℕ) (none : list_any is_bare_line (cert_lines (lines_of assigned)) ≡ false) where
-  of_text : (s : Declared) (P : Workqueues → Type 0) (Q : Assignment → Type 0) (F : CertError → Type 0)
+  pub of_text : (s : Declared) (P : Workqueues → Type 0) (Q : Assignment → Type 0) (F : CertError → Type 0)
       → ((ws : Workqueues) → workqueues_of_text s.table.names s.partition assigned ≡ Ok ws → P ws ↔ Q ws.assignment)
       → MatchResult (workqueues_of_text s.table.names s.partition assigned) P F ↔ MatchResult (assignment_of_text s.table.names s.partition assigned) Q F
   of_text s P Q F same =
       subst (λ (r : Result Assignment CertError). MatchResult (workqueues_of_text s.table.names s.partition assigned) P F ↔ MatchResult r Q F)
       (assignment-without-bare s.table.names s.partition assigned none) (of_assignment (workqueues_of_text s.table.names s.partition assigned) P Q F same)
 
-  all_have : (s : Declared) (ws : Workqueues) → workqueues_of_text s.table.names s.partition assigned ≡ Ok ws → (q : ℕ) → HasRescuer (wiring_of (declared_waits s) ws) q
+  pub all_have : (s : Declared) (ws : Workqueues) → workqueues_of_text s.table.names s.partition assigned ≡ Ok ws → (q : ℕ) → HasRescuer (wiring_of (declared_waits s) ws) q
   all_have s ws is q = rescuers-without-bare s.table.names s.partition assigned ws q none is
 
   known : (s : Declared) → IsSound s → (ws : Workqueues) → workqueues_of_text s.table.names s.partition assigned ≡ Ok ws → AreWorkqueuesOf s.partition.groups ws

@@ -8,10 +8,10 @@ pub mod CheckLemmas
 pub mod InputLemmas
 pub mod CommandLemmas
 pub mod JudgeLemmas
-pub mod SameRescuers
+mod SameRescuers
 pub mod AllRescued
-pub mod PlansJudged
-pub mod HangLemmas
+mod PlansJudged
+mod HangLemmas
 pub mod NamedSteps
 mod DeclaredLines
 pub mod DeclaredLemmas

@@ -1,5 +1,5 @@
 -- The text of a plan, as `deadlock` reads it: no line of it begins with `norescuer`, and its answer is `safe`.
-use Rattle.std.proofs.Common.{◌≡◌, ℕ, Bool, false, ◌||◌, List, [], ◌∷◌, ◌++◌, length, map, Result, Ok, Err, codes, refl, ap, ◌∙◌}
+use Rattle.std.proofs.Common.{◌≡◌, ℕ, Bool, false, ◌||◌, List, [], ◌∷◌, ◌++◌, map, Result, Ok, Err, codes, refl, ap, ◌∙◌}
 use Rattle.std.specs.Prelude.{MatchResult}
 use Rattle.std.specs.List.{list_any, enumerate_from}
 use Rattle.wq_text.specs.Refusal.{Refusal}

@@ -1,4 +1,5 @@
--- The answers of `deadlock` and of `replay` to workqueues each of which has a rescuer: they speak of an assignment alone.
+-- The answers of `deadlock` and of `replay` to workqueues each of which has a rescuer: they speak of an assignment
+-- alone.
 use Rattle.std.specs.Prelude.{◌≡◌, ℕ, List, MatchResult}
 use Rattle.wq_groups.specs.Assignment.{Assignment, IsAssignment}
 use Rattle.wq_core.specs.declared.step.Step.{Step}
@@ -17,18 +18,23 @@ use Rattle.wq_commands.specs.Deadlocking.{safe_text}
 use Rattle.wq_commands.specs.Replaying.{replay_words, replay_end}
 use Rattle.wq_commands.specs.Declaration.{Declared, declaration}
 
--- the verdict on an assignment of a declaration's groups is printed: `safe` if no run ends stuck; else the deadlocking run.
--- This is the run of the circle in which the workqueues wait. It ends stuck, with each item queued once and flushing as declared
+-- the verdict on an assignment of a declaration's groups is printed: `safe` if no run ends stuck; else the
+-- deadlocking run. This is the run of the circle in which the workqueues wait. It ends stuck, with each item queued
+-- once and flushing as declared
 abbrev pub JudgesAssignment : Declared → Assignment → End → List ℕ → Type 0
-JudgesAssignment s a Good out = IsAssignment s.partition.groups a × IsSafe (wiring (declared_waits s) a) × (out ≡ safe_text)
-JudgesAssignment s a Bad out = (steps : List Step) × IsDeadlock (declared_waits s) a steps × (out ≡ run_text s.table.names steps)
+JudgesAssignment s a Good out =
+    IsAssignment s.partition.groups a × IsSafe (wiring (declared_waits s) a) × (out ≡ safe_text)
+JudgesAssignment s a Bad out =
+    (steps : List Step) × IsDeadlock (declared_waits s) a steps × (out ≡ run_text s.table.names steps)
 JudgesAssignment s a Refused out = ⊥
 
 -- the verdict on the texts of a declaration and an assignment, or the refusal of the first that is refused
 abbrev pub JudgesAllRescued : List ℕ → List ℕ → End → List ℕ → Type 0
 JudgesAllRescued declared text end out =
     MatchResult (declaration declared)
-    (λ s. MatchResult (assignment_of_text s.table.names s.partition text) (λ a. JudgesAssignment s a end out) (λ fault. PrintsRefusal (cert_refusal fault) end out))
+    (λ s. MatchResult (assignment_of_text s.table.names s.partition text)
+    (λ a. JudgesAssignment s a end out)
+    (λ fault. PrintsRefusal (cert_refusal fault) end out))
     (λ r. PrintsRefusal r end out)
 
 -- how these steps end under an assignment of a declaration is printed
@@ -49,5 +55,7 @@ ReplaysAssignment s a text end out =
 abbrev pub ReplaysAllRescued : List ℕ → List ℕ → List ℕ → End → List ℕ → Type 0
 ReplaysAllRescued declared assigned text end out =
     MatchResult (declaration declared)
-    (λ s. MatchResult (assignment_of_text s.table.names s.partition assigned) (λ a. ReplaysAssignment s a text end out) (λ fault. PrintsRefusal (cert_refusal fault) end out))
+    (λ s. MatchResult (assignment_of_text s.table.names s.partition assigned)
+    (λ a. ReplaysAssignment s a text end out)
+    (λ fault. PrintsRefusal (cert_refusal fault) end out))
     (λ r. PrintsRefusal r end out)

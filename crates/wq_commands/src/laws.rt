@@ -231,24 +231,29 @@ pub fn what_a_text_declares_is_a_declaration()
         length s.partition.group_of ≡ length s.table.names }
 {}
 
-/// Where each workqueue has a rescuer, it makes no difference that some might have had none: no run ends stuck, a run deadlocks or
-/// ends in any other way, exactly where that is so of the assignment. The same circle is found, and the same run is printed.
+/// Where each workqueue has a rescuer, what holds of the assignment holds of the workqueues: that no run ends stuck,
+/// that a run deadlocks, and how it ends. No flush leads to a workqueue without a rescuer, the wait graph is the
+/// same, and so is the run that is printed.
 pub fn workqueues_that_have_rescuers_are_an_assignment()
     ensures safe { (d : Declaration) (ws : Workqueues) → ((q : ℕ) → HasRescuer (wiring_of d ws) q) →
         (IsSafe (wiring_of d ws) ↔ IsSafe (wiring d ws.assignment)) }
-    ensures deadlocks { (d : Declaration) (ws : Workqueues) (steps : List Step) → ((q : ℕ) → HasRescuer (wiring_of d ws) q) →
+    ensures deadlocks { (d : Declaration) (ws : Workqueues) (steps : List Step) →
+        ((q : ℕ) → HasRescuer (wiring_of d ws) q) →
         (DeadlocksBy (wiring_of d ws) steps ↔ DeadlocksBy (wiring d ws.assignment) steps) }
-    ensures ends { (d : Declaration) (ws : Workqueues) (steps : List Step) (e : RunEnd) → ((q : ℕ) → HasRescuer (wiring_of d ws) q) →
+    ensures ends { (d : Declaration) (ws : Workqueues) (steps : List Step) (e : RunEnd) →
+        ((q : ℕ) → HasRescuer (wiring_of d ws) q) →
         (EndsAs (wiring_of d ws) steps e ↔ EndsAs (wiring d ws.assignment) steps e) }
-    ensures waits { (d : Declaration) (ws : Workqueues) → ((q : ℕ) → HasRescuer (wiring_of d ws) q) → bare_waits d ws ≡ [] }
+    ensures waits { (d : Declaration) (ws : Workqueues) → ((q : ℕ) → HasRescuer (wiring_of d ws) q) →
+        bare_waits d ws ≡ [] }
     ensures graph { (d : Declaration) (ws : Workqueues) → ((q : ℕ) → HasRescuer (wiring_of d ws) q) →
         rescued_graph d ws ≡ lane_graph d ws.assignment }
-    ensures run { (d : Declaration) (ws : Workqueues) (steps : List Step) → IsDeclaration d → ws.assignment.lanes ≤ 4096 →
-        ((q : ℕ) → HasRescuer (wiring_of d ws) q) → (IsHang d ws steps ↔ IsDeadlock d ws.assignment steps) }
+    ensures run { (d : Declaration) (ws : Workqueues) (steps : List Step) → IsDeclaration d →
+        ws.assignment.lanes ≤ 4096 → ((q : ℕ) → HasRescuer (wiring_of d ws) q) →
+        (IsHang d ws steps ↔ IsDeadlock d ws.assignment steps) }
 {}
 
-/// A text of workqueues in which no line begins with `norescuer` keeps the answers that it has as the text of an assignment: `deadlock`
-/// and `replay` say of it what is so where each workqueue has a rescuer.
+/// A text of workqueues in which no line begins with `norescuer` keeps the answers that it has as the text of an
+/// assignment: `deadlock` and `replay` say of it what is so where each workqueue has a rescuer.
 pub fn a_text_without_norescuer_lines_keeps_its_answers()
     ensures deadlock { (declared text : List ℕ) (end : End) (out : List ℕ) →
         list_any is_bare_line (cert_lines (lines_of text)) ≡ false →
@@ -263,8 +268,8 @@ pub fn a_printed_plan_is_judged_safe()
     ensures { (text out : List ℕ) → Answers text Good out → Judges text out Good safe_text }
 {}
 
-/// Unsafe and deadlocking are the same of workqueues of which some have no rescuer, too. No run ends stuck, or some run deadlocks in
-/// which each item is queued once and flushes as declared, but not both.
+/// Unsafe and deadlocking are the same, also where some workqueues have no rescuer. No run ends stuck, or some run
+/// deadlocks in which each item is queued once and flushes as declared, but not both.
 pub fn unsafe_workqueues_are_deadlocking()
     ensures one { (d : Declaration) (ws : Workqueues) → IsDeclaration d → IsAssignment d.groups ws.assignment →
         ws.assignment.lanes ≤ 4096 → IsSafe (wiring_of d ws) ⊎ Deadlocks (wiring_of d ws) }
@@ -273,10 +278,11 @@ pub fn unsafe_workqueues_are_deadlocking()
         ws.assignment.lanes ≤ 4096 → ((¬ IsSafe (wiring_of d ws)) ↔ Deadlocks (wiring_of d ws)) }
 {}
 
-/// The steps of a run by which workqueues deadlock name items and workqueues that exist, whichever of these have a rescuer. There are
-/// at most three for each item, and two for each declared flush. So there are 45,056 at most.
+/// The steps of a run by which workqueues deadlock name items and workqueues that exist, whichever of these have a
+/// rescuer. There are at most three for each item, and two for each declared flush. So there are 45,056 at most.
 pub fn a_deadlocking_run_of_workqueues_is_bounded()
-    ensures named { (d : Declaration) (ws : Workqueues) (steps : List Step) → IsDeclaration d → IsAssignment d.groups ws.assignment →
+    ensures named { (d : Declaration) (ws : Workqueues) (steps : List Step) → IsDeclaration d →
+        IsAssignment d.groups ws.assignment →
         DeadlocksBy (wiring_of d ws) steps → All (IsNamed (wiring_of d ws)) steps }
     ensures short { (d : Declaration) (ws : Workqueues) (steps : List Step) →
         DeadlocksBy (wiring_of d ws) steps → length steps ≤ 3 * length d.waits + 2 * flush_count d.waits }

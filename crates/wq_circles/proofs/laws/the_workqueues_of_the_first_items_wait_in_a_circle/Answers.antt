@@ -1,5 +1,5 @@
 use Rattle.wq_circles.proofs.FirstItems.{Circle-first, Circle-hang}
-use Rattle.wq_circles.proofs.laws.the_first_items_go_round.Goals as goal
+use Rattle.wq_circles.proofs.laws.the_workqueues_of_the_first_items_wait_in_a_circle.Goals as goal
 
 pub returns-clause-first : goal.returns-clause-first
 returns-clause-first c = Circle-first
