@@ -6,6 +6,7 @@ ghost use Rattle.std.specs.Prelude.{None};
 
 use crate::quoted::Quoted;
 use crate::stage::Stage;
+use crate::workqueue::Workqueue;
 use std::fmt;
 
 /// What was most likely meant, or how to mend it.
@@ -35,12 +36,12 @@ pub enum Hint<'a> {
     Declare(Quoted<'a>),
     /// The first line that a name is on.
     FirstOn(u32),
-    /// Another line that a name is on.
-    On(u32),
-    /// The line that the other name is on.
-    OtherOn(u32),
+    /// Another line that a name is on, and the workqueue of that line.
+    On(u32, Workqueue<'a>),
+    /// The line that the other name is on, and the workqueue of that line.
+    OtherOn(u32, Workqueue<'a>),
     /// An item, and the workqueue that it is on.
-    OnWorkqueue(Quoted<'a>, Quoted<'a>),
+    OnWorkqueue(Quoted<'a>, Workqueue<'a>),
 }
 
 impl Hint<'_> {
@@ -112,11 +113,23 @@ impl fmt::Display for Hint<'_> {
             Hint::Below(line) => write!(f, "it is declared below, on line {line}"),
             Hint::Declare(name) => write!(f, "write `item {name}` above"),
             Hint::FirstOn(line) => write!(f, "first on line {line}"),
-            Hint::On(line) => write!(f, "on line {line}"),
-            Hint::OtherOn(line) => write!(f, "the other one on line {line}"),
-            Hint::OnWorkqueue(item, workqueue) => {
-                write!(f, "`{item}` is on workqueue {workqueue}")
-            }
+            Hint::On(line, workqueue) => on_line(f, "", line, workqueue),
+            Hint::OtherOn(line, workqueue) => on_line(f, "the other one ", line, workqueue),
+            Hint::OnWorkqueue(item, workqueue) => write!(f, "`{item}` is on {workqueue}"),
         }
     }
+}
+
+/// Writes the line that a name is on, and the workqueue of that line, where it has a name.
+fn on_line<W: fmt::Write>(
+    f: &mut fmt::Formatter<W>,
+    before: &str,
+    line: u32,
+    workqueue: Workqueue<'_>,
+) -> fmt::Result {
+    write!(f, "{before}on line {line}")?;
+    if workqueue.is_named() {
+        write!(f, ", {workqueue}")?;
+    }
+    Ok(())
 }

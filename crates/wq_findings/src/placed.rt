@@ -11,6 +11,7 @@ use crate::refused::Refused;
 use crate::stage::Stage;
 use crate::token::{Token, first_word, stands_before};
 use crate::what::{Unplaced, What};
+use crate::workqueue::Workqueue;
 use std::alloc::{AllocError, Allocator};
 use wq_items::{ItemId, ItemTable};
 use wq_text::Line;
@@ -98,28 +99,28 @@ fn unplaced<'a, A: Allocator + Copy>(table: &ItemTable<'a, A>, places: &Places<A
 /// An item that is on a second workqueue, or twice on one.
 pub(crate) fn find_twice<'a, A: Allocator + Copy>(
     alloc: A,
-    refused: &Refused<'_, '_, A>,
+    refused: &Refused<'_, 'a, A>,
     line: &Line<'a>,
 ) -> Result<Finding<'a>, AllocError> {
     let places = Places::above(alloc, refused, line.no())?;
-    Ok(placed_twice(refused.table, &places, line))
+    Ok(placed_twice(refused, &places, line))
 }
 
 /// The first item of a line that has a place already, or is also earlier on the line.
 fn placed_twice<'a, A: Allocator + Copy>(
-    table: &ItemTable<'_, A>,
+    refused: &Refused<'_, 'a, A>,
     places: &Places<A>,
     line: &Line<'a>,
 ) -> Finding<'a> {
     for word in line.words().skip(2) {
         let word = Token::of(line, &word);
-        if let Some(item) = table.find(word.bytes)
+        if let Some(item) = refused.table.find(word.bytes)
             && let Some(first) = places.line_of(item)
         {
             return Finding::marked(
                 word.mark,
                 What::PlacedAlready(word.quoted()),
-                Hint::On(first),
+                Hint::On(first, Workqueue::on(refused.text, first)),
             );
         }
         if stands_before(line, 2, word) {
@@ -170,7 +171,8 @@ fn split<'a, A: Allocator + Copy>(
         {
             let word = Token::of(line, &word);
             let what = What::Split(word.quoted(), Quoted(other));
-            return Finding::marked(word.mark, what, Hint::OtherOn(first));
+            let hint = Hint::OtherOn(first, Workqueue::on(refused.text, first));
+            return Finding::marked(word.mark, what, hint);
         }
     }
     Finding::whole(What::Said("a group of the line is on another workqueue too"))

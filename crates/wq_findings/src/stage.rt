@@ -6,6 +6,7 @@
 ghost use Rattle.std.specs.Prelude.{None};
 
 use crate::token::{bytes_at, first_word};
+use crate::workqueue::is_workqueue;
 use std::fmt;
 use wq_text::{Line, Text, number};
 
@@ -134,7 +135,7 @@ impl Stage {
         let first: &[u8] = match self {
             Stage::Plan => b"plan",
             Stage::Circle => b"circle",
-            Stage::Workqueue { left: None, .. } => return is_lane(word),
+            Stage::Workqueue { left: None, .. } => return is_workqueue(word),
             Stage::Workqueue { .. } => b"wq",
             Stage::Chain => b"chain",
             Stage::ChainArc { .. } | Stage::CircleArc { .. } => b"arc",
@@ -208,11 +209,6 @@ impl Shape {
 /// Whether a word begins a step that names no workqueue.
 fn is_call(word: &[u8]) -> bool {
     word == b"queue".as_slice() || word == b"cancel".as_slice()
-}
-
-/// Whether a word begins the line of a workqueue in an assignment.
-fn is_lane(word: &[u8]) -> bool {
-    word == b"wq".as_slice() || word == b"norescuer".as_slice()
 }
 
 /// Whether a word begins a step.
