@@ -158,7 +158,8 @@ pub(crate) fn push_excerpt<A: Allocator + Copy>(
 ) -> Result<(), AllocError> {
     let marks = Marks::of(bytes.len(), mark, hint);
     details.push(Excerpt::of(bytes, mark).to_string(alloc)?.into_bytes())?;
-    details.push(marks.to_string(alloc)?.into_bytes())
+    details.push(marks.to_string(alloc)?.into_bytes())?;
+    Ok(())
 }
 
 /// Adds the line that is meant and its marks, where bytes of it are meant.
