@@ -20,6 +20,8 @@ pub enum Hint<'a> {
     Form(&'static str),
     /// The line that should be there.
     Line(Stage),
+    /// The line of a workqueue without a rescuer that should be there, by its number.
+    BareLine(u32),
     /// The text that this one looks like.
     LooksLike(&'static str),
     /// The text that this line looks like, in the file of a declaration.
@@ -77,7 +79,17 @@ impl Hint<'_> {
         "`cancel_work` doesn't wait, and needs no line: for `cancel_work_sync` write `flush`",
     );
 
-    /// The hint for a line of a plan in an assignment of only `wq` lines.
+    /// The hint for the word `norescuer` in the place of an item.
+    pub(crate) const FIRST_WORD: Hint<'static> = Hint::Said(
+        "`norescuer` comes first on a line, in place of `wq`",
+    );
+
+    /// The hint for a `norescuer` line in a plan.
+    pub(crate) const ALL_RESCUED: Hint<'static> = Hint::Said(
+        "in a plan each workqueue has a rescuer",
+    );
+
+    /// The hint for a line of a plan in an assignment that isn't one.
     pub(crate) const IN_A_PLAN: Hint<'static> = Hint::Said(
         "in a plan the line `plan K` comes first",
     );
@@ -102,6 +114,7 @@ impl fmt::Display for Hint<'_> {
             Hint::Said(said) => f.write_str(said),
             Hint::Form(form) => write!(f, "the line should be `{form}`"),
             Hint::Line(stage) => write!(f, "the line should be {stage}"),
+            Hint::BareLine(next) => write!(f, "the line should be `norescuer {next} NAME..`"),
             Hint::LooksLike(text) => write!(
                 f,
                 "this looks like {text}: are the files in the right order?"

@@ -1,4 +1,4 @@
-//! Which items are on which `wq` lines of a certificate that is refused because of that.
+//! Which items are on which lines of workqueues of a certificate that is refused because of that.
 //!
 //! It takes time in the length of the text, and, for a group that is split, in the number of items times the names on its line.
 
@@ -16,14 +16,14 @@ use std::alloc::{AllocError, Allocator};
 use wq_items::{ItemId, ItemTable};
 use wq_text::Line;
 
-/// For each item, the number of the first `wq` line that it is on; 0 where it is on none.
+/// For each item, the number of the first line of a workqueue that it is on; 0 where it is on none.
 #[derive(Drop)]
 struct Places<A: Allocator> {
     lines: Vec<u32, A>,
 }
 
 impl<A: Allocator + Copy> Places<A> {
-    /// The places of the items on the `wq` lines above a line, or on all where the line is 0.
+    /// The places of the items on the lines of workqueues above a line, or on all where the line is 0.
     fn above(alloc: A, refused: &Refused<'_, '_, A>, no: u32) -> Result<Self, AllocError> {
         let mut places = Places {
             lines: vec![in alloc; 0; usize::from(refused.table.len())]?,
@@ -32,7 +32,7 @@ impl<A: Allocator + Copy> Places<A> {
         Ok(places)
     }
 
-    /// Adds the items of such `wq` lines.
+    /// Adds the items of such lines.
     fn add_lines(&mut self, refused: &Refused<'_, '_, A>, no: u32) {
         let mut stage = None;
         for line in refused.text.lines() {
@@ -54,7 +54,7 @@ impl<A: Allocator + Copy> Places<A> {
         }
     }
 
-    /// Adds the items of a `wq` line that are on none above.
+    /// Adds the items of such a line that are on none above.
     fn add(&mut self, table: &ItemTable<'_, A>, line: &Line<'_>) {
         for word in line.words().skip(2) {
             if let Some(item) = table.find(word.bytes())

@@ -15,7 +15,7 @@ use wq_text::{Line, Text, number};
 pub enum CertificateKind {
     /// A plan or a circle.
     Answer,
-    /// `wq` lines alone, or a whole plan.
+    /// `wq` and `norescuer` lines alone, or a whole plan.
     Assignment,
     /// A run.
     Run,
@@ -222,7 +222,8 @@ fn is_step(word: &[u8]) -> bool {
         || word == b"finish".as_slice()
 }
 
-/// The first line of an assignment of only `wq` lines that isn't one, if there is such a line, and what should be in its place.
+/// The first line that isn't one of a workqueue, in an assignment of these lines alone, if there is such a line, and what should be
+/// in its place.
 pub(crate) fn stray_line<'a>(kind: CertificateKind, text: &Text<'a>) -> Option<(Line<'a>, Stage)> {
     let mut stage = None;
     for line in text.lines() {
