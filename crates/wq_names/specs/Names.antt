@@ -19,9 +19,13 @@ called bytes = without_end (before_first (λ b. b == 44) (comment_body bytes))
 abbrev pub max_name : ℕ
 max_name = 63
 
+-- printable ASCII
+abbrev pub is_printable : ℕ → Bool
+is_printable b = nat_le 32 b && nat_le b 126
+
 -- a name: at least one byte and no more than that, each of which is printable ASCII
 abbrev pub is_name : List ℕ → Bool
-is_name bytes = nat_le 1 (length bytes) && nat_le (length bytes) max_name && list_all (λ b. nat_le 32 b && nat_le b 126) bytes
+is_name bytes = nat_le 1 (length bytes) && nat_le (length bytes) max_name && list_all is_printable bytes
 
 -- the name that a line with these bytes gives its workqueue; no byte if it gives none
 abbrev pub name_on : List ℕ → List ℕ

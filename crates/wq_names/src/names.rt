@@ -3,12 +3,12 @@
 //! The rule is that of "Names of workqueues" in docs/FORMAT.md. It takes time in the length of the text, and memory in the number of
 //! workqueues: the bytes stay where they are.
 
-ghost use Rattle.std.specs.Prelude.{◌≡◌, ◌-◌, ◌==◌, [], IfOk, None, filter, length, map, slice_index_or, take};
+ghost use Rattle.std.specs.Prelude.{◌≡◌, ◌==◌, [], IfOk, None, filter, map, slice_index_or};
 ghost use Rattle.std.specs.List.{before_first, list_all};
 ghost use Rattle.wq_text.specs.Limits.{limit_fault};
 ghost use Rattle.wq_text.specs.Lines.{LineView};
 ghost use Rattle.wq_cert.specs.Texts.{max_certificate, max_certificate_line};
-ghost use Rattle.wq_names.specs.Names.{called, is_name, is_workqueue_line, name_on, names_of, without_end};
+ghost use Rattle.wq_names.specs.Names.{is_name, is_printable, is_workqueue_line, name_on, names_of, without_end};
 
 use crate::comment::comment_body;
 use memchr::memchr;
@@ -40,13 +40,25 @@ fn without_end(bytes: &[u8]) -> &[u8]
     &bytes[..len]
 }
 
+/// Whether a byte is printable ASCII.
+fn is_printable(byte: u8) -> bool
+    ensures { result ≡ is_printable byte }
+{
+    b' ' <= byte && byte <= b'~'
+}
+
+/// Whether each byte is printable ASCII.
+fn are_printable(bytes: &[u8]) -> bool
+    ensures { result ≡ list_all is_printable bytes.now }
+{
+    bytes.iter().all(|byte| is_printable(*byte))
+}
+
 /// Whether these bytes can be the name of a workqueue: 1 to 63 of printable ASCII.
 fn is_name(bytes: &[u8]) -> bool
     ensures { result ≡ is_name bytes.now }
 {
-    !bytes.is_empty()
-        && bytes.len() <= MAX_NAME
-        && bytes.iter().all(|byte| (b' '..=b'~').contains(byte))
+    !bytes.is_empty() && bytes.len() <= MAX_NAME && are_printable(bytes)
 }
 
 /// The name that the line of a workqueue gives it; no byte if it gives none.
