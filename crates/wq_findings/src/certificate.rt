@@ -251,10 +251,10 @@ fn no_number_hint<'a, A: Allocator + Copy>(
     word: &[u8],
     stage: Stage,
 ) -> Hint<'a> {
-    if matches!(stage, Stage::Workqueue { .. }) && table.find(word).is_some() {
-        form_hint(line, stage)
-    } else {
-        Hint::Said(number_hint(word, stage))
+    let is_item = table.find(word).is_some();
+    match stage {
+        Stage::Workqueue { .. } if is_item => form_hint(line, stage),
+        _ => Hint::Said(number_hint(word, stage)),
     }
 }
 
