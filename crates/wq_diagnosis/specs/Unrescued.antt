@@ -108,7 +108,7 @@ GivesReason first lanes s ws said = SaysReason first (reason_words s ws (names_o
 
 -- ---- texts
 
--- what is said of the texts of a declaration and an assignment; nothing if one is refused
-abbrev pub SaysIfBoth : List ℕ → List ℕ → (Declared → Workqueues → Type 0) → Option (List ℕ) → Type 0
-SaysIfBoth text lanes Says said =
-    MatchResult (declaration text) (λ s. MatchResult (workqueues_of_text s.table.names s.partition lanes) (λ ws. Says s ws) (λ _. said ≡ None)) (λ _. said ≡ None)
+-- what is said of the texts of a declaration and an assignment; this if one is refused
+abbrev pub SaysIfBoth : List ℕ → List ℕ → (Declared → Workqueues → Type 0) → Type 0 → Type 0
+SaysIfBoth text lanes Says Else =
+    MatchResult (declaration text) (λ s. MatchResult (workqueues_of_text s.table.names s.partition lanes) (λ ws. Says s ws) (λ _. Else)) (λ _. Else)

@@ -27,9 +27,9 @@ SaysWhy first second third texts (Some (NotLawful step)) said = IfSome said (IsU
 -- what is said beside an answer that needs no reason: beside `safe` which items are on workqueues without a rescuer, and beside a run
 -- which flush leads to one, where this is said; or else a note on a declaration without an item, or nothing
 abbrev pub SaysMore : Unrescued → List ℕ → List ℕ → Given → End → Option (List ℕ) → Type 0
-SaysMore Noted first second texts Good said = SaysIfBoth texts.first texts.second (λ s ws. NotesBare first second texts.first texts.second s ws said) said
-SaysMore Explained first second texts Good said = SaysIfBoth texts.first texts.second (λ s ws. NotesBare first second texts.first texts.second s ws said) said
-SaysMore Explained first second texts Bad said = SaysIfBoth texts.first texts.second (λ s ws. GivesReason first texts.second s ws said) said
+SaysMore Noted first second texts Good said = SaysIfBoth texts.first texts.second (λ s ws. NotesBare first second texts.first texts.second s ws said) (NotesNoItem first texts.first said)
+SaysMore Explained first second texts Good said = SaysIfBoth texts.first texts.second (λ s ws. NotesBare first second texts.first texts.second s ws said) (NotesNoItem first texts.first said)
+SaysMore Explained first second texts Bad said = SaysIfBoth texts.first texts.second (λ s ws. GivesReason first texts.second s ws said) (NotesNoItem first texts.first said)
 SaysMore unrescued first second texts end said = NotesNoItem first texts.first said
 
 -- what is said beside an answer with this end, for this reason, if there is one

@@ -1,20 +1,25 @@
 //! What is said of workqueues without a rescuer: beside `safe`, which items are on one; beside a run, which flush leads to one.
 //!
 //! Nothing guarantees that such items run while memory is short, and `safe` says nothing of them. The forms are those of "Diagnoses" in
-//! docs/FORMAT.md. A call takes the time and the memory of reading both texts.
+//! docs/FORMAT.md. A call takes the time and the memory of reading both texts; where there is no such workqueue, that of going through
+//! the lines of one.
 
-ghost use Rattle.std.specs.Prelude.{◌≡◌, ◌++◌, ◌∷◌, ◌<◌, [], IfOk, MatchResult, None, Ok, OnOk, codes, cond, flat_map, length, map, option_map};
-ghost use Rattle.std.specs.List.{All};
+ghost use Rattle.std.specs.Prelude.{◌≡◌, ◌++◌, ◌∷◌, ◌<◌, [], IfOk, MatchResult, Ok, OnOk, codes, false, cond, flat_map, length, map, option_map};
+ghost use Rattle.std.specs.List.{All, list_any};
+ghost use Rattle.wq_text.specs.Lines.{lines_of};
+ghost use Rattle.wq_cert.specs.Lines.{cert_line};
+ghost use Rattle.wq_cert.specs.Reading.{is_bare_line};
 ghost use Rattle.wq_groups.specs.Declaration.{declaration_of};
 ghost use Rattle.wq_deadlock.specs.Judging.{bare_waits};
 ghost use Rattle.wq_names.specs.Names.{names_of};
 ghost use Rattle.wq_cert.specs.Texts.{workqueues_of_text};
 ghost use Rattle.wq_diagnosis.specs.Diagnosis.{shown_lines};
+ghost use Rattle.wq_diagnosis.specs.Refused.{NotesNoItem};
 ghost use Rattle.wq_diagnosis.specs.Unrescued.{bare_items, bare_note, bare_words, is_of_whole, listed, name_words, placed_item, plain_head, reason_words, target_words, waiting_words, workqueue_of, workqueue_words, GivesReason, IsSaidOf, NotesBare, NotesItems, SaysIfBoth, SaysReason};
 
 use crate::diagnosis::{Source, column, lines_of, of_no_item, push_excerpt, put_line, put_lines};
 use std::alloc::{AllocError, Allocator};
-use wq_cert::{CertError, read_workqueues};
+use wq_cert::{CertError, MAX_CERTIFICATE, MAX_CERTIFICATE_LINE, read_workqueues};
 use wq_commands::{Declaration, Stop, read_declaration};
 use wq_core::Workqueues;
 use wq_deadlock::{bare_waits, is_on_bare};
@@ -24,6 +29,39 @@ use wq_groups::LaneId;
 use wq_items::{ItemId, ItemTable};
 use wq_lines::put;
 use wq_names::{name_at, workqueue_names};
+use wq_text::{Line, Lines, Text};
+
+/// Whether a line is that of a workqueue without a rescuer.
+fn is_bare_line(line: &Line<'_>) -> bool
+    ensures { result ≡ is_bare_line (cert_line line.now) }
+{
+    match line.words().next() {
+        Some(word) => word.bytes() == b"norescuer".as_slice(),
+        None => false,
+    }
+}
+
+/// Whether one of these lines is.
+fn is_bare_among(lines: Lines<'_>) -> bool
+    ensures { result ≡ list_any (λ line. is_bare_line (cert_line line)) lines.entry }
+{
+    for line in lines {
+        if is_bare_line(&line) {
+            return true;
+        }
+    }
+    false
+}
+
+/// Whether the text of an assignment may have such a line. So nothing is read again where it has none.
+fn has_bare_line(text: &[u8]) -> bool
+    ensures { result ≡ false → list_any (λ line. is_bare_line (cert_line line)) (lines_of text.now) ≡ false }
+{
+    match Text::new(text, MAX_CERTIFICATE, MAX_CERTIFICATE_LINE) {
+        Ok(text) => is_bare_among(text.lines()),
+        Err(_) => true,
+    }
+}
 
 /// Adds the name of a workqueue behind its number, if it has a name.
 fn put_name<A: Allocator + Copy>(out: &mut Vec<u8, A>, name: &[u8]) -> Result<(), AllocError>
@@ -549,7 +587,7 @@ fn safe_declared<A: Allocator + Copy>(
     ensures { IfOk result (λ said. MatchResult (workqueues_of_text declared.now.table.names declared.now.groups assignment.entry.text.now)
         (λ ws. NotesBare declaration.entry.file.now assignment.entry.file.now declaration.entry.text.now assignment.entry.text.now
         (record { table = declared.now.table; partition = declared.now.groups }) ws (option_map (λ text. text.items) said))
-        (λ _. option_map (λ text. text.items) said ≡ None)) }
+        (λ _. NotesNoItem declaration.entry.file.now declaration.entry.text.now (option_map (λ text. text.items) said))) }
 {
     // What holds of every table and of all groups.
     let _items = declared.table.len();
@@ -576,8 +614,11 @@ pub(crate) fn of_safe<A: Allocator + Copy>(
 ) -> Result<Option<Vec<u8, A>>, AllocError>
     ensures { IfOk result (λ said. SaysIfBoth declaration.entry.text.now assignment.entry.text.now
         (λ s ws. NotesBare declaration.entry.file.now assignment.entry.file.now declaration.entry.text.now assignment.entry.text.now s ws (option_map (λ text. text.items) said))
-        (option_map (λ text. text.items) said)) }
+        (NotesNoItem declaration.entry.file.now declaration.entry.text.now (option_map (λ text. text.items) said))) }
 {
+    if !has_bare_line(assignment.text) {
+        return of_no_item(alloc, seed, declaration);
+    }
     match read_declaration(alloc, seed, declaration.text) {
         Ok(declared) => {
             let said = safe_declared(alloc, seed, declaration, assignment, &declared);
@@ -600,7 +641,7 @@ fn hang_declared<A: Allocator + Copy>(
     ensures { IfOk result (λ said. MatchResult (workqueues_of_text declared.now.table.names declared.now.groups assignment.entry.text.now)
         (λ ws. GivesReason declaration.entry.file.now assignment.entry.text.now
         (record { table = declared.now.table; partition = declared.now.groups }) ws (option_map (λ text. text.items) said))
-        (λ _. option_map (λ text. text.items) said ≡ None)) }
+        (λ _. NotesNoItem declaration.entry.file.now declaration.entry.text.now (option_map (λ text. text.items) said))) }
 {
     // What holds of every table and of all groups.
     let _items = declared.table.len();
@@ -627,8 +668,11 @@ pub(crate) fn of_hang<A: Allocator + Copy>(
 ) -> Result<Option<Vec<u8, A>>, AllocError>
     ensures { IfOk result (λ said. SaysIfBoth declaration.entry.text.now assignment.entry.text.now
         (λ s ws. GivesReason declaration.entry.file.now assignment.entry.text.now s ws (option_map (λ text. text.items) said))
-        (option_map (λ text. text.items) said)) }
+        (NotesNoItem declaration.entry.file.now declaration.entry.text.now (option_map (λ text. text.items) said))) }
 {
+    if !has_bare_line(assignment.text) {
+        return Ok(None);
+    }
     match read_declaration(alloc, seed, declaration.text) {
         Ok(declared) => {
             let said = hang_declared(alloc, declaration, assignment, &declared);
