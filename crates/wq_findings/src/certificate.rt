@@ -235,7 +235,7 @@ fn number_hint(word: &[u8], stage: Stage) -> &'static str {
 }
 
 /// The form of a line with this stage: a `norescuer` line may be in the place of a `wq` line.
-fn form_hint<'a>(line: &Line<'_>, stage: Stage) -> Hint<'a> {
+fn form_hint(line: &Line<'_>, stage: Stage) -> Hint<'static> {
     match stage {
         Stage::Workqueue { next, .. } if bytes_at(line, 0) == b"norescuer".as_slice() => {
             Hint::BareLine(next)
@@ -244,18 +244,22 @@ fn form_hint<'a>(line: &Line<'_>, stage: Stage) -> Hint<'a> {
     }
 }
 
-/// How to mend a word that isn't a number: where it is an item of a workqueue, the number is missing.
-fn no_number_hint<'a, A: Allocator + Copy>(
+/// Whether a word in the place of a workqueue's number is an item of that workqueue: then the number is missing.
+fn lacks_number<A: Allocator + Copy>(table: &ItemTable<'_, A>, word: &[u8], stage: Stage) -> bool {
+    matches!(stage, Stage::Workqueue { .. }) && table.find(word).is_some()
+}
+
+/// How to mend a word that isn't a number.
+fn no_number_hint<A: Allocator + Copy>(
     table: &ItemTable<'_, A>,
     line: &Line<'_>,
     word: &[u8],
     stage: Stage,
-) -> Hint<'a> {
-    let is_item = table.find(word).is_some();
-    match stage {
-        Stage::Workqueue { .. } if is_item => form_hint(line, stage),
-        _ => Hint::Said(number_hint(word, stage)),
+) -> Hint<'static> {
+    if lacks_number(table, word, stage) {
+        return form_hint(line, stage);
     }
+    Hint::Said(number_hint(word, stage))
 }
 
 /// The word of a line where a number should be, if it isn't one.
