@@ -80,24 +80,35 @@ pub fn workqueue_at<'a>(text: &Text<'a>, number: u16) -> Option<(Line<'a>, Mark)
     None
 }
 
-/// How many flushes a line of a declaration declares.
+/// Whether a line of a declaration declares flushes.
+fn declares_flushes(line: &Line<'_>) -> bool {
+    matches!(
+        Keyword::of(first_word(line)),
+        Some(Keyword::Flush | Keyword::FlushWq)
+    )
+}
+
+/// How many flushes such a line declares: one for each name after the item's.
 fn flushes_on(line: &Line<'_>) -> usize {
-    match Keyword::of(first_word(line)) {
-        Some(Keyword::Flush | Keyword::FlushWq) => line.words().count().saturating_sub(2),
-        Some(Keyword::Item | Keyword::Ordered) | None => 0,
+    let mut flushes: usize = 0;
+    for _ in line.words().skip(2) {
+        flushes = flushes.saturating_add(1);
     }
+    flushes
 }
 
 /// The line of the flush at this place among all that are declared, counted from 0, and the name of its target.
 pub fn flush_at<'a>(text: &Text<'a>, place: u32) -> Option<(Line<'a>, Mark)> {
     let mut left = place as usize;
     for line in text.lines() {
-        let flushes = flushes_on(&line);
-        if left < flushes {
-            let word = word_at(&line, left.saturating_add(2))?;
-            return Some((line, word.mark));
+        if declares_flushes(&line) {
+            let flushes = flushes_on(&line);
+            if left < flushes {
+                let word = word_at(&line, left.saturating_add(2))?;
+                return Some((line, word.mark));
+            }
+            left = left.saturating_sub(flushes);
         }
-        left = left.saturating_sub(flushes);
     }
     None
 }
