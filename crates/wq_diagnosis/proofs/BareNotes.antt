@@ -88,7 +88,17 @@ reason-none first words (a ∷ waits) none = absurd (omega (arith, none))
 pub reason-some : (first : List ℕ) (words : WaitArc → List ℕ) (waits : List WaitArc) (a : WaitArc) (text : List ℕ) → slice_get waits 0 ≡ Some a → IsSaidOf first (words a) text
     → SaysReason first words waits (Some text)
 reason-some first words [] a text is said = cc
-reason-some first words (b ∷ waits) a text is said = (text, (refl, subst (λ (x : WaitArc). IsSaidOf first (words x) text) (cc) said))
+reason-some first words (b ∷ waits) a text is said = let same : a ≡ b = cc in (text, refl, subst (λ (x : WaitArc). IsSaidOf first (words x) text) same said)
+
+-- the first of them is of an item, of an item
+pub first-within : (d : Declaration) (ws : Workqueues) → IsDeclaration d → (a : WaitArc) → slice_get (bare_waits d ws) 0 ≡ Some a → (a.src < length d.group_of) × (a.dst < length d.group_of)
+first-within d ws declaration a first = go (bare_waits d ws) (bare_waits-within d ws declaration) first where
+  go : (waits : List WaitArc) → All (λ (b : WaitArc). b.src < length d.group_of) waits × All (λ (b : WaitArc). b.dst < length d.group_of) waits → slice_get waits 0 ≡ Some a
+      → (a.src < length d.group_of) × (a.dst < length d.group_of)
+  go [] all is = cc
+  go (b ∷ waits) all is =
+      let same : b ≡ a = cc in
+      subst (λ (x : WaitArc). (x.src < length d.group_of) × (x.dst < length d.group_of)) same (all.0 0 b (omega arith), all.1 0 b (omega arith))
 
 -- ---- a text without the line of such a workqueue
 
@@ -103,6 +113,7 @@ either-false true b e = cc
 none-listed : (lines : List LineView) → HasNone lines → (q : ℕ) → slice_index_or (map is_bare_line (cert_lines lines)) q false ≡ false
 none-listed [] none q = refl
 none-listed (line ∷ lines) none q = go (holds_word line) q where
+  both : (is_bare_line (cert_line line) ≡ false) × (list_any (λ (l : LineView). is_bare_line (cert_line l)) lines ≡ false)
   both = either-false (is_bare_line (cert_line line)) (list_any (λ (l : LineView). is_bare_line (cert_line l)) lines) none
 
   go : (b : Bool) (k : ℕ) → slice_index_or (map is_bare_line (map cert_line (cond b (line ∷ filled lines) (filled lines)))) k false ≡ false
@@ -110,16 +121,23 @@ none-listed (line ∷ lines) none q = go (holds_word line) q where
   go true (suc k) = none-listed lines both.1 k
   go false k = none-listed lines both.1 k
 
+-- the workqueues of a plan, and those of lines
+abbrev of_plan : PlanCertificate → Result Workqueues CertError
+of_plan plan = Ok (all_rescued plan.assignment)
+
+abbrev of_lines : List Bool → Assignment → Result Workqueues CertError
+of_lines bare a = Ok (record { assignment = a; bare = bare })
+
 module _ (names : List (List ℕ)) (p : Partition) (ws : Workqueues) where
   abbrev HasAll : Type 0
   HasAll = (q : ℕ) → slice_index_or ws.bare q false ≡ false
 
-  by_plan : (r : Result PlanCertificate CertError) → and_then (λ (plan : PlanCertificate). Ok {V = Workqueues} {E = CertError} (all_rescued plan.assignment)) r ≡ Ok ws → HasAll
+  by_plan : (r : Result PlanCertificate CertError) → and_then of_plan r ≡ Ok ws → HasAll
   by_plan (Ok plan) e q = let is : all_rescued plan.assignment ≡ ws = cc in subst (λ (w : Workqueues). slice_index_or w.bare q false ≡ false) is refl
   by_plan (Err fault) e q = cc
 
   by_lines : (bare : List Bool) → ((q : ℕ) → slice_index_or bare q false ≡ false) → (r : Result Assignment CertError)
-      → and_then (λ (a : Assignment). Ok {V = Workqueues} {E = CertError} (record { assignment = a; bare = bare })) r ≡ Ok ws → HasAll
+      → and_then (of_lines bare) r ≡ Ok ws → HasAll
   by_lines bare none (Ok a) e q = let is : record { assignment = a; bare = bare } ≡ ws = cc in subst (λ (w : Workqueues). slice_index_or w.bare q false ≡ false) is (none q)
   by_lines bare none (Err fault) e q = cc
 
@@ -129,8 +147,7 @@ module _ (names : List (List ℕ)) (p : Partition) (ws : Workqueues) where
     lines = cert_lines (lines_of text)
 
     read : (b : Bool)
-        → cond b (and_then (λ (plan : PlanCertificate). Ok {V = Workqueues} {E = CertError} (all_rescued plan.assignment)) (plan_reading names p lines))
-        (and_then (λ (a : Assignment). Ok {V = Workqueues} {E = CertError} (record { assignment = a; bare = map is_bare_line lines })) (workqueues_reading names p (map as_wq lines))) ≡ Ok ws
+        → cond b (and_then of_plan (plan_reading names p lines)) (and_then (of_lines (map is_bare_line lines)) (workqueues_reading names p (map as_wq lines))) ≡ Ok ws
         → HasAll
     read true e = by_plan (plan_reading names p lines) e
     read false e = by_lines (map is_bare_line lines) (none-listed (lines_of text) none) (workqueues_reading names p (map as_wq lines)) e

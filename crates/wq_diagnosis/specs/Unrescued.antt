@@ -1,5 +1,5 @@
 -- What is said of workqueues without a rescuer: beside `safe`, which items are on one; beside a run, which flush leads to one.
-use Rattle.std.specs.Prelude.{◌≡◌, ◌==◌, ◌&&◌, if◌then◌else◌, ℕ, Bool, List, [], ◌∷◌, ◌++◌, Option, Some, None, MatchResult, codes, cond, decimal, filter, flat_map, length, map, slice_index, slice_index_or}
+use Rattle.std.specs.Prelude.{◌≡◌, ◌==◌, ◌&&◌, if◌then◌else◌, ℕ, Bool, List, [], ◌∷◌, ◌++◌, Option, Some, None, MatchResult, codes, cond, decimal, filter, flat_map, length, map, slice_index_or}
 use Rattle.std.specs.List.{list_any, range_with_len}
 use Rattle.wq_items.specs.declared.target.Target.{Target}
 use Rattle.wq_items.specs.Table.{targets_of}
@@ -7,6 +7,7 @@ use Rattle.wq_groups.specs.Assignment.{item_lane}
 use Rattle.wq_graph.specs.declared.arc.WaitArc.{WaitArc}
 use Rattle.wq_core.specs.Workqueues.{Workqueues}
 use Rattle.wq_deadlock.specs.Judging.{bare_waits, is_on_bare}
+use Rattle.wq_cert.specs.PlanText.{name_of}
 use Rattle.wq_cert.specs.Texts.{workqueues_of_text}
 use Rattle.wq_names.specs.Names.{names_of}
 use Rattle.wq_commands.specs.Answer.{declared_waits}
@@ -42,7 +43,7 @@ bare_items s ws = filter (is_on_bare ws s.partition.group_of) (range_with_len 0 
 
 -- an item and its workqueue
 abbrev pub placed_item : Declared → Workqueues → List (List ℕ) → ℕ → List ℕ
-placed_item s ws names i = ((codes "`" ++ slice_index s.table.names i) ++ codes "` on ") ++ workqueue_words names (workqueue_of s ws i)
+placed_item s ws names i = ((codes "`" ++ name_of s.table.names i) ++ codes "` on ") ++ workqueue_words names (workqueue_of s ws i)
 
 -- the two lines of the note: these items, all of them, and what to do
 abbrev pub bare_note : List ℕ → List (List ℕ) → List ℕ
@@ -69,12 +70,12 @@ is_of_whole waits i place = list_any (λ (t : Target). (t.place == place) && t.w
 
 -- who waits: the item of the flush, and its workqueue
 abbrev pub waiting_words : Declared → Workqueues → List (List ℕ) → WaitArc → List ℕ
-waiting_words s ws names a = ((codes "`" ++ slice_index s.table.names a.src) ++ codes "`, on ") ++ workqueue_words names (workqueue_of s ws a.src)
+waiting_words s ws names a = ((codes "`" ++ name_of s.table.names a.src) ++ codes "`, on ") ++ workqueue_words names (workqueue_of s ws a.src)
 
 -- for whom: the target, or its whole workqueue
 abbrev pub target_words : Declared → WaitArc → List ℕ
 target_words s a =
-    ((cond (is_of_whole s.table.waits a.src a.place) (codes "the workqueue of ") [] ++ codes "`") ++ slice_index s.table.names a.dst) ++ codes "`"
+    ((cond (is_of_whole s.table.waits a.src a.place) (codes "the workqueue of ") [] ++ codes "`") ++ name_of s.table.names a.dst) ++ codes "`"
 
 -- the workqueue of the target has no rescuer
 abbrev pub bare_words : Declared → Workqueues → List (List ℕ) → WaitArc → List ℕ

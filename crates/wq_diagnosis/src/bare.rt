@@ -304,13 +304,13 @@ fn waiting_words<A: Allocator + Copy>(
     declared: &Declaration<'_, A>,
     workqueues: &Workqueues<A>,
     names: &[&[u8]],
-    arc: WaitArc,
+    arc: &WaitArc,
 ) -> Result<Vec<u8, A>, AllocError>
-    requires item { arc.src < length declared.now.table.names }
+    requires item { arc.now.src < length declared.now.table.names }
     requires grouped { length declared.now.groups.group_of ≡ length declared.now.table.names }
     requires assigned { length workqueues.now.assignment.lane_of_group ≡ declared.now.groups.groups }
     ensures { IfOk result (λ words. words.items
-        ≡ waiting_words (record { table = declared.now.table; partition = declared.now.groups }) workqueues.now (map (λ n. n.now) names.now) arc) }
+        ≡ waiting_words (record { table = declared.now.table; partition = declared.now.groups }) workqueues.now (map (λ n. n.now) names.now) arc.now) }
 {
     let workqueue = workqueue_words(alloc, names, workqueue_of(declared, workqueues, arc.src))?;
     let mut words = Vec::new(alloc);
@@ -332,11 +332,11 @@ fn before_target(whole: bool) -> &'static [u8]
 fn target_words<A: Allocator + Copy>(
     alloc: A,
     declared: &Declaration<'_, A>,
-    arc: WaitArc,
+    arc: &WaitArc,
 ) -> Result<Vec<u8, A>, AllocError>
-    requires item { arc.src < length declared.now.table.names }
-    requires target { arc.dst < length declared.now.table.names }
-    ensures { IfOk result (λ words. words.items ≡ target_words (record { table = declared.now.table; partition = declared.now.groups }) arc) }
+    requires item { arc.now.src < length declared.now.table.names }
+    requires target { arc.now.dst < length declared.now.table.names }
+    ensures { IfOk result (λ words. words.items ≡ target_words (record { table = declared.now.table; partition = declared.now.groups }) arc.now) }
 {
     let whole = is_of_whole(&declared.table, arc.src, arc.place);
     let mut words = Vec::new(alloc);
@@ -353,13 +353,13 @@ fn bare_words<A: Allocator + Copy>(
     declared: &Declaration<'_, A>,
     workqueues: &Workqueues<A>,
     names: &[&[u8]],
-    arc: WaitArc,
+    arc: &WaitArc,
 ) -> Result<Vec<u8, A>, AllocError>
-    requires target { arc.dst < length declared.now.table.names }
+    requires target { arc.now.dst < length declared.now.table.names }
     requires grouped { length declared.now.groups.group_of ≡ length declared.now.table.names }
     requires assigned { length workqueues.now.assignment.lane_of_group ≡ declared.now.groups.groups }
     ensures { IfOk result (λ words. words.items
-        ≡ bare_words (record { table = declared.now.table; partition = declared.now.groups }) workqueues.now (map (λ n. n.now) names.now) arc) }
+        ≡ bare_words (record { table = declared.now.table; partition = declared.now.groups }) workqueues.now (map (λ n. n.now) names.now) arc.now) }
 {
     let mut words = workqueue_words(alloc, names, workqueue_of(declared, workqueues, arc.dst))?;
     put(&mut words, b" has no rescuer")?;
@@ -440,25 +440,17 @@ impl<'a> Spot<'a> {
     }
 }
 
-/// Where the flush and the workqueue of its target are in the texts, and what is said of that workqueue.
-#[derive(Clone, Copy)]
-struct Shown<'a> {
-    flush: Spot<'a>,
-    workqueue: Spot<'a>,
-    file: &'a str,
-    bare: &'a [u8],
-}
-
-/// The lines below the first one: the flush, and the workqueue of its target.
+/// The lines below the first one: the flush, and the workqueue of its target, of which this is said in the file of the assignment.
 fn below<A: Allocator + Copy>(
     alloc: A,
-    shown: &Shown<'_>,
+    flush: Spot<'_>,
+    file: &str,
+    workqueue: Spot<'_>,
+    bare: &[u8],
 ) -> Result<Vec<Vec<u8, A>, A>, AllocError> {
     let mut lines = Vec::new(alloc);
-    let flush = shown.flush;
     push_excerpt(alloc, &mut lines, flush.bytes, flush.mark, Hint::Nothing)?;
-    let workqueue = shown.workqueue;
-    lines.push(plain_head(alloc, shown.file, &workqueue.place, shown.bare)?)?;
+    lines.push(plain_head(alloc, file, &workqueue.place, bare)?)?;
     push_excerpt(
         alloc,
         &mut lines,
@@ -499,17 +491,22 @@ fn said_at<A: Allocator + Copy>(
     whole_text(alloc, file, place, what, more)
 }
 
-/// What is said of a flush that leads to a workqueue without a rescuer.
+/// What is said of the flush at this place, which leads to this workqueue without a rescuer.
 fn said_of<A: Allocator + Copy>(
     alloc: A,
-    file: &str,
+    declaration: Source<'_>,
+    assignment: Source<'_>,
+    place: u32,
+    q: LaneId,
     what: &[u8],
-    shown: &Shown<'_>,
+    bare: &[u8],
 ) -> Result<Vec<u8, A>, AllocError>
-    ensures { IfOk result (λ said. IsSaidOf file.now what.now said.items) }
+    ensures { IfOk result (λ said. IsSaidOf declaration.entry.file.now what.now said.items) }
 {
-    let more = below(alloc, shown)?;
-    said_at(alloc, file, &shown.flush.place, what, &more)
+    let flush = Spot::of_flush(declaration.text, place);
+    let workqueue = Spot::of_workqueue(assignment.text, q);
+    let more = below(alloc, flush, assignment.file, workqueue, bare)?;
+    said_at(alloc, declaration.file, &flush.place, what, &more)
 }
 
 /// The reason by this flush, where the workqueues have these names.
@@ -520,26 +517,21 @@ fn reason_of<A: Allocator + Copy>(
     declared: &Declaration<'_, A>,
     workqueues: &Workqueues<A>,
     names: &[&[u8]],
-    arc: WaitArc,
+    arc: &WaitArc,
 ) -> Result<Vec<u8, A>, AllocError>
-    requires item { arc.src < length declared.now.table.names }
-    requires target { arc.dst < length declared.now.table.names }
+    requires item { arc.now.src < length declared.now.table.names }
+    requires target { arc.now.dst < length declared.now.table.names }
     requires grouped { length declared.now.groups.group_of ≡ length declared.now.table.names }
     requires assigned { length workqueues.now.assignment.lane_of_group ≡ declared.now.groups.groups }
     ensures { IfOk result (λ said. IsSaidOf declaration.entry.file.now
-        (reason_words (record { table = declared.now.table; partition = declared.now.groups }) workqueues.now (map (λ n. n.now) names.now) arc) said.items) }
+        (reason_words (record { table = declared.now.table; partition = declared.now.groups }) workqueues.now (map (λ n. n.now) names.now) arc.now) said.items) }
 {
     let waiting = waiting_words(alloc, declared, workqueues, names, arc)?;
     let target = target_words(alloc, declared, arc)?;
     let bare = bare_words(alloc, declared, workqueues, names, arc)?;
     let what = joined(alloc, &waiting, &target, &bare)?;
-    let shown = Shown {
-        flush: Spot::of_flush(declaration.text, arc.place),
-        workqueue: Spot::of_workqueue(assignment.text, workqueue_of(declared, workqueues, arc.dst)),
-        file: assignment.file,
-        bare: &bare,
-    };
-    said_of(alloc, declaration.file, &what, &shown)
+    let q = workqueue_of(declared, workqueues, arc.dst);
+    said_of(alloc, declaration, assignment, arc.place, q, &what, &bare)
 }
 
 /// What is said beside a run of these workqueues, whose text is that one.
@@ -556,6 +548,9 @@ fn hang_assigned<A: Allocator + Copy>(
     ensures { IfOk result (λ said. GivesReason declaration.entry.file.now assignment.entry.text.now
         (record { table = declared.now.table; partition = declared.now.groups }) workqueues.now (option_map (λ text. text.items) said)) }
 {
+    // What holds of every table and of all groups.
+    let _items = declared.table.len();
+    let _groups = declared.groups.len();
     let names = workqueue_names(alloc, assignment.text)?;
     let waits = bare_waits(alloc, &declared.table, &declared.groups, workqueues)?;
     match waits.first() {
@@ -568,7 +563,7 @@ fn hang_assigned<A: Allocator + Copy>(
                 declared,
                 workqueues,
                 &names,
-                *arc,
+                arc,
             )?;
             Ok(Some(said))
         }
@@ -599,7 +594,12 @@ fn safe_declared<A: Allocator + Copy>(
             said
         }
         Err(CertError::OutOfMemory) => Err(AllocError),
-        Err(_) => Ok(None),
+        Err(
+            CertError::BadCertLine { .. }
+            | CertError::NotAllItems { .. }
+            | CertError::GroupSplit { .. }
+            | CertError::NumberOutOfRange { .. },
+        ) => Ok(None),
     }
 }
 
@@ -653,7 +653,12 @@ fn hang_declared<A: Allocator + Copy>(
             said
         }
         Err(CertError::OutOfMemory) => Err(AllocError),
-        Err(_) => Ok(None),
+        Err(
+            CertError::BadCertLine { .. }
+            | CertError::NotAllItems { .. }
+            | CertError::GroupSplit { .. }
+            | CertError::NumberOutOfRange { .. },
+        ) => Ok(None),
     }
 }
 

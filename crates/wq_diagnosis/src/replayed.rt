@@ -93,9 +93,9 @@ fn others(why: Unlawful, item: ItemId) -> (ItemId, ItemId) {
 #[derive(Clone, Copy)]
 struct Sentence<'a> {
     why: Unlawful,
-    /// The step's workqueue, and how many there are.
+    /// The step's workqueue, and whether there is one.
     q: Workqueue<'a>,
-    lanes: usize,
+    is_there: bool,
     /// The item of the step, that which runs or is the first, and that which is waited for.
     item: Quoted<'a>,
     other: Quoted<'a>,
@@ -127,7 +127,7 @@ impl fmt::Display for Sentence<'_> {
             Unlawful::Pending => write!(f, "`{}` is pending already", self.item),
             Unlawful::NotPending => write!(f, "`{}` isn't pending", self.item),
             Unlawful::Runs(_) => write!(f, "{q} runs `{}`", self.other),
-            Unlawful::NothingPending | Unlawful::NothingRuns if q.number as usize >= self.lanes => {
+            Unlawful::NothingPending | Unlawful::NothingRuns if !self.is_there => {
                 write!(f, "there is no {q}")
             }
             Unlawful::NothingPending => write!(f, "nothing is pending on {q}"),
@@ -215,6 +215,7 @@ fn said_why<'a, A: Allocator + Copy>(
     } else {
         0
     };
+    let is_there = q < assignment.lanes();
     let why = unlawful.why;
     Sentence {
         why,
@@ -222,7 +223,7 @@ fn said_why<'a, A: Allocator + Copy>(
             number: u32::from(q),
             name: Quoted(name_at(names, q)),
         },
-        lanes: usize::from(assignment.lanes()),
+        is_there,
         item: name(table, item),
         other: name(table, other),
         target: name(table, target),
