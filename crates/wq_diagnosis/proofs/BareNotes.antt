@@ -112,14 +112,15 @@ either-false true b e = cc
 
 none-listed : (lines : List LineView) → HasNone lines → (q : ℕ) → slice_index_or (map is_bare_line (cert_lines lines)) q false ≡ false
 none-listed [] none q = refl
-none-listed (line ∷ lines) none q = go (holds_word line) q where
-  both : (is_bare_line (cert_line line) ≡ false) × (list_any (λ (l : LineView). is_bare_line (cert_line l)) lines ≡ false)
-  both = either-false (is_bare_line (cert_line line)) (list_any (λ (l : LineView). is_bare_line (cert_line l)) lines) none
-
-  go : (b : Bool) (k : ℕ) → slice_index_or (map is_bare_line (map cert_line (cond b (line ∷ filled lines) (filled lines)))) k false ≡ false
-  go true zero = both.0
-  go true (suc k) = none-listed lines both.1 k
-  go false k = none-listed lines both.1 k
+none-listed (line ∷ lines) none q =
+    let both = either-false (is_bare_line (cert_line line)) (list_any (λ (l : LineView). is_bare_line (cert_line l)) lines) none in
+    go (λ k. none-listed lines both.1 k) both.0 (holds_word line) q
+  where
+    go : ((k : ℕ) → slice_index_or (map is_bare_line (cert_lines lines)) k false ≡ false) → is_bare_line (cert_line line) ≡ false → (b : Bool) (k : ℕ)
+        → slice_index_or (map is_bare_line (map cert_line (cond b (line ∷ filled lines) (filled lines)))) k false ≡ false
+    go rest first true zero = first
+    go rest first true (suc k) = rest k
+    go rest first false k = rest k
 
 -- the workqueues of a plan, and those of lines
 abbrev of_plan : PlanCertificate → Result Workqueues CertError
