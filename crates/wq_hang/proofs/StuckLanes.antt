@@ -24,19 +24,19 @@ use Rattle.wq_hang.proofs.Weights.{run_weight, helping_weight, helping_weight-ha
 -- ---- what runs on a lane
 
 -- the first that runs something
-first_of_helpers : List (Option Running) → Option Running
+abbrev pub first_of_helpers : List (Option Running) → Option Running
 first_of_helpers [] = None
 first_of_helpers (Some r ∷ os) = Some r
 first_of_helpers (None ∷ os) = first_of_helpers os
 
-first_or_helpers : Option Running → List (Option Running) → Option Running
+abbrev pub first_or_helpers : Option Running → List (Option Running) → Option Running
 first_or_helpers (Some r) os = Some r
 first_or_helpers None os = first_of_helpers os
 
 abbrev pub first_run : Lane → Option Running
 first_run lane = first_or_helpers lane.running lane.helping
 
-item_run : Option Running → ℕ
+abbrev pub item_run : Option Running → ℕ
 item_run None = 0
 item_run (Some r) = r.entry.item
 
@@ -63,9 +63,6 @@ first_run-some lane c r runs = by lane.running refl c runs
     by None is zero at = absurd (let never : None ≡ Some r = sym is ∙ at in cc)
     by None is (suc h) at = first_of_helpers-some lane.helping h r at
 
-first_run-some_there : (lane : Lane) (c : ℕ) (r : Running) → RunsIn lane c r → (x : Running) × (first_run lane ≡ Some x)
-first_run-some_there lane c r runs = let some = first_run-some lane c r runs in (some.0, some.1)
-
 first_run-at : (lane : Lane) (x : Running) → first_run lane ≡ Some x → (c : ℕ) × RunsIn lane c x
 first_run-at lane x is = by lane.running refl is
   where
@@ -83,7 +80,7 @@ first_of_helpers-weight (Some y ∷ os) x is (suc h) r runs other =
     let later : run_weight (Some r) ≤ helping_weight os = helping_weight-has os h r runs in
     omega (arith, ap run_weight is)
 first_of_helpers-weight (None ∷ os) x is zero r runs other = absurd cc
-first_of_helpers-weight (None ∷ os) x is (suc h) r runs other = first_of_helpers-weight os x is h r runs other
+first_of_helpers-weight (None ∷ os) x is (suc h) r runs other = let rest : run_weight (Some x) + 1 ≤ helping_weight os = first_of_helpers-weight os x is h r runs other in omega arith
 
 first_run-weight : (lane : Lane) (x : Running) → first_run lane ≡ Some x → run_weight (Some x) ≤ lane_weight lane
 first_run-weight lane x is = by lane.running refl is
@@ -238,7 +235,7 @@ module _ (w : Wiring) (s : State) (sound : IsSoundState w s) (no_step : (step : 
       by None is = absurd (stays (λ f waits. absurd (let never : None ≡ Some f = sym is ∙ waits in cc)))
       by (Some f) is = elim (cases_left f) [
         | inl left ↦ (f, is, left)
-        | inr none ↦ absurd (stays (λ g waits. held_nowhere g (subst (λ (x : Waiting). IsLeft x → ⊥) (let same : Some f ≡ Some g = sym is ∙ waits in cc) none)))
+        | inr none ↦ absurd (stays (λ g waits. held_nowhere g (let both : Some f ≡ Some g = sym is ∙ waits in let same : f ≡ g = cc in subst (λ (x : Waiting). IsLeft x → ⊥) same none)))
       ]
 
   weighs : (r : Running) (f : Waiting) → r.waiting ≡ Some f → run_weight (Some r) ≡ 3
@@ -258,7 +255,7 @@ module _ (w : Wiring) (s : State) (sound : IsSoundState w s) (no_step : (step : 
   pub hop_from : (q : ℕ) → HasRescuer w q → IsBusy (lane_at s q) → (h : Hop) × IsHopFrom q h
   hop_from q rescuer busy =
       let runs = runs_on q rescuer busy in
-      let first = first_run-some_there (lane_at s q) runs.0 runs.1 runs.2 in
+      let first = first_run-some (lane_at s q) runs.0 runs.1 runs.2 in
       let r : Running = first.0 in
       let at = first_run-at (lane_at s q) r first.1 in
       let waits = waits_for q at.0 r at.1 in
@@ -290,7 +287,7 @@ module _ (w : Wiring) (s : State) (sound : IsSoundState w s) (no_step : (step : 
   hop-weight q h is rescuer =
       let p : ℕ = lane_of w h.flush.item in
       let runs = runs_on p rescuer is.busy in
-      let first = first_run-some_there (lane_at s p) runs.0 runs.1 runs.2 in
+      let first = first_run-some (lane_at s p) runs.0 runs.1 runs.2 in
       let at = first_run-at (lane_at s p) first.0 first.1 in
       let waits = waits_for p at.0 first.0 at.1 in
       let three : run_weight (Some first.0) ≡ 3 = weighs first.0 waits.0 waits.1 in
