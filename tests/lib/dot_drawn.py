@@ -22,6 +22,10 @@ import dot  # noqa: E402  (tests/model/dot.py)
 
 SECONDS = 20  # for one drawing
 
+# What a line of an assignment begins with, and what it may end with.
+WORDS = ["wq", "wq", "norescuer"]
+COMMENTS = ["", "# kworker", "# kworker, too", '# "a" \\N & <b> &lt; {c|d}', "# " + "m" * 63]
+
 # Graphviz 2.43.0 aborts on this one where the head has `newrank=true` and a box `rank=same`.
 ABORTED = (b"item p\nitem q\nitem r\nitem s\nordered p q\nordered r s\nflush q p r r\n", b"wq 0 p q r s\n")
 
@@ -49,11 +53,12 @@ def make_declaration(choose):
 
 
 def make_assignment(choose, groups):
-    """An assignment of these groups to a few workqueues, of which some may be empty."""
+    """An assignment of these groups to a few workqueues, of which some may be empty, have no rescuer, or have names."""
     workqueues = [[] for _ in range(choose.choice([1, 1, 2, 3, 5]))]
     for group in groups:
         choose.choice(workqueues).extend(group)
-    return "".join(" ".join(["wq", str(number), *names]) + "\n" for number, names in enumerate(workqueues)).encode()
+    lines = [" ".join([choose.choice(WORDS), str(number), *names, choose.choice(COMMENTS)]) for number, names in enumerate(workqueues)]
+    return "\n".join([*lines, ""]).encode()
 
 
 def make_texts(seed, number):

@@ -55,6 +55,43 @@ CIRCLE = rb"""digraph wqplan {
   "a" -> "b" [color=red, style=bold] [dir=back, arrowtail=odiamond] [edgetooltip="%s"];
 }
 """.replace(b"%s", b"&amp;" * 256)
+# Flush 0, `a` of `x`, leads from a workqueue without a rescuer, 1 and 2 lead to one, 3 lies on a circle, and 4 and 5 lead from one.
+# Those of two items that flush one another are drawn from the one that was declared first: `x`, `b`.
+BARE = rb"""digraph wqplan {
+  graph [label="can hang, 3 waits in red, 2 to no rescuer\lRed: while memory is short, a worker may wait for work\lthat only it, or one that waits for it, can do,\lor that no rescuer does.\lDashed: no rescuer. While memory is short, nothing\lguarantees that work there runs.\l", labelloc=t, labeljust=l, rankdir=LR, nodesep=0.15, ranksep=1, fontname="sans-serif"];
+  node [shape=box, style=filled, fillcolor=white, height=0.3, fontname="sans-serif", fontsize=12];
+  edge [arrowsize=0.7];
+  subgraph "cluster wq 0" {
+    graph [label="", style=filled, color=gray92]; "wq 0" [label="\"x\" &amp; \\", shape=plaintext, style="", fontsize=14];
+    "x";
+  }
+  subgraph "cluster wq 1" {
+    graph [label="", style="filled,dashed", fillcolor=gray92, color=black]; "wq 1" [label="wq 1 (no rescuer)", shape=plaintext, style="", fontsize=14];
+    "a";
+  }
+  subgraph "cluster wq 2" {
+    graph [label="", style=filled, color=gray92]; "wq 2" [label="wq 2 same name", shape=plaintext, style="", fontsize=14];
+    "b";
+  }
+  subgraph "cluster wq 3" {
+    graph [label="", style="filled,dashed", fillcolor=gray92, color=black]; "wq 3" [label="wq 3 same name (no rescuer)", shape=plaintext, style="", fontsize=14];
+    "y";
+  }
+  subgraph "cluster wq 4" {
+    graph [label="", style=filled, color=gray92]; "wq 4" [shape=plaintext, style="", fontsize=14];
+    "c";
+  }
+  subgraph "cluster wq 5" {
+    graph [label="", style="filled,dashed", fillcolor=gray92, color=black]; "wq 5" [label="system_wq (no rescuer)", shape=plaintext, style="", fontsize=14];
+  }
+  "x" -> "a" [dir=back];
+  "x" -> "a" [color=red, style=bold];
+  "b" -> "y" [color=red, style=bold] [arrowhead=odiamond];
+  "c" -> "c" [color=red, style=bold];
+  "b" -> "y" [dir=back];
+  "y" -> "c";
+}
+"""
 EMPTY = rb"""digraph wqplan {
   graph [label="plan of 0 workqueues", labelloc=t, labeljust=l, rankdir=LR, nodesep=0.15, ranksep=1, fontname="sans-serif"];
   node [shape=box, style=filled, fillcolor=white, height=0.3, fontname="sans-serif", fontsize=12];
@@ -75,6 +112,10 @@ GOOD = [
     (CIRCLE, dot.Drawing("can hang, 4 waits in red", [[], [["a"], ["b"]]],
                          [("a", "b", "red", False), ("b", "b", "red", True), ("b", "a", "red", False), ("b", "a", "red", True)],
                          ["", "", "", "&" * 256])),
+    (BARE, dot.Drawing("can hang, 3 waits in red, 2 to no rescuer", [[["x"]], [["a"]], [["b"]], [["y"]], [["c"]], []],
+                       [("a", "x", "black", False), ("x", "a", "red", False), ("b", "y", "red", True), ("c", "c", "red", False),
+                        ("y", "b", "black", False), ("y", "c", "black", False)],
+                       [""] * 6, {1, 3, 5}, {0: '"x" & \\', 2: "wq 2 same name", 3: "wq 3 same name", 5: "system_wq"})),
     (EMPTY, dot.Drawing("plan of 0 workqueues", [], [])),
     (EMPTY.replace(b"plan of 0 workqueues", b"safe"), dot.Drawing("safe", [], [])),
 ]
@@ -125,6 +166,38 @@ BROKEN = [
     (PLAN, LOOKS_OF_1, LOOKS_OF_1.replace(b' "wq 1" [shape=plaintext, style="", fontsize=14];', b""), 11),
     (PLAN, b'    "node";\n  }\n', b'    "node";\n', 22),
     (PLAN, b'    "node";\n  }\n', b'    "node";\n  }\n  }\n', 23),
+    # Names, and workqueues without a rescuer.
+    (BARE, b'"wq 0" [label="\\"x\\" &amp; \\\\", ', b'"wq 0" [label="x" & y", ', 6),
+    (BARE, b'"wq 0" [label="\\"x\\" &amp; \\\\", ', b'"wq 0" [label="", ', 6),
+    (BARE, b'"wq 0" [label="\\"x\\" &amp; \\\\", ', b'"wq 0" [label="' + b"n" * 64 + b'", ', 6),
+    (BARE, b'"wq 0" [label="\\"x\\" &amp; \\\\", ', b'"wq 0" [label="x",', 6),
+    (BARE, b'"wq 0" [label="\\"x\\" &amp; \\\\", ', b'"wq 0" [label=x, ', 6),
+    (BARE, b'"wq 0" [label="\\"x\\" &amp; \\\\", ', b'"wq 0" [label="\xc3\xa4", ', 6),
+    (BARE, b'"wq 0" [label="\\"x\\" &amp; \\\\", ', b'"wq 0" [label="\\N", ', 6),
+    (BARE, b'label="wq 1 (no rescuer)", ', b'', 10),
+    (BARE, b'label="wq 1 (no rescuer)", ', b'label="wq 1", ', 10),
+    (BARE, b'label="wq 1 (no rescuer)", ', b'label=" (no rescuer)", ', 10),
+    (BARE, b'label="wq 3 same name (no rescuer)", ', b'label="same name", ', 18),
+    (BARE, b'style=filled, color=gray92]; "wq 2"', b'style="filled,dashed", fillcolor=gray92, color=black]; "wq 2"', 14),
+    (BARE, b'style=filled, color=gray92]; "wq 4"', b'style="filled,dashed", fillcolor=gray92, color=black]; "wq 4"', 22),
+    (BARE, b'style="filled,dashed", fillcolor=gray92, color=black]; "wq 5"', b'style="dashed,filled", fillcolor=gray92, color=black]; "wq 5"', 26),
+    (BARE, b'style="filled,dashed", fillcolor=gray92, color=black]; "wq 5"', b'style="filled,dashed", color=black]; "wq 5"', 26),
+    (BARE, b'  "x" -> "a" [color=red, style=bold];\n', b'  "x" -> "a";\n', 34),
+    (BARE, b'  "y" -> "c";\n', b'  "y" -> "c" [color=red, style=bold];\n', 34),
+    (BARE, b'  "c" -> "c" [color=red, style=bold];\n', b'  "c" -> "c" [dir=back];\n', 33),
+    (BARE, b'  "x" -> "a" [dir=back];\n', b'  "a" -> "x";\n', 33),
+    (BARE, b", 2 to no rescuer", b", 1 to no rescuer", 34),
+    (BARE, b", 2 to no rescuer", b", 3 to no rescuer", 2),
+    (BARE, b", 2 to no rescuer", b", 0 to no rescuer", 2),
+    (BARE, b", 2 to no rescuer", b"", 2),
+    (BARE, b"can hang", b"every assignment can hang", 2),
+    (BARE, rb",\lor that no rescuer does", b"", 2),
+    (BARE, rb"only it, or one that waits for it, can do,\lor that no", b"no", 2),
+    (BARE, rb"\lDashed: no rescuer. While memory is short, nothing\lguarantees that work there runs.", b"", 34),
+    (CIRCLE, rb"can do.\l", rb"can do.\lDashed: no rescuer. While memory is short, nothing\lguarantees that work there runs.\l", 17),
+    (PLAN, b'"wq 2" [', b'"wq 2" [label="x", ', 27),
+    (CIRCLE.replace(b"can hang", b"every assignment can hang"), b'"wq 0" [', b'"wq 0" [label="x", ', 17),
+    (EMPTY.replace(b"plan of 0 workqueues", b"safe"), b"safe", rb"safe\lDashed: no rescuer. While memory is short, nothing\lguarantees that work there runs.\l", 5),
     # Items.
     (PLAN, b'    "a";\n', b'    "a"\n', 7),
     (PLAN, b'    "a";\n', b'    a;\n', 7),

@@ -1,6 +1,6 @@
 -- Lines of a drawing, counted: those of the items, and the arrows.
 use Rattle.std.proofs.Common.{◌≡◌, ℕ, ◌+◌, ◌<◌, ◌==◌, Bool, false, cond, inl, inr, List, [], ◌∷◌, ◌++◌, length, map, get_or, refl, sym, ap, ◌∙◌, arith}
-use Rattle.std.specs.Prelude.{bytes_eq, codes, decimal, flat_map, slice_index}
+use Rattle.std.specs.Prelude.{bytes_eq, codes, decimal, flat_map, slice_index, slice_index_or}
 use Rattle.std.specs.List.{All, count_by, sum_by, range_with_len}
 use Rattle.std.proofs.Math.Bool.{or-false}
 use Rattle.std.proofs.lemmas.Bool.{cases_Bool, cases_eq, cases_lt, eq-eqb, ne_eqb}
@@ -15,9 +15,10 @@ use Rattle.wq_groups.proofs.Among.{bytes_eq-same, same_name}
 use Rattle.wq_graph.specs.declared.arc.WaitArc.{WaitArc}
 use Rattle.wq_graph.specs.Graph.{arcs_by_place}
 use Rattle.wq_graph.proofs.Arcs.{ByPlace-arc, ByPlace-arcs_by_place}
+use Rattle.wq_core.specs.Workqueues.{Workqueues}
 use Rattle.wq_dot.specs.declared.look.FlushLook.{FlushLook}
 use Rattle.wq_cert.specs.PlanText.{name_of}
-use Rattle.wq_dot.specs.Drawing.{head_lines, single_line, member_line, group_lines, workqueue_box_lines, groups_on, flush_line, drawing_lines}
+use Rattle.wq_dot.specs.Drawing.{head_lines, single_line, member_line, group_lines, frame_line, workqueue_box_lines, groups_on, flush_line, drawing_lines}
 use Rattle.wq_dot.specs.Laws.{is_line_of, is_arrow}
 use Rattle.wq_dot.proofs.Sums.{sum_by-map, sum_by-flat_map, sum_by-same, sum_by-zero, sum_by-parts, spot}
 
@@ -46,7 +47,7 @@ record TellsItems (p : List ℕ → Bool) (names : List (List ℕ)) (s : ℕ →
   ordered_second : (name : List ℕ) → p (codes "      graph [label=\"\", style=dashed, color=black]; \"ordered " ++ name ++ codes "\" [label=\"ordered\", shape=plaintext, style=\"\"];") ≡ false
   ordered_last : p (codes "    }") ≡ false
   first : (digits : List ℕ) → p (codes "  subgraph \"cluster wq " ++ digits ++ codes "\" {") ≡ false
-  second : (digits : List ℕ) → p (codes "    graph [label=\"\", style=filled, color=gray92]; \"wq " ++ digits ++ codes "\" [shape=plaintext, style=\"\", fontsize=14];") ≡ false
+  second : (called : List (List ℕ)) (bare : Bool) (q : ℕ) → p (frame_line called bare q) ≡ false
   last : p (codes "  }") ≡ false
 
 module _ (p : List ℕ → Bool) (names : List (List ℕ)) (s : ℕ → Bool) (h : TellsItems p names s) where
@@ -92,32 +93,35 @@ module _ (p : List ℕ → Bool) (names : List (List ℕ)) (s : ℕ → Bool) (h
         sum_by-flat_map w (λ k. group_lines names (items_at group_of k)) own
         ∙ sum_by-each (λ k. count_by p (group_lines names (items_at group_of k))) of_group own (λ k. count-group (items_at group_of k))
 
-    count-workqueue : (a : Assignment) (q : ℕ) → count_by p (workqueue_box_lines names group_of a q) ≡ sum_by of_group (groups_on a q)
-    count-workqueue a q =
-        count-box (codes "  subgraph \"cluster wq " ++ decimal q ++ codes "\" {") (codes "    graph [label=\"\", style=filled, color=gray92]; \"wq " ++ decimal q ++ codes "\" [shape=plaintext, style=\"\", fontsize=14];") (codes "  }")
-        (flat_map (λ k. group_lines names (items_at group_of k)) (groups_on a q)) (h.first (decimal q)) (h.second (decimal q)) h.last
-        ∙ count-groups (groups_on a q)
+    count-workqueue : (ws : Workqueues) (called : List (List ℕ)) (q : ℕ) → count_by p (workqueue_box_lines names group_of ws called q) ≡ sum_by of_group (groups_on ws.assignment q)
+    count-workqueue ws called q =
+        let own = groups_on ws.assignment q in
+        let bare = slice_index_or ws.bare q false in
+        count-box (codes "  subgraph \"cluster wq " ++ decimal q ++ codes "\" {") (frame_line called bare q) (codes "  }")
+        (flat_map (λ k. group_lines names (items_at group_of k)) own) (h.first (decimal q)) (h.second called bare q) h.last
+        ∙ count-groups own
 
   -- each item is in one group, and each group on one workqueue
-  count-workqueues : (r : Partition) (a : Assignment) → IsPartition r → IsAssignment r.groups a → count_by p (flat_map (workqueue_box_lines names r.group_of a) (range_with_len 0 a.lanes)) ≡ count_by s (range_with_len 0 (length r.group_of))
-  count-workqueues r a partition assigned =
+  count-workqueues : (r : Partition) (ws : Workqueues) (called : List (List ℕ)) → IsPartition r → IsAssignment r.groups ws.assignment → count_by p (flat_map (workqueue_box_lines names r.group_of ws called) (range_with_len 0 ws.assignment.lanes)) ≡ count_by s (range_with_len 0 (length r.group_of))
+  count-workqueues r ws called partition assigned =
+      let a : Assignment = ws.assignment in
       let items : List ℕ = range_with_len 0 (length r.group_of) in
       let groups : List ℕ = range_with_len 0 (length a.lane_of_group) in
       let on_lane : All (λ k. group_lane a k < a.lanes) groups = All-range (λ k. group_lane a k < a.lanes) (length a.lane_of_group) (λ k below. assigned.within k 0 below) in
       let in_group : All (λ i. slice_index r.group_of i < r.groups) items = All-range (λ i. slice_index r.group_of i < r.groups) (length r.group_of) (λ i below. partition.within i 0 below) in
-      sum_by-flat_map w (workqueue_box_lines names r.group_of a) (range_with_len 0 a.lanes)
-      ∙ sum_by-each (λ q. count_by p (workqueue_box_lines names r.group_of a q)) (λ q. sum_by (of_group r.group_of) (groups_on a q)) (range_with_len 0 a.lanes) (count-workqueue r.group_of a)
+      sum_by-flat_map w (workqueue_box_lines names r.group_of ws called) (range_with_len 0 a.lanes)
+      ∙ sum_by-each (λ q. count_by p (workqueue_box_lines names r.group_of ws called q)) (λ q. sum_by (of_group r.group_of) (groups_on a q)) (range_with_len 0 a.lanes) (count-workqueue r.group_of ws called)
       ∙ sum_by-parts (of_group r.group_of) (group_lane a) a.lanes groups on_lane
       ∙ ap (λ (n : ℕ). sum_by (of_group r.group_of) (range_with_len 0 n)) assigned.one_each
       ∙ sum_by-parts (λ i. one_if (s i)) (λ i. slice_index r.group_of i) r.groups items in_group
 
 -- the parts of a drawing
-count-drawing : (p : List ℕ → Bool) (t : Table) (r : Partition) (a : Assignment) (title : List ℕ) (looks : List FlushLook) (comments : List (List ℕ)) → count_by p (head_lines title) ≡ 0 → p (codes "}") ≡ false
-    → count_by p (drawing_lines t r a title looks comments)
-    ≡ count_by p (flat_map (workqueue_box_lines t.names r.group_of a) (range_with_len 0 a.lanes)) + count_by p (map (flush_line t.names t.waits looks comments) (arcs_by_place t.waits r.group_of))
-count-drawing p t r a title looks comments head end =
+count-drawing : (p : List ℕ → Bool) (t : Table) (r : Partition) (ws : Workqueues) (called : List (List ℕ)) (title : List ℕ) (looks : List FlushLook) (comments : List (List ℕ)) → count_by p (head_lines title) ≡ 0 → p (codes "}") ≡ false
+    → count_by p (drawing_lines t r ws called title looks comments)
+    ≡ count_by p (flat_map (workqueue_box_lines t.names r.group_of ws called) (range_with_len 0 ws.assignment.lanes)) + count_by p (map (flush_line t.names t.waits looks comments) (arcs_by_place t.waits r.group_of))
+count-drawing p t r ws called title looks comments head end =
     let w : List ℕ → ℕ = λ line. one_if (p line) in
-    let workqueues : List (List ℕ) = flat_map (workqueue_box_lines t.names r.group_of a) (range_with_len 0 a.lanes) in
+    let workqueues : List (List ℕ) = flat_map (workqueue_box_lines t.names r.group_of ws called) (range_with_len 0 ws.assignment.lanes) in
     let arrows : List (List ℕ) = map (flush_line t.names t.waits looks comments) (arcs_by_place t.waits r.group_of) in
     let none : w (codes "}") ≡ 0 = ap one_if end in
     omega (
@@ -144,7 +148,7 @@ TellsItems-line names i = record {
   ordered_second = λ name. refl;
   ordered_last = refl;
   first = λ digits. refl;
-  second = λ digits. refl;
+  second = λ called bare q. refl;
   last = refl;
 }
 
@@ -164,9 +168,9 @@ named_as-is t table i j item other =
       ]
     ]
 
-pub one_line_each : (t : Table) (r : Partition) (a : Assignment) (title : List ℕ) (looks : List FlushLook) (comments : List (List ℕ)) (i : ℕ) → IsTable t → IsPartition r → length r.group_of ≡ length t.names → IsAssignment r.groups a → i < length t.names
-    → count_by (is_line_of t.names i) (drawing_lines t r a title looks comments) ≡ 1
-one_line_each t r a title looks comments i table partition long assigned item =
+pub one_line_each : (t : Table) (r : Partition) (ws : Workqueues) (called : List (List ℕ)) (title : List ℕ) (looks : List FlushLook) (comments : List (List ℕ)) (i : ℕ) → IsTable t → IsPartition r → length r.group_of ≡ length t.names → IsAssignment r.groups ws.assignment → i < length t.names
+    → count_by (is_line_of t.names i) (drawing_lines t r ws called title looks comments) ≡ 1
+one_line_each t r ws called title looks comments i table partition long assigned item =
     let p : List ℕ → Bool = is_line_of t.names i in
     let arcs : List WaitArc = arcs_by_place t.waits r.group_of in
     let arrows : count_by p (map (flush_line t.names t.waits looks comments) arcs) ≡ 0 = sum_by-map (λ line. one_if (p line)) (flush_line t.names t.waits looks comments) arcs ∙ sum_by-zero arcs in
@@ -175,7 +179,7 @@ one_line_each t r a title looks comments i table partition long assigned item =
     All-range (λ j. one_if (named_as t.names i j) ≡ one_if (i == j)) (length r.group_of) (λ j below. ap one_if (named_as-is t table i j item (omega (arith, below, long))))
     )
     ∙ spot 1 i (length r.group_of) (omega (arith, item, long)) in
-    omega (arith, count-drawing p t r a title looks comments refl refl, count-workqueues p t.names (named_as t.names i) (TellsItems-line t.names i) r a partition assigned, items, arrows)
+    omega (arith, count-drawing p t r ws called title looks comments refl refl, count-workqueues p t.names (named_as t.names i) (TellsItems-line t.names i) r ws called partition assigned, items, arrows)
 
 -- ---- the arrow of a flush
 
@@ -187,19 +191,19 @@ TellsItems-arrow names = record {
   ordered_second = λ name. refl;
   ordered_last = refl;
   first = λ digits. refl;
-  second = λ digits. refl;
+  second = λ called bare q. refl;
   last = refl;
 }
 
-pub one_arrow_each : (t : Table) (r : Partition) (a : Assignment) (title : List ℕ) (looks : List FlushLook) (comments : List (List ℕ)) → IsTable t → IsPartition r → IsAssignment r.groups a → count_by is_arrow (drawing_lines t r a title looks comments) ≡ flush_count t.waits
-one_arrow_each t r a title looks comments table partition assigned =
+pub one_arrow_each : (t : Table) (r : Partition) (ws : Workqueues) (called : List (List ℕ)) (title : List ℕ) (looks : List FlushLook) (comments : List (List ℕ)) → IsTable t → IsPartition r → IsAssignment r.groups ws.assignment → count_by is_arrow (drawing_lines t r ws called title looks comments) ≡ flush_count t.waits
+one_arrow_each t r ws called title looks comments table partition assigned =
     let arcs : List WaitArc = arcs_by_place t.waits r.group_of in
     let arrows : count_by is_arrow (map (flush_line t.names t.waits looks comments) arcs) ≡ length arcs = sum_by-map (λ line. one_if (is_arrow line)) (flush_line t.names t.waits looks comments) arcs ∙ sum_by-ones arcs in
     let items : count_by (λ (j : ℕ). false) (range_with_len 0 (length r.group_of)) ≡ 0 = sum_by-zero (range_with_len 0 (length r.group_of)) in
     omega (
       arith,
-      count-drawing is_arrow t r a title looks comments refl refl,
-      count-workqueues is_arrow t.names (λ j. false) (TellsItems-arrow t.names) r a partition assigned,
+      count-drawing is_arrow t r ws called title looks comments refl refl,
+      count-workqueues is_arrow t.names (λ j. false) (TellsItems-arrow t.names) r ws called partition assigned,
       items,
       arrows,
       (ByPlace-arcs_by_place t.waits r.group_of table.places_are_numbered).long,

@@ -1,5 +1,5 @@
 -- Marks: what is written arc by arc is what the definition says place by place.
-use Rattle.std.proofs.Common.{◌≡◌, ℕ, ◌<◌, ◌==◌, ◌||◌, Bool, inl, inr, List, [], ◌∷◌, length, get_or, set, replicate, refl, sym, ap, ◌∙◌, arith}
+use Rattle.std.proofs.Common.{◌≡◌, ℕ, ◌<◌, ◌==◌, ◌||◌, Bool, inl, inr, List, [], ◌∷◌, ◌++◌, length, get_or, set, replicate, refl, sym, ap, ◌∙◌, arith}
 use Rattle.std.specs.Prelude.{cond}
 use Rattle.std.specs.List.{list_any}
 use Rattle.std.proofs.lemmas.Bool.{cases_eq, eq-eqb, ne_eqb}
@@ -38,6 +38,11 @@ get_or-with_marks look looks (a ∷ arcs) p within = elim (cases_eq a.place p) [
       ∙ ap (cond (list_any (λ (c : WaitArc). c.place == p) arcs) look) (get_or-set_other looks a.place p look Plain (λ e. other (sym e)))
       ∙ sym (ap (λ (b : Bool). cond (b || list_any (λ (c : WaitArc). c.place == p) arcs) look (get_or looks p Plain)) (ne_eqb a.place p other))
 ]
+
+-- those of some arcs, and then those of others
+pub with_marks-append : (look : FlushLook) (looks : List FlushLook) (one other : List WaitArc) → with_marks look looks (one ++ other) ≡ with_marks look (with_marks look looks one) other
+with_marks-append look looks [] other = refl
+with_marks-append look looks (a ∷ one) other = with_marks-append look (set looks a.place look) one other
 
 -- if all was plain before
 pub with_marks-is : (n : ℕ) (look : FlushLook) (looks : List FlushLook) (arcs : List WaitArc) → looks ≡ replicate n Plain → with_marks look looks arcs ≡ looks_of n look arcs

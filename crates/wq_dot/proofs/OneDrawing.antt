@@ -1,5 +1,5 @@
 -- A declaration has one drawing, and so has an assignment.
-use Rattle.std.proofs.Common.{◌≡◌, Bool, false, true, inl, inr, ℕ, List, sym, ap, ◌∙◌}
+use Rattle.std.proofs.Common.{◌≡◌, Bool, false, true, inl, inr, ℕ, List, [], length, sym, ap, ◌∙◌}
 use Rattle.std.specs.Prelude.{codes}
 use Rattle.wq_items.specs.Chain.{HasCircle}
 use Rattle.wq_groups.specs.Declaration.{GroupWaits}
@@ -7,9 +7,11 @@ use Rattle.wq_groups.specs.Assignment.{Assignment}
 use Rattle.wq_graph.specs.declared.arc.WaitArc.{WaitArc}
 use Rattle.wq_graph.specs.Graph.{group_graph}
 use Rattle.wq_core.specs.Wiring.{own_lanes}
+use Rattle.wq_core.specs.Workqueues.{Workqueues, all_rescued}
+use Rattle.wq_deadlock.specs.Judging.{bare_waits}
 use Rattle.wq_plan.specs.Plan.{chain_of}
 use Rattle.wq_plan.proofs.Plans.{IsPlan-no_circle, IsPlan-unique}
-use Rattle.wq_cert.specs.Texts.{assignment_of_text, cert_refusal}
+use Rattle.wq_cert.specs.Texts.{workqueues_of_text, cert_refusal}
 use Rattle.wq_meter.specs.Shell.{HasOneAnswer}
 use Rattle.wq_commands.specs.declared.end.End.{End}
 use Rattle.wq_commands.specs.Answer.{declared_waits, PrintsRefusal}
@@ -18,20 +20,21 @@ use Rattle.wq_commands.proofs.OneOutcome.{SaysAssigned-unique, SaysDeclared-uniq
 use Rattle.wq_commands.proofs.Refusals.{MatchResult-unique, PrintsRefusal-unique}
 use Rattle.wq_circles.proofs.Safe.{AreComponents-unique}
 use Rattle.wq_dot.specs.declared.look.FlushLook.TheVariants.{Red, Bold}
-use Rattle.wq_dot.specs.Dotting.{circles_title, declared_looks, drawing_of, plan_title, Draws, DrawsAssigned, DrawsCircles, DrawsDeclared, DrawsGroups, DrawsOwn, DrawsPlan, DrawsTexts, OwnDraws}
-use Rattle.wq_dot.specs.Flushes.{all_arcs}
+use Rattle.wq_dot.specs.Dotting.{circles_title, declared_looks, drawing_of, hanging_arcs, plan_title, Draws, DrawsAssigned, DrawsCircles, DrawsDeclared, DrawsGroups, DrawsOwn, DrawsPlan, DrawsTexts, OwnDraws}
 use Rattle.wq_dot.specs.Tooltips.{comments_of}
+use Rattle.wq_names.specs.Names.{names_of}
 
 module _ (s : Declared) (comments : List (List ℕ)) where
   DrawsPlan-unique : (out printed : List ℕ) → DrawsPlan s comments out → DrawsPlan s comments printed → out ≡ printed
   DrawsPlan-unique out printed one two =
       let same : one.assignment ≡ two.assignment = IsPlan-unique (declared_waits s) one.assignment two.assignment one.plan two.plan in
-      one.drawn ∙ ap (λ (a : Assignment). drawing_of s a (plan_title a.lanes) (declared_looks s Bold (chain_of (group_graph (declared_waits s)) a.lane_of_group)) comments) same ∙ sym two.drawn
+      one.drawn ∙ ap (λ (a : Assignment). drawing_of s (all_rescued a) [] (plan_title a.lanes) (declared_looks s Bold (chain_of (group_graph (declared_waits s)) a.lane_of_group)) comments) same ∙ sym two.drawn
 
-  DrawsCircles-unique : (a : Assignment) (hanging out printed : List ℕ) → DrawsCircles s comments a hanging out → DrawsCircles s comments a hanging printed → out ≡ printed
-  DrawsCircles-unique a hanging out printed one two =
-      let same : one.components ≡ two.components = AreComponents-unique (declared_waits s) a one.components two.components one.are two.are in
-      one.drawn ∙ ap (λ (components : List (List WaitArc)). drawing_of s a (circles_title hanging) (declared_looks s Red (all_arcs components)) comments) same ∙ sym two.drawn
+  DrawsCircles-unique : (ws : Workqueues) (called : List (List ℕ)) (hanging out printed : List ℕ) → DrawsCircles s comments ws called hanging out → DrawsCircles s comments ws called hanging printed → out ≡ printed
+  DrawsCircles-unique ws called hanging out printed one two =
+      let same : one.components ≡ two.components = AreComponents-unique (declared_waits s) ws one.components two.components one.are two.are in
+      let title : ℕ → List ℕ = circles_title hanging (length (bare_waits (declared_waits s) ws)) ws.bare in
+      one.drawn ∙ ap (λ (components : List (List WaitArc)). drawing_of s ws called title (declared_looks s Red (hanging_arcs s ws components)) comments) same ∙ sym two.drawn
 
   -- what has a plan has no circle
   not_both : (out : List ℕ) → DrawsPlan s comments out → ¬ HasCircle (GroupWaits (declared_waits s)) s.partition.groups
@@ -41,12 +44,12 @@ module _ (s : Declared) (comments : List (List ℕ)) where
   DrawsGroups-unique out printed (inl one) (inl two) = DrawsPlan-unique out printed one two
   DrawsGroups-unique out printed (inl one) (inr two) = absurd (not_both out one two.0)
   DrawsGroups-unique out printed (inr one) (inl two) = absurd (not_both printed two one.0)
-  DrawsGroups-unique out printed (inr one) (inr two) = DrawsCircles-unique (own_lanes s.partition.groups) (codes "every assignment can hang") out printed one.1 two.1
+  DrawsGroups-unique out printed (inr one) (inr two) = DrawsCircles-unique (all_rescued (own_lanes s.partition.groups)) [] (codes "every assignment can hang") out printed one.1 two.1
 
   DrawsDeclared-unique : (text : List ℕ) (end other : End) (out printed : List ℕ) → DrawsDeclared s comments text end out → DrawsDeclared s comments text other printed → (end ≡ other) × (out ≡ printed)
   DrawsDeclared-unique text end other out printed =
-      MatchResult-unique (assignment_of_text s.table.names s.partition text) (DrawsAssigned s comments) (λ fault. PrintsRefusal (cert_refusal fault)) end other out printed
-      (λ a is one two. (one.0 ∙ sym two.0, DrawsCircles-unique a (codes "can hang") out printed one.1 two.1)) (λ fault. PrintsRefusal-unique (cert_refusal fault) end other out printed)
+      MatchResult-unique (workqueues_of_text s.table.names s.partition text) (λ ws. DrawsAssigned s comments ws (names_of text)) (λ fault. PrintsRefusal (cert_refusal fault)) end other out printed
+      (λ ws is one two. (one.0 ∙ sym two.0, DrawsCircles-unique ws (names_of text) (codes "can hang") out printed one.1 two.1)) (λ fault. PrintsRefusal-unique (cert_refusal fault) end other out printed)
 
 pub Draws-unique : (declared text : List ℕ) (end other : End) (out printed : List ℕ) → Draws declared text end out → Draws declared text other printed → (end ≡ other) × (out ≡ printed)
 Draws-unique declared text end other out printed =

@@ -1,18 +1,21 @@
 -- Places: the flush of each arc of a chain, or of components, is one of those that are declared.
-use Rattle.std.proofs.Common.{ℕ, ◌<◌, ◌==◌, not, List, length, map, sym, subst}
+use Rattle.std.proofs.Common.{ℕ, ◌<◌, ◌==◌, not, Bool, List, length, map, get_or, sym, subst}
 use Rattle.std.specs.List.{All, range_with_len}
-use Rattle.std.proofs.lemmas.List.Elements.{All-filter, All-map}
+use Rattle.std.proofs.lemmas.List.Elements.{All-filter, All-map, Contains-get_or}
 use Rattle.wq_items.specs.Table.{flush_count}
 use Rattle.wq_groups.specs.Declaration.{Declaration, IsDeclaration}
 use Rattle.wq_groups.specs.Assignment.{Assignment, IsAssignment, item_lanes}
 use Rattle.wq_graph.specs.declared.arc.WaitArc.{WaitArc}
-use Rattle.wq_graph.specs.Graph.{IsArc, arcs_at, lane_graph}
+use Rattle.wq_graph.specs.Graph.{IsArc, arcs_at}
 use Rattle.wq_graph.proofs.Arcs.{Contains-by_item, place-below}
-use Rattle.wq_graph.proofs.Graphs.{AreArcsFrom-lane_graph}
+use Rattle.wq_core.specs.Workqueues.{Workqueues}
+use Rattle.wq_deadlock.specs.Judging.{bare_waits}
+use Rattle.wq_deadlock.proofs.BareLanes.{IsArc-bare_waits}
 use Rattle.wq_plan.specs.Solve.{IsPlanned}
 use Rattle.wq_plan.specs.LongestChain.{IsLongestChain}
 use Rattle.wq_plan.proofs.LongestChain.{chain_of-longest}
-use Rattle.wq_circles.specs.Components.{joined, loops_at, loops, AreComponents}
+use Rattle.wq_circles.specs.Components.{joined, kept_graph, loops_at, loops, AreComponents}
+use Rattle.wq_circles.proofs.KeptLanes.{AreArcsFrom-kept}
 use Rattle.wq_circles.proofs.Loops.{IsAssignment-components}
 use Rattle.wq_dot.specs.Flushes.{AreMarkable}
 
@@ -29,15 +32,22 @@ AreMarkable-planned d a chain declaration planned =
 
 -- ---- components
 
-AreMarkable-loops : (d : Declaration) (a : Assignment) → IsDeclaration d → IsAssignment d.groups a → All (AreMarkable (flush_count d.waits)) (loops (lane_graph d a))
-AreMarkable-loops d a declaration assignment =
-    let lists : List (List WaitArc) = map (loops_at (lane_graph d a)) (range_with_len 0 (length (lane_graph d a))) in
+AreMarkable-loops : (d : Declaration) (a : Assignment) (bare : List Bool) → IsDeclaration d → IsAssignment d.groups a → All (AreMarkable (flush_count d.waits)) (loops (kept_graph d a bare))
+AreMarkable-loops d a bare declaration assignment =
+    let lists : List (List WaitArc) = map (loops_at (kept_graph d a bare)) (range_with_len 0 (length (kept_graph d a bare))) in
     All-filter (λ (arcs : List WaitArc). not (length arcs == 0)) (AreMarkable (flush_count d.waits)) lists
-    (All-map (AreMarkable (flush_count d.waits)) (loops_at (lane_graph d a)) (range_with_len 0 (length (lane_graph d a)))
+    (All-map (AreMarkable (flush_count d.waits)) (loops_at (kept_graph d a bare)) (range_with_len 0 (length (kept_graph d a bare)))
     (λ k e within.
-    All-filter (λ (b : WaitArc). b.head == _) (λ (b : WaitArc). b.place < flush_count d.waits) (arcs_at (lane_graph d a) _)
-    (λ m b inside. place_of-below d (item_lanes a d.group_of) _ declaration ((AreArcsFrom-lane_graph d a declaration assignment _).declared m b inside).0)))
+    All-filter (λ (b : WaitArc). b.head == _) (λ (b : WaitArc). b.place < flush_count d.waits) (arcs_at (kept_graph d a bare) _)
+    (λ m b inside. place_of-below d (item_lanes a d.group_of) _ declaration ((AreArcsFrom-kept d a bare declaration assignment _).declared m b inside).0)))
 
-pub AreMarkable-components : (d : Declaration) (a : Assignment) (components : List (List WaitArc)) → IsDeclaration d → IsAssignment d.groups a → AreComponents d a components → All (AreMarkable (flush_count d.waits)) components
-AreMarkable-components d a components declaration assignment are =
-    subst (All (AreMarkable (flush_count d.waits))) (sym are.are) (AreMarkable-loops d (joined a are.lowest) declaration (IsAssignment-components d a declaration assignment components are))
+pub AreMarkable-components : (d : Declaration) (ws : Workqueues) (components : List (List WaitArc)) → IsDeclaration d → IsAssignment d.groups ws.assignment → AreComponents d ws components → All (AreMarkable (flush_count d.waits)) components
+AreMarkable-components d ws components declaration assignment are =
+    subst (All (AreMarkable (flush_count d.waits))) (sym are.are)
+    (AreMarkable-loops d (joined ws.assignment are.lowest) ws.bare declaration (IsAssignment-components d ws.assignment ws.bare declaration assignment components are))
+
+-- ---- flushes that lead to workqueues without a rescuer
+
+pub AreMarkable-waits : (d : Declaration) (ws : Workqueues) → IsDeclaration d → IsAssignment d.groups ws.assignment → AreMarkable (flush_count d.waits) (bare_waits d ws)
+AreMarkable-waits d ws declaration assignment =
+    λ k e within. place_of-below d d.group_of _ declaration (IsArc-bare_waits d ws declaration assignment (get_or (bare_waits d ws) k e) (Contains-get_or (bare_waits d ws) k e within)).0

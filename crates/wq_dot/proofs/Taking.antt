@@ -4,12 +4,14 @@ use Rattle.std.specs.Prelude.{MatchResult, take}
 use Rattle.std.proofs.lemmas.Bool.{cases_lt}
 use Rattle.std.proofs.lemmas.List.{take_all}
 use Rattle.wq_text.specs.Refusal.{Refusal}
-use Rattle.wq_groups.specs.Assignment.{Assignment}
+use Rattle.wq_core.specs.Workqueues.{Workqueues}
 use Rattle.wq_meter.specs.Shell.{Given, kept}
 use Rattle.wq_cert.specs.declared.fault.CertError.{CertError}
-use Rattle.wq_cert.specs.Reading.{assignment_reading}
-use Rattle.wq_cert.specs.Texts.{cert_refusal, max_certificate}
-use Rattle.wq_cert.proofs.LongCertificates.{text_reading-take}
+use Rattle.wq_cert.specs.declared.fault.CertError.TheVariants.{BadCertLine}
+use Rattle.wq_cert.specs.Reading.{lanes_reading}
+use Rattle.wq_cert.specs.Texts.{cert_refusal, max_certificate, workqueues_of_text}
+use Rattle.wq_cert.proofs.LongCertificates.{text_reading-long, text_reading-take}
+use Rattle.wq_names.specs.Names.{names_of}
 use Rattle.wq_commands.specs.declared.end.End.{End}
 use Rattle.wq_commands.specs.declared.why.Outcome.{Outcome}
 use Rattle.wq_commands.specs.Answer.{PrintsRefusal}
@@ -28,11 +30,27 @@ kept_whole text s is = elim (cases_lt max_declaration (length text)) [
   | inr short ↦ take_all (max_declaration + 1) text (omega (arith, short))
 ]
 
+-- and so was an assignment
+lanes_whole : (text : List ℕ) (s : Declared) (ws : Workqueues) → workqueues_of_text s.table.names s.partition text ≡ Ok ws → take (max_certificate + 1) text ≡ text
+lanes_whole text s ws is = elim (cases_lt max_certificate (length text)) [
+  | inl long ↦ absurd (let never : Err (BadCertLine 0) ≡ Ok ws = sym (text_reading-long (lanes_reading s.table.names s.partition) text long) ∙ is in cc)
+  | inr short ↦ take_all (max_certificate + 1) text (omega (arith, short))
+]
+
 module _ (end : End) (out : List ℕ) where
+  -- the answer to workqueues of this result, whose names are in these bytes
+  abbrev DrawsLanes : Declared → List (List ℕ) → List ℕ → Result Workqueues CertError → Type 0
+  DrawsLanes s comments bytes r = MatchResult r (λ ws. DrawsAssigned s comments ws (names_of bytes) end out) (λ fault. PrintsRefusal (cert_refusal fault) end out)
+
+  DrawsLanes-whole : (text : List ℕ) (comments : List (List ℕ)) (s : Declared) (r : Result Workqueues CertError) → workqueues_of_text s.table.names s.partition text ≡ r
+      → DrawsLanes s comments (take (max_certificate + 1) text) r → DrawsLanes s comments text r
+  DrawsLanes-whole text comments s (Ok ws) is drawn = subst (λ (bytes : List ℕ). DrawsAssigned s comments ws (names_of bytes) end out) (lanes_whole text s ws is) drawn
+  DrawsLanes-whole text comments s (Err fault) is refused = refused
+
   DrawsDeclared-take : (text : List ℕ) (comments : List (List ℕ)) (s : Declared) → DrawsDeclared s comments (take (max_certificate + 1) text) end out → DrawsDeclared s comments text end out
   DrawsDeclared-take text comments s answer =
-      subst (λ (r : Result Assignment CertError). MatchResult r (λ a. DrawsAssigned s comments a end out) (λ fault. PrintsRefusal (cert_refusal fault) end out))
-      (text_reading-take (assignment_reading s.table.names s.partition) text) answer
+      DrawsLanes-whole text comments s (workqueues_of_text s.table.names s.partition text) refl
+      (subst (DrawsLanes s comments (take (max_certificate + 1) text)) (text_reading-take (lanes_reading s.table.names s.partition) text) answer)
 
   -- the answer to a declaration of this result, whose comments are those of these bytes
   abbrev DrawsRead : List ℕ → List ℕ → Result Declared Refusal → Type 0

@@ -1,5 +1,6 @@
 -- The answer to a declaration and an assignment, or to only a declaration: a drawing.
-use Rattle.std.specs.Prelude.{◌≡◌, ◌⊎◌, ◌==◌, cond, if◌then◌else◌, Bool, false, true, ℕ, List, [], ◌++◌, codes, decimal, MatchResult}
+use Rattle.std.specs.Prelude.{◌≡◌, ◌⊎◌, ◌==◌, ◌&&◌, not, cond, if◌then◌else◌, Bool, false, true, ℕ, List, [], ◌++◌, length, codes, decimal, MatchResult}
+use Rattle.std.specs.List.{list_any}
 use Rattle.wq_lines.specs.LineText.{spaced}
 use Rattle.wq_items.specs.Chain.{HasCircle}
 use Rattle.wq_items.specs.Table.{flush_count}
@@ -8,8 +9,11 @@ use Rattle.wq_groups.specs.Assignment.{Assignment}
 use Rattle.wq_graph.specs.declared.arc.WaitArc.{WaitArc}
 use Rattle.wq_graph.specs.Graph.{group_graph}
 use Rattle.wq_core.specs.Wiring.{own_lanes}
+use Rattle.wq_core.specs.Workqueues.{Workqueues, all_rescued}
+use Rattle.wq_deadlock.specs.Judging.{bare_waits}
 use Rattle.wq_plan.specs.Plan.{IsPlan, chain_of}
-use Rattle.wq_cert.specs.Texts.{assignment_of_text, cert_refusal}
+use Rattle.wq_cert.specs.Texts.{workqueues_of_text, cert_refusal}
+use Rattle.wq_names.specs.Names.{names_of}
 use Rattle.wq_meter.specs.Shell.{Given}
 use Rattle.wq_meter.specs.declared.texts.Limits.{Limits}
 use Rattle.wq_commands.specs.declared.end.End.{End}
@@ -40,13 +44,40 @@ bold_text n = if n == 0 then [] else codes "," ++ counted n (codes "wait") ++ co
 abbrev pub plan_title : ℕ → ℕ → List ℕ
 plan_title workqueues bold = codes "plan of" ++ counted workqueues (codes "workqueue") ++ bold_text bold
 
+-- how many of the red waits lead to no rescuer
+abbrev pub leading_text : ℕ → List ℕ
+leading_text leading = if leading == 0 then [] else codes "," ++ spaced (decimal leading) ++ codes " to no rescuer"
+
+-- the work that red waits are for, if so many of so many lead to no rescuer, and the others lie on a circle
+abbrev pub awaited : ℕ → ℕ → List ℕ
+awaited leading red =
+    if leading == 0 then codes "only it, or one that waits for it, can do"
+    else (if leading == red then codes "no rescuer does" else codes "only it, or one that waits for it, can do,\\lor that no rescuer does")
+
 -- the legend of red waits
-abbrev pub red_legend : List ℕ
-red_legend = codes "\\lRed: while memory is short, a worker may wait for work\\lthat only it, or one that waits for it, can do.\\l"
+abbrev pub red_legend : ℕ → ℕ → List ℕ
+red_legend leading red = codes "\\lRed: while memory is short, a worker may wait for work\\lthat " ++ awaited leading red ++ codes "."
 
 -- `safe` if no wait is red, else what hangs, the number of red waits and their legend
-abbrev pub circles_title : List ℕ → ℕ → List ℕ
-circles_title hanging n = if n == 0 then codes "safe" else hanging ++ codes "," ++ counted n (codes "wait") ++ codes " in red" ++ red_legend
+abbrev pub red_text : List ℕ → ℕ → ℕ → List ℕ
+red_text hanging leading red =
+    if red == 0 then codes "safe" else hanging ++ codes "," ++ counted red (codes "wait") ++ codes " in red" ++ leading_text leading ++ red_legend leading red
+
+-- some workqueue has no rescuer
+abbrev pub some_bare : List Bool → Bool
+some_bare bare = list_any (λ b. b) bare
+
+-- the legend of dashed frames, if there is one
+abbrev pub dashed_legend : List Bool → List ℕ
+dashed_legend bare = if some_bare bare then codes "\\lDashed: no rescuer. While memory is short, nothing\\lguarantees that work there runs." else []
+
+-- the end of the last line of a legend, if there is one
+abbrev pub legend_end : List Bool → ℕ → List ℕ
+legend_end bare red = if red == 0 && not (some_bare bare) then [] else codes "\\l"
+
+-- the title of a drawing in which so many waits are red, of which so many lead to no rescuer
+abbrev pub circles_title : List ℕ → ℕ → List Bool → ℕ → List ℕ
+circles_title hanging leading bare red = red_text hanging leading red ++ dashed_legend bare ++ legend_end bare red
 
 -- ---- drawings
 
@@ -54,38 +85,45 @@ circles_title hanging n = if n == 0 then codes "safe" else hanging ++ codes "," 
 abbrev pub declared_looks : Declared → FlushLook → List WaitArc → List FlushLook
 declared_looks s look arcs = looks_of (flush_count s.table.waits) look arcs
 
--- the drawing of what is declared, on the workqueues of this assignment, with these looks and comments; the title is made of the
+-- the drawing of what is declared, on these workqueues with these names, with these looks and comments; the title is made of the
 -- number of looks that are marked
-abbrev pub drawing_of : Declared → Assignment → (ℕ → List ℕ) → List FlushLook → List (List ℕ) → List ℕ
-drawing_of s a title looks comments = drawing_text s.table s.partition a (title (marked looks)) looks comments
+abbrev pub drawing_of : Declared → Workqueues → List (List ℕ) → (ℕ → List ℕ) → List FlushLook → List (List ℕ) → List ℕ
+drawing_of s ws called title looks comments = drawing_text s.table s.partition ws called (title (marked looks)) looks comments
 
 -- the plan is drawn; the flushes along the chain of its plan text are bold
 pub record DrawsPlan (s : Declared) (comments : List (List ℕ)) (out : List ℕ) : Type 0 where
   pub assignment : Assignment
   pub plan : IsPlan (declared_waits s) assignment
-  pub drawn : out ≡ drawing_of s assignment (plan_title assignment.lanes) (declared_looks s Bold (chain_of (group_graph (declared_waits s)) assignment.lane_of_group)) comments
+  pub drawn : out ≡ drawing_of s (all_rescued assignment) [] (plan_title assignment.lanes) (declared_looks s Bold (chain_of (group_graph (declared_waits s)) assignment.lane_of_group)) comments
 
--- an assignment is drawn; the flushes that are on a circle are red, and if there are any, this is what hangs
-pub record DrawsCircles (s : Declared) (comments : List (List ℕ)) (a : Assignment) (hanging out : List ℕ) : Type 0 where
+-- the flushes that are on a circle, of these components, and those that lead to a workqueue without a rescuer
+abbrev pub hanging_arcs : Declared → Workqueues → List (List WaitArc) → List WaitArc
+hanging_arcs s ws components = all_arcs components ++ bare_waits (declared_waits s) ws
+
+-- workqueues with these names are drawn; the flushes that are on a circle are red, and so are those that lead to a workqueue without
+-- a rescuer, and if there are any, this is what hangs
+pub record DrawsCircles (s : Declared) (comments : List (List ℕ)) (ws : Workqueues) (called : List (List ℕ)) (hanging out : List ℕ) : Type 0 where
   pub components : List (List WaitArc)
-  pub are : AreComponents (declared_waits s) a components
-  pub drawn : out ≡ drawing_of s a (circles_title hanging) (declared_looks s Red (all_arcs components)) comments
+  pub are : AreComponents (declared_waits s) ws components
+  pub drawn : out ≡ drawing_of s ws called (circles_title hanging (length (bare_waits (declared_waits s) ws)) ws.bare) (declared_looks s Red (hanging_arcs s ws components)) comments
 
 -- the groups of a declaration are drawn, with the comments of its flushes: on the workqueues of their plan or, if they wait in a circle, each on its own
 -- workqueue
 abbrev pub DrawsGroups : Declared → List (List ℕ) → List ℕ → Type 0
-DrawsGroups s comments out = DrawsPlan s comments out ⊎ (HasCircle (GroupWaits (declared_waits s)) s.partition.groups × DrawsCircles s comments (own_lanes s.partition.groups) (codes "every assignment can hang") out)
+DrawsGroups s comments out =
+    DrawsPlan s comments out
+    ⊎ (HasCircle (GroupWaits (declared_waits s)) s.partition.groups × DrawsCircles s comments (all_rescued (own_lanes s.partition.groups)) [] (codes "every assignment can hang") out)
 
 -- ---- answers
 
--- the answer to an assignment of a declaration's groups
-abbrev pub DrawsAssigned : Declared → List (List ℕ) → Assignment → End → List ℕ → Type 0
-DrawsAssigned s comments a end out = (end ≡ Good) × DrawsCircles s comments a (codes "can hang") out
+-- the answer to workqueues of a declaration's groups, with these names
+abbrev pub DrawsAssigned : Declared → List (List ℕ) → Workqueues → List (List ℕ) → End → List ℕ → Type 0
+DrawsAssigned s comments ws called end out = (end ≡ Good) × DrawsCircles s comments ws called (codes "can hang") out
 
--- the answer to the text of an assignment of a declaration, or its refusal
+-- the answer to the text of an assignment of a declaration, in which the workqueues have their names, or its refusal
 abbrev pub DrawsDeclared : Declared → List (List ℕ) → List ℕ → End → List ℕ → Type 0
 DrawsDeclared s comments text end out =
-    MatchResult (assignment_of_text s.table.names s.partition text) (λ a. DrawsAssigned s comments a end out) (λ fault. PrintsRefusal (cert_refusal fault) end out)
+    MatchResult (workqueues_of_text s.table.names s.partition text) (λ ws. DrawsAssigned s comments ws (names_of text) end out) (λ fault. PrintsRefusal (cert_refusal fault) end out)
 
 -- the answer to the texts of a declaration and an assignment: a refusal of the declaration comes first
 abbrev pub Draws : List ℕ → List ℕ → End → List ℕ → Type 0

@@ -8,9 +8,11 @@ use Rattle.wq_groups.specs.Partition.{Partition}
 use Rattle.wq_groups.specs.Assignment.{Assignment, group_lane}
 use Rattle.wq_graph.specs.declared.arc.WaitArc.{WaitArc}
 use Rattle.wq_graph.specs.Graph.{arcs_by_place}
+use Rattle.wq_core.specs.Workqueues.{Workqueues}
 use Rattle.wq_dot.specs.declared.look.FlushLook.{FlushLook}
 use Rattle.wq_dot.specs.declared.look.FlushLook.TheVariants.{Plain, Red, Bold}
 use Rattle.wq_cert.specs.PlanText.{name_of}
+use Rattle.wq_dot.specs.Labels.{label_text, numbered}
 use Rattle.wq_dot.specs.Tooltips.{tooltip_text}
 
 -- ---- the head
@@ -54,16 +56,28 @@ group_lines names (first ∷ second ∷ others) = group_box_lines names first (f
 abbrev pub groups_on : Assignment → ℕ → List ℕ
 groups_on a q = filter (λ g. group_lane a g == q) (range_with_len 0 (length a.lane_of_group))
 
--- workqueue q with these groups: its three lines, with those of the groups before the third one; the second one has its label
-abbrev pub box_lines : List (List ℕ) → List ℕ → ℕ → List ℕ → List (List ℕ)
-box_lines names group_of q own =
+-- the frame of a workqueue: dashed if it has no rescuer
+abbrev pub frame_text : Bool → List ℕ
+frame_text true = codes "style=\"filled,dashed\", fillcolor=gray92, color=black"
+frame_text false = codes "style=filled, color=gray92"
+
+-- the second line of workqueue q, with its frame and its label
+abbrev pub frame_line : List (List ℕ) → Bool → ℕ → List ℕ
+frame_line called bare q =
+    codes "    graph [label=\"\", " ++ frame_text bare
+    ++ codes "]; \"" ++ numbered q ++ codes "\" [" ++ label_text called bare q ++ codes "shape=plaintext, style=\"\", fontsize=14];"
+
+-- workqueue q with these groups: its three lines, with those of the groups before the third one. `called` has the names of the
+-- workqueues
+abbrev pub box_lines : List (List ℕ) → List ℕ → List (List ℕ) → Bool → ℕ → List ℕ → List (List ℕ)
+box_lines names group_of called bare q own =
     (codes "  subgraph \"cluster wq " ++ decimal q ++ codes "\" {")
-    ∷ (codes "    graph [label=\"\", style=filled, color=gray92]; \"wq " ++ decimal q ++ codes "\" [shape=plaintext, style=\"\", fontsize=14];")
+    ∷ frame_line called bare q
     ∷ (flat_map (λ g. group_lines names (items_at group_of g)) own ++ (codes "  }" ∷ []))
 
 -- the lines of workqueue q with its groups
-abbrev pub workqueue_box_lines : List (List ℕ) → List ℕ → Assignment → ℕ → List (List ℕ)
-workqueue_box_lines names group_of a q = box_lines names group_of q (groups_on a q)
+abbrev pub workqueue_box_lines : List (List ℕ) → List ℕ → Workqueues → List (List ℕ) → ℕ → List (List ℕ)
+workqueue_box_lines names group_of ws called q = box_lines names group_of called (slice_index_or ws.bare q false) q (groups_on ws.assignment q)
 
 -- ---- flushes
 
@@ -109,10 +123,10 @@ flush_line names waits looks comments flush = arrow_line names waits (slice_inde
 -- ---- the text
 
 -- all lines: the head, each workqueue from 0 up, each flush in order of place, and the end
-abbrev pub drawing_lines : Table → Partition → Assignment → List ℕ → List FlushLook → List (List ℕ) → List (List ℕ)
-drawing_lines t p a title looks comments =
+abbrev pub drawing_lines : Table → Partition → Workqueues → List (List ℕ) → List ℕ → List FlushLook → List (List ℕ) → List (List ℕ)
+drawing_lines t p ws called title looks comments =
     head_lines title
-    ++ flat_map (workqueue_box_lines t.names p.group_of a) (range_with_len 0 a.lanes)
+    ++ flat_map (workqueue_box_lines t.names p.group_of ws called) (range_with_len 0 ws.assignment.lanes)
     ++ map (flush_line t.names t.waits looks comments) (arcs_by_place t.waits p.group_of)
     ++ (codes "}" ∷ [])
 
@@ -121,5 +135,5 @@ abbrev pub ended : List ℕ → List ℕ
 ended line = line ++ (10 ∷ [])
 
 -- the text of the drawing
-abbrev pub drawing_text : Table → Partition → Assignment → List ℕ → List FlushLook → List (List ℕ) → List ℕ
-drawing_text t p a title looks comments = flat_map ended (drawing_lines t p a title looks comments)
+abbrev pub drawing_text : Table → Partition → Workqueues → List (List ℕ) → List ℕ → List FlushLook → List (List ℕ) → List ℕ
+drawing_text t p ws called title looks comments = flat_map ended (drawing_lines t p ws called title looks comments)

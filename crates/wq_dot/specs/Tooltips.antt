@@ -1,30 +1,21 @@
 -- Tooltips: the comment of the line that declares a flush, as the text for Graphviz has it.
-use Rattle.std.specs.Prelude.{ℕ, ◌-◌, ◌==◌, ◌&&◌, ◌||◌, nat_le, if◌then◌else◌, Bool, List, [], ◌∷◌, ◌++◌, Option, Some, None, length, take, drop, replicate, flat_map, codes}
-use Rattle.std.specs.List.{prefix_len}
-use Rattle.wq_text.specs.Comments.{before_comment}
+use Rattle.std.specs.Prelude.{ℕ, ◌-◌, ◌==◌, ◌&&◌, nat_le, if◌then◌else◌, List, [], ◌∷◌, ◌++◌, Option, Some, None, length, take, replicate, flat_map, codes}
 use Rattle.wq_text.specs.Lines.{LineView, lines_of}
-use Rattle.wq_text.specs.Words.{WordView, is_blank, words_of}
+use Rattle.wq_text.specs.Words.{WordView, words_of}
 use Rattle.wq_decl.specs.declared.keyword.Keyword.{Keyword}
 use Rattle.wq_decl.specs.declared.keyword.Keyword.TheVariants.{Item, Flush, FlushWq, Ordered}
 use Rattle.wq_decl.specs.Keywords.{keyword_cut}
+use Rattle.wq_names.specs.Comments.{comment_body}
 
 -- ---- comments
-
--- a `#` or a blank: what stands before the words of a comment
-abbrev pub is_lead : ℕ → Bool
-is_lead b = b == 35 || is_blank b
-
--- the bytes from the first one on that isn't a `#` or a blank
-abbrev pub without_lead : List ℕ → List ℕ
-without_lead bytes = drop (prefix_len is_lead bytes) bytes
 
 -- how many bytes of a comment are shown
 abbrev pub max_comment : ℕ
 max_comment = 256
 
--- the comment of a line with these bytes: what follows its `#`, cut after so many bytes
+-- the comment of a line with these bytes, cut after so many of its own
 abbrev pub comment_of : List ℕ → List ℕ
-comment_of bytes = take max_comment (without_lead (drop (length (before_comment bytes)) bytes))
+comment_of bytes = take max_comment (comment_body bytes)
 
 -- ---- the comments of flushes
 

@@ -4,44 +4,18 @@
 //! number of flushes: the bytes stay where they are.
 
 ghost use Rattle.std.specs.Prelude.{◌≡◌, ◌-◌, ◌++◌, [], IfOk, None, OnOk, flat_map, length, map, replicate, slice_index_or, take};
-ghost use Rattle.std.specs.List.{prefix_len};
-ghost use Rattle.wq_dot.specs.Tooltips.{comment_of, comments_of, flushes_on, is_lead, line_comments, max_comment, without_lead};
+ghost use Rattle.wq_dot.specs.Tooltips.{comment_of, comments_of, flushes_on, line_comments, max_comment};
 ghost use Rattle.wq_text.specs.Limits.{limit_fault};
 ghost use Rattle.wq_commands.specs.Declaration.{max_declaration, max_declaration_line};
 
 use std::alloc::{AllocError, Allocator};
 use wq_commands::{MAX_DECLARATION, MAX_DECLARATION_LINE};
 use wq_decl::{Keyword, cut_keyword};
+use wq_names::comment_body;
 use wq_text::{Line, Lines, Text, Words};
 
 /// How many bytes of a comment are shown.
 const MAX_COMMENT: usize = 256;
-
-/// Whether a byte is a `#` or a blank.
-fn is_lead(byte: u8) -> bool
-    ensures { result ≡ is_lead byte }
-{
-    byte == b'#' || byte == b' ' || byte == b'\t'
-}
-
-/// How many bytes at the front are a `#` or a blank.
-fn lead(bytes: &[u8]) -> usize
-    ensures { result ≡ prefix_len is_lead bytes.now }
-{
-    for (len, byte) in bytes.iter().enumerate() {
-        if !is_lead(*byte) {
-            return len;
-        }
-    }
-    bytes.len()
-}
-
-/// The bytes from the first one on that isn't a `#` or a blank.
-fn without_lead(bytes: &[u8]) -> &[u8]
-    ensures { result.now ≡ without_lead bytes.now }
-{
-    bytes.split_at(lead(bytes)).1
-}
 
 /// The first bytes of a comment, as many as are shown.
 fn shown(comment: &[u8]) -> &[u8]
@@ -58,9 +32,7 @@ fn shown(comment: &[u8]) -> &[u8]
 fn comment<'a>(line: &Line<'a>) -> &'a [u8]
     ensures { result.now ≡ comment_of line.now.bytes }
 {
-    let bytes = line.bytes();
-    let after = &bytes[line.content().len()..];
-    shown(without_lead(after))
+    shown(comment_body(line))
 }
 
 /// How many names come after the first.

@@ -51,7 +51,8 @@ impl<A: Allocator + Copy> Command<A> for DotCommand {
 }
 
 /// Reads a declaration and then an assignment to their ends, and writes the drawing of the assignment. The flushes that lie on a
-/// circle of its workqueues are red. Where one of the two is refused, it writes the refusal of the first that is.
+/// circle of its workqueues are red, and so are those that lead from a workqueue with a rescuer to one without. Where one of the two
+/// is refused, it writes the refusal of the first that is.
 ///
 /// At most 1,048,577 bytes of the declaration and 8,388,609 of the assignment are read, in at most as many calls; the assignment
 /// isn't touched until the declaration has been read to its end. The errors are `Fault::Read`, where a read failed,

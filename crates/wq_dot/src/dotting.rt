@@ -3,12 +3,15 @@
 //! The rule is that of "The command `dot`" in docs/FORMAT.md. It takes the time and the memory of reading the texts, of the plan,
 //! of the components and of the drawing.
 
-ghost use Rattle.std.specs.Prelude.{◌≡◌, IfOk, None, codes, length, map};
+ghost use Rattle.std.specs.Prelude.{◌≡◌, [], IfOk, None, codes, length, map};
 ghost use Rattle.wq_items.specs.Chain.{HasCircle};
 ghost use Rattle.wq_groups.specs.Declaration.{GroupWaits, declaration_of};
 ghost use Rattle.wq_core.specs.Wiring.{own_lanes};
+ghost use Rattle.wq_core.specs.Workqueues.{all_rescued};
+ghost use Rattle.wq_deadlock.specs.Judging.{bare_waits};
 ghost use Rattle.wq_plan.specs.Solve.{IsPlanned, Solves};
-ghost use Rattle.wq_cert.specs.Texts.{assignment_of_text};
+ghost use Rattle.wq_cert.specs.Texts.{max_certificate, max_certificate_line, workqueues_of_text};
+ghost use Rattle.wq_names.specs.Names.{names_of};
 ghost use Rattle.wq_text.specs.Limits.{limit_fault};
 ghost use Rattle.wq_commands.specs.Declaration.{max_declaration, max_declaration_line};
 ghost use Rattle.wq_commands.specs.declared.why.Which.TheVariants.{Certificate};
@@ -22,13 +25,15 @@ use crate::drawing::drawing_text;
 use crate::flushes::{bold_flushes, marked, red_flushes};
 use crate::titles::{circles_title, plan_title};
 use std::alloc::{AllocError, Allocator};
-use wq_cert::{CertError, read_assignment};
+use wq_cert::{CertError, read_workqueues};
 use wq_circles::components;
 use wq_commands::{Answered, End, Stop, Texts, Which, read_declaration};
-use wq_deadlock::own_lanes;
+use wq_core::Workqueues;
+use wq_deadlock::{bare_waits, own_lanes};
 use wq_graph::WaitArc;
 use wq_groups::{Assignment, Groups};
 use wq_items::ItemTable;
+use wq_names::workqueue_names;
 use wq_plan::{Answer, solve};
 
 /// The drawing of the plan of a table's items, with the chain that `solve` gave with it.
@@ -55,69 +60,87 @@ fn draw_plan<A: Allocator + Copy>(
         table,
         groups,
         assignment,
+        &[],
+        &[],
         title.as_slice(),
         looks.as_slice(),
         comments,
     )
 }
 
-/// The drawing of an assignment with these components. `hanging` says what hangs if there are any.
+/// The drawing of workqueues with these names and these components, of whose flushes these lead to one without a rescuer. `hanging` says
+/// what hangs if there are any.
 fn draw_components<A: Allocator + Copy>(
     alloc: A,
     table: &ItemTable<'_, A>,
     groups: &Groups<A>,
     comments: &[&[u8]],
-    assignment: &Assignment<A>,
+    workqueues: &Workqueues<A>,
+    called: &[&[u8]],
     hanging: &[u8],
     components: &[Vec<WaitArc, A>],
+    waits: &[WaitArc],
 ) -> Result<Vec<u8, A>, AllocError>
     requires grouped { length groups.now.group_of ≡ length table.now.names }
-    requires assigned { length assignment.now.lane_of_group ≡ groups.now.groups }
-    requires found { AreComponents (declaration_of table.now groups.now) assignment.now (map (λ l. l.items) components.now) }
+    requires assigned { length workqueues.now.assignment.lane_of_group ≡ groups.now.groups }
+    requires found { AreComponents (declaration_of table.now groups.now) workqueues.now (map (λ l. l.items) components.now) }
+    requires waits { waits.now ≡ bare_waits (declaration_of table.now groups.now) workqueues.now }
     ensures { IfOk result (λ text.
-        DrawsCircles (record { table = table.now; partition = groups.now }) (map (λ c. c.now) comments.now) assignment.now hanging.now text.items) }
+        DrawsCircles (record { table = table.now; partition = groups.now }) (map (λ c. c.now) comments.now) workqueues.now (map (λ n. n.now) called.now)
+        hanging.now text.items) }
 {
     // What holds of every table, of all groups and of every assignment.
     let _items = table.len();
     let _flushes = table.flushes();
     let _groups = groups.len();
+    let assignment = workqueues.assignment();
     let _lanes = assignment.lanes();
-    let looks = red_flushes(alloc, table, components)?;
-    let title = circles_title(alloc, hanging, marked(looks.as_slice()))?;
+    let bare = workqueues.bare();
+    let looks = red_flushes(alloc, table, components, waits)?;
+    let red = marked(looks.as_slice());
+    let title = circles_title(alloc, hanging, waits.len() as u32, bare, red)?;
     drawing_text(
         alloc,
         table,
         groups,
         assignment,
+        bare,
+        called,
         title.as_slice(),
         looks.as_slice(),
         comments,
     )
 }
 
-/// The drawing of an assignment, with those flushes marked that lie on a circle. `hanging` says what hangs if there are any.
+/// The drawing of workqueues with these names, with those flushes marked that lie on a circle or lead to a workqueue without a rescuer.
+/// `hanging` says what hangs if there are any.
 fn draw_circles<A: Allocator + Copy>(
     alloc: A,
     table: &ItemTable<'_, A>,
     groups: &Groups<A>,
     comments: &[&[u8]],
-    assignment: &Assignment<A>,
+    workqueues: &Workqueues<A>,
+    called: &[&[u8]],
     hanging: &[u8],
 ) -> Result<Vec<u8, A>, AllocError>
     requires grouped { length groups.now.group_of ≡ length table.now.names }
-    requires assigned { length assignment.now.lane_of_group ≡ groups.now.groups }
+    requires assigned { length workqueues.now.assignment.lane_of_group ≡ groups.now.groups }
     ensures { IfOk result (λ text.
-        DrawsCircles (record { table = table.now; partition = groups.now }) (map (λ c. c.now) comments.now) assignment.now hanging.now text.items) }
+        DrawsCircles (record { table = table.now; partition = groups.now }) (map (λ c. c.now) comments.now) workqueues.now (map (λ n. n.now) called.now)
+        hanging.now text.items) }
 {
-    let components = components(alloc, table, groups, assignment)?;
+    let components = components(alloc, table, groups, workqueues)?;
+    let waits = bare_waits(alloc, table, groups, workqueues)?;
     draw_components(
         alloc,
         table,
         groups,
         comments,
-        assignment,
+        workqueues,
+        called,
         hanging,
         &components,
+        &waits,
     )
 }
 
@@ -130,16 +153,18 @@ fn draw_own_lanes<A: Allocator + Copy>(
 ) -> Result<Vec<u8, A>, AllocError>
     requires { length groups.now.group_of ≡ length table.now.names }
     ensures { IfOk result (λ text.
-        DrawsCircles (record { table = table.now; partition = groups.now }) (map (λ c. c.now) comments.now) (own_lanes groups.now.groups)
+        DrawsCircles (record { table = table.now; partition = groups.now }) (map (λ c. c.now) comments.now) (all_rescued (own_lanes groups.now.groups)) []
         (codes "every assignment can hang") text.items) }
 {
     let assignment = own_lanes(alloc, groups)?;
+    let workqueues = Workqueues::new(assignment, Vec::new(alloc));
     draw_circles(
         alloc,
         table,
         groups,
         comments,
-        &assignment,
+        &workqueues,
+        &[],
         b"every assignment can hang",
     )
 }
@@ -178,21 +203,53 @@ fn draw_groups<A: Allocator + Copy>(
     draw_answer(alloc, table, groups, comments, &answer)
 }
 
-/// The answer to an assignment of these groups.
+/// The answer to workqueues of these groups, with these names.
 fn draw_assigned<A: Allocator + Copy>(
     alloc: A,
     table: &ItemTable<'_, A>,
     groups: &Groups<A>,
     comments: &[&[u8]],
-    assignment: &Assignment<A>,
+    workqueues: &Workqueues<A>,
+    called: &[&[u8]],
 ) -> Result<Answered<A>, AllocError>
     requires grouped { length groups.now.group_of ≡ length table.now.names }
-    requires assigned { length assignment.now.lane_of_group ≡ groups.now.groups }
-    ensures answer { IfOk result (λ a. DrawsAssigned (record { table = table.now; partition = groups.now }) (map (λ c. c.now) comments.now) assignment.now a.end a.text.items) }
+    requires assigned { length workqueues.now.assignment.lane_of_group ≡ groups.now.groups }
+    ensures answer { IfOk result (λ a.
+        DrawsAssigned (record { table = table.now; partition = groups.now }) (map (λ c. c.now) comments.now) workqueues.now (map (λ n. n.now) called.now)
+        a.end a.text.items) }
     ensures why { IfOk result (λ a. a.why ≡ None) }
 {
-    let text = draw_circles(alloc, table, groups, comments, assignment, b"can hang")?;
+    let text = draw_circles(
+        alloc,
+        table,
+        groups,
+        comments,
+        workqueues,
+        called,
+        b"can hang",
+    )?;
     Ok(Answered::plain(End::Good, text))
+}
+
+/// The answer to workqueues of these groups, whose names are in this text.
+fn draw_named<A: Allocator + Copy>(
+    alloc: A,
+    table: &ItemTable<'_, A>,
+    groups: &Groups<A>,
+    comments: &[&[u8]],
+    workqueues: &Workqueues<A>,
+    text: &[u8],
+) -> Result<Answered<A>, AllocError>
+    requires grouped { length groups.now.group_of ≡ length table.now.names }
+    requires assigned { length workqueues.now.assignment.lane_of_group ≡ groups.now.groups }
+    requires limits { limit_fault max_certificate max_certificate_line text.now ≡ None }
+    ensures answer { IfOk result (λ a.
+        DrawsAssigned (record { table = table.now; partition = groups.now }) (map (λ c. c.now) comments.now) workqueues.now (names_of text.now)
+        a.end a.text.items) }
+    ensures why { IfOk result (λ a. a.why ≡ None) }
+{
+    let called = workqueue_names(alloc, text)?;
+    draw_assigned(alloc, table, groups, comments, workqueues, &called)
 }
 
 /// The answer to these groups without an assignment.
@@ -220,15 +277,15 @@ fn draw_declared<A: Allocator + Copy>(
 ) -> Result<Answered<A>, AllocError>
     requires { length groups.now.group_of ≡ length table.now.names }
     ensures answer { IfOk result (λ a. DrawsDeclared (record { table = table.now; partition = groups.now }) (map (λ c. c.now) comments.now) text.now a.end a.text.items) }
-    ensures why { IfOk result (λ a. SaysFault Certificate (assignment_of_text table.now.names groups.now text.now) a.why) }
+    ensures why { IfOk result (λ a. SaysFault Certificate (workqueues_of_text table.now.names groups.now text.now) a.why) }
 {
     // What holds of all groups.
     let _groups = groups.len();
-    match read_assignment(alloc, text, table, groups) {
-        Ok(assignment) => {
-            let answer = draw_assigned(alloc, table, groups, comments, &assignment);
+    match read_workqueues(alloc, text, table, groups) {
+        Ok(workqueues) => {
+            let answer = draw_named(alloc, table, groups, comments, &workqueues, text);
             // Written as a call, so that the proof has one step for it.
-            drop(assignment);
+            drop(workqueues);
             answer
         }
         Err(CertError::OutOfMemory) => Err(AllocError),
@@ -248,7 +305,7 @@ fn draw_commented<A: Allocator + Copy>(
     requires limits { limit_fault max_declaration max_declaration_line declared.now ≡ None }
     ensures answer { IfOk result (λ a.
         DrawsDeclared (record { table = table.now; partition = groups.now }) (comments_of declared.now) text.now a.end a.text.items) }
-    ensures why { IfOk result (λ a. SaysFault Certificate (assignment_of_text table.now.names groups.now text.now) a.why) }
+    ensures why { IfOk result (λ a. SaysFault Certificate (workqueues_of_text table.now.names groups.now text.now) a.why) }
 {
     let comments = comments(alloc, declared)?;
     draw_declared(alloc, table, groups, &comments, text)

@@ -3,7 +3,7 @@
 //! The format is that of "The command `dot`" in docs/FORMAT.md. Drawing takes time and memory in the number of items, groups,
 //! workqueues and flushes, and in the length of the text.
 
-ghost use Rattle.std.specs.Prelude.{◌≡◌, length, map, IfOk};
+ghost use Rattle.std.specs.Prelude.{◌≡◌, false, length, map, slice_index_or, IfOk};
 ghost use Rattle.wq_items.specs.Table.{flush_count};
 ghost use Rattle.wq_dot.specs.Drawing.{drawing_text};
 
@@ -20,8 +20,19 @@ use wq_groups::{Assignment, Groups};
 use wq_items::ItemTable;
 use wq_lines::put;
 
-/// The drawing of a table's items on the workqueues of an assignment, with this title. `looks` says how each flush looks, in
-/// order of place, and `comments` what its tooltip says: nothing if there is no comment at its place.
+/// Whether a workqueue has no rescuer: those past the end of the list have one.
+fn is_bare(bare: &[bool], number: u16) -> bool
+    ensures { result ≡ slice_index_or bare.now number false }
+{
+    match bare.get(usize::from(number)) {
+        Some(is_bare) => *is_bare,
+        None => false,
+    }
+}
+
+/// The drawing of a table's items on the workqueues of an assignment, with this title. `bare` says which of these have no rescuer, and
+/// `called` has their names: no byte for one that has none. `looks` says how each flush looks, in order of place, and `comments` what
+/// its tooltip says: nothing if there is no comment at its place.
 ///
 /// The groups are those of the table's items, and each has a workqueue. The only error is out of memory (20).
 pub fn drawing_text<A: Allocator + Copy>(
@@ -29,6 +40,8 @@ pub fn drawing_text<A: Allocator + Copy>(
     table: &ItemTable<'_, A>,
     groups: &Groups<A>,
     assignment: &Assignment<A>,
+    bare: &[bool],
+    called: &[&[u8]],
     title: &[u8],
     looks: &[FlushLook],
     comments: &[&[u8]],
@@ -36,7 +49,8 @@ pub fn drawing_text<A: Allocator + Copy>(
     requires grouped { length groups.now.group_of ≡ length table.now.names }
     requires assigned { length assignment.now.lane_of_group ≡ groups.now.groups }
     requires looks { length looks.now ≡ flush_count table.now.waits }
-    ensures { IfOk result (λ text. text.items ≡ drawing_text table.now groups.now assignment.now title.now looks.now (map (λ c. c.now) comments.now)) }
+    ensures { IfOk result (λ text. text.items ≡ drawing_text table.now groups.now (record { assignment = assignment.now; bare = bare.now })
+        (map (λ n. n.now) called.now) title.now looks.now (map (λ c. c.now) comments.now)) }
 {
     let workqueues = assignment.lanes();
     let lanes = lanes_of_groups(alloc, assignment, groups.len())?;
@@ -45,7 +59,16 @@ pub fn drawing_text<A: Allocator + Copy>(
     let mut out = Vec::new(alloc);
     put_head(&mut out, title)?;
     for number in 0..workqueues {
-        put_workqueue(&mut out, table, groups, number, by_workqueue.places(number))?;
+        let own = by_workqueue.places(number);
+        put_workqueue(
+            &mut out,
+            table,
+            groups,
+            called,
+            is_bare(bare, number),
+            number,
+            own,
+        )?;
     }
     for flush in &flushes {
         put_flush(

@@ -1,9 +1,10 @@
-//! How each flush of a drawing looks: those of a chain are bold, those of components red, and the others plain.
+//! How each flush of a drawing looks: those of a chain are bold, those of components red, and so are those that lead to a workqueue
+//! without a rescuer. The others are plain.
 //!
 //! The rule is that of "The command `dot`" in docs/FORMAT.md. A flush is identified by its place. So if several have the same
 //! item and target, only the one that is meant is marked. It takes time and memory in the number of flushes.
 
-ghost use Rattle.std.specs.Prelude.{◌≡◌, ◌<◌, ◌^◌, length, map, flat_map, IfOk};
+ghost use Rattle.std.specs.Prelude.{◌≡◌, ◌<◌, ◌^◌, ◌++◌, length, map, flat_map, IfOk};
 ghost use Rattle.std.specs.List.{All};
 ghost use Rattle.wq_items.specs.Table.{flush_count};
 ghost use Rattle.wq_dot.specs.declared.look.FlushLook.{FlushLook};
@@ -46,19 +47,22 @@ pub(crate) fn bold_flushes<A: Allocator + Copy>(
     Ok(looks)
 }
 
-/// How each flush of a table's items looks, in order of place. Those of these components are red.
+/// How each flush of a table's items looks, in order of place. Those of these components are red, and so are these waits.
 pub(crate) fn red_flushes<A: Allocator + Copy>(
     alloc: A,
     table: &ItemTable<'_, A>,
     components: &[Vec<WaitArc, A>],
+    waits: &[WaitArc],
 ) -> Result<Vec<FlushLook, A>, AllocError>
-    requires { All (AreMarkable (flush_count table.now.waits)) (map (λ l. l.items) components.now) }
+    requires places { All (AreMarkable (flush_count table.now.waits)) (map (λ l. l.items) components.now) }
+    requires waits { AreMarkable (flush_count table.now.waits) waits.now }
     ensures { IfOk result (λ looks. looks.items
-        ≡ looks_of (flush_count table.now.waits) FlushLook.Red (all_arcs (map (λ l. l.items) components.now))) }
+        ≡ looks_of (flush_count table.now.waits) FlushLook.Red (all_arcs (map (λ l. l.items) components.now) ++ waits.now)) }
 {
     let mut looks = vec![in alloc; FlushLook::Plain; table.flushes() as usize]?;
     for arcs in components {
         mark(looks.as_mut_slice(), arcs, FlushLook::Red);
     }
+    mark(looks.as_mut_slice(), waits, FlushLook::Red);
     Ok(looks)
 }

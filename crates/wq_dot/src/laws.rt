@@ -8,9 +8,10 @@ ghost use Rattle.std.specs.List.{All, count_by, range_with_len};
 ghost use Rattle.wq_items.specs.declared.target.Target.{Target};
 ghost use Rattle.wq_items.specs.Table.{Table, IsTable, flush_count, targets_of};
 ghost use Rattle.wq_groups.specs.Partition.{Partition, IsPartition};
-ghost use Rattle.wq_groups.specs.Assignment.{Assignment, IsAssignment};
+ghost use Rattle.wq_groups.specs.Assignment.{IsAssignment};
 ghost use Rattle.wq_graph.specs.declared.arc.WaitArc.{WaitArc};
 ghost use Rattle.wq_graph.specs.Graph.{IsArc, arc_of, arcs_by_place};
+ghost use Rattle.wq_core.specs.Workqueues.{Workqueues};
 ghost use Rattle.wq_meter.specs.Shell.{HasOneAnswer};
 ghost use Rattle.wq_commands.specs.declared.end.End.{End};
 ghost use Rattle.wq_commands.specs.Declaration.{Declared, declaration};
@@ -34,19 +35,20 @@ pub fn drawings_have_one_answer()
     ensures command { (assigned : Bool) → HasOneAnswer (DrawsTexts assigned) }
 {}
 
-/// Each item has exactly one line, whatever the title, the looks and the comments.
+/// Each item has exactly one line, whatever the title, the looks, the comments and the names of the workqueues, and whichever of these
+/// have no rescuer.
 pub fn each_item_has_one_line()
-    ensures { (t : Table) (p : Partition) (a : Assignment) (title : List ℕ) (looks : List FlushLook) (comments : List (List ℕ)) (i : ℕ) →
-        IsTable t → IsPartition p → length p.group_of ≡ length t.names → IsAssignment p.groups a → i < length t.names →
-        count_by (is_line_of t.names i) (drawing_lines t p a title looks comments) ≡ 1 }
+    ensures { (t : Table) (p : Partition) (ws : Workqueues) (called : List (List ℕ)) (title : List ℕ) (looks : List FlushLook) (comments : List (List ℕ)) (i : ℕ) →
+        IsTable t → IsPartition p → length p.group_of ≡ length t.names → IsAssignment p.groups ws.assignment → i < length t.names →
+        count_by (is_line_of t.names i) (drawing_lines t p ws called title looks comments) ≡ 1 }
 {}
 
 /// Each flush has exactly one arrow: there are as many arrows as flushes, each of a declared flush, and their places are 0, 1, 2
 /// and so on.
 pub fn each_flush_has_one_arrow()
-    ensures arrows { (t : Table) (p : Partition) (a : Assignment) (title : List ℕ) (looks : List FlushLook) (comments : List (List ℕ)) →
-        IsTable t → IsPartition p → IsAssignment p.groups a →
-        count_by is_arrow (drawing_lines t p a title looks comments) ≡ flush_count t.waits }
+    ensures arrows { (t : Table) (p : Partition) (ws : Workqueues) (called : List (List ℕ)) (title : List ℕ) (looks : List FlushLook) (comments : List (List ℕ)) →
+        IsTable t → IsPartition p → IsAssignment p.groups ws.assignment →
+        count_by is_arrow (drawing_lines t p ws called title looks comments) ≡ flush_count t.waits }
     ensures declared { (t : Table) (p : Partition) → IsTable t → All (IsArc t.waits p.group_of) (arcs_by_place t.waits p.group_of) }
     ensures places { (t : Table) (p : Partition) → IsTable t →
         map (λ (a : WaitArc). a.place) (arcs_by_place t.waits p.group_of) ≡ range_with_len 0 (flush_count t.waits) }

@@ -1,11 +1,12 @@
-//! The command `dot`: a drawing of a plan, or of an assignment with the flushes that lie on a circle.
+//! The command `dot`: a drawing of a plan, or of workqueues with the flushes that lie on a circle or lead to no rescuer.
 //!
 //! What the layer above relies on: the bytes written are the drawing of the bytes read, or their refusal. A drawing is that of
-//! the plan, with the flushes that the chain of its plan text follows, or of an assignment, with those that lie on a circle. The
-//! text for Graphviz is the definition `drawing_text` of the items, the groups, the assignment, the title, and the looks and
-//! comments of the flushes, byte by byte. The rule is that of "The command `dot`" in docs/FORMAT.md. It takes the time of reading the texts, of
-//! the plan, of the components, of the drawing, and of writing it; a drawing takes time and memory in the number of items,
-//! groups, workqueues and flushes, and in the length of its text.
+//! the plan, with the flushes that the chain of its plan text follows, or of workqueues, with those that lie on a circle or lead to
+//! one without a rescuer. The text for Graphviz is the definition `drawing_text` of the items, the groups, the workqueues and their
+//! names, the title, and the looks and comments of the flushes, byte by byte. The rule is that of "The command `dot`" in
+//! docs/FORMAT.md. It takes the time of reading the texts, of the plan, of the components, of the drawing, and of writing it; a
+//! drawing takes time and memory in the number of items, groups, workqueues and flushes, and in the length of its text. Looking for
+//! workqueues that have one name takes time in the square of their number.
 #![tactic(auto)]
 
 mod arrow;
@@ -17,6 +18,7 @@ mod flushes;
 mod group;
 mod group_lanes;
 mod head;
+mod label;
 pub mod laws;
 mod look;
 mod titles;

@@ -10,7 +10,7 @@ ghost use Rattle.std.specs.Prelude.{◌≡◌};
 pub enum FlushLook {
     /// Without a mark: black and thin.
     Plain,
-    /// It lies on a circle.
+    /// It lies on a circle, or leads to a workqueue without a rescuer.
     Red,
     /// The chain of a plan follows it.
     Bold,

@@ -3,7 +3,7 @@
 //! They are those of "The command `dot`" in docs/FORMAT.md. Making one takes time and memory in its length.
 
 ghost use Rattle.std.specs.Prelude.{◌≡◌, ◌==◌, ◌++◌, [], codes, cond, IfOk, OnOk};
-ghost use Rattle.wq_dot.specs.Dotting.{bold_text, circles_title, counted, plan_title, red_legend};
+ghost use Rattle.wq_dot.specs.Dotting.{awaited, bold_text, circles_title, counted, dashed_legend, leading_text, legend_end, plan_title, red_legend, red_text, some_bare};
 
 use std::alloc::{AllocError, Allocator};
 use wq_lines::{put, put_number, put_word};
@@ -58,30 +58,110 @@ pub(crate) fn plan_title<A: Allocator + Copy>(
     Ok(title)
 }
 
-/// The legend of red waits.
-fn red_legend() -> &'static [u8]
-    ensures { result.now ≡ red_legend }
+/// Adds how many of the red waits lead to no rescuer.
+fn put_leading<A: Allocator + Copy>(out: &mut Vec<u8, A>, leading: u32) -> Result<(), AllocError>
+    ensures { OnOk result (out.new.items ≡ out.old.items ++ leading_text leading) }
 {
-    b"\\lRed: while memory is short, a worker may wait for work\\lthat only it, or one that waits for it, can do.\\l"
+    if leading == 0 {
+        return Ok(());
+    }
+    put(out, b",")?;
+    put_number(out, leading)?;
+    put(out, b" to no rescuer")
 }
 
-/// The title of a drawing with so many red waits: what hangs, or that nothing does.
+/// The work that red waits are for, if so many of so many lead to no rescuer.
+fn awaited(leading: u32, red: u32) -> &'static [u8]
+    ensures { result.now ≡ awaited leading red }
+{
+    if leading == 0 {
+        b"only it, or one that waits for it, can do"
+    } else if leading == red {
+        b"no rescuer does"
+    } else {
+        b"only it, or one that waits for it, can do,\\lor that no rescuer does"
+    }
+}
+
+/// Adds the legend of red waits.
+fn put_red_legend<A: Allocator + Copy>(
+    out: &mut Vec<u8, A>,
+    leading: u32,
+    red: u32,
+) -> Result<(), AllocError>
+    ensures { OnOk result (out.new.items ≡ out.old.items ++ red_legend leading red) }
+{
+    put(
+        out,
+        b"\\lRed: while memory is short, a worker may wait for work\\lthat ",
+    )?;
+    put(out, awaited(leading, red))?;
+    put(out, b".")
+}
+
+/// Adds what hangs, with the red waits and their legend, or that nothing does.
+fn put_red<A: Allocator + Copy>(
+    out: &mut Vec<u8, A>,
+    hanging: &[u8],
+    leading: u32,
+    red: u32,
+) -> Result<(), AllocError>
+    ensures { OnOk result (out.new.items ≡ out.old.items ++ red_text hanging.now leading red) }
+{
+    if red == 0 {
+        return put(out, b"safe");
+    }
+    put(out, hanging)?;
+    put(out, b",")?;
+    put_counted(out, red, b"wait")?;
+    put(out, b" in red")?;
+    put_leading(out, leading)?;
+    put_red_legend(out, leading, red)
+}
+
+/// Whether some workqueue has no rescuer.
+fn some_bare(bare: &[bool]) -> bool
+    ensures { result ≡ some_bare bare.now }
+{
+    bare.iter().any(|is_bare| *is_bare)
+}
+
+/// The legend of dashed frames, if there is one.
+fn dashed_legend(bare: &[bool]) -> &'static [u8]
+    ensures { result.now ≡ dashed_legend bare.now }
+{
+    if some_bare(bare) {
+        b"\\lDashed: no rescuer. While memory is short, nothing\\lguarantees that work there runs."
+    } else {
+        b""
+    }
+}
+
+/// The end of the last line of a legend, if there is one.
+fn legend_end(bare: &[bool], red: u32) -> &'static [u8]
+    ensures { result.now ≡ legend_end bare.now red }
+{
+    if red == 0 && !some_bare(bare) {
+        b""
+    } else {
+        b"\\l"
+    }
+}
+
+/// The title of a drawing with so many red waits, so many of which lead to no rescuer: what hangs, or that nothing does. `bare` says
+/// which workqueues have no rescuer.
 pub(crate) fn circles_title<A: Allocator + Copy>(
     alloc: A,
     hanging: &[u8],
+    leading: u32,
+    bare: &[bool],
     red: u32,
 ) -> Result<Vec<u8, A>, AllocError>
-    ensures { IfOk result (λ title. title.items ≡ circles_title hanging.now red) }
+    ensures { IfOk result (λ title. title.items ≡ circles_title hanging.now leading bare.now red) }
 {
     let mut title = Vec::new(alloc);
-    if red == 0 {
-        put(&mut title, b"safe")?;
-        return Ok(title);
-    }
-    put(&mut title, hanging)?;
-    put(&mut title, b",")?;
-    put_counted(&mut title, red, b"wait")?;
-    put(&mut title, b" in red")?;
-    put(&mut title, red_legend())?;
+    put_red(&mut title, hanging, leading, red)?;
+    put(&mut title, dashed_legend(bare))?;
+    put(&mut title, legend_end(bare, red))?;
     Ok(title)
 }

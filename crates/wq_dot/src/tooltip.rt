@@ -2,7 +2,7 @@
 //!
 //! The escapes are those of "The command `dot`" in docs/FORMAT.md. Printing takes time and memory in the length of the comment.
 
-ghost use Rattle.std.specs.Prelude.{◌≡◌, ◌++◌, OnOk};
+ghost use Rattle.std.specs.Prelude.{◌≡◌, ◌++◌, OnOk, flat_map};
 ghost use Rattle.wq_dot.specs.Tooltips.{escaped, tooltip_of, tooltip_text};
 
 use std::alloc::{AllocError, Allocator};
@@ -22,14 +22,25 @@ fn put_escaped<A: Allocator + Copy>(out: &mut Vec<u8, A>, byte: u8) -> Result<()
     }
 }
 
+/// Adds bytes, each with an escape if Graphviz would read it otherwise.
+pub(crate) fn put_all_escaped<A: Allocator + Copy>(
+    out: &mut Vec<u8, A>,
+    bytes: &[u8],
+) -> Result<(), AllocError>
+    ensures { OnOk result (out.new.items ≡ out.old.items ++ flat_map escaped bytes.now) }
+{
+    for byte in bytes {
+        put_escaped(out, *byte)?;
+    }
+    Ok(())
+}
+
 /// Adds a tooltip with this comment.
 fn put_comment<A: Allocator + Copy>(out: &mut Vec<u8, A>, comment: &[u8]) -> Result<(), AllocError>
     ensures { OnOk result (out.new.items ≡ out.old.items ++ tooltip_of comment.now) }
 {
     put(out, b" [edgetooltip=\"")?;
-    for byte in comment {
-        put_escaped(out, *byte)?;
-    }
+    put_all_escaped(out, comment)?;
     put(out, b"\"]")
 }
 

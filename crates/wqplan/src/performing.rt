@@ -27,7 +27,7 @@ use wq_commands::{
     CheckCommand, Command, DeadlockCommand, End, Fault, Metered, Outcome, PlanCommand,
     ReplayCommand, Stopped, Voice, carry_out,
 };
-use wq_diagnosis::{CertificateKind, Diagnosing};
+use wq_diagnosis::{CertificateKind, Diagnosing, Unrescued};
 use wq_dot::DotCommand;
 use wq_explain::{Explained, explain_cmd};
 use wq_meter::write_text;
@@ -284,11 +284,11 @@ fn deadlock<'a, O: World<'a>, W: Write, E: Write>(
     let ended = carry_out_on(
         alloc,
         &DeadlockCommand { seed },
-        &Diagnosing::two(
+        &Diagnosing::assigned(
             seed,
             shown_name(declaration),
-            CertificateKind::Assignment,
             shown_name(assignment),
+            Unrescued::Explained,
         ),
         declared,
         assigned,
@@ -328,6 +328,7 @@ fn replay<'a, O: World<'a>, W: Write, E: Write>(
             kind: CertificateKind::Assignment,
             certificate: shown_name(assignment),
             run: shown_name(run),
+            unrescued: Unrescued::Unsaid,
         },
         declared,
         assigned,
@@ -361,11 +362,11 @@ fn assigned_circles<'a, O: World<'a>, W: Write, E: Write>(
             seed,
             assigned: true,
         },
-        &Diagnosing::two(
+        &Diagnosing::assigned(
             seed,
             shown_name(declaration),
-            CertificateKind::Assignment,
             shown_name(assignment),
+            Unrescued::Noted,
         ),
         declared,
         assigned,

@@ -18,8 +18,10 @@ digraph wqplan {
 """
 BOX = """\
   subgraph "cluster wq %d" {
-    graph [label="", style=filled, color=gray92]; "wq %d" [shape=plaintext, style="", fontsize=14];
+    graph [label="", %s]; "wq %d" [%sshape=plaintext, style="", fontsize=14];
 """
+FRAME = "style=filled, color=gray92"
+DASHED_FRAME = 'style="filled,dashed", fillcolor=gray92, color=black'
 ORDERED = """\
     subgraph "cluster ordered %s" {
       graph [label="", style=dashed, color=black]; "ordered %s" [label="ordered", shape=plaintext, style=""];
@@ -31,6 +33,10 @@ RED_LEGEND = (r"\lRed: while memory is short, a worker may wait for work\l"
 ONE_RED = "1 wait in red" + RED_LEGEND
 RED = "%d waits in red" + RED_LEGEND
 HANGS = "can hang, " + RED
+DASHED_LEGEND = r"\lDashed: no rescuer. While memory is short, nothing\lguarantees that work there runs.\l"
+ONE_LEADS = r"can hang, 1 wait in red, 1 to no rescuer\lRed: while memory is short, a worker may wait for work\lthat no rescuer does."
+SOME_LEAD = (r"can hang, %d waits in red, %d to no rescuer\lRed: while memory is short, a worker may wait for work\l"
+             r"that only it, or one that waits for it, can do,\lor that no rescuer does.")
 EVERY_HANGS = "every assignment can hang, " + RED
 
 
@@ -42,11 +48,14 @@ def group(names):
     return ORDERED % (first, first) + "".join(f'      "{name}";\n' for name in names.split()) + "    }\n"
 
 
-def drawing(title, boxes, arrows):
-    """A drawing with these groups in each box, and these arrows: two names, and the look behind them."""
+def drawing(title, boxes, arrows, labels=()):
+    """A drawing with these groups in each box, and these arrows: two names, and the look behind them. Each label that isn't only
+    the number stands at its place; one of a workqueue without a rescuer says so."""
     text = HEAD % title
     for number, groups in enumerate(boxes):
-        text += BOX % (number, number) + "".join(map(group, groups)) + "  }\n"
+        label = labels[number] if number < len(labels) else ""
+        frame = DASHED_FRAME if label.endswith(" (no rescuer)") else FRAME
+        text += BOX % (number, frame, number, f'label="{label}", ' if label else "") + "".join(map(group, groups)) + "  }\n"
     for arrow in arrows:
         item, target, *look = arrow.split(" ", 2)
         text += f'  "{item}" -> "{target}"' + "".join(f" {mark}" for mark in look) + ";\n"
@@ -193,7 +202,7 @@ ASSIGNED = [
     (CHAIN, [
         ("plan 3 / wq 0 c / wq 1 b / wq 2 a / chain 3 / arc a b / arc b c", SAFE),
         ("wq 0 c / wq 1 b / wq 2 a", SAFE),
-        (b"wq 0 c # x\r\n\n\twq 1  b\nwq 2 a", SAFE),
+        (b"wq 0 c\r\n\n\twq 1  b\nwq 2 a", SAFE),
         ("wq 0 / wq 1 c a / wq 2 b", OF_CIRCLE),
         ("wq 0 / wq 1 a c / wq 2 b", OF_CIRCLE),
         # Only one of the two flushes is within a workqueue.
@@ -217,8 +226,48 @@ ASSIGNED = [
         ("wq 0 a b c d", drawing(
             HANGS % 5, [["a", "b", "c", "d"]], [*TWO_ARROWS[:4], "b c [color=red, style=bold]"])),
     ]),
+    # Workqueues have the names that their lines give them: a comment up to its first comma.
+    (CHAIN, [
+        ("wq 0 c # x / wq 1 b#kworker, or so / wq 2 a", drawing("safe", [["c"], ["b"], ["a"]], ["a b", "b c"], ["x", "kworker"])),
+        (b"# of none\nwq 0 c ## # nvme-wq  , of core.c\r\n\n  # of none\nwq 1 b #\t a b\t\nwq 2 a #", drawing(
+            "safe", [["c"], ["b"], ["a"]], ["a b", "b c"], ["nvme-wq", "a b"])),
+        # The comments of a plan text are names, too, but those of its other lines.
+        ("plan 3 # p / wq 0 c # zero / wq 1 b / wq 2 a # two / chain 3 # q / arc a b # r / arc b c", drawing(
+            "safe", [["c"], ["b"], ["a"]], ["a b", "b c"], ["zero", "", "two"])),
+        # A name that is there twice comes with the number; one that is there once doesn't.
+        ("wq 0 c # x / wq 1 b # y / wq 2 a # x,y", drawing("safe", [["c"], ["b"], ["a"]], ["a b", "b c"], ["wq 0 x", "y", "wq 2 x"])),
+        # Escapes.
+        ('wq 0 c # "x" / wq 1 b # \\N & <b> / wq 2 a # x#y', drawing(
+            "safe", [["c"], ["b"], ["a"]], ["a b", "b c"], [r'\"x\"', r"\\N &amp; <b>", "x#y"])),
+        # No names: 64 bytes, no byte before the comma, a byte that isn't printable. 63 bytes are one.
+        ("wq 0 c # " + "n" * 64 + " / wq 1 b # , x / wq 2 a # " + "n" * 63, drawing(
+            "safe", [["c"], ["b"], ["a"]], ["a b", "b c"], ["", "", "n" * 63])),
+        (b"wq 0 c # a\tb\nwq 1 b # \xc3\xa4\nwq 2 a # a\x7f", SAFE),
+        (b"wq 0 c # a\rb\nwq 1 b # x" + b" " * 300 + b"y\nwq 2 a # x" + b" " * 300 + b",y", drawing(
+            "safe", [["c"], ["b"], ["a"]], ["a b", "b c"], ["", "", "x"])),
+    ]),
+    # A workqueue without a rescuer has a dashed frame. A flush that leads to one is red, and one that leads away isn't.
+    (CHAIN, [
+        ("norescuer 0 c / wq 1 b / wq 2 a", drawing(
+            ONE_LEADS + DASHED_LEGEND, [["c"], ["b"], ["a"]], ["a b", "b c [color=red, style=bold]"], ["wq 0 (no rescuer)"])),
+        ("wq 0 c / wq 1 b / norescuer 2 a # x", drawing(
+            "safe" + DASHED_LEGEND, [["c"], ["b"], ["a"]], ["a b", "b c"], ["", "", "x (no rescuer)"])),
+        ("norescuer 0 a b c", drawing("safe" + DASHED_LEGEND, [["a", "b", "c"]], ["a b", "b c"], ["wq 0 (no rescuer)"])),
+        ("wq 0 a / norescuer 1 b # w / wq 2 c # w / norescuer 3", drawing(
+            ONE_LEADS + DASHED_LEGEND, [["a"], ["b"], ["c"], []], ["a b [color=red, style=bold]", "b c"],
+            ["", "wq 1 w (no rescuer)", "wq 2 w", "wq 3 (no rescuer)"])),
+    ]),
+    # Those on a circle are red beside it. A circle by way of a workqueue without a rescuer is none.
+    ("item x / item a / item b / item y / item c / flush a x / flush x a / flushwq b y / flush c c / flush y b c", [
+        ('wq 0 x # "x" & \\ / norescuer 1 a / wq 2 b # same name / norescuer 3 y # same name / wq 4 c / norescuer 5 # system_wq', drawing(
+            SOME_LEAD % (3, 2) + DASHED_LEGEND, [["x"], ["a"], ["b"], ["y"], ["c"], []],
+            ["x a [dir=back]", "x a [color=red, style=bold]", "b y [color=red, style=bold] [arrowhead=odiamond]",
+             "c c [color=red, style=bold]", "b y [dir=back]", "y c"],
+            [r'\"x\" &amp; \\', "wq 1 (no rescuer)", "wq 2 same name", "wq 3 same name (no rescuer)", "", "system_wq (no rescuer)"])),
+    ]),
     ("", [
         ("", drawing("safe", [], [])),
+        ("norescuer 0 # x", drawing("safe" + DASHED_LEGEND, [[]], [], ["x (no rescuer)"])),
         ("plan 0 / chain 0", drawing("safe", [], [])),
         ("wq 0 / wq 1", drawing("safe", [[], []], [])),
     ]),
@@ -233,6 +282,8 @@ REFUSALS = [
     (GROUPED, "wq 0 a d / wq 1 b / wq 2 c", "refused 42 line 3"),
     (GROUPED, "wq 0 a d / wq 1 b", "refused 41 line 0"),
     ("item a", "wq 01 a", "refused 40 line 1"),
+    ("item a", "norescuer 1 a # x", "refused 43 line 1"),
+    ("item a", "plan 1 / norescuer 0 a / chain 1", "refused 40 line 2"),
     # What `dot` prints is no assignment: its first line ends the `wq` lines, of which there is none.
     ("", EMPTY, "refused 40 line 1"),
     ("item 7", drawing("plan of 1 workqueue", [["7"]], []), "refused 41 line 0"),

@@ -1,6 +1,6 @@
 use Rattle.std.proofs.Common.{◌≡◌}
 use Rattle.std.proofs.lemmas.Result.{IfOk-weaker}
-use Rattle.wq_cert.specs.Texts.{assignment_of_text}
+use Rattle.wq_cert.specs.Texts.{workqueues_of_text}
 use Rattle.wq_commands.specs.Answer.{PrintsRefusal}
 use Rattle.wq_commands.specs.Declaration.{declaration}
 use Rattle.wq_commands.specs.declared.why.Which.TheVariants.{Declaration, Certificate}
@@ -20,7 +20,7 @@ returns-in-Ok-clause-answer g c =
 pub returns-in-Ok-clause-why : goal.returns-in-Ok-clause-why
 returns-in-Ok-clause-why g c =
     IfOk-weaker c.draw_commented-answer.result _ _
-    (λ a says. MatchResult-ok (declaration c.args.text.now) _ (λ s. SaysFault Certificate (assignment_of_text s.table.names s.partition c.args.assigned.now) a.why) (λ r. a.why ≡ refused_for Declaration r) c.in-Ok.ensures.declaration says)
+    (λ a says. MatchResult-ok (declaration c.args.text.now) _ (λ s. SaysFault Certificate (workqueues_of_text s.table.names s.partition c.args.assigned.now) a.why) (λ r. a.why ≡ refused_for Declaration r) c.in-Ok.ensures.declaration says)
     c.draw_commented-answer.ensures.why
 
 pub draw_commented-answer-requires-clause-limits : goal.draw_commented-answer-requires-clause-limits

@@ -1,20 +1,11 @@
-use Rattle.std.proofs.Common.{ℕ, List, length, map, ap, subst, ◌∙◌}
-use Rattle.std.specs.Prelude.{codes}
+use Rattle.std.proofs.Common.{length, ap, ◌∙◌}
 use Rattle.std.proofs.lemmas.List.FromFn.{length-range_with_len}
-use Rattle.std.proofs.lemmas.Result.{IfOk-weaker}
 use Rattle.wq_groups.specs.Assignment.{Assignment}
-use Rattle.wq_commands.specs.Declaration.{Declared}
-use Rattle.wq_dot.specs.Dotting.{DrawsCircles}
+use Rattle.wq_core.specs.Workqueues.{Workqueues}
 use Rattle.wq_dot.proofs.dotting.draw_own_lanes.Goals as goal
 
 pub draw_circles-requires-clause-assigned : goal.draw_circles-requires-clause-assigned
 draw_circles-requires-clause-assigned g c =
     let groups = c.args.groups.now.groups in
-    ap (λ (a : Assignment). length a.lane_of_group) c.in_ok-assignment.ensures.lanes ∙ length-range_with_len 0 groups
-
-pub returns : goal.returns
-returns g c =
-    let s : Declared = record { table = c.args.table.now; partition = c.args.groups.now } in
-    let hanging : List ℕ = codes "every assignment can hang" in
-    IfOk-weaker c.draw_circles.result _ _
-    (λ text drawn. subst (λ (a : Assignment). DrawsCircles s (map (λ v. v.now) c.args.comments.now) a hanging text.items) c.in_ok-assignment.ensures.lanes drawn) c.draw_circles.ensures
+    ap (λ (ws : Workqueues). length ws.assignment.lane_of_group) c.new-workqueues.ensures
+    ∙ ap (λ (a : Assignment). length a.lane_of_group) c.in_ok-assignment.ensures.lanes ∙ length-range_with_len 0 groups

@@ -1,10 +1,11 @@
-use Rattle.std.proofs.Common.{ℕ, List, length, map, ap, ap₂, ◌∙◌, arith}
+use Rattle.std.proofs.Common.{ℕ, List, [], length, map, ap, ap₂, ◌∙◌, arith}
 use Rattle.std.proofs.lemmas.List.FromFn.{length-map-range_with_len}
 use Rattle.std.proofs.lemmas.Result.{IfOk-weaker}
 use Rattle.wq_items.specs.Table.{flush_count}
 use Rattle.wq_groups.specs.Declaration.{declaration_of}
 use Rattle.wq_groups.proofs.Declarations.{IsDeclaration-of}
 use Rattle.wq_graph.specs.declared.arc.WaitArc.{WaitArc}
+use Rattle.wq_core.specs.Workqueues.{all_rescued}
 use Rattle.wq_dot.specs.declared.look.FlushLook.{FlushLook}
 use Rattle.wq_dot.specs.declared.look.FlushLook.TheVariants.{Bold}
 use Rattle.wq_commands.specs.Declaration.{Declared}
@@ -49,6 +50,6 @@ returns g c =
       plan = c.requires.planned.plan;
       drawn =
           drawn
-          ∙ ap₂ (λ (t : List ℕ) (l : List FlushLook). drawing_text s.table s.partition a t l (map (λ v. v.now) c.args.comments.now)) title looks
-          ∙ ap (λ (l : List WaitArc). drawing_of s a (plan_title a.lanes) (declared_looks s Bold l) (map (λ v. v.now) c.args.comments.now)) c.requires.planned.longest;
+          ∙ ap₂ (λ (t : List ℕ) (l : List FlushLook). drawing_text s.table s.partition (all_rescued a) [] t l (map (λ v. v.now) c.args.comments.now)) title looks
+          ∙ ap (λ (l : List WaitArc). drawing_of s (all_rescued a) [] (plan_title a.lanes) (declared_looks s Bold l) (map (λ v. v.now) c.args.comments.now)) c.requires.planned.longest;
     }) c.drawing_text.ensures

@@ -1,4 +1,4 @@
-use Rattle.std.proofs.Common.{◌≡◌, ◌<◌, ◌++◌, ℕ, List, length, map, sym, ap, subst, ◌∙◌, arith}
+use Rattle.std.proofs.Common.{◌≡◌, ◌<◌, ◌++◌, ℕ, Bool, List, length, map, sym, ap, subst, ◌∙◌, arith}
 use Rattle.std.specs.Prelude.{codes, flat_map, slice_index_or}
 use Rattle.std.specs.List.{All, range_with_len}
 use Rattle.std.proofs.lemmas.List.{take_all}
@@ -7,14 +7,14 @@ use Rattle.wq_items.proofs.TableLemmas.{range_with_len-push}
 use Rattle.wq_buckets.specs.Places.{places_of, buckets_of}
 use Rattle.wq_graph.specs.declared.arc.WaitArc.{WaitArc}
 use Rattle.wq_dot.specs.declared.look.FlushLook.TheVariants.{Plain}
-use Rattle.wq_dot.specs.Drawing.{arrow_line, box_lines, ended, flush_line, head_lines, workqueue_box_lines}
+use Rattle.wq_dot.specs.Drawing.{arrow_line, box_lines, ended, flush_line, groups_on, head_lines, workqueue_box_lines}
 use Rattle.wq_dot.proofs.Arrows.{IsDrawable-at}
 use Rattle.wq_dot.proofs.Lines.{text_of, text_of-more, text_of-line, text_of-whole}
 use Rattle.wq_dot.proofs.Workqueues.{groups_on-below, groups_on-bucket}
 use Rattle.wq_dot.proofs.drawing.drawing_text.Goals as goal
 
-pub places-requires : goal.places-requires
-places-requires g c =
+pub places-own-requires : goal.places-own-requires
+places-own-requires g c =
     let many = ap length c.in_ok-by_workqueue.ensures.buckets ∙ length-map-range_with_len (places_of c.deref.result.now) 0 c.lanes-workqueues.result in
     omega (arith, many, c.loop-number-test.true)
 
@@ -24,7 +24,7 @@ put_workqueue-requires-clause-own g c =
     let groups = c.args.groups.now.groups in
     let number = c.loop-number.number in
     let made = subst (λ n. c.in_ok-by_workqueue.by_workqueue ≡ buckets_of c.deref.result.now n) c.lanes-workqueues.ensures.lanes c.in_ok-by_workqueue.ensures.buckets in
-    let own = groups_on-bucket a c.deref.result.now c.in_ok-by_workqueue.by_workqueue number c.places.result.now (c.deref.ensures.value ∙ c.in_ok-lanes.ensures) made (omega (arith, c.loop-number-test.true, c.lanes-workqueues.ensures.lanes)) c.places.ensures in
+    let own = groups_on-bucket a c.deref.result.now c.in_ok-by_workqueue.by_workqueue number c.places-own.result.now (c.deref.ensures.value ∙ c.in_ok-lanes.ensures) made (omega (arith, c.loop-number-test.true, c.lanes-workqueues.ensures.lanes)) c.places-own.ensures in
     subst (λ (is : List ℕ). All (λ i. i < groups) is) (sym own) (groups_on-below a groups number c.requires.assigned)
 
 pub loop-number-preserved : goal.loop-number-preserved
@@ -35,12 +35,15 @@ loop-number-preserved g c =
     let number = c.loop-number.number in
     let out = c.put_head.new.out.items in
     let made = subst (λ n. c.in_ok-by_workqueue.by_workqueue ≡ buckets_of c.deref.result.now n) c.lanes-workqueues.ensures.lanes c.in_ok-by_workqueue.ensures.buckets in
-    let own = groups_on-bucket a c.deref.result.now c.in_ok-by_workqueue.by_workqueue number c.places.result.now (c.deref.ensures.value ∙ c.in_ok-lanes.ensures) made (omega (arith, c.loop-number-test.true, c.lanes-workqueues.ensures.lanes)) c.places.ensures in
+    let own = groups_on-bucket a c.deref.result.now c.in_ok-by_workqueue.by_workqueue number c.places-own.result.now (c.deref.ensures.value ∙ c.in_ok-lanes.ensures) made (omega (arith, c.loop-number-test.true, c.lanes-workqueues.ensures.lanes)) c.places-own.ensures in
+    let called = map (λ v. v.now) c.args.called.now in
+    let lines = workqueue_box_lines names group_of (record { assignment = a; bare = c.args.bare.now }) called in
     c.in_ok-put_workqueue.ensures
-    ∙ ap (λ (is : List ℕ). c.loop-number.out.items ++ text_of (box_lines names group_of number is)) own
-    ∙ ap (λ (o : List ℕ). o ++ text_of (workqueue_box_lines names group_of a number)) c.loop-number.invariant
-    ∙ text_of-more (workqueue_box_lines names group_of a) out (range_with_len 0 number) number
-    ∙ ap (λ (qs : List ℕ). out ++ text_of (flat_map (workqueue_box_lines names group_of a) qs)) (sym (range_with_len-push number))
+    ∙ ap (λ (is : List ℕ). c.loop-number.out.items ++ text_of (box_lines names group_of called c.is_bare.result number is)) own
+    ∙ ap (λ (bare : Bool). c.loop-number.out.items ++ text_of (box_lines names group_of called bare number (groups_on a number))) c.is_bare.ensures
+    ∙ ap (λ (o : List ℕ). o ++ text_of (lines number)) c.loop-number.invariant
+    ∙ text_of-more lines out (range_with_len 0 number) number
+    ∙ ap (λ (qs : List ℕ). out ++ text_of (flat_map lines qs)) (sym (range_with_len-push number))
 
 pub bounds-looks-flush : goal.bounds-looks-flush
 bounds-looks-flush g c =
@@ -79,7 +82,7 @@ returns g c =
     let group_of = c.args.groups.now.group_of in
     let number = c.loop-number.number in
     let drawn = c.deref-flush-items.result.now in
-    let workqueues = workqueue_box_lines t.names group_of a in
+    let workqueues = workqueue_box_lines t.names group_of (record { assignment = a; bare = c.args.bare.now }) (map (λ v. v.now) c.args.called.now) in
     let out = c.put_head.new.out.items in
     let all : number ≡ a.lanes = omega (arith, c.loop-number-test.false, c.loop-number.auto.number-end, c.lanes-workqueues.ensures.lanes) in
     let boxes = c.loop-number.invariant ∙ ap (λ (n : ℕ). out ++ text_of (flat_map workqueues (range_with_len 0 n))) all in

@@ -7,7 +7,7 @@ use Rattle.wq_dot.proofs.drawing.drawing_text.Given as goal
 
 -- the head, and the workqueues so far
 abbrev pub invariant-loop-number : goal.invariant-loop-number
-invariant-loop-number g l = l.out.items ≡ l.initial.out.items ++ text_of (flat_map (workqueue_box_lines l.table.names l.groups.group_of l.assignment) (range_with_len 0 l.number))
+invariant-loop-number g l = l.out.items ≡ l.initial.out.items ++ text_of (flat_map (workqueue_box_lines l.table.names l.groups.group_of (record { assignment = l.assignment; bare = l.bare }) (map (λ v. v.now) l.called)) (range_with_len 0 l.number))
 
 -- these, and the flushes so far
 abbrev pub invariant-loop-flush : goal.invariant-loop-flush

@@ -1,7 +1,7 @@
 use Rattle.std.proofs.Common.{length, sym, ◌∙◌, arith}
 use Rattle.std.proofs.lemmas.List.Sums.{prefix_len_is}
-use Rattle.wq_dot.specs.Tooltips.{is_lead}
-use Rattle.wq_dot.proofs.comments.lead.Goals as goal
+use Rattle.wq_names.specs.Comments.{is_lead}
+use Rattle.wq_names.proofs.comment.lead.Goals as goal
 
 pub returns-then-not-is_lead : goal.returns-then-not-is_lead
 returns-then-not-is_lead c =

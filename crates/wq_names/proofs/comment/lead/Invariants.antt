@@ -1,6 +1,6 @@
 use Rattle.std.proofs.Common.{◌≡◌, ℕ, ◌<◌, true, get_or}
-use Rattle.wq_dot.specs.Tooltips.{is_lead}
-use Rattle.wq_dot.proofs.comments.lead.Given as goal
+use Rattle.wq_names.specs.Comments.{is_lead}
+use Rattle.wq_names.proofs.comment.lead.Given as goal
 
 -- all bytes so far are a `#` or blanks
 abbrev pub invariant-loop-len : goal.invariant-loop-len

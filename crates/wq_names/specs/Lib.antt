@@ -1,0 +1,3 @@
+pub use Rattle.wq_cert.specs.Texts
+pub mod Comments
+pub mod Names
