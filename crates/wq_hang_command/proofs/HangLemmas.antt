@@ -1,5 +1,5 @@
 -- Shortest runs that end stuck: they have few steps, and each can be printed.
-use Rattle.std.proofs.Common.{◌≡◌, ℕ, ◌<◌, ◌≤◌, List, length, subst, arith}
+use Rattle.std.proofs.Common.{ℕ, ◌<◌, ◌≤◌, List, length, subst, arith}
 use Rattle.std.specs.List.{All}
 use Rattle.std.proofs.lemmas.List.Elements.{All-weaker}
 use Rattle.wq_core.specs.declared.step.Step.{Step}
@@ -36,12 +36,12 @@ needs-help w (Finish q i) is = absurd is
 module _ (s : Declared) (sound : IsSound s) (ws : Workqueues) (known : AreWorkqueuesOf s.partition.groups ws) (steps : List Step) (hang : IsShortestHang (wiring_of (declared_waits s) ws) steps) where
   -- the run that `deadlock` prints is no shorter, and has few steps
   pub length-shortest : length steps ≤ 45056
-  length-shortest = let judged = JudgesAssigned-exist s sound ws known in few judged.0 judged.1.0 judged.1.1
+  length-shortest = let judged = JudgesAssigned-exist s sound ws known in few judged.0 judged.1 judged.2
     where
       few : (end : End) (out : List ℕ) → JudgesAssigned s ws end out → length steps ≤ 45056
-      few Good out judged = let stuck = hang.hangs 0 (omega arith) in absurd (judged.1.0 0 (omega arith) steps stuck.0 stuck.1)
+      few Good out judged = let stuck = hang.hangs 0 (omega arith) in absurd (judged.1 0 (omega arith) steps stuck.0 stuck.1)
       few Bad out judged =
-          let deadlocks = judged.1.0.deadlocks in
+          let deadlocks = judged.1.deadlocks in
           omega (arith, hang.shortest 0 (omega arith) judged.0 (deadlocks.run, deadlocks.stuck), length-hang s sound ws known.assignment judged.0 deadlocks)
       few Refused out judged = absurd judged
 
