@@ -157,6 +157,34 @@ check 'deadlock: the plan that is printed' 0 'safe\n' ''
 run deadlock chain lanes_of_a_plan </dev/null
 check 'deadlock: a plan text as an assignment' 1 "$hangs" ''
 
+# Workqueues without a rescuer: by which flush a run hangs, and which items `safe` doesn't speak of. Without such items it says nothing.
+printf 'wq 0 a # md, md.c:1\nnorescuer 1 b # log\n' >bare_target
+printf 'norescuer 0 a # md, md.c:1\nwq 1 b\n' >bare_item
+printf 'wq 0 b\nwq 1 a\nnorescuer 2\n' >bare_and_empty
+bare_hangs='run 4\nqueue a\nqueue b\nstart 0 a\nwait 0 b\n'
+bare_reason='declaration:3:9: `a`, on workqueue 0 (md), waits for `b`, which nothing guarantees to run: workqueue 1 (log) has no rescuer
+    flush a b\n            ^\nbare_target:2:1: workqueue 1 (log) has no rescuer\n    norescuer 1 b # log\n    ^^^^^^^^^\n'
+bare_note='bare_item: note: nothing guarantees that these run while memory is short: `a` on workqueue 0 (md)
+bare_item: note: where reclaim waits for one of them, declare who waits: an item of its own, on a `wq` line, that flushes it\n'
+run deadlock declaration bare_target </dev/null
+check 'deadlock: a flush that leads to no rescuer' 1 "$bare_hangs" "$bare_reason"
+run deadlock declaration bare_item </dev/null
+check 'deadlock: safe, with an item on a workqueue without a rescuer' 0 'safe\n' "$bare_note"
+run deadlock declaration bare_and_empty </dev/null
+check 'deadlock: safe, with a workqueue without a rescuer and without items' 0 'safe\n' ''
+run circles declaration bare_item </dev/null
+check 'circles: safe, with an item on a workqueue without a rescuer' 0 'safe\n' "$bare_note"
+run circles declaration bare_target </dev/null
+check 'circles: a flush that leads to no rescuer' 1 'components 0\nnorescuer 1\narc a b\n' ''
+run circles declaration bare_and_empty </dev/null
+check 'circles: safe, with a workqueue without a rescuer and without items' 0 'safe\n' ''
+run deadlock declaration - <bare_item
+check 'deadlock: the same note of standard input' 0 'safe\n' "${bare_note//bare_item/<stdin>}"
+limited "$program" deadlock declaration bare_item </dev/null >out 2>/dev/full
+status=$?
+: >err
+check 'deadlock: a note that cannot be written' 0 'safe\n' ''
+
 # All flushes on circles at once.
 components='components 1\ncomponent 2\narc a b\narc b c\n'
 run circles chain lanes </dev/null
@@ -577,6 +605,8 @@ above 'item a\nitem b\nflush a b\n' 0 "$plan" plan
 above '' 0 '<stdin>: note: no item is declared: is this the right file?\nplan 0\nchain 0\n' plan
 above 'plan 1\nwq 0 a b\nchain 1\n' 1 '<stdin>:2:6: `a` flushes `b`, so it should be on a higher workqueue [no 50, `wqplan explain 50`]
     wq 0 a b\n         ^ `b` is on workqueue 0\nno 50 a b\n' check declaration -
+above 'norescuer 0 a\nwq 1 b\n' 0 '<stdin>: note: nothing guarantees that these run while memory is short: `a` on workqueue 0
+<stdin>: note: where reclaim waits for one of them, declare who waits: an item of its own, on a `wq` line, that flushes it\nsafe\n' deadlock declaration -
 
 # Faults of the system.
 run plan $'mis\tsi\ang\303\251' </dev/null

@@ -43,7 +43,8 @@ pub(crate) const DECL: &str = "The declaration";
 pub(crate) const CERT: &str = "A plan or a circle, in the form in which `plan` prints it";
 
 /// What ASSIGN is.
-pub(crate) const ASSIGN: &str = "Which item is on which workqueue: `wq` lines alone, or a plan";
+pub(crate) const ASSIGN: &str =
+    "Which item is on which workqueue: lines `wq`, `norescuer`, or a plan";
 
 /// What ASSIGN is for a command that works without it too.
 pub(crate) const ANY_ASSIGN: &str =
