@@ -233,8 +233,8 @@ const STUCK: Explanation = (
     "\
 `stuck`: at the end of the run that was replayed nothing is sure to go on, so
 the assignment isn't safe. It isn't called `deadlock`, since an item was queued
-twice or never, or was cancelled, or didn't flush as declared. What `wqplan
-hang` prints mostly ends so: it queues only the items that it takes.
+twice or never, or was cancelled, or didn't flush as declared. A run of
+`wqplan hang` mostly ends so: it queues only the items that it takes.
 
 The rule: docs/FORMAT.md, \"Steps\"
 
