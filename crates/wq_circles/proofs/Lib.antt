@@ -16,3 +16,5 @@ mod Promised
 mod Printed
 pub mod Taking
 pub mod ForBare
+mod FirstItems
+mod AllRescued

@@ -18,15 +18,16 @@ use Rattle.wq_commands.specs.Why.{SaysAssigned, SaysDeclared}
 use Rattle.wq_circles.specs.Components.{AreComponents}
 use Rattle.wq_circles.specs.ComponentsText.{circles_text}
 
--- these are the components of these workqueues, or some flush leads to one that has no rescuer; and both are printed
+-- these are the components of these workqueues. There is one, or some flush leads from a workqueue that has a rescuer
+-- to one that has none; and the components and all such flushes are printed
 pub record PrintsComponents (s : Declared) (ws : Workqueues) (out : List ℕ) : Type 0 where
   pub components : List (List WaitArc)
   pub some : (components ≢ []) ⊎ (bare_waits (declared_waits s) ws ≢ [])
   pub are : AreComponents (declared_waits s) ws components
   pub text : out ≡ circles_text s.table.names components (bare_waits (declared_waits s) ws)
 
--- the components of workqueues of a declaration's groups are printed, and the flushes that lead to one that has no rescuer; or
--- `safe` if there are none of either
+-- the components of workqueues of a declaration's groups are printed, and the flushes that lead from one that has a
+-- rescuer to one that has none; or `safe` if there are none of either
 abbrev pub CirclesAssigned : Declared → Workqueues → End → List ℕ → Type 0
 CirclesAssigned s ws Good out = AreComponents (declared_waits s) ws [] × (bare_waits (declared_waits s) ws ≡ []) × (out ≡ safe_text)
 CirclesAssigned s ws Bad out = PrintsComponents s ws out

@@ -14,3 +14,4 @@ pub mod Flushes
 pub mod Circling
 pub mod CirclesPromise
 pub mod CirclesInput
+pub mod AllRescued

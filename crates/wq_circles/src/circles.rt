@@ -50,8 +50,10 @@ impl<A: Allocator + Copy> Command<A> for CirclesCommand {
     }
 }
 
-/// Reads a declaration and then an assignment to their ends, and writes the flushes that lie on a circle of its workqueues, by
-/// components, or `safe` where there is none. Where one of the two is refused, it writes the refusal of the first that is.
+/// Reads a declaration and then an assignment to their ends. It writes the flushes that lie on a circle of workqueues
+/// that have a rescuer, by components, and after them those that lead from such a workqueue to one that has none; or
+/// `safe` where there are none of either. Where one of the two texts is refused, it writes the refusal of the first
+/// that is.
 ///
 /// At most 1,048,577 bytes of the declaration and 8,388,609 of the assignment are read, in at most as many calls; the assignment
 /// isn't touched until the declaration has been read to its end. The errors are `Fault::Read`, where a read failed,
@@ -71,9 +73,10 @@ pub fn circles_cmd<D: Read, S: Read, W: Write, A: Allocator + Copy>(
         × CirclesInput D.remaining S.remaining declaration.old declaration.new assignment.old assignment.new end out
         × WritesWhole W.contents writer.old writer.new out) }
 
-    // This answer is true. Under an assignment that is read, either no run of queueings, cancellations and steps of rescuers and
-    // helpers ends stuck, and `safe` is printed; or some run does, and exactly those flushes are printed whose target's workqueue
-    // leads to that of their item, by components, each once.
+    // This answer is true. On workqueues that are read, either no run of queueings, cancellations and steps of
+    // rescuers and helpers ends stuck, and `safe` is printed; or some run does, and exactly these flushes are
+    // printed: those whose target's workqueue leads to that of their item by way of workqueues that have a rescuer,
+    // by components, each once; and those that lead from a workqueue that has a rescuer to one that has none.
     ensures promised { IfOk result (λ end. (out : List ℕ)
         × KeepsCirclesOfInput D.remaining S.remaining declaration.old declaration.new assignment.old assignment.new end out
         × WritesWhole W.contents writer.old writer.new out) }

@@ -4,24 +4,30 @@
 //! lead to one another. `RescuedWaits` says which workqueue with a rescuer waits for which, and `Leads` of it which leads to which.
 //! The last two are about the lowest-numbered vertices of a wait graph.
 
-ghost use Rattle.std.specs.Prelude.{◌≡◌, ◌≤◌, ◌↔◌, Bool, ℕ, ◌<◌, List, length, slice_index, ◌≢◌, [], map, AllPairs};
-ghost use Rattle.std.specs.List.{All};
+ghost use Rattle.std.specs.Prelude.{◌≡◌, ◌≤◌, ◌↔◌, Bool, ℕ, ◌<◌, List, length, slice_index, ◌≢◌, [], ◌∷◌, false, map, AllPairs};
+ghost use Rattle.std.specs.List.{All, list_any};
 ghost use Rattle.std.specs.List.Sorted.{IsStrictlyIncreasing};
+ghost use Rattle.wq_text.specs.Lines.{lines_of};
+ghost use Rattle.wq_items.specs.Chain.{Circle};
 ghost use Rattle.wq_groups.specs.Declaration.{Declaration, IsDeclaration};
 ghost use Rattle.wq_groups.specs.Assignment.{IsAssignment, item_lane};
 ghost use Rattle.wq_graph.specs.declared.arc.WaitArc.{WaitArc};
 ghost use Rattle.wq_graph.specs.Graph.{HasArc};
+ghost use Rattle.wq_core.specs.declared.step.Step.{Step};
 ghost use Rattle.wq_core.specs.Wiring.{RescuedWaits};
 ghost use Rattle.wq_core.specs.Workqueues.{Workqueues, wiring_of};
 ghost use Rattle.wq_core.specs.Deadlock.{IsSafe};
-ghost use Rattle.wq_deadlock.specs.Judging.{bare_waits};
+ghost use Rattle.wq_deadlock.specs.Judging.{AreFirst, IsHang, bare_waits};
+ghost use Rattle.wq_cert.specs.Lines.{cert_lines};
+ghost use Rattle.wq_cert.specs.Reading.{is_bare_line};
 ghost use Rattle.wq_meter.specs.Shell.{HasOneAnswer};
 ghost use Rattle.wq_commands.specs.declared.end.End.{End};
 ghost use Rattle.wq_commands.specs.Answer.{Answers};
 ghost use Rattle.wq_commands.specs.Deadlocking.{Judges};
 ghost use Rattle.wq_circles.specs.Leading.{AreLowest, AreTogether, Leads};
+ghost use Rattle.wq_circles.specs.AllRescued.{CirclesAllRescued};
 ghost use Rattle.wq_circles.specs.Circling.{Circles, CirclesTexts, OwnCircles};
-ghost use Rattle.wq_circles.specs.CirclesPromise.{KeepsCircles, KeepsOwnCircles};
+ghost use Rattle.wq_circles.specs.CirclesPromise.{AreForBare, KeepsCircles, KeepsOwnCircles};
 ghost use Rattle.wq_circles.specs.Components.{AreComponents};
 ghost use Rattle.wq_circles.specs.Flushes.{IsInComponents, AreInOneComponent, IsDeclaredFlush, IsBefore};
 
@@ -57,7 +63,8 @@ pub fn components_are_in_order()
         AllPairs (IsBefore (RescuedWaits (wiring_of d ws)) (item_lane ws.assignment d.group_of)) components }
 {}
 
-/// There is no component, and no flush leads to a workqueue without a rescuer, exactly where no run ends stuck.
+/// There is no component, and no flush leads from a workqueue that has a rescuer to one that has none, exactly where
+/// no run ends stuck.
 pub fn no_component_is_safe()
     ensures { (d : Declaration) (ws : Workqueues) (components : List (List WaitArc)) → IsDeclaration d → IsAssignment d.groups ws.assignment →
         ws.assignment.lanes ≤ 4096 → AreComponents d ws components → (((components ≡ []) × (bare_waits d ws ≡ [])) ↔ IsSafe (wiring_of d ws)) }
@@ -99,6 +106,34 @@ pub fn the_end_is_that_of_the_other_commands()
         Circles declared text end out → Judges declared text other printed → end ≡ other }
     ensures plan { (declared : List ℕ) (end other : End) (out printed : List ℕ) →
         OwnCircles declared end out → Answers declared other printed → end ≡ other }
+{}
+
+/// The flushes that `deadlock` and `circles` take as leading to no rescuer are exactly those that lead from a
+/// workqueue that has a rescuer to one that has none, in order of place.
+pub fn bare_waits_are_the_flushes_that_lead_to_no_rescuer()
+    ensures { (d : Declaration) (ws : Workqueues) → IsDeclaration d → IsAssignment d.groups ws.assignment →
+        AreForBare d ws (bare_waits d ws) }
+{}
+
+/// Where there is no such flush, the workqueues of the items that the run of `deadlock` queues first wait in a
+/// circle: each has a rescuer and waits for the next, and the last for the first.
+pub fn the_workqueues_of_the_first_items_wait_in_a_circle()
+    ensures first { (d : Declaration) (ws : Workqueues) (first : List ℕ) → IsDeclaration d →
+        IsAssignment d.groups ws.assignment → AreFirst d ws [] first →
+        (circle : Circle (RescuedWaits (wiring_of d ws)))
+        × (circle.first ∷ circle.others ≡ map (item_lane ws.assignment d.group_of) first) }
+    ensures run { (d : Declaration) (ws : Workqueues) (steps : List Step) (hang : IsHang d ws steps) →
+        IsDeclaration d → bare_waits d ws ≡ [] →
+        (circle : Circle (RescuedWaits (wiring_of d ws)))
+        × (circle.first ∷ circle.others ≡ map (item_lane ws.assignment d.group_of) hang.first) }
+{}
+
+/// A text of workqueues in which no line begins with `norescuer` keeps the answer that it has as the text of an
+/// assignment: the components alone are printed, and `safe` exactly where there is none.
+pub fn a_text_without_norescuer_lines_keeps_its_components()
+    ensures { (declared text : List ℕ) (end : End) (out : List ℕ) →
+        list_any is_bare_line (cert_lines (lines_of text)) ≡ false →
+        (Circles declared text end out ↔ CirclesAllRescued declared text end out) }
 {}
 
 /// Two vertices have the same answer exactly where they are together.

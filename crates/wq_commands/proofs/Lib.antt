@@ -8,6 +8,10 @@ pub mod CheckLemmas
 pub mod InputLemmas
 pub mod CommandLemmas
 pub mod JudgeLemmas
+mod SameRescuers
+pub mod AllRescued
+mod PlansJudged
+mod HangLemmas
 pub mod NamedSteps
 mod DeclaredLines
 pub mod DeclaredLemmas

@@ -17,9 +17,10 @@ use Rattle.wq_commands.specs.Declaration.{Declared, declaration}
 abbrev pub safe_text : List ℕ
 safe_text = line_text (codes "safe" ∷ [])
 
--- the verdict on workqueues of a declaration's groups is printed: `safe` if no run ends stuck; else the run by which they hang. It
--- ends stuck, with each item queued once and flushing as declared. The items that it queues first are those of the circle in which
--- the workqueues wait that have a rescuer, or the first that waits for one whose workqueue has none
+-- the verdict on workqueues of a declaration's groups is printed: `safe` if no run ends stuck; else the run by which
+-- they hang. It ends stuck, with each item queued once and flushing as declared. If some flush leads from a workqueue
+-- that has a rescuer to one that has none, the run begins with the item of the first such flush, even if workqueues
+-- wait in a circle, too. Else it begins with the items of the circle in which the workqueues wait that have a rescuer
 abbrev pub JudgesAssigned : Declared → Workqueues → End → List ℕ → Type 0
 JudgesAssigned s ws Good out = IsAssignment s.partition.groups ws.assignment × IsSafe (wiring_of (declared_waits s) ws) × (out ≡ safe_text)
 JudgesAssigned s ws Bad out = (steps : List Step) × IsHang (declared_waits s) ws steps × (out ≡ run_text s.table.names steps)

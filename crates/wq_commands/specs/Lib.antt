@@ -25,3 +25,4 @@ pub mod Run
 pub mod Stop
 pub mod Why
 pub mod Numbers
+pub mod AllRescued

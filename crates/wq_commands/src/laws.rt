@@ -2,23 +2,32 @@
 //!
 //! The examples are computed by the definitions, so that a reader can compare them with those of the format.
 
-ghost use Rattle.std.specs.Prelude.{◌≡◌, ℕ, ◌+◌, ◌<◌, ◌≤◌, List, length, take, codes, Ok, Err, option_map};
+ghost use Rattle.std.specs.Prelude.{◌≡◌, ◌↔◌, false, ℕ, ◌+◌, ◌*◌, ◌<◌, ◌≤◌, ◌⊎◌, List, length, [], take, codes, Ok, Err, option_map};
 ghost use Rattle.std.specs.Result.{result_ok};
-ghost use Rattle.wq_items.specs.Table.{IsTable};
+ghost use Rattle.wq_items.specs.Table.{IsTable, flush_count};
 ghost use Rattle.wq_groups.specs.Partition.{IsPartition};
-ghost use Rattle.wq_groups.specs.Declaration.{IsDeclaration};
-ghost use Rattle.std.specs.List.{All};
+ghost use Rattle.wq_groups.specs.Declaration.{Declaration, IsDeclaration};
+ghost use Rattle.std.specs.List.{All, list_any};
 ghost use Rattle.wq_text.specs.Lines.{LineView, lines_of};
-ghost use Rattle.wq_groups.specs.Assignment.{Assignment};
+ghost use Rattle.wq_groups.specs.Assignment.{Assignment, IsAssignment};
 ghost use Rattle.wq_core.specs.declared.step.Step.{Step};
-ghost use Rattle.wq_core.specs.Wiring.{wiring, own_lanes};
+ghost use Rattle.wq_core.specs.Wiring.{HasRescuer, wiring, own_lanes};
+ghost use Rattle.wq_core.specs.Workqueues.{Workqueues, wiring_of};
+ghost use Rattle.wq_core.specs.Deadlock.{IsSafe, DeadlocksBy, Deadlocks};
 ghost use Rattle.wq_graph.specs.declared.arc.WaitArc.{WaitArc};
-ghost use Rattle.wq_graph.specs.Graph.{group_graph};
+ghost use Rattle.wq_graph.specs.Graph.{group_graph, lane_graph};
 ghost use Rattle.wq_levels.specs.Walks.{IsWalkedCircle};
 ghost use Rattle.wq_plan.specs.Plan.{IsPlan};
 ghost use Rattle.wq_lines.specs.LineText.{line_text};
 ghost use Rattle.wq_checker.specs.declared.run.RunEnd.TheVariants.{Deadlock};
+ghost use Rattle.wq_cert.specs.Lines.{cert_lines};
+ghost use Rattle.wq_cert.specs.Reading.{is_bare_line};
+ghost use Rattle.wq_checker.specs.declared.run.RunEnd.{RunEnd};
+ghost use Rattle.wq_checker.specs.RunEnds.{EndsAs};
+ghost use Rattle.wq_deadlock.specs.Bounds.{IsNamed};
 ghost use Rattle.wq_deadlock.specs.CircleRun.{IsCircleRun};
+ghost use Rattle.wq_deadlock.specs.Judging.{IsHang, bare_waits, rescued_graph};
+ghost use Rattle.wq_deadlock.specs.Verdict.{IsDeadlock};
 ghost use Rattle.wq_commands.specs.Answer.{Answers, declared_waits, text_of_plan, text_of_circle};
 ghost use Rattle.wq_commands.specs.DeclaredIn.{declared_in, named_of};
 ghost use Rattle.wq_commands.specs.Promise.{KeepsPromise};
@@ -28,7 +37,8 @@ ghost use Rattle.wq_commands.specs.PrintedChecked.{ChecksYes};
 ghost use Rattle.wq_commands.specs.Checking.{Checks};
 ghost use Rattle.wq_commands.specs.YesIsTrue.{YesIsTrue};
 ghost use Rattle.wq_commands.specs.Replaying.{replay_words, ReplaysRun};
-ghost use Rattle.wq_commands.specs.Deadlocking.{Judges};
+ghost use Rattle.wq_commands.specs.Deadlocking.{Judges, safe_text};
+ghost use Rattle.wq_commands.specs.AllRescued.{JudgesAllRescued, ReplaysAllRescued};
 ghost use Rattle.wq_commands.specs.Commands.{Plans, ChecksTexts, JudgesTexts, ReplaysTexts};
 ghost use Rattle.wq_meter.specs.Shell.{HasOneAnswer};
 ghost use Rattle.wq_commands.specs.Declaration.{Declared, declaration, max_declaration};
@@ -219,4 +229,70 @@ pub fn what_a_text_declares_is_a_declaration()
     ensures partition { (text : List ℕ) (s : Declared) → declaration text ≡ Ok s → IsPartition s.partition }
     ensures one_group_each { (text : List ℕ) (s : Declared) → declaration text ≡ Ok s →
         length s.partition.group_of ≡ length s.table.names }
+{}
+
+/// Where each workqueue has a rescuer, what holds of the assignment holds of the workqueues: that no run ends stuck,
+/// that a run deadlocks, and how it ends. No flush leads to a workqueue without a rescuer, the wait graph is the
+/// same, and so is the run that is printed.
+pub fn workqueues_that_have_rescuers_are_an_assignment()
+    ensures safe { (d : Declaration) (ws : Workqueues) → ((q : ℕ) → HasRescuer (wiring_of d ws) q) →
+        (IsSafe (wiring_of d ws) ↔ IsSafe (wiring d ws.assignment)) }
+    ensures deadlocks { (d : Declaration) (ws : Workqueues) (steps : List Step) →
+        ((q : ℕ) → HasRescuer (wiring_of d ws) q) →
+        (DeadlocksBy (wiring_of d ws) steps ↔ DeadlocksBy (wiring d ws.assignment) steps) }
+    ensures ends { (d : Declaration) (ws : Workqueues) (steps : List Step) (e : RunEnd) →
+        ((q : ℕ) → HasRescuer (wiring_of d ws) q) →
+        (EndsAs (wiring_of d ws) steps e ↔ EndsAs (wiring d ws.assignment) steps e) }
+    ensures waits { (d : Declaration) (ws : Workqueues) → ((q : ℕ) → HasRescuer (wiring_of d ws) q) →
+        bare_waits d ws ≡ [] }
+    ensures graph { (d : Declaration) (ws : Workqueues) → ((q : ℕ) → HasRescuer (wiring_of d ws) q) →
+        rescued_graph d ws ≡ lane_graph d ws.assignment }
+    ensures run { (d : Declaration) (ws : Workqueues) (steps : List Step) → IsDeclaration d →
+        ws.assignment.lanes ≤ 4096 → ((q : ℕ) → HasRescuer (wiring_of d ws) q) →
+        (IsHang d ws steps ↔ IsDeadlock d ws.assignment steps) }
+{}
+
+/// A text of workqueues in which no line begins with `norescuer` keeps the answers that it has as the text of an
+/// assignment: `deadlock` and `replay` say of it what is so where each workqueue has a rescuer.
+pub fn a_text_without_norescuer_lines_keeps_its_answers()
+    ensures deadlock { (declared text : List ℕ) (end : End) (out : List ℕ) →
+        list_any is_bare_line (cert_lines (lines_of text)) ≡ false →
+        (Judges declared text end out ↔ JudgesAllRescued declared text end out) }
+    ensures replay { (declared text steps : List ℕ) (end : End) (out : List ℕ) →
+        list_any is_bare_line (cert_lines (lines_of text)) ≡ false →
+        (ReplaysRun declared text steps end out ↔ ReplaysAllRescued declared text steps end out) }
+{}
+
+/// The text of a plan that `plan` prints is that of an assignment on which `deadlock` prints `safe`.
+pub fn a_printed_plan_is_judged_safe()
+    ensures { (text out : List ℕ) → Answers text Good out → Judges text out Good safe_text }
+{}
+
+/// Unsafe and deadlocking are the same, also where some workqueues have no rescuer. No run ends stuck, or some run
+/// deadlocks in which each item is queued once and flushes as declared, but not both.
+pub fn unsafe_workqueues_are_deadlocking()
+    ensures one { (d : Declaration) (ws : Workqueues) → IsDeclaration d → IsAssignment d.groups ws.assignment →
+        ws.assignment.lanes ≤ 4096 → IsSafe (wiring_of d ws) ⊎ Deadlocks (wiring_of d ws) }
+    ensures not_both { (d : Declaration) (ws : Workqueues) → Deadlocks (wiring_of d ws) → ¬ IsSafe (wiring_of d ws) }
+    ensures same { (d : Declaration) (ws : Workqueues) → IsDeclaration d → IsAssignment d.groups ws.assignment →
+        ws.assignment.lanes ≤ 4096 → ((¬ IsSafe (wiring_of d ws)) ↔ Deadlocks (wiring_of d ws)) }
+{}
+
+/// The steps of a run by which workqueues deadlock name items and workqueues that exist, whichever of these have a
+/// rescuer. There are at most three for each item, and two for each declared flush. So there are 45,056 at most.
+pub fn a_deadlocking_run_of_workqueues_is_bounded()
+    ensures named { (d : Declaration) (ws : Workqueues) (steps : List Step) → IsDeclaration d →
+        IsAssignment d.groups ws.assignment →
+        DeadlocksBy (wiring_of d ws) steps → All (IsNamed (wiring_of d ws)) steps }
+    ensures short { (d : Declaration) (ws : Workqueues) (steps : List Step) →
+        DeadlocksBy (wiring_of d ws) steps → length steps ≤ 3 * length d.waits + 2 * flush_count d.waits }
+    ensures few { (d : Declaration) (ws : Workqueues) (steps : List Step) → IsDeclaration d →
+        DeadlocksBy (wiring_of d ws) steps → length steps ≤ 45056 }
+{}
+
+/// The text of the run that `deadlock` prints has at most 8,388,608 bytes, and no line of it has more than 524,288.
+pub fn a_printed_run_is_within_the_limits()
+    ensures text { (declared text out : List ℕ) → Judges declared text Bad out → length out ≤ 8388608 }
+    ensures lines { (declared text out : List ℕ) → Judges declared text Bad out →
+        All (λ (line : LineView). length line.bytes ≤ 524288) (lines_of out) }
 {}

@@ -1,0 +1,61 @@
+-- The answers of `deadlock` and of `replay` to workqueues each of which has a rescuer: they speak of an assignment
+-- alone.
+use Rattle.std.specs.Prelude.{◌≡◌, ℕ, List, MatchResult}
+use Rattle.wq_groups.specs.Assignment.{Assignment, IsAssignment}
+use Rattle.wq_core.specs.declared.step.Step.{Step}
+use Rattle.wq_core.specs.Wiring.{wiring}
+use Rattle.wq_core.specs.Deadlock.{IsSafe}
+use Rattle.wq_deadlock.specs.Verdict.{IsDeadlock}
+use Rattle.wq_lines.specs.LineText.{line_text}
+use Rattle.wq_cert.specs.RunText.{run_text}
+use Rattle.wq_cert.specs.Texts.{assignment_of_text, run_of, cert_refusal}
+use Rattle.wq_checker.specs.declared.run.RunEnd.{RunEnd}
+use Rattle.wq_checker.specs.RunEnds.{EndsAs}
+use Rattle.wq_commands.specs.declared.end.End.{End}
+use Rattle.wq_commands.specs.declared.end.End.TheVariants.{Good, Bad, Refused}
+use Rattle.wq_commands.specs.Answer.{declared_waits, PrintsRefusal}
+use Rattle.wq_commands.specs.Deadlocking.{safe_text}
+use Rattle.wq_commands.specs.Replaying.{replay_words, replay_end}
+use Rattle.wq_commands.specs.Declaration.{Declared, declaration}
+
+-- the verdict on an assignment of a declaration's groups is printed: `safe` if no run ends stuck; else the
+-- deadlocking run. This is the run of the circle in which the workqueues wait. It ends stuck, with each item queued
+-- once and flushing as declared
+abbrev pub JudgesAssignment : Declared → Assignment → End → List ℕ → Type 0
+JudgesAssignment s a Good out =
+    IsAssignment s.partition.groups a × IsSafe (wiring (declared_waits s) a) × (out ≡ safe_text)
+JudgesAssignment s a Bad out =
+    (steps : List Step) × IsDeadlock (declared_waits s) a steps × (out ≡ run_text s.table.names steps)
+JudgesAssignment s a Refused out = ⊥
+
+-- the verdict on the texts of a declaration and an assignment, or the refusal of the first that is refused
+abbrev pub JudgesAllRescued : List ℕ → List ℕ → End → List ℕ → Type 0
+JudgesAllRescued declared text end out =
+    MatchResult (declaration declared)
+    (λ s. MatchResult (assignment_of_text s.table.names s.partition text)
+    (λ a. JudgesAssignment s a end out)
+    (λ fault. PrintsRefusal (cert_refusal fault) end out))
+    (λ r. PrintsRefusal r end out)
+
+-- how these steps end under an assignment of a declaration is printed
+pub record ReplaysSteps (s : Declared) (a : Assignment) (steps : List Step) (end : End) (out : List ℕ) : Type 0 where
+  pub run_end : RunEnd
+  pub ends : EndsAs (wiring (declared_waits s) a) steps run_end
+  pub status : end ≡ replay_end run_end
+  pub printed : out ≡ line_text (replay_words run_end)
+
+-- the answer to a run under an assignment of a declaration
+abbrev pub ReplaysAssignment : Declared → Assignment → List ℕ → End → List ℕ → Type 0
+ReplaysAssignment s a text end out =
+    MatchResult (run_of s.table.names text)
+    (λ steps. ReplaysSteps s a steps end out)
+    (λ fault. PrintsRefusal (cert_refusal fault) end out)
+
+-- the answer to the texts of a declaration, an assignment and a run, or the refusal of the first that is refused
+abbrev pub ReplaysAllRescued : List ℕ → List ℕ → List ℕ → End → List ℕ → Type 0
+ReplaysAllRescued declared assigned text end out =
+    MatchResult (declaration declared)
+    (λ s. MatchResult (assignment_of_text s.table.names s.partition assigned)
+    (λ a. ReplaysAssignment s a text end out)
+    (λ fault. PrintsRefusal (cert_refusal fault) end out))
+    (λ r. PrintsRefusal r end out)
