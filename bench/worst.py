@@ -319,17 +319,20 @@ def cases(program, folder, write, most_run=MOST_CERTIFICATE):
         # A group of an `ordered` line stays together, so the assignments of single items are for the others.
         if "ordered" not in text:
             for kind, assignment in [("one workqueue", one()), ("two workqueues", two()), ("own workqueues", own()), ("own workqueues backwards", backwards())]:
-                yield "deadlock", f"{name}, {kind}", [path, write(assignment)]
+                for command in "deadlock", "hang":
+                    yield command, f"{name}, {kind}", [path, write(assignment)]
             yield "circles", f"{name}, one workqueue", [path, write(one())]
             yield "dot", f"{name}, two workqueues", [path, write(two())]
     path = write(declaration(ITEMS, waiting()))
-    yield "deadlock", "2,046 workqueues wait for the last of 2,048 items", [path, write(waiting_workqueues())]
+    for command in "deadlock", "hang":
+        yield command, "2,046 workqueues wait for the last of 2,048 items", [path, write(waiting_workqueues())]
     whole = [("2,046 workqueues wait for the whole of one with 2,048 items", waiting_for_workqueue()),
              ("16,384 waits of both kinds, of 2,046 workqueues for one", waiting_of_both_kinds())]
     for name, text in whole:
         path, queues = write(text), write(waiting_workqueues())
         yield "plan", name, [path]
         yield "deadlock", name, [path, queues]
+        yield "hang", name, [path, queues]
         yield "replay", name, [path, queues, write(program.answer("deadlock", folder, path, queues))]
     for name, text in bare_declarations():
         path = write(text)
@@ -337,6 +340,7 @@ def cases(program, folder, write, most_run=MOST_CERTIFICATE):
                                  ("2,048 named workqueues without a rescuer", half_bare(comment=f"  # {'x' * 63}, "))]:
             queues = write(assignment)
             yield "deadlock", f"{name}, {kind}", [path, queues]
+            yield "hang", f"{name}, {kind}", [path, queues]
             yield "circles", f"{name}, {kind}", [path, queues]
             yield "dot", f"{name}, {kind}", [path, queues]
             run = program.answer("deadlock", folder, path, queues)
@@ -354,7 +358,7 @@ def cases(program, folder, write, most_run=MOST_CERTIFICATE):
             yield "check", name, [path, write(plan)]
             yield "replay", name, [path, queues, write(f"run {len(steps)}\n" + "".join(steps))]
             yield "run", name, [path]
-            for command in "deadlock", "circles", "dot":
+            for command in "deadlock", "hang", "circles", "dot":
                 yield command, name, [path, queues]
     path = write(declaration(ITEMS, [(0, 1), (1, 0)]))
     circle_alone = program.answer("plan", folder, path).partition("run ")[0]
@@ -363,7 +367,7 @@ def cases(program, folder, write, most_run=MOST_CERTIFICATE):
         yield "check", name, [write(declaration(ITEMS, [])) if "plan" in name else path, write(text)]
     for kind, line in WORDLESS.items():
         refused = write(below(line, one() + "?\n", most_run))
-        for command in "deadlock", "circles", "dot":
+        for command in "deadlock", "hang", "circles", "dot":
             yield command, f"an assignment below {kind}, refused at its last line", [path, refused]
     falling = write(declaration(ITEMS, [(0, 1)]))
     low = f"plan 1\n{one()}chain 1\n"

@@ -39,7 +39,7 @@ CASES = {
     ("plan", "2,046 wait for the last of 2,048"),
     ("plan", "3,094 wait for the last of a group of 1,000"),
     ("plan", "3,094 wait for the whole workqueue of a group of 1,000"),
-    *((command, worst.COLLIDING) for command in ("plan", "check", "deadlock", "replay", "circles", "dot", "run")),
+    *((command, worst.COLLIDING) for command in ("plan", "check", "deadlock", "hang", "replay", "circles", "dot", "run")),
     ("plan", "the longest names"),
     ("check", "2,046 wait for the last of 2,048"),
     ("circles", "2,046 wait for the last of 2,048"),

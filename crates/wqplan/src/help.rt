@@ -17,6 +17,10 @@ pub(crate) const CHECK: &str = "Reads a declaration and an answer, prints whethe
 pub(crate) const DEADLOCK: &str =
     "Reads a declaration and an assignment, prints `safe` or a deadlock";
 
+/// What `hang` does.
+pub(crate) const HANG: &str =
+    "Reads a declaration and an assignment, prints `safe` or the shortest hang";
+
 /// What `replay` does.
 pub(crate) const REPLAY: &str = "Reads a declaration, an assignment and a run, prints how it ends";
 

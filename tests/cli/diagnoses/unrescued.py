@@ -195,9 +195,11 @@ NOTES = [
     safe("item a / flush a a", "norescuer 0 a", "`a` on workqueue 0"),
     safe(AB, "norescuer 0 a b # two names", "`a` on workqueue 0 (two names), `b` on workqueue 0 (two names)"),
     safe(AB, "norescuer 0 a / wq 1 b", "`a` on workqueue 0", "circles"),
+    safe(AB, "norescuer 0 a / wq 1 b", "`a` on workqueue 0", "hang"),
     # A workqueue without a rescuer, and no item on it.
     safe(AB, "norescuer 0 / wq 1 a / wq 2 b", ""),
     safe(AB, "norescuer 0 / wq 1 a / wq 2 b", "", "circles"),
+    safe(AB, "norescuer 0 / wq 1 a / wq 2 b", "", "hang"),
     safe(AB, "wq 0 a / wq 1 b # norescuer 2 c", ""),
     # No item at all: the note on this, as without such a workqueue.
     ({"d": "", "a": "norescuer 0"}, "deadlock d a", "safe", 0, ["d: note: no item is declared: is this the right file?"]),
@@ -242,6 +244,16 @@ REASONS = [
          "    norescuer 2 c",
          "    ^^^^^^^^^",
      ]),
+    # `hang` says the same, though its run is that of the circle.
+    ({"d": "item a / item b / item c / flush a a b / flush b c / flush a c", "a": "wq 0 a / wq 1 b / norescuer 2 c"}, "hang d a",
+     "run 3 / queue a / start 0 a / wait 0 a", 1, [
+         "d:5:9: `b`, on workqueue 1, waits for `c`, which nothing guarantees to run: workqueue 2 has no rescuer",
+         "    flush b c",
+         "            ^",
+         "a:3:1: workqueue 2 has no rescuer",
+         "    norescuer 2 c",
+         "    ^^^^^^^^^",
+     ]),
     # An item without a rescuer waits too: only the first flush counts.
     ({"d": "item a / item b / flush b a / flush a a b", "a": "wq 0 b / norescuer 1 a"}, "deadlock d a",
      "run 4 / queue b / queue a / start 0 b / wait 0 a", 1, [
@@ -255,6 +267,7 @@ REASONS = [
     # A run of a circle has no such reason, and `circles` lists the flushes itself.
     ({"d": "item a / item b / flush a a", "a": "wq 0 a / norescuer 1 b"}, "deadlock d a",
      "run 4 / queue a / queue b / start 0 a / wait 0 a", 1, []),
+    ({"d": "item a / item b / flush a a", "a": "wq 0 a / norescuer 1 b"}, "hang d a", "run 3 / queue a / start 0 a / wait 0 a", 1, []),
     ({"d": AB, "a": "wq 0 a / norescuer 1 b"}, "circles d a", "components 0 / norescuer 1 / arc a b", 1, []),
     ({"d": AB, "a": "wq 0 a / norescuer 1 b", "r": QUEUED}, "replay d a r", "deadlock", 1, []),
 ]
