@@ -3,4 +3,5 @@ pub use Rattle.wq_groups.specs.Assignment
 pub use Rattle.wq_core.specs.Deadlock
 pub mod Shortest
 pub mod Walk
+pub mod Search
 pub mod Answer
