@@ -11,4 +11,5 @@ pub mod Reaching
 pub mod Searching
 pub mod LaneItems
 pub mod RoundsFound
+pub mod Rotations
 pub mod LeastFound

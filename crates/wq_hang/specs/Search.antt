@@ -129,3 +129,19 @@ pub record IsLeastRound (w : Wiring) (limit : ℕ) (hops : List Hop) : Type 0 wh
   pub round : IsRound w hops
   pub less : hops_cost hops < limit
   pub least : (others : List Hop) → IsRound w others → hops_cost hops ≤ hops_cost others
+
+-- by these numbers of lanes, each lane is marked to which a flush leads from a lane that has a rescuer and whose number isn't lower
+abbrev pub AreMarked : Wiring → List ℕ → List Bool → Type 0
+AreMarked w numbers marks = (h : Hop) → IsHop w h → slice_index numbers (lane_of w h.flush.item) ≤ slice_index numbers (lane_of w h.item)
+    → slice_index_or marks (lane_of w h.flush.item) false ≡ true
+
+-- a round from the item costs at most this, which is less than the least so far; and none from it costs less
+pub record IsBetter (w : Wiring) (first least cost : ℕ) (hops : List Hop) : Type 0 where
+  pub less : cost < least
+  pub round : IsRound w hops
+  pub costs : hops_cost hops ≤ cost
+  pub all : (others : List Hop) → 0 < length others → IsPath w first others first → cost ≤ hops_cost others
+
+-- if the item's lane is marked, no round from it costs less than the least so far
+abbrev pub IsNoBetter : Wiring → List Bool → ℕ → ℕ → Type 0
+IsNoBetter w marks first least = slice_index_or marks (lane_of w first) false ≡ true → (hops : List Hop) → 0 < length hops → IsPath w first hops first → least ≤ hops_cost hops

@@ -3,7 +3,7 @@
 //! Where lanes and flushes end and runs begin: a least walk is found, and the run is that of the walk. It takes the time of the search
 //! for a least walk.
 
-ghost use Rattle.std.specs.Prelude.{◌≡◌, ◌<◌, length, IfOk, OnErr, IfSome, IfNone};
+ghost use Rattle.std.specs.Prelude.{◌≡◌, ◌<◌, length, IfOk, OnErr, IfSome, IfNone, MatchOption};
 ghost use Rattle.wq_core.specs.Deadlock.{IsSafe};
 ghost use Rattle.wq_groups.specs.Declaration.{declaration_of};
 ghost use Rattle.wq_hang.specs.Answer.{IsAnswer};
@@ -12,31 +12,49 @@ ghost use Rattle.wq_hang.specs.Walk.{IsLeastWalk};
 use crate::answer::Answer;
 use crate::hop::Hop;
 use crate::least::{hop_to_bare, least_round};
+use crate::numbering::vertex_numbers;
 use crate::running::{run_of_walk, targets_beside};
 use std::alloc::{AllocError, Allocator};
 use wq_core::{Core, Workqueues};
+use wq_graph::WaitGraph;
 use wq_groups::Groups;
 use wq_items::{ItemId, ItemTable};
 
-/// No walk costs more than 4 for each lane, of which there are at most 4,096, where it meets none twice.
+/// No walk costs as much that meets no lane twice: there are at most 4,096 lanes, and each costs 3 or 4.
 const MOST: u16 = 16385;
+
+/// What a round has to cost less than: 4, if there is a flush that leads to a bare lane.
+fn limit(bare: &Option<Hop>) -> u16
+    ensures { MatchOption bare.now (result ≡ 16385) (λ _. result ≡ 4) }
+{
+    match bare {
+        Some(_) => 4,
+        None => MOST,
+    }
+}
 
 /// A least walk, with the items that are queued beside those that wait.
 fn least_walk<A: Allocator + Copy>(
     alloc: A,
     core: &Core<A>,
+    numbers: &[u16],
 ) -> Result<Option<(Vec<Hop, A>, Vec<ItemId, A>)>, AllocError>
+    requires { length numbers.now ≡ core.now.wiring.lanes }
     ensures some { IfOk result (λ found. IfSome found (λ walk. IsLeastWalk core.now.wiring walk.0.items walk.1.items)) }
     ensures none { IfOk result (λ found. IfNone found (IsSafe core.now.wiring)) }
 {
+    let _items = core.items();
     let bare = hop_to_bare(core);
-    let limit = if bare.is_some() { 4 } else { MOST };
-    if let Some(hops) = least_round(alloc, core, limit)? {
+    let found = least_round(alloc, core, numbers, limit(&bare))?;
+    if let Some(hops) = found {
         let beside = targets_beside(alloc, hops.as_slice())?;
         return Ok(Some((hops, beside)));
     }
     match bare {
-        Some(hop) => Ok(Some((vec![in alloc; hop]?, vec![in alloc; hop.flush.item]?))),
+        Some(hop) => Ok(Some((
+            vec![in alloc; hop]?,
+            vec![in alloc; hop.flush.item]?,
+        ))),
         None => Ok(None),
     }
 }
@@ -59,8 +77,13 @@ pub fn hang<A: Allocator + Copy>(
     // Each group has a member, and one of the lanes.
     prove!(groups.len() <= table.len());
     prove!(workqueues.assignment().lanes() <= 4096);
+    if workqueues.assignment().lanes() == 0 {
+        return Ok(Answer::Safe);
+    }
     let core = Core::on_workqueues(alloc, table, groups, workqueues)?;
-    match least_walk(alloc, &core)? {
+    let graph = WaitGraph::of_lanes(alloc, table, groups, workqueues.assignment())?;
+    let numbers = vertex_numbers(alloc, &graph.without(alloc, workqueues.bare())?)?;
+    match least_walk(alloc, &core, &numbers)? {
         Some((hops, beside)) => {
             let steps = run_of_walk(alloc, &core, hops.as_slice(), beside.as_slice())?;
             Ok(Answer::Hang(hops, steps))

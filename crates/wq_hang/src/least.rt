@@ -3,15 +3,16 @@
 //! A flush that leads to a bare lane makes a walk that costs 4. A round is searched for from each item in turn, for less than the best
 //! walk so far costs. It takes the time of a search for each item, and memory in the number of items and lanes.
 
-ghost use Rattle.std.specs.Prelude.{◌≡◌, ◌<◌, ◌≤◌, List, map, slice_index, IfOk, IfSome, IfNone, Contains};
+ghost use Rattle.std.specs.Prelude.{◌≡◌, ◌<◌, ◌≤◌, List, length, map, slice_index, IfOk, IfSome, IfNone, Contains};
 ghost use Rattle.std.specs.List.{range_with_len};
 ghost use Rattle.wq_items.specs.declared.target.Target.{Target};
 ghost use Rattle.wq_core.specs.Wiring.{HasRescuer, items, lane_of, declared_by};
 ghost use Rattle.wq_hang.specs.declared.hop.Hop.{Hop};
 ghost use Rattle.wq_hang.specs.Walk.{IsHop, IsRound};
-ghost use Rattle.wq_hang.specs.Search.{AreItemsOn, IsReach, IsLeastRound, hops_cost};
+ghost use Rattle.wq_hang.specs.Search.{AreItemsOn, IsReach, IsBetter, IsNoBetter, IsLeastRound, hops_cost};
 
 use crate::hop::Hop;
+use crate::marks::marked_lanes;
 use crate::search::{Search, search_from};
 use std::alloc::{AllocError, Allocator};
 use wq_buckets::Buckets;
@@ -102,28 +103,57 @@ fn round<A: Allocator + Copy>(
     Ok(hops)
 }
 
-/// A round that costs less than the limit and no more than any other, if there is one that costs less.
+/// A round from an item that costs less than the least so far, and what it costs at most, if there is one. The item's lane is marked, or
+/// there is no need to look.
+fn better_round<A: Allocator + Copy>(
+    alloc: A,
+    core: &Core<A>,
+    on: &Buckets<A>,
+    marks: &[bool],
+    first: ItemId,
+    least: u16,
+) -> Result<Option<(u16, Vec<Hop, A>)>, AllocError>
+    requires on { AreItemsOn core.now.wiring on.now }
+    requires marks { length marks.now ≡ core.now.wiring.lanes }
+    requires first { first < items core.now.wiring }
+    requires low { least ≤ 16385 }
+    ensures some { IfOk result (λ found. IfSome found (λ better. IsBetter core.now.wiring first least better.0 better.1.items)) }
+    ensures none { IfOk result (λ found. IfNone found (IsNoBetter core.now.wiring marks.now first least)) }
+{
+    let lane = core.lane_of(first);
+    if !core.has_rescuer(lane) || !marks[usize::from(lane.get())] {
+        return Ok(None);
+    }
+    let search = search_from(alloc, core, on, first, least)?;
+    let cost = search.cost(first);
+    if cost < least {
+        Ok(Some((cost, round(alloc, core, &search, first, least)?)))
+    } else {
+        Ok(None)
+    }
+}
+
+/// A round that costs less than the limit and no more than any other, if there is one that costs less. Of any numbers of the lanes: rounds
+/// are searched for from the lanes that are marked by them.
 pub(crate) fn least_round<A: Allocator + Copy>(
     alloc: A,
     core: &Core<A>,
+    numbers: &[u16],
     limit: u16,
 ) -> Result<Option<Vec<Hop, A>>, AllocError>
-    requires { limit ≤ 16385 }
+    requires numbers { length numbers.now ≡ core.now.wiring.lanes }
+    requires low { limit ≤ 16385 }
     ensures some { IfOk result (λ found. IfSome found (λ hops. IsLeastRound core.now.wiring limit hops.items)) }
     ensures none { IfOk result (λ found. IfNone found ((hops : List Hop) → IsRound core.now.wiring hops → limit ≤ hops_cost hops)) }
 {
     let on = items_on_lanes(alloc, core)?;
+    let marks = marked_lanes(alloc, core, numbers)?;
     let mut least = limit;
     let mut found = None;
     for i in 0..core.items() as u16 {
-        let first = ItemId::new(i);
-        if core.has_rescuer(core.lane_of(first)) {
-            let search = search_from(alloc, core, &on, first, least)?;
-            let cost = search.cost(first);
-            if cost < least {
-                found = Some(round(alloc, core, &search, first, least)?);
-                least = cost;
-            }
+        if let Some((cost, hops)) = better_round(alloc, core, &on, &marks, ItemId::new(i), least)? {
+            least = cost;
+            found = Some(hops);
         }
     }
     Ok(found)

@@ -12,6 +12,8 @@ mod hanging;
 mod hop;
 pub mod laws;
 mod least;
+mod marks;
+mod numbering;
 mod running;
 mod search;
 

@@ -211,10 +211,10 @@ impl<A: Allocator + Copy> Search<A> {
         ensures near { IsTrue result → 0 < length self.now.near }
         ensures far { result ≡ false → (length self.now.near ≡ 0) ⊎ (0 < length self.now.far) }
     {
-        let Some(near) = self.near.front() else {
+        let Some(near) = self.near.get(0) else {
             return false;
         };
-        match self.far.front() {
+        match self.far.get(0) {
             Some(far) => self.cost(*near) <= self.cost(*far),
             None => true,
         }
