@@ -1,13 +1,14 @@
 -- The items of each lane, as their places in the list of all lanes.
-use Rattle.std.proofs.Common.{◌≡◌, ℕ, ◌+◌, ◌<◌, ◌≤◌, Bool, true, eqb, List, [], ◌∷◌, length, map, get_or, refl, sym, ap, subst, ◌∙◌, arith, inl, inr}
+use Rattle.std.proofs.Common.{◌≡◌, ℕ, ◌+◌, ◌<◌, ◌≤◌, Bool, true, eqb, List, [], ◌∷◌, ◌++◌, length, map, get_or, refl, sym, ap, subst, ◌∙◌, arith, inl, inr}
 use Rattle.std.specs.Prelude.{Contains, filter, slice_index, slice_index_or}
 use Rattle.std.specs.List.{All, range_with_len}
 use Rattle.std.proofs.lemmas.Bool.{cases_lt, eqb-true, eq-eqb}
-use Rattle.std.proofs.lemmas.List.{get_or-map, get_or_past, length-map}
+use Rattle.std.proofs.lemmas.List.{get_or-map, get_or_past, map_push}
 use Rattle.std.proofs.lemmas.List.Elements.{All-contains, filter_passes}
 use Rattle.std.proofs.lemmas.List.FromFn.{get_or-range_with_len, length-range_with_len, length-map-range_with_len}
 use Rattle.wq_buckets.specs.Places.{places_of, buckets_of}
 use Rattle.wq_items.proofs.Lists.{Contains-filtered, Contains-range_with_len, range_with_len-below}
+use Rattle.wq_items.proofs.TableLemmas.{range_with_len-push}
 use Rattle.wq_core.specs.Wiring.{Wiring, IsWiring, items, lane_of}
 use Rattle.wq_core.proofs.LaneLemmas.{Contains-filter}
 use Rattle.wq_core.proofs.Wirings.{lane_of-within}
@@ -65,3 +66,9 @@ module _ (w : Wiring) (wiring : IsWiring w) where
           let there : Contains (range_with_len 0 (length keys)) i = Contains-range_with_len (length keys) i (omega (arith, lt, length-item_lanes w)) in
           subst (λ (l : List ℕ). Contains l i) (sym (bucket q (lane_of-within w wiring i lt)))
           (Contains-filtered (λ p. eqb (slice_index keys p) q) (range_with_len 0 (length keys)) i (eq-eqb (slice_index keys i) q (item_lanes-at w i lt)) there)
+
+-- one item more
+pub item_lanes-more : (w : Wiring) (n : ℕ) (lanes new : List ℕ) (q : ℕ) → lanes ≡ map (lane_of w) (range_with_len 0 n) → new ≡ lanes ++ (q ∷ []) → q ≡ lane_of w n → new ≡ map (lane_of w) (range_with_len 0 (n + 1))
+item_lanes-more w n lanes new q before more is =
+    more ∙ ap (λ (l : List ℕ). l ++ (q ∷ [])) before ∙ ap (λ (p : ℕ). map (lane_of w) (range_with_len 0 n) ++ (p ∷ [])) is
+    ∙ sym (ap (map (lane_of w)) (range_with_len-push n) ∙ map_push (lane_of w) (range_with_len 0 n) n)

@@ -1,4 +1,5 @@
 pub mod Declared
+pub mod Taken
 pub mod Apart
 pub mod Weights
 pub mod StuckLanes

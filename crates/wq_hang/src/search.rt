@@ -204,10 +204,14 @@ impl<A: Allocator + Copy> Search<A> {
         self.by[usize::from(item.get())]
     }
 
+    /// What it costs to come to an item, as far as is known.
+    fn cost_so_far(&self, item: ItemId) -> u16 {
+        let cost = self.costs.get(usize::from(item.get())).copied();
+        cost.unwrap_or(u16::MAX)
+    }
+
     /// Whether the next item to go on from is the first of those that were reached at a cost of 3 more.
     fn near_comes_first(&self) -> bool
-        requires near { All (λ i. i < length self.now.costs) self.now.near }
-        requires far { All (λ i. i < length self.now.costs) self.now.far }
         ensures near { IsTrue result → 0 < length self.now.near }
         ensures far { result ≡ false → (length self.now.near ≡ 0) ⊎ (0 < length self.now.far) }
     {
@@ -215,15 +219,13 @@ impl<A: Allocator + Copy> Search<A> {
             return false;
         };
         match self.far.get(0) {
-            Some(far) => self.cost(*near) <= self.cost(*far),
+            Some(far) => self.cost_so_far(*near) <= self.cost_so_far(*far),
             None => true,
         }
     }
 
     /// The next item to go on from, the cheapest.
     fn take(&mut self) -> Option<ItemId>
-        requires near { All (λ i. i < length self.old.costs) self.old.near }
-        requires far { All (λ i. i < length self.old.costs) self.old.far }
         ensures some { IfSome result (λ i. IsTaken self.old i self.new) }
         ensures none { IfNone result (self.new ≡ self.old) }
         ensures near { IfNone result (length self.old.near ≡ 0) }
