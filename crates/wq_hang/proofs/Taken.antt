@@ -1,6 +1,6 @@
 -- Elements of the front of a list, and marks.
 use Rattle.std.proofs.Common.{◌≡◌, ℕ, ◌+◌, ◌<◌, ◌≤◌, ◌⊎◌, inl, inr, Bool, true, false, List, [], ◌∷◌, ◌++◌, length, take, set, get_or, refl, sym, ap, subst, ◌∙◌, arith}
-use Rattle.std.specs.Prelude.{Contains, slice_index, slice_index_or}
+use Rattle.std.specs.Prelude.{Contains, slice_index, slice_index_or, Result, Ok, Err, IfOk}
 use Rattle.std.proofs.lemmas.Bool.{cases_eq, cases_lt}
 use Rattle.std.proofs.lemmas.List.{take_more, take_all, get_or-set_same, get_or-set_other, set_past}
 use Rattle.std.proofs.lemmas.List.Elements.{Contains-push_cases}
@@ -20,3 +20,8 @@ marked_kept marks p q is = elim (cases_eq q p) [
   ]
   | inr other ↦ get_or-set_other marks p q true false other ∙ is
 ]
+
+-- what holds of a value holds of a result that is this value
+pub IfOk-is : {A E : Type 0} (P : A → Type 0) (a : A) (r : Result A E) → IfOk r (λ x. x ≡ a) → P a → IfOk r P
+IfOk-is P a (Ok x) same holds = subst P (sym same) holds
+IfOk-is P a (Err e) same holds = tt

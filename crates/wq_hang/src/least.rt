@@ -95,7 +95,7 @@ fn round<A: Allocator + Copy>(
     let mut hop = search.hop_to(first);
     let mut hops = Vec::new(alloc);
     hops.push(hop)?;
-    while hop.item != first {
+    while hop.item.get() != first.get() {
         hop = search.hop_to(hop.item);
         hops.push(hop)?;
     }
@@ -121,16 +121,19 @@ fn better_round<A: Allocator + Copy>(
     ensures none { IfOk result (λ found. IfNone found (IsNoBetter core.now.wiring marks.now first least)) }
 {
     let lane = core.lane_of(first);
-    if !core.has_rescuer(lane) || !marks[usize::from(lane.get())] {
+    if !core.has_rescuer(lane) {
+        return Ok(None);
+    }
+    if !marks[usize::from(lane.get())] {
         return Ok(None);
     }
     let search = search_from(alloc, core, on, first, least)?;
     let cost = search.cost(first);
-    if cost < least {
-        Ok(Some((cost, round(alloc, core, &search, first, least)?)))
-    } else {
-        Ok(None)
+    if cost >= least {
+        return Ok(None);
     }
+    let hops = round(alloc, core, &search, first, least)?;
+    Ok(Some((cost, hops)))
 }
 
 /// A round that costs less than the limit and no more than any other, if there is one that costs less. Of any numbers of the lanes: rounds

@@ -3,7 +3,7 @@
 //! Numbers of lanes can't rise all the way round, whatever they are. So each round comes to a lane from one whose number isn't lower.
 //! Those lanes are marked. It takes time and memory in the number of items, lanes and flushes.
 
-ghost use Rattle.std.specs.Prelude.{◌≡◌, ◌<◌, ◌≤◌, length, slice_index, slice_index_or, false, true, IfOk, Contains};
+ghost use Rattle.std.specs.Prelude.{◌≡◌, ◌<◌, ◌≤◌, ℕ, length, slice_index, slice_index_or, false, true, IfOk, Contains};
 ghost use Rattle.wq_items.specs.declared.target.Target.{Target};
 ghost use Rattle.wq_core.specs.Wiring.{items, lane_of, declared_by};
 ghost use Rattle.wq_hang.specs.Search.{AreMarked};
