@@ -4,8 +4,10 @@ use Rattle.std.specs.Prelude.{flat_map, if◌then◌else◌, ◌||◌, ⊤}
 use Rattle.wq_core.specs.Wiring.{Wiring, lane_of}
 use Rattle.wq_hang.specs.declared.hop.Hop.{Hop}
 use Rattle.wq_hang.specs.Walk.{IsHop, IsPath, IsRound, GoesRound, IsWalk, IsLeastWalk, target_beside, walk_cost}
+use Rattle.wq_hang.specs.Search.{hops_cost}
 use Rattle.wq_hang.proofs.Apart.{Avoids, Apart}
-use Rattle.wq_hang.proofs.Rounds.{hops_cost, walk_cost-hops, lanes_to}
+use Rattle.wq_hang.proofs.Declared.{target_beside-most}
+use Rattle.wq_hang.proofs.Rounds.{walk_cost-hops}
 
 -- the lanes of the items that wait
 abbrev pub lanes_from : Wiring → List Hop → List ℕ
@@ -14,11 +16,11 @@ lanes_from w (h ∷ hops) = lane_of w h.item ∷ lanes_from w hops
 
 -- ---- paths in two parts
 
-IsPath-append : (w : Wiring) (i j k : ℕ) (hops more : List Hop) → IsPath w i hops j → IsPath w j more k → IsPath w i (hops ++ more) k
+pub IsPath-append : (w : Wiring) (i j k : ℕ) (hops more : List Hop) → IsPath w i hops j → IsPath w j more k → IsPath w i (hops ++ more) k
 IsPath-append w i j k [] more path on = subst (λ (x : ℕ). IsPath w x more k) (sym path) on
 IsPath-append w i j k (h ∷ hops) more path on = (path.0, path.1, path.2, IsPath-append w h.next j k hops more path.3 on)
 
-hops_cost-append : (hops more : List Hop) → hops_cost (hops ++ more) ≡ hops_cost hops + hops_cost more
+pub hops_cost-append : (hops more : List Hop) → hops_cost (hops ++ more) ≡ hops_cost hops + hops_cost more
 hops_cost-append [] more = omega arith
 hops_cost-append (h ∷ hops) more = let rest : hops_cost (hops ++ more) ≡ hops_cost hops + hops_cost more = hops_cost-append hops more in omega arith
 
@@ -31,13 +33,6 @@ redirect y h (g ∷ hops) = h ∷ redirect y g hops
 redirect-some : (y : ℕ) (h : Hop) (hops : List Hop) → 0 < length (redirect y h hops)
 redirect-some y h [] = omega arith
 redirect-some y h (g ∷ hops) = omega arith
-
-target_beside-most : (h : Hop) → length (target_beside h) ≤ 1
-target_beside-most h = by (h.flush.whole || eqb h.flush.item h.next)
-  where
-    by : (b : Bool) → length (if b then [] else h.flush.item ∷ []) ≤ 1
-    by true = omega arith
-    by false = omega arith
 
 redirect-cost : (y : ℕ) (h : Hop) (hops : List Hop) → hops_cost (redirect y h hops) ≤ hops_cost (h ∷ hops) + 1
 redirect-cost y h [] = let most : length (target_beside (record h { next = y })) ≤ 1 = target_beside-most (record h { next = y }) in omega arith

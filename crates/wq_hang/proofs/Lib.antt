@@ -1,3 +1,5 @@
+pub mod Declared
+pub mod Taken
 pub mod Apart
 pub mod Weights
 pub mod StuckLanes
@@ -5,3 +7,10 @@ pub mod Rounds
 pub mod LeastWalks
 pub mod WalkRuns
 pub mod Shortest
+pub mod Sizes
+pub mod Reaching
+pub mod Searching
+pub mod LaneItems
+pub mod RoundsFound
+pub mod Rotations
+pub mod LeastFound

@@ -19,7 +19,9 @@ use Rattle.wq_core.proofs.Wirings.{cases_rescuer, lane_of-within, IsWiring-with_
 use Rattle.wq_hang.specs.declared.hop.Hop.{Hop}
 use Rattle.wq_hang.specs.Shortest.{EndsStuck}
 use Rattle.wq_hang.specs.Walk.{IsHop, IsPath, IsRound, GoesRound, LeadsToBare, IsWalk, target_beside, walk_cost}
+use Rattle.wq_hang.specs.Search.{hops_cost}
 use Rattle.wq_hang.proofs.Apart.{Avoids, Apart, In, cases_In, not_in, Apart-few}
+use Rattle.wq_hang.proofs.Declared.{declared-target, target_beside-most}
 use Rattle.wq_hang.proofs.Weights.{lane_weight, lane_weight-unfinished, weight, weight_on, weight_on-apart, weight-end_of}
 use Rattle.wq_hang.proofs.StuckLanes.{item_on, IsHopFrom, hop_from, hop-weight}
 
@@ -27,11 +29,6 @@ use Rattle.wq_hang.proofs.StuckLanes.{item_on, IsHopFrom, hop_from, hop-weight}
 abbrev pub lanes_to : Wiring → List Hop → List ℕ
 lanes_to w [] = []
 lanes_to w (h ∷ hops) = lane_of w h.flush.item ∷ lanes_to w hops
-
--- what hops cost
-abbrev pub hops_cost : List Hop → ℕ
-hops_cost [] = 0
-hops_cost (h ∷ hops) = (3 + length (target_beside h)) + hops_cost hops
 
 pub walk_cost-hops : (hops : List Hop) → walk_cost hops (flat_map target_beside hops) ≡ hops_cost hops
 walk_cost-hops [] = refl
@@ -45,9 +42,21 @@ Outside v visited [] = ⊤
 Outside v visited (a ∷ more) = ((a ≡ v) ⊎ Avoids a visited) × Outside v visited more
 
 module _ (w : Wiring) (wiring : IsWiring w) (s : State) (sound : IsSoundState w s) (no_step : (step : Step) → IsForcedStep w step → ¬ Lawful w s step) where
-  -- a walk that costs at most what the state weighs
+  -- a walk that costs at most what the state weighs, and at most 4 for each lane
   abbrev Found : Type 0
-  Found = (hops : List Hop) × (beside : List ℕ) × IsWalk w hops beside × (walk_cost hops beside ≤ weight s.lanes)
+  Found = (hops : List Hop) × (beside : List ℕ) × IsWalk w hops beside × (walk_cost hops beside ≤ weight s.lanes) × (walk_cost hops beside ≤ 4 * w.lanes)
+
+  lanes_below : (i j : ℕ) (hops : List Hop) → IsPath w i hops j → All (λ p. p < w.lanes) (lanes_to w hops)
+  lanes_below i j [] path = All-nil (λ p. p < w.lanes)
+  lanes_below i j (h ∷ hops) path =
+      All-cons (λ p. p < w.lanes) (lane_of w h.flush.item) (lanes_to w hops) (lane_of-within w wiring h.flush.item (declared-target w h.item h.flush wiring path.1.declared)) (lanes_below h.next j hops path.3)
+
+  hops_cost-most : (hops : List Hop) → hops_cost hops ≤ 4 * length (lanes_to w hops)
+  hops_cost-most [] = omega arith
+  hops_cost-most (h ∷ hops) =
+      let rest : hops_cost hops ≤ 4 * length (lanes_to w hops) = hops_cost-most hops in
+      let most : length (target_beside h) ≤ 1 = target_beside-most h in
+      omega arith
 
   -- hops from lane q to a lane that was visited before, which lead to no other lane twice, nor to one that was visited
   record LeadsBack (q : ℕ) (visited : List ℕ) : Type 0 where
@@ -64,7 +73,9 @@ module _ (w : Wiring) (wiring : IsWiring w) (s : State) (sound : IsSoundState w 
   found_round q h hops path apart cost =
       let all : weight_on s.lanes (lanes_to w (h ∷ hops)) ≤ weight s.lanes = weight_on-apart s.lanes (lanes_to w (h ∷ hops)) apart in
       let same : walk_cost (h ∷ hops) (flat_map target_beside (h ∷ hops)) ≡ hops_cost (h ∷ hops) = walk_cost-hops (h ∷ hops) in
-      (h ∷ hops, flat_map target_beside (h ∷ hops), inl (record { some = omega arith; first = item_on s q; path = path }, refl), omega arith)
+      let few : length (lanes_to w (h ∷ hops)) ≤ w.lanes = Apart-few w.lanes (lanes_to w (h ∷ hops)) (lanes_below (item_on s q) (item_on s q) (h ∷ hops) path) apart in
+      let most : hops_cost (h ∷ hops) ≤ 4 * length (lanes_to w (h ∷ hops)) = hops_cost-most (h ∷ hops) in
+      (h ∷ hops, flat_map target_beside (h ∷ hops), inl (record { some = omega arith; first = item_on s q; path = path }, refl), omega arith, omega arith)
 
   found_bare : (q : ℕ) (h : Hop) → HasRescuer w q → IsHopFrom w s sound no_step q h → (¬ HasRescuer w (lane_of w h.flush.item)) → Found
   found_bare q h rescuer is bare =
@@ -73,7 +84,8 @@ module _ (w : Wiring) (wiring : IsWiring w) (s : State) (sound : IsSoundState w 
       let two : weight_on s.lanes (p ∷ q ∷ []) ≤ weight s.lanes = weight_on-apart s.lanes (p ∷ q ∷ []) ((other, tt), (tt, tt)) in
       let one : 1 ≤ lane_weight (lane_at s p) = lane_weight-unfinished (lane_at s p) is.busy.0 is.busy.1 in
       let three : 3 ≤ lane_weight (lane_at s q) = is.weighs in
-      (h ∷ [], h.flush.item ∷ [], inr (h, record { declared = is.declared; rescuer = subst (HasRescuer w) (sym is.own) rescuer }, bare, refl, refl), omega arith)
+      let lane : p < w.lanes = lane_of-within w wiring h.flush.item (declared-target w h.item h.flush wiring is.declared) in
+      (h ∷ [], h.flush.item ∷ [], inr (h, record { declared = is.declared; rescuer = subst (HasRescuer w) (sym is.own) rescuer }, bare, refl, refl), omega arith, omega arith)
 
   -- a hop to lane p, with what comes before and after
   hop_on : (q p : ℕ) (h : Hop) → HasRescuer w q → IsHopFrom w s sound no_step q h → lane_of w h.flush.item ≡ p → lane_of w (item_on s p) ≡ p → (hops : List Hop) (j : ℕ) → IsPath w (item_on s p) hops j → IsPath w (item_on s q) (h ∷ hops) j
@@ -204,10 +216,11 @@ IsWalk-without w n hops beside (inl round) =
     inl (record { some = round.0.some; first = round.0.first; path = IsPath-without w n round.0.first hops round.0.first round.0.path }, round.1)
 IsWalk-without w n hops beside (inr bare) = inr (bare.0, IsHop-without w n bare.0 bare.1, bare.2, bare.3, bare.4)
 
-pub IsWalk-stuck : (w : Wiring) (n : ℕ) (steps : List Step) → IsWiring w → EndsStuck w n steps → (hops : List Hop) × (beside : List ℕ) × IsWalk w hops beside × (walk_cost hops beside ≤ length steps)
+pub IsWalk-stuck : (w : Wiring) (n : ℕ) (steps : List Step) → IsWiring w → EndsStuck w n steps
+    → (hops : List Hop) × (beside : List ℕ) × IsWalk w hops beside × (walk_cost hops beside ≤ length steps) × (walk_cost hops beside ≤ 4 * w.lanes)
 IsWalk-stuck w n steps wiring (run, stuck) =
     let v : Wiring = with_helpers w n in
     let s : State = end_of v steps in
     let is = found v (IsWiring-with_helpers w n wiring) s (IsSoundState-end_of v steps run) stuck.no_step stuck.left.lane stuck.rescuer (stuck.left.entry, stuck.left.unfinished) in
     let few : weight s.lanes ≤ length steps = weight-end_of v steps in
-    (is.0, is.1, IsWalk-without w n is.0 is.1 is.2, omega (arith, is.3, few))
+    (is.0, is.1, IsWalk-without w n is.0 is.1 is.2, omega (arith, is.3, few), is.4)

@@ -17,24 +17,10 @@ use Rattle.wq_hang.specs.declared.hop.Hop.{Hop}
 use Rattle.wq_hang.specs.Shortest.{EndsStuck, NeedsWorker, IsShortestHang}
 use Rattle.wq_hang.specs.Walk.{IsHop, IsPath, IsRound, GoesRound, LeadsToBare, IsWalk, IsLeastWalk, target_beside, walk_cost, moves_of, run_of_walk}
 use Rattle.wq_hang.proofs.Apart.{Avoids, Apart, In, not_in, Avoids-from, In-append_left, In-append_right, Apart-append}
+use Rattle.wq_hang.proofs.Declared.{declared-item, declared-target, beside_cases}
 use Rattle.wq_hang.proofs.Rounds.{lanes_to, IsWalk-stuck}
 use Rattle.wq_hang.proofs.LeastWalks.{lanes_from, Apart-least}
 use Rattle.wq_hang.proofs.WalkRuns.{items_of, queued, lane_In, item_In, In_item, HoldUp, IsRun-walk, IsStuck-walk}
-
--- ---- what is declared
-
-declared-item : (w : Wiring) (i : ℕ) (t : Target) → Contains (declared_by w i) t → i < items w
-declared-item w i t there = elim (cases_lt i (items w)) [
-  | inl within ↦ within
-  | inr past ↦ (
-      let none : length (declared_by w i) ≡ 0 = ap (λ (ts : List Target). length ts) (get_or_past w.waits i [] past) in
-      absurd (omega (arith, there.1, none))
-      )
-]
-
-declared-target : (w : Wiring) (i : ℕ) (t : Target) → IsWiring w → Contains (declared_by w i) t → t.item < items w
-declared-target w i t wiring (k, lt, at) =
-    subst (λ (u : Target). u.item < items w) at (targets_of-below (items w) w.waits i wiring.targets_are_items k t lt)
 
 All-from_In : (P : ℕ → Type 0) (xs : List ℕ) → ((x : ℕ) → In x xs → P x) → All P xs
 All-from_In P [] each = All-nil P
@@ -81,15 +67,6 @@ lane_to_In : (w : Wiring) (hops : List Hop) (h : Hop) → Contains hops h → In
 lane_to_In w [] h (k, lt, at) = omega arith
 lane_to_In w (g ∷ hops) h (zero, lt, at) = inl (ap (λ (x : Hop). lane_of w x.flush.item) (sym at))
 lane_to_In w (g ∷ hops) h (suc k, lt, at) = inr (lane_to_In w hops h (k, omega arith, at))
-
-beside_cases : (h : Hop) → ((target_beside h ≡ []) × (h.flush.whole ≡ false → h.flush.item ≡ h.next)) ⊎ ((target_beside h ≡ h.flush.item ∷ []) × (h.flush.item ≢ h.next))
-beside_cases h = by h.flush.whole (eqb h.flush.item h.next) refl refl
-  where
-    by : (whole same : Bool) → h.flush.whole ≡ whole → eqb h.flush.item h.next ≡ same
-        → (((if whole || same then [] else h.flush.item ∷ []) ≡ []) × (h.flush.whole ≡ false → h.flush.item ≡ h.next)) ⊎ (((if whole || same then [] else h.flush.item ∷ []) ≡ h.flush.item ∷ []) × (h.flush.item ≢ h.next))
-    by true same kind test = inl (refl, λ one. absurd (both_ways h.flush.whole one kind))
-    by false true kind test = inl (refl, λ one. eqb-true h.flush.item h.next test)
-    by false false kind test = inr (refl, λ is. both_ways (eqb h.flush.item h.next) test (eq-eqb h.flush.item h.next is))
 
 beside_hop : (hops : List Hop) (i : ℕ) → In i (flat_map target_beside hops) → (h : Hop) × Contains hops h × (i ≡ h.flush.item) × (h.flush.item ≢ h.next)
 beside_hop [] i there = absurd there
@@ -312,3 +289,10 @@ IsShortestHang-least w hops beside wiring is =
 
 pub IsSafe-no_walk : (w : Wiring) → IsWiring w → ((hops : List Hop) (beside : List ℕ) → ¬ IsWalk w hops beside) → IsSafe w
 IsSafe-no_walk w wiring none n few steps run stuck = let walk = IsWalk-stuck w n steps wiring (run, stuck) in none walk.0 walk.1 walk.2
+
+-- it is enough that there is none that costs at most 4 for each lane
+pub IsSafe-no_cheap_walk : (w : Wiring) → IsWiring w → ((hops : List Hop) (beside : List ℕ) → IsWalk w hops beside → 4 * w.lanes < walk_cost hops beside) → IsSafe w
+IsSafe-no_cheap_walk w wiring none n few steps run stuck = let walk = IsWalk-stuck w n steps wiring (run, stuck) in omega (arith, none walk.0 walk.1 walk.2, walk.4)
+
+pub IsWalk-stuck_run : (w : Wiring) (n : ℕ) (steps : List Step) → IsWiring w → EndsStuck w n steps → (hops : List Hop) × (beside : List ℕ) × IsWalk w hops beside × (walk_cost hops beside ≤ length steps)
+IsWalk-stuck_run w n steps wiring ends = let walk = IsWalk-stuck w n steps wiring ends in (walk.0, walk.1, walk.2, walk.3)

@@ -1,6 +1,9 @@
 pub use Rattle.wq_groups.specs.Declaration
 pub use Rattle.wq_groups.specs.Assignment
+pub use Rattle.wq_graph.specs.Graph
 pub use Rattle.wq_core.specs.Deadlock
 pub mod Shortest
 pub mod Walk
+pub mod Search
+pub mod Numbering
 pub mod Answer

@@ -1,0 +1,135 @@
+-- The best round so far, and the least walk in the end.
+use Rattle.std.proofs.Common.{◌≡◌, ◌≢◌, ℕ, ◌+◌, ◌*◌, ◌<◌, ◌≤◌, ◌⊎◌, inl, inr, Bool, true, false, List, [], ◌∷◌, length, Option, Some, None, refl, sym, ap, subst, ◌∙◌, arith}
+use Rattle.std.specs.Prelude.{flat_map, slice_index, slice_index_or, MatchOption, IfNone}
+use Rattle.std.proofs.lemmas.Bool.{cases_eq, false≢true}
+use Rattle.wq_core.specs.Wiring.{Wiring, IsWiring, HasRescuer, items, lane_of}
+use Rattle.wq_core.specs.Deadlock.{IsSafe}
+use Rattle.wq_hang.specs.declared.hop.Hop.{Hop}
+use Rattle.wq_hang.specs.Walk.{IsHop, IsPath, IsRound, IsWalk, IsLeastWalk, target_beside, walk_cost}
+use Rattle.wq_hang.specs.Search.{hops_cost, Reach, IsSearched, IsBetter, IsNoBetter, IsLeastRound, AreMarked}
+use Rattle.wq_hang.proofs.Declared.{declared-item}
+use Rattle.wq_hang.proofs.Rotations.{round_turned}
+use Rattle.wq_hang.proofs.Rounds.{walk_cost-hops}
+use Rattle.wq_hang.proofs.Shortest.{IsSafe-no_cheap_walk}
+
+-- what a round is, if one was found that costs less than the limit: it costs at most this
+abbrev pub IsFound : Wiring → ℕ → ℕ → Option (List Hop) → Type 0
+IsFound w limit least None = least ≡ limit
+IsFound w limit least (Some hops) = IsRound w hops × (hops_cost hops ≤ least) × (least < limit)
+
+-- after the searches from the items below n that are on marked lanes
+pub record IsBest (w : Wiring) (marks : List Bool) (limit n least : ℕ) (found : Option (List Hop)) : Type 0 where
+  pub low : least ≤ limit
+  pub found : IsFound w limit least found
+  pub all : (hops : List Hop) (i : ℕ) → 0 < length hops → IsPath w i hops i → slice_index_or marks (lane_of w i) false ≡ true → i < n → least ≤ hops_cost hops
+
+pub IsBest-none : (w : Wiring) (marks : List Bool) (limit : ℕ) → IsBest w marks limit 0 limit None
+IsBest-none w marks limit = record { low = omega arith; found = refl; all = λ hops i some path marked less. absurd (omega arith) }
+
+-- the first item of a path is on a lane that has a rescuer, and exists
+path_rescuer : (w : Wiring) (i j : ℕ) (hops : List Hop) → 0 < length hops → IsPath w i hops j → (i < items w) × HasRescuer w (lane_of w i)
+path_rescuer w i j [] some path = absurd (omega arith)
+path_rescuer w i j (h ∷ hops) some path = (
+  subst (λ (k : ℕ). k < items w) path.0 (declared-item w h.item h.flush path.1.declared),
+  subst (λ (k : ℕ). HasRescuer w (lane_of w k)) path.0 path.1.rescuer,
+)
+
+module _ (w : Wiring) (marks : List Bool) (limit n least : ℕ) (found : Option (List Hop)) (best : IsBest w marks limit n least found) where
+  pub IsBest-same : IsNoBetter w marks n least → IsBest w marks limit (n + 1) least found
+  IsBest-same none = record { low = best.low; found = best.found; all = λ hops i some path marked less. elim (cases_eq i n) [
+    | inl same ↦ none (ap (λ (k : ℕ). slice_index_or marks (lane_of w k) false) (sym same) ∙ marked) hops some (subst (λ (k : ℕ). IsPath w k hops k) same path)
+    | inr other ↦ best.all hops i some path marked (omega arith)
+  ] }
+
+  pub IsBest-better : (cost : ℕ) (hops : List Hop) → IsBetter w n least cost hops → IsBest w marks limit (n + 1) cost (Some hops)
+  IsBest-better cost hops better = record {
+    low = omega (arith, better.less, best.low);
+    found = (better.round, better.costs, omega (arith, better.less, best.low));
+    all = λ others i some path marked below. elim (cases_eq i n) [
+      | inl same ↦ better.all others some (subst (λ (k : ℕ). IsPath w k others k) same path)
+      | inr other ↦ omega (arith, best.all others i some path marked (omega arith), better.less)
+    ];
+  }
+
+-- no round begins with an item on a bare lane
+pub IsNoBetter-bare : (w : Wiring) (marks : List Bool) (first least : ℕ) → (¬ HasRescuer w (lane_of w first)) → IsNoBetter w marks first least
+IsNoBetter-bare w marks first least bare marked hops some path = absurd (bare (path_rescuer w first first hops some path).1)
+
+pub IsNoBetter-unmarked : (w : Wiring) (marks : List Bool) (first least : ℕ) → slice_index_or marks (lane_of w first) false ≡ false → IsNoBetter w marks first least
+IsNoBetter-unmarked w marks first least unmarked marked hops some path = absurd (false≢true (sym unmarked ∙ marked))
+
+pub IsNoBetter-searched : (w : Wiring) (marks : List Bool) (first least : ℕ) (s : Reach) → IsSearched w first least s → least ≤ slice_index s.costs first → IsNoBetter w marks first least
+IsNoBetter-searched w marks first least s searched enough marked hops some path = omega (arith, searched.least hops some path, enough)
+
+pub IsBetter-searched : (w : Wiring) (first least : ℕ) (s : Reach) (hops : List Hop) → IsSearched w first least s → slice_index s.costs first < least → IsRound w hops → hops_cost hops ≤ slice_index s.costs first
+    → IsBetter w first least (slice_index s.costs first) hops
+IsBetter-searched w first least s hops searched less round cost = record { less = less; round = round; costs = cost; all = searched.least }
+
+-- ---- after all searches
+
+-- each round comes to a marked lane, so it is no cheaper
+all_rounds : (w : Wiring) (numbers : List ℕ) (marks : List Bool) (limit n least : ℕ) (found : Option (List Hop)) → AreMarked w numbers marks → items w ≤ n → IsBest w marks limit n least found
+    → (hops : List Hop) → IsRound w hops → least ≤ hops_cost hops
+all_rounds w numbers marks limit n least found marked enough best hops round =
+    let turn = round_turned w (slice_index numbers) round.first hops round.some round.path in
+    let h : Hop = turn.hop in
+    let falls : slice_index numbers (lane_of w h.flush.item) ≤ slice_index numbers (lane_of w h.item) = subst (λ (q : ℕ). slice_index numbers q ≤ slice_index numbers (lane_of w h.item)) turn.on turn.falls in
+    let there : slice_index_or marks (lane_of w h.next) false ≡ true = ap (λ (q : ℕ). slice_index_or marks q false) turn.on ∙ marked h turn.is_hop falls in
+    let below : h.next < items w = (path_rescuer w h.next h.next turn.turned turn.some turn.path).0 in
+    omega (arith, best.all turn.turned h.next turn.some turn.path there (omega (arith, enough, below)), turn.cost)
+
+pub IsLeastRound-best : (w : Wiring) (numbers : List ℕ) (marks : List Bool) (limit n least : ℕ) (hops : List Hop) → AreMarked w numbers marks → items w ≤ n → IsBest w marks limit n least (Some hops) → IsLeastRound w limit hops
+IsLeastRound-best w numbers marks limit n least hops marked enough best = record {
+  round = best.found.0;
+  less = omega (arith, best.found.1, best.found.2);
+  least = λ others round. omega (arith, best.found.1, all_rounds w numbers marks limit n least (Some hops) marked enough best others round);
+}
+
+pub no_round-best : (w : Wiring) (numbers : List ℕ) (marks : List Bool) (limit n least : ℕ) → AreMarked w numbers marks → items w ≤ n → IsBest w marks limit n least None → (hops : List Hop) → IsRound w hops → limit ≤ hops_cost hops
+no_round-best w numbers marks limit n least marked enough best hops round = omega (arith, best.found, all_rounds w numbers marks limit n least None marked enough best hops round)
+
+-- ---- the least walk
+
+-- a walk costs 4 if it leads to a bare lane
+bare_cost : (w : Wiring) (others : List Hop) (more : List ℕ) → (h : Hop) → others ≡ h ∷ [] → more ≡ h.flush.item ∷ [] → walk_cost others more ≡ 4
+bare_cost w others more h one other = omega (arith, ap (λ (l : List Hop). length l) one, ap (λ (l : List ℕ). length l) other)
+
+-- where flushes lead to bare lanes only if the limit is 4
+pub IsLeastWalk-round : (w : Wiring) (limit : ℕ) (hops : List Hop) (beside : List ℕ) → ((h : Hop) → IsHop w h → (¬ HasRescuer w (lane_of w h.flush.item)) → limit ≤ 4) → IsLeastRound w limit hops → beside ≡ flat_map target_beside hops → IsLeastWalk w hops beside
+IsLeastWalk-round w limit hops beside bare is same = record { walk = inl (is.round, same); least = least }
+  where
+    cost : walk_cost hops beside ≡ hops_cost hops
+    cost = ap (walk_cost hops) same ∙ walk_cost-hops hops
+
+    least : (others : List Hop) (more : List ℕ) → IsWalk w others more → walk_cost hops beside ≤ walk_cost others more
+    least others more (inl (round, with_targets)) = omega (arith, cost, is.least others round, ap (walk_cost others) with_targets, walk_cost-hops others)
+    least others more (inr (h, hop, leads, one, other)) = omega (arith, cost, is.less, bare h hop leads, bare_cost w others more h one other)
+
+pub IsLeastWalk-bare : (w : Wiring) (h : Hop) (hops : List Hop) (beside : List ℕ) → IsHop w h → (¬ HasRescuer w (lane_of w h.flush.item)) → ((others : List Hop) → IsRound w others → 4 ≤ hops_cost others)
+    → hops ≡ h ∷ [] → beside ≡ h.flush.item ∷ [] → IsLeastWalk w hops beside
+IsLeastWalk-bare w h hops beside hop bare rounds one other = record { walk = inr (h, hop, bare, one, other); least = least }
+  where
+    least : (others : List Hop) (more : List ℕ) → IsWalk w others more → walk_cost hops beside ≤ walk_cost others more
+    least others more (inl (round, with_targets)) = omega (arith, bare_cost w hops beside h one other, rounds others round, ap (walk_cost others) with_targets, walk_cost-hops others)
+    least others more (inr (g, leads, to_bare, just, target)) = omega (arith, bare_cost w hops beside h one other, bare_cost w others more g just target)
+
+pub IsSafe-no_round : (w : Wiring) (limit : ℕ) → IsWiring w → 4 * w.lanes < limit → ((h : Hop) → IsHop w h → HasRescuer w (lane_of w h.flush.item)) → ((hops : List Hop) → IsRound w hops → limit ≤ hops_cost hops) → IsSafe w
+IsSafe-no_round w limit wiring few rescued rounds = IsSafe-no_cheap_walk w wiring cheap
+  where
+    cheap : (hops : List Hop) (beside : List ℕ) → IsWalk w hops beside → 4 * w.lanes < walk_cost hops beside
+    cheap hops beside (inl (round, with_targets)) = omega (arith, few, rounds hops round, ap (walk_cost hops) with_targets, walk_cost-hops hops)
+    cheap hops beside (inr (h, hop, bare, one, other)) = absurd (bare (rescued h hop))
+
+-- the limit is 4 where a flush leads to a bare lane
+pub limit-enough : (w : Wiring) (bare : Option Hop) (limit : ℕ) → MatchOption bare (limit ≡ 16385) (λ _. limit ≡ 4) → IfNone bare ((h : Hop) → IsHop w h → HasRescuer w (lane_of w h.flush.item))
+    → (h : Hop) → IsHop w h → (¬ HasRescuer w (lane_of w h.flush.item)) → limit ≤ 4
+limit-enough w None limit is none h hop bare = absurd (bare (none h hop))
+limit-enough w (Some x) limit is none h hop bare = omega (arith, is)
+
+-- where there is no lane, nothing runs
+pub IsSafe-no_lane : (w : Wiring) → IsWiring w → w.lanes ≡ 0 → IsSafe w
+IsSafe-no_lane w wiring none = IsSafe-no_cheap_walk w wiring cheap
+  where
+    cheap : (hops : List Hop) (beside : List ℕ) → IsWalk w hops beside → 4 * w.lanes < walk_cost hops beside
+    cheap hops beside (inl (round, with_targets)) = omega (arith, none, round.some)
+    cheap hops beside (inr (h, hop, bare, one, other)) = omega (arith, none, bare_cost w hops beside h one other)

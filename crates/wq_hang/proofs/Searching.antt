@@ -1,0 +1,229 @@
+-- A search while it goes on, and when it is over.
+use Rattle.std.proofs.Common.{◌≡◌, ◌≢◌, ℕ, zero, suc, ◌+◌, ◌*◌, ◌<◌, ◌≤◌, ◌⊎◌, inl, inr, Bool, true, false, eqb, List, [], ◌∷◌, ◌++◌, length, get_or, refl, sym, ap, subst, ◌∙◌, arith}
+use Rattle.std.specs.Prelude.{Contains, slice_index, slice_index_or, if◌then◌else◌, ◌||◌, replicate}
+use Rattle.std.specs.List.{All}
+use Rattle.std.proofs.lemmas.Bool.{cases_eq, cases_lt, both_ways, eqb-true, eq-eqb}
+use Rattle.std.proofs.lemmas.List.{get_or-replicate, get_or_past, length-replicate}
+use Rattle.wq_items.specs.declared.target.Target.{Target}
+use Rattle.wq_core.specs.Wiring.{Wiring, IsWiring, HasRescuer, items, lane_of, declared_by}
+use Rattle.wq_core.proofs.Wirings.{lane_of-within}
+use Rattle.wq_hang.specs.declared.hop.Hop.{Hop}
+use Rattle.wq_hang.specs.Walk.{IsHop, IsPath, target_beside}
+use Rattle.wq_hang.specs.Search.{hop_cost, hops_cost, Reach, IsTodo, lane_step, expand, AreItemsOn, IsReachedBy, IsReach, IsFollowed, IsGoing, IsTaken, IsSearched}
+use Rattle.wq_hang.proofs.Declared.{declared-item}
+use Rattle.wq_hang.proofs.Reaching.{total, work, Later, Grown, Grown-expand}
+
+-- ---- the beginning
+
+-- before anything is reached
+pub record IsNew (w : Wiring) (limit : ℕ) (s : Reach) : Type 0 where
+  pub costs : s.costs ≡ replicate (items w) limit
+  pub lane_costs : s.lane_costs ≡ replicate w.lanes limit
+  pub by_each : length s.by ≡ items w
+  pub near : s.near ≡ []
+  pub far : s.far ≡ []
+
+replicate-most : (n x i : ℕ) → get_or (replicate n x) i 0 ≤ x
+replicate-most n x i = elim (cases_lt i n) [
+  | inl within ↦ omega (arith, get_or-replicate n i x 0 within)
+  | inr past ↦ omega (arith, get_or_past (replicate n x) i 0 (omega (arith, past, length-replicate n x)))
+]
+
+none_todo : (w : Wiring) (limit : ℕ) (s : Reach) (i : ℕ) → IsNew w limit s → ¬ IsTodo s i
+none_todo w limit s i new (inl there) = omega (arith, there.1, ap (λ (l : List ℕ). length l) new.near)
+none_todo w limit s i new (inr there) = omega (arith, there.1, ap (λ (l : List ℕ). length l) new.far)
+
+IsReach-new : (w : Wiring) (first limit : ℕ) (s : Reach) → IsWiring w → IsNew w limit s → IsReach w first limit s
+IsReach-new w first limit s wiring new = record {
+  one_each = ap (λ (l : List ℕ). length l) new.costs ∙ length-replicate (items w) limit;
+  by_each = new.by_each;
+  lanes_each = ap (λ (l : List ℕ). length l) new.lane_costs ∙ length-replicate w.lanes limit;
+  capped = λ i. capped i;
+  lanes_capped = λ q. omega (arith, replicate-most w.lanes limit q, ap (λ (l : List ℕ). get_or l q 0) new.lane_costs);
+  by_lane = λ i below. omega (arith, capped i, lane_at_limit i below);
+  todo = λ i todo. absurd (none_todo w limit s i new todo);
+  reached = λ i d below less. absurd (omega (arith, less, at_limit i below));
+}
+  where
+    capped : (i : ℕ) → slice_index s.costs i ≤ limit
+    capped i = omega (arith, replicate-most (items w) limit i, ap (λ (l : List ℕ). get_or l i 0) new.costs)
+
+    at_limit : (i : ℕ) → i < items w → slice_index s.costs i ≡ limit
+    at_limit i below = ap (λ (l : List ℕ). get_or l i 0) new.costs ∙ get_or-replicate (items w) i limit 0 below
+
+    lane_at_limit : (i : ℕ) → i < items w → slice_index s.lane_costs (lane_of w i) ≡ limit
+    lane_at_limit i below = ap (λ (l : List ℕ). get_or l (lane_of w i) 0) new.lane_costs ∙ get_or-replicate w.lanes (lane_of w i) limit 0 (lane_of-within w wiring i below)
+
+IsFollowed-later : (w : Wiring) (s r : Reach) (i cost : ℕ) → Later s r → IsFollowed w s i cost → IsFollowed w r i cost
+IsFollowed-later w s r i cost later is t there rescuer =
+    let before = is t there rescuer in
+    (omega (arith, before.0, later.less t.item), omega (arith, before.1, later.lanes_less (lane_of w t.item)))
+
+module _ (w : Wiring) (first limit : ℕ) (wiring : IsWiring w) (on : List (List ℕ)) (are : AreItemsOn w on) where
+  pub IsGoing-first : (s r : Reach) → IsNew w limit s → HasRescuer w (lane_of w first) → r ≡ expand w on first 0 s → IsGoing w first limit r
+  IsGoing-first s r new rescuer is = subst (IsGoing w first limit) (sym is) (record { reach = grown.0.reach; begun = grown.1; followed = followed })
+    where
+      reach : IsReach w first limit s
+      reach = IsReach-new w first limit s wiring new
+
+      grown : Grown w first limit s (expand w on first 0 s) × IsFollowed w (expand w on first 0 s) first 0
+      grown = Grown-expand w first limit wiring on are first 0 s reach rescuer (λ other. absurd (other refl))
+
+      followed : (i : ℕ) → i < items w → IsTodo (expand w on first 0 s) i ⊎ IsFollowed w (expand w on first 0 s) i (slice_index (expand w on first 0 s).costs i)
+      followed i below = elim (grown.0.later.noted i) [
+        | inr todo ↦ inl todo
+        | inl same ↦ inr (λ t there other.
+            let at_limit : slice_index s.costs i ≡ limit = ap (λ (l : List ℕ). get_or l i 0) new.costs ∙ get_or-replicate (items w) i limit 0 below in
+            (omega (arith, same, at_limit, grown.0.reach.capped t.item), omega (arith, same, at_limit, grown.0.reach.lanes_capped (lane_of w t.item)))
+            )
+      ]
+
+  -- ---- one item more
+
+  taken_todo : (s r : Reach) (i : ℕ) → IsTaken s i r → (j : ℕ) → IsTodo s j → (j ≡ i) ⊎ IsTodo r j
+  taken_todo s r i taken j todo = by taken.queues todo
+    where
+      first_or_later : (x : ℕ) (xs : List ℕ) → Contains (x ∷ xs) j → (j ≡ x) ⊎ Contains xs j
+      first_or_later x xs (zero, lt, at) = inl (sym at)
+      first_or_later x xs (suc k, lt, at) = inr (k, omega arith, at)
+
+      by : ((s.near ≡ i ∷ r.near) × (s.far ≡ r.far)) ⊎ ((s.far ≡ i ∷ r.far) × (s.near ≡ r.near)) → IsTodo s j → (j ≡ i) ⊎ IsTodo r j
+      by (inl (near, far)) (inl there) = elim (first_or_later i r.near (subst (λ (l : List ℕ). Contains l j) near there)) [ inl same ↦ inl same | inr later ↦ inr (inl later) ]
+      by (inl (near, far)) (inr there) = inr (inr (subst (λ (l : List ℕ). Contains l j) far there))
+      by (inr (far, near)) (inr there) = elim (first_or_later i r.far (subst (λ (l : List ℕ). Contains l j) far there)) [ inl same ↦ inl same | inr later ↦ inr (inr later) ]
+      by (inr (far, near)) (inl there) = inr (inl (subst (λ (l : List ℕ). Contains l j) near there))
+
+  taken_before : (s r : Reach) (i : ℕ) → IsTaken s i r → (j : ℕ) → IsTodo r j → IsTodo s j
+  taken_before s r i taken j todo = by taken.queues todo
+    where
+      later : (x : ℕ) (xs : List ℕ) → Contains xs j → Contains (x ∷ xs) j
+      later x xs (k, lt, at) = (suc k, omega arith, at)
+
+      by : ((s.near ≡ i ∷ r.near) × (s.far ≡ r.far)) ⊎ ((s.far ≡ i ∷ r.far) × (s.near ≡ r.near)) → IsTodo r j → IsTodo s j
+      by (inl (near, far)) (inl there) = inl (subst (λ (l : List ℕ). Contains l j) (sym near) (later i r.near there))
+      by (inl (near, far)) (inr there) = inr (subst (λ (l : List ℕ). Contains l j) (sym far) there)
+      by (inr (far, near)) (inr there) = inr (subst (λ (l : List ℕ). Contains l j) (sym far) (later i r.far there))
+      by (inr (far, near)) (inl there) = inl (subst (λ (l : List ℕ). Contains l j) (sym near) there)
+
+  pub taken_was : (s r : Reach) (i : ℕ) → IsTaken s i r → IsTodo s i
+  taken_was s r i taken = by taken.queues
+    where
+      by : ((s.near ≡ i ∷ r.near) × (s.far ≡ r.far)) ⊎ ((s.far ≡ i ∷ r.far) × (s.near ≡ r.near)) → IsTodo s i
+      by (inl (near, far)) = inl (subst (λ (l : List ℕ). Contains l i) (sym near) (0, omega arith, refl))
+      by (inr (far, near)) = inr (subst (λ (l : List ℕ). Contains l i) (sym far) (0, omega arith, refl))
+
+  pub IsReach-taken : (s r : Reach) (i : ℕ) → IsTaken s i r → IsReach w first limit s → IsReach w first limit r
+  IsReach-taken s r i taken is = record {
+    one_each = ap (λ (l : List ℕ). length l) taken.costs ∙ is.one_each;
+    by_each = ap (λ (l : List Hop). length l) taken.by ∙ is.by_each;
+    lanes_each = ap (λ (l : List ℕ). length l) taken.lane_costs ∙ is.lanes_each;
+    capped = λ j. omega (arith, same j, is.capped j);
+    lanes_capped = λ q. omega (arith, same_lane q, is.lanes_capped q);
+    by_lane = λ j below. omega (arith, same j, same_lane (lane_of w j), is.by_lane j below);
+    todo = λ j todo. is.todo j (taken_before s r i taken j todo);
+    reached = λ j d below less. reached_by j d (is.reached j d below (omega (arith, less, same j)));
+  }
+    where
+      same : (j : ℕ) → slice_index r.costs j ≡ slice_index s.costs j
+      same j = ap (λ (l : List ℕ). slice_index l j) taken.costs
+
+      same_lane : (q : ℕ) → slice_index r.lane_costs q ≡ slice_index s.lane_costs q
+      same_lane q = ap (λ (l : List ℕ). slice_index l q) taken.lane_costs
+
+      reached_by : (j : ℕ) (d : Hop) → IsReachedBy w first s j (slice_index_or s.by j d) → IsReachedBy w first r j (slice_index_or r.by j d)
+      reached_by j d by_it = subst (λ (l : List Hop). IsReachedBy w first r j (slice_index_or l j d)) (sym taken.by) (record {
+        next = by_it.next;
+        hop = by_it.hop;
+        on = by_it.on;
+        from_first = λ e. omega (arith, by_it.from_first e, same j);
+        from_other = λ e. omega (arith, by_it.from_other e, same j, same (slice_index_or s.by j d).item);
+      })
+
+  pub IsGoing-next : (s r end : Reach) (i cost : ℕ) → IsGoing w first limit s → IsTaken s i r → cost ≡ slice_index r.costs i → end ≡ expand w on i cost r → IsGoing w first limit end
+  IsGoing-next s r end i cost going taken costs is =
+      let todo = going.reach.todo i (taken_was s r i taken) in
+      let grown = Grown-expand w first limit wiring on are i cost r (IsReach-taken s r i taken going.reach) todo.1 (λ other. omega (arith, costs)) in
+      subst (IsGoing w first limit) (sym is) (record {
+        reach = grown.0.reach;
+        begun = IsFollowed-later w r (expand w on i cost r) first 0 grown.0.later (was first 0 going.begun);
+        followed = λ j below. followed grown.0.later grown.1 j below (cases_eq j i) (going.followed j below) (grown.0.later.noted j);
+      })
+    where
+      -- what was followed before the item was taken
+      was : (j c : ℕ) → IsFollowed w s j c → IsFollowed w r j c
+      was j c led t there rescuer =
+          let before = led t there rescuer in
+          (omega (arith, before.0, ap (λ (l : List ℕ). slice_index l t.item) taken.costs), omega (arith, before.1, ap (λ (l : List ℕ). slice_index l (lane_of w t.item)) taken.lane_costs))
+
+      same : (j : ℕ) → slice_index r.costs j ≡ slice_index s.costs j
+      same j = ap (λ (l : List ℕ). slice_index l j) taken.costs
+
+      followed : Later r (expand w on i cost r) → IsFollowed w (expand w on i cost r) i cost → (j : ℕ) → j < items w → (j ≡ i) ⊎ (j ≢ i) → IsTodo s j ⊎ IsFollowed w s j (slice_index s.costs j)
+          → (slice_index (expand w on i cost r).costs j ≡ slice_index r.costs j) ⊎ IsTodo (expand w on i cost r) j
+          → IsTodo (expand w on i cost r) j ⊎ IsFollowed w (expand w on i cost r) j (slice_index (expand w on i cost r).costs j)
+      followed later led j below which before (inr todo) = inl todo
+      followed later led j below (inl it) before (inl kept) =
+          let now : slice_index (expand w on i cost r).costs j ≡ cost = kept ∙ ap (slice_index r.costs) it ∙ sym costs in
+          inr (subst (λ (c : ℕ). IsFollowed w (expand w on i cost r) j c) (sym now) (subst (λ (k : ℕ). IsFollowed w (expand w on i cost r) k cost) (sym it) led))
+      followed later led j below (inr other) (inl todo) (inl kept) = elim (taken_todo s r i taken j todo) [
+        | inl it ↦ absurd (other it)
+        | inr stays ↦ inl (later.kept j stays)
+      ]
+      followed later led j below (inr other) (inr done) (inl kept) =
+          let now : slice_index (expand w on i cost r).costs j ≡ slice_index s.costs j = kept ∙ same j in
+          inr (subst (λ (c : ℕ). IsFollowed w (expand w on i cost r) j c) (sym now) (IsFollowed-later w r (expand w on i cost r) j (slice_index s.costs j) later (was j (slice_index s.costs j) done)))
+
+  -- less is left to do
+  pub work-less : (s r end : Reach) (i cost : ℕ) → IsGoing w first limit s → IsTaken s i r → cost ≡ slice_index r.costs i → end ≡ expand w on i cost r → work end < work s
+  work-less s r end i cost going taken costs is =
+      let todo = going.reach.todo i (taken_was s r i taken) in
+      let grown = Grown-expand w first limit wiring on are i cost r (IsReach-taken s r i taken going.reach) todo.1 (λ other. omega (arith, costs)) in
+      omega (arith, grown.0.later.work, fewer taken.queues, ap work is)
+    where
+      fewer : ((s.near ≡ i ∷ r.near) × (s.far ≡ r.far)) ⊎ ((s.far ≡ i ∷ r.far) × (s.near ≡ r.near)) → work r + 1 ≡ work s
+      fewer (inl (near, far)) = omega (arith, ap total taken.costs, ap (λ (l : List ℕ). length l) near, ap (λ (l : List ℕ). length l) far)
+      fewer (inr (far, near)) = omega (arith, ap total taken.costs, ap (λ (l : List ℕ). length l) near, ap (λ (l : List ℕ). length l) far)
+
+  -- ---- the end
+
+  module _ (s : Reach) (going : IsGoing w first limit s) (near : length s.near ≡ 0) (far : length s.far ≡ 0) where
+    none_left : (i : ℕ) → ¬ IsTodo s i
+    none_left i (inl there) = omega (arith, there.1, near)
+    none_left i (inr there) = omega (arith, there.1, far)
+
+    all_followed : (i : ℕ) → i < items w → IsFollowed w s i (slice_index s.costs i)
+    all_followed i below = elim (going.followed i below) [ inl todo ↦ absurd (none_left i todo) | inr led ↦ led ]
+
+    -- a hop from an item costs enough
+    hop_enough : (h : Hop) (cost : ℕ) → IsHop w h → lane_of w h.next ≡ lane_of w h.flush.item → h.next < items w → HasRescuer w (lane_of w h.next) → IsFollowed w s h.item cost → slice_index s.costs h.next ≤ cost + hop_cost h
+    hop_enough h cost hop on below rescuer led =
+        let is = led h.flush hop.declared (subst (HasRescuer w) on rescuer) in
+        let lane : slice_index s.costs h.next ≤ cost + lane_step h.flush = omega (arith, going.reach.by_lane h.next below, is.1, ap (slice_index s.lane_costs) on) in
+        by h.flush.whole (eqb h.flush.item h.next) refl refl lane is.0
+      where
+        by : (whole same : Bool) → h.flush.whole ≡ whole → eqb h.flush.item h.next ≡ same → slice_index s.costs h.next ≤ cost + (if whole then 3 else 4) → slice_index s.costs h.flush.item ≤ cost + 3
+            → slice_index s.costs h.next ≤ cost + (3 + length (if whole || same then [] else h.flush.item ∷ []))
+        by true same kind test lane direct = omega arith
+        by false true kind test lane direct = omega (arith, direct, ap (slice_index s.costs) (eqb-true h.flush.item h.next test))
+        by false false kind test lane direct = omega arith
+
+    -- so does a path
+    path_enough : (i j : ℕ) (hops : List Hop) (cost : ℕ) → j < items w → HasRescuer w (lane_of w j) → IsFollowed w s i cost → 0 < length hops → IsPath w i hops j → slice_index s.costs j ≤ cost + hops_cost hops
+    path_enough i j [] cost below rescuer led some path = absurd (omega arith)
+    path_enough i j (h ∷ []) cost below rescuer led some path =
+        let led_here : IsFollowed w s h.item cost = subst (λ (k : ℕ). IsFollowed w s k cost) (sym path.0) led in
+        let one = hop_enough h cost path.1 path.2 (subst (λ (k : ℕ). k < items w) (sym path.3) below) (subst (λ (k : ℕ). HasRescuer w (lane_of w k)) (sym path.3) rescuer) led_here in
+        omega (arith, one, ap (slice_index s.costs) path.3)
+    path_enough i j (h ∷ g ∷ hops) cost below rescuer led some path =
+        let led_here : IsFollowed w s h.item cost = subst (λ (k : ℕ). IsFollowed w s k cost) (sym path.0) led in
+        let next : h.next < items w = subst (λ (k : ℕ). k < items w) path.3.0 (declared-item w g.item g.flush path.3.1.declared) in
+        let has : HasRescuer w (lane_of w h.next) = subst (λ (k : ℕ). HasRescuer w (lane_of w k)) path.3.0 path.3.1.rescuer in
+        let one = hop_enough h cost path.1 path.2 next has led_here in
+        let rest = path_enough h.next j (g ∷ hops) (slice_index s.costs h.next) below rescuer (all_followed h.next next) (omega arith) path.3 in
+        omega (arith, one, rest)
+
+    pub IsSearched-all : first < items w → HasRescuer w (lane_of w first) → IsSearched w first limit s
+    IsSearched-all below rescuer = record {
+      reach = going.reach;
+      least = λ hops some path. omega (arith, path_enough first first hops 0 below rescuer going.begun some path);
+    }

@@ -1,0 +1,147 @@
+-- A search from one item: what it costs to come from it to the others, hop by hop.
+use Rattle.std.specs.Prelude.{◌≡◌, ◌≢◌, ℕ, ◌<◌, ◌≤◌, ◌+◌, ◌⊎◌, nat_lt, not, Bool, true, false, if◌then◌else◌, List, [], ◌∷◌, ◌++◌, length, fold, slice_index, slice_index_or, slice_set, Contains}
+use Rattle.wq_items.specs.declared.target.Target.{Target}
+use Rattle.wq_core.specs.Wiring.{Wiring, HasRescuer, items, lane_of, declared_by}
+use Rattle.wq_hang.specs.declared.hop.Hop.{Hop}
+use Rattle.wq_hang.specs.Walk.{IsHop, IsPath, IsRound, target_beside}
+
+-- what a hop costs
+abbrev pub hop_cost : Hop → ℕ
+hop_cost h = 3 + length (target_beside h)
+
+-- what hops cost
+abbrev pub hops_cost : List Hop → ℕ
+hops_cost [] = 0
+hops_cost (h ∷ hops) = hop_cost h + hops_cost hops
+
+-- what it costs so far to come to each item, and at most to an item of each lane; the hop by which each item is reached; and the
+-- items that are to be gone on from, those that were reached at a cost of 3 more, and those at 4 more
+pub record Reach : Type 0 where
+  pub costs : List ℕ
+  pub lane_costs : List ℕ
+  pub by : List Hop
+  pub near : List ℕ
+  pub far : List ℕ
+
+-- the item is to be gone on from
+abbrev pub IsTodo : Reach → ℕ → Type 0
+IsTodo s i = Contains s.near i ⊎ Contains s.far i
+
+-- ---- what one step does
+
+-- the hop leads to its item at this cost, which is less than before
+abbrev pub reached : Bool → ℕ → Reach → Hop → Reach
+reached near cost s h = record {
+  costs = slice_set s.costs h.next cost;
+  lane_costs = s.lane_costs;
+  by = slice_set s.by h.next h;
+  near = if near then s.near ++ (h.next ∷ []) else s.near;
+  far = if near then s.far else s.far ++ (h.next ∷ []);
+}
+
+-- the hop leads to its item at this cost
+abbrev pub reach : Bool → ℕ → Reach → Hop → Reach
+reach near cost s h = if nat_lt cost (slice_index s.costs h.next) then reached near cost s h else s
+
+-- the hop of item i with this flush, after which item j comes
+abbrev pub hop_to : ℕ → Target → ℕ → Hop
+hop_to i t j = record { item = i; flush = t; next = j }
+
+-- the flush of item i leads to each of these items, which are all items of lane q, at this cost
+abbrev pub reach_all : Bool → ℕ → ℕ → Target → List ℕ → Reach → Reach
+reach_all near cost i t on s = fold (λ (r : Reach) (j : ℕ). reach near cost r (hop_to i t j)) s on
+
+abbrev pub with_lane_cost : ℕ → ℕ → Reach → Reach
+with_lane_cost q cost s = record { costs = s.costs; lane_costs = slice_set s.lane_costs q cost; by = s.by; near = s.near; far = s.far }
+
+abbrev pub reach_lane : Bool → ℕ → ℕ → Target → ℕ → List ℕ → Reach → Reach
+reach_lane near cost i t q on s = if nat_lt cost (slice_index s.lane_costs q) then with_lane_cost q cost (reach_all near cost i t on s) else s
+
+-- what it costs more to come to any item of the lane of the target
+abbrev pub lane_step : Target → ℕ
+lane_step t = if t.whole then 3 else 4
+
+-- the flush of item i, which costs so much, leads on to its target and to all items on the lane of its target, if that has a rescuer
+abbrev pub follow : Wiring → List (List ℕ) → ℕ → ℕ → Reach → Target → Reach
+follow w on i cost s t =
+    if slice_index_or w.bare (lane_of w t.item) false then s
+    else reach_lane t.whole (cost + lane_step t) i t (lane_of w t.item) (slice_index_or on (lane_of w t.item) []) (reach true (cost + 3) s (hop_to i t t.item))
+
+-- all flushes of item i
+abbrev pub expand : Wiring → List (List ℕ) → ℕ → ℕ → Reach → Reach
+expand w on i cost s = fold (follow w on i cost) s (declared_by w i)
+
+-- ---- what is found
+
+-- the items of each lane
+pub record AreItemsOn (w : Wiring) (on : List (List ℕ)) : Type 0 where
+  pub one_each : length on ≡ w.lanes
+  pub within : (q i : ℕ) → Contains (slice_index_or on q []) i → (i < items w) × (lane_of w i ≡ q)
+  pub all : (i : ℕ) → i < items w → Contains (slice_index_or on (lane_of w i) []) i
+
+-- the hop leads from an item that is reached, or from the first, to item i, at what it costs to come there
+pub record IsReachedBy (w : Wiring) (first : ℕ) (s : Reach) (i : ℕ) (h : Hop) : Type 0 where
+  pub next : h.next ≡ i
+  pub hop : IsHop w h
+  pub on : lane_of w h.next ≡ lane_of w h.flush.item
+  pub from_first : h.item ≡ first → hop_cost h ≤ slice_index s.costs i
+  pub from_other : h.item ≢ first → slice_index s.costs h.item + hop_cost h ≤ slice_index s.costs i
+
+-- what holds at each time: no cost is above the limit; to come to an item costs no more than to any item of its lane; and each
+-- item that costs less than the limit is reached by its hop
+pub record IsReach (w : Wiring) (first limit : ℕ) (s : Reach) : Type 0 where
+  pub one_each : length s.costs ≡ items w
+  pub by_each : length s.by ≡ items w
+  pub lanes_each : length s.lane_costs ≡ w.lanes
+  pub capped : (i : ℕ) → slice_index s.costs i ≤ limit
+  pub lanes_capped : (q : ℕ) → slice_index s.lane_costs q ≤ limit
+  pub by_lane : (i : ℕ) → i < items w → slice_index s.costs i ≤ slice_index s.lane_costs (lane_of w i)
+  pub todo : (i : ℕ) → IsTodo s i → (i < items w) × HasRescuer w (lane_of w i)
+  pub reached : (i : ℕ) (d : Hop) → i < items w → slice_index s.costs i < limit → IsReachedBy w first s i (slice_index_or s.by i d)
+
+-- the flushes of item i lead on at no more than this cost and what each costs more
+abbrev pub IsFollowed : Wiring → Reach → ℕ → ℕ → Type 0
+IsFollowed w s i cost = (t : Target) → Contains (declared_by w i) t → HasRescuer w (lane_of w t.item)
+    → (slice_index s.costs t.item ≤ cost + 3) × (slice_index s.lane_costs (lane_of w t.item) ≤ cost + lane_step t)
+
+-- while the search goes on: the first item's flushes are followed from nothing, and those of each other item that is reached, or it
+-- is to be gone on from
+pub record IsGoing (w : Wiring) (first limit : ℕ) (s : Reach) : Type 0 where
+  pub reach : IsReach w first limit s
+  pub begun : IsFollowed w s first 0
+  pub followed : (i : ℕ) → i < items w → IsTodo s i ⊎ IsFollowed w s i (slice_index s.costs i)
+
+-- the search is over: its cost for the first item is no more than that of any round from it; and the hops lead round, if it is less
+-- than the limit
+pub record IsSearched (w : Wiring) (first limit : ℕ) (s : Reach) : Type 0 where
+  pub reach : IsReach w first limit s
+  pub least : (hops : List Hop) → 0 < length hops → IsPath w first hops first → slice_index s.costs first ≤ hops_cost hops
+
+-- item i is gone on from next, and is no longer to be
+pub record IsTaken (s : Reach) (i : ℕ) (r : Reach) : Type 0 where
+  pub costs : r.costs ≡ s.costs
+  pub lane_costs : r.lane_costs ≡ s.lane_costs
+  pub by : r.by ≡ s.by
+  pub queues : ((s.near ≡ i ∷ r.near) × (s.far ≡ r.far)) ⊎ ((s.far ≡ i ∷ r.far) × (s.near ≡ r.near))
+
+-- a round that costs less than the limit, and no more than any other
+pub record IsLeastRound (w : Wiring) (limit : ℕ) (hops : List Hop) : Type 0 where
+  pub round : IsRound w hops
+  pub less : hops_cost hops < limit
+  pub least : (others : List Hop) → IsRound w others → hops_cost hops ≤ hops_cost others
+
+-- by these numbers of lanes, each lane is marked to which a flush leads from a lane that has a rescuer and whose number isn't lower
+abbrev pub AreMarked : Wiring → List ℕ → List Bool → Type 0
+AreMarked w numbers marks = (h : Hop) → IsHop w h → slice_index numbers (lane_of w h.flush.item) ≤ slice_index numbers (lane_of w h.item)
+    → slice_index_or marks (lane_of w h.flush.item) false ≡ true
+
+-- a round from the item costs at most this, which is less than the least so far; and none from it costs less
+pub record IsBetter (w : Wiring) (first least cost : ℕ) (hops : List Hop) : Type 0 where
+  pub less : cost < least
+  pub round : IsRound w hops
+  pub costs : hops_cost hops ≤ cost
+  pub all : (others : List Hop) → 0 < length others → IsPath w first others first → cost ≤ hops_cost others
+
+-- if the item's lane is marked, no round from it costs less than the least so far
+abbrev pub IsNoBetter : Wiring → List Bool → ℕ → ℕ → Type 0
+IsNoBetter w marks first least = slice_index_or marks (lane_of w first) false ≡ true → (hops : List Hop) → 0 < length hops → IsPath w first hops first → least ≤ hops_cost hops

@@ -1,0 +1,93 @@
+//! Whether workqueues are safe, and else a shortest run that ends stuck.
+//!
+//! Where lanes and flushes end and runs begin: a least walk is found, and the run is that of the walk. It takes the time of the search
+//! for a least walk.
+
+ghost use Rattle.std.specs.Prelude.{◌≡◌, ◌<◌, length, IfOk, OnErr, IfSome, IfNone, MatchOption};
+ghost use Rattle.wq_core.specs.Deadlock.{IsSafe};
+ghost use Rattle.wq_groups.specs.Declaration.{declaration_of};
+ghost use Rattle.wq_hang.specs.Answer.{IsAnswer};
+ghost use Rattle.wq_hang.specs.Walk.{IsLeastWalk};
+
+use crate::answer::Answer;
+use crate::hop::Hop;
+use crate::least::{hop_to_bare, least_round};
+use crate::numbering::vertex_numbers;
+use crate::running::{run_of_walk, targets_beside};
+use std::alloc::{AllocError, Allocator};
+use wq_core::{Core, Workqueues};
+use wq_graph::WaitGraph;
+use wq_groups::Groups;
+use wq_items::{ItemId, ItemTable};
+
+/// No walk costs as much that meets no lane twice: there are at most 4,096 lanes, and each costs 3 or 4.
+const MOST: u16 = 16385;
+
+/// What a round has to cost less than: 4, if there is a flush that leads to a bare lane.
+fn limit(bare: &Option<Hop>) -> u16
+    ensures { MatchOption bare.now (result ≡ 16385) (λ _. result ≡ 4) }
+{
+    match bare {
+        Some(_) => 4,
+        None => MOST,
+    }
+}
+
+/// A least walk, with the items that are queued beside those that wait.
+fn least_walk<A: Allocator + Copy>(
+    alloc: A,
+    core: &Core<A>,
+    numbers: &[u16],
+) -> Result<Option<(Vec<Hop, A>, Vec<ItemId, A>)>, AllocError>
+    requires { length numbers.now ≡ core.now.wiring.lanes }
+    ensures some { IfOk result (λ found. IfSome found (λ walk. IsLeastWalk core.now.wiring walk.0.items walk.1.items)) }
+    ensures none { IfOk result (λ found. IfNone found (IsSafe core.now.wiring)) }
+{
+    let _items = core.items();
+    let bare = hop_to_bare(core);
+    let found = least_round(alloc, core, numbers, limit(&bare))?;
+    if let Some(hops) = found {
+        let beside = targets_beside(alloc, hops.as_slice())?;
+        return Ok(Some((hops, beside)));
+    }
+    match bare {
+        Some(hop) => Ok(Some((
+            vec![in alloc; hop]?,
+            vec![in alloc; hop.flush.item]?,
+        ))),
+        None => Ok(None),
+    }
+}
+
+/// The shortest hang of workqueues of a table's items, if they can hang. The groups are those of this table, and each has a workqueue.
+///
+/// `Hang` has a run that ends stuck, such that no run that ends stuck has fewer steps, with 0 to 8 helpers of each workqueue; and the
+/// waits in it that hold one another up. The only error is out of memory (20), which can't occur where there is no workqueue.
+pub fn hang<A: Allocator + Copy>(
+    alloc: A,
+    table: &ItemTable<'_, A>,
+    groups: &Groups<A>,
+    workqueues: &Workqueues<A>,
+) -> Result<Answer<A>, AllocError>
+    requires grouped { length groups.now.group_of ≡ length table.now.names }
+    requires assigned { length workqueues.now.assignment.lane_of_group ≡ groups.now.groups }
+    ensures answer { IfOk result (IsAnswer (declaration_of table.now groups.now) workqueues.now) }
+    ensures memory { OnErr result (0 < workqueues.now.assignment.lanes) }
+{
+    // Each group has a member, and one of the lanes.
+    prove!(groups.len() <= table.len());
+    prove!(workqueues.assignment().lanes() <= 4096);
+    if workqueues.assignment().lanes() == 0 {
+        return Ok(Answer::Safe);
+    }
+    let core = Core::on_workqueues(alloc, table, groups, workqueues)?;
+    let graph = WaitGraph::of_lanes(alloc, table, groups, workqueues.assignment())?;
+    let numbers = vertex_numbers(alloc, &graph.without(alloc, workqueues.bare())?)?;
+    match least_walk(alloc, &core, &numbers)? {
+        Some((hops, beside)) => {
+            let steps = run_of_walk(alloc, &core, hops.as_slice(), beside.as_slice())?;
+            Ok(Answer::Hang(hops, steps))
+        }
+        None => Ok(Answer::Safe),
+    }
+}

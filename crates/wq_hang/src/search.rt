@@ -1,0 +1,263 @@
+//! A search from one item: what it costs to come from it to each other item, and back to itself.
+//!
+//! A flush of an item leads on to its target, and for one more to any other item on the lane of its target; a flush of the whole lane
+//! leads to all its items alike. What costs less than before is gone on from, the cheapest first: hops cost 3 or 4, so two queues, one
+//! for each, are in order by themselves (E. W. Dijkstra, "A note on two problems in connexion with graphs", Numerische Mathematik 1,
+//! 1959). The first item costs nothing to begin with and is then left out, so what it costs in the end is the cheapest way round. What
+//! costs as much as the limit isn't gone on from. It takes time in the number of items, lanes and flushes.
+
+ghost use Rattle.std.specs.Prelude.{◌≡◌, ◌<◌, ◌≤◌, ◌⊎◌, [], false, length, replicate, slice_index, slice_index_or, IfOk, IfSome, IfNone, IsTrue};
+ghost use Rattle.std.specs.List.{All};
+ghost use Rattle.wq_core.specs.Wiring.{HasRescuer, items, lane_of};
+ghost use Rattle.wq_hang.specs.declared.hop.Hop.{Hop};
+ghost use Rattle.wq_hang.specs.Search.{AreItemsOn, IsTaken, IsSearched, reach, reach_all, reach_lane, follow, expand};
+
+use crate::hop::Hop;
+use std::alloc::{AllocError, Allocator};
+use std::collections::VecDeque;
+use std::marker::Model;
+use wq_buckets::Buckets;
+use wq_core::Core;
+use wq_items::{ItemId, Target};
+
+/// What was found so far.
+#[derive(Drop)]
+pub(crate) struct Search<A: Allocator> {
+    costs: Vec<u16, A>,
+    lane_costs: Vec<u16, A>,
+    by: Vec<Hop, A>,
+    near: VecDeque<ItemId, A>,
+    far: VecDeque<ItemId, A>,
+}
+
+impl<A: Allocator> Model for Search<A> {
+    ghost use Rattle.wq_hang.specs.Search.{Reach};
+
+    ghost Value = { Reach };
+
+    ghost view = { λ s. record { costs = s.costs.items; lane_costs = s.lane_costs.items; by = s.by.items; near = s.near.items; far = s.far.items } };
+}
+
+impl<A: Allocator + Copy> Search<A> {
+    /// Each of this many items costs as much as the limit.
+    pub(crate) fn new(alloc: A, items: usize, lanes: usize, limit: u16) -> Result<Self, AllocError>
+        ensures costs { IfOk result (λ s. s.costs ≡ replicate items limit) }
+        ensures lane_costs { IfOk result (λ s. s.lane_costs ≡ replicate lanes limit) }
+        ensures by { IfOk result (λ s. length s.by ≡ items) }
+        ensures near { IfOk result (λ s. s.near ≡ []) }
+        ensures far { IfOk result (λ s. s.far ≡ []) }
+    {
+        let none = ItemId::new(0);
+        let unset = Hop {
+            item: none,
+            flush: Target {
+                item: none,
+                place: 0,
+                whole: false,
+            },
+            next: none,
+        };
+        Ok(Search {
+            costs: vec![in alloc; limit; items]?,
+            lane_costs: vec![in alloc; limit; lanes]?,
+            by: vec![in alloc; unset; items]?,
+            near: VecDeque::new(alloc),
+            far: VecDeque::new(alloc),
+        })
+    }
+
+    /// A hop leads to its item at this cost.
+    fn reach(&mut self, near: bool, cost: u16, hop: &Hop) -> Result<(), AllocError>
+        requires next { hop.now.next < length self.old.costs }
+        requires one_each { length self.old.by ≡ length self.old.costs }
+        ensures { IfOk result (λ _. self.new ≡ reach near cost self.old hop.now) }
+    {
+        let at = usize::from(hop.next.get());
+        if cost < self.costs[at] {
+            self.costs[at] = cost;
+            self.by[at] = *hop;
+            if near {
+                self.near.push_back(hop.next)?;
+            } else {
+                self.far.push_back(hop.next)?;
+            }
+        }
+        Ok(())
+    }
+
+    /// A flush of an item leads to each of these items at this cost.
+    fn reach_all(
+        &mut self,
+        near: bool,
+        cost: u16,
+        item: ItemId,
+        flush: &Target,
+        on: &[u32],
+    ) -> Result<(), AllocError>
+        requires on { All (λ j. j < length self.old.costs) on.now }
+        requires few { length self.old.costs ≤ 4096 }
+        requires one_each { length self.old.by ≡ length self.old.costs }
+        ensures { IfOk result (λ _. self.new ≡ reach_all near cost item flush.now on.now self.old) }
+    {
+        for next in on {
+            let hop = Hop {
+                item,
+                flush: *flush,
+                next: ItemId::new(*next as u16),
+            };
+            self.reach(near, cost, &hop)?;
+        }
+        Ok(())
+    }
+
+    /// A flush of an item leads to each of these items, which are those of the target's lane, at this cost.
+    fn reach_lane(
+        &mut self,
+        near: bool,
+        cost: u16,
+        item: ItemId,
+        flush: &Target,
+        lane: u16,
+        on: &[u32],
+    ) -> Result<(), AllocError>
+        requires lane { lane < length self.old.lane_costs }
+        requires on { All (λ j. j < length self.old.costs) on.now }
+        requires few { length self.old.costs ≤ 4096 }
+        requires one_each { length self.old.by ≡ length self.old.costs }
+        ensures { IfOk result (λ _. self.new ≡ reach_lane near cost item flush.now lane on.now self.old) }
+    {
+        if cost < self.lane_costs[usize::from(lane)] {
+            self.reach_all(near, cost, item, flush, on)?;
+            self.lane_costs[usize::from(lane)] = cost;
+        }
+        Ok(())
+    }
+
+    /// A flush of an item, which costs so much, leads on.
+    fn follow(
+        &mut self,
+        core: &Core<A>,
+        on: &Buckets<A>,
+        item: ItemId,
+        cost: u16,
+        flush: &Target,
+    ) -> Result<(), AllocError>
+        requires on { AreItemsOn core.now.wiring on.now }
+        requires one_each { length self.old.costs ≡ items core.now.wiring }
+        requires by_each { length self.old.by ≡ items core.now.wiring }
+        requires lanes_each { length self.old.lane_costs ≡ core.now.wiring.lanes }
+        requires target { flush.now.item < items core.now.wiring }
+        requires low { cost ≤ 32767 }
+        ensures { IfOk result (λ _. self.new ≡ follow core.now.wiring on.now item cost self.old flush.now) }
+    {
+        let _items = core.items();
+        let lane = core.lane_of(flush.item);
+        if !core.has_rescuer(lane) {
+            return Ok(());
+        }
+        let direct = Hop {
+            item,
+            flush: *flush,
+            next: flush.item,
+        };
+        self.reach(true, cost + 3, &direct)?;
+        let step = if flush.whole { 3 } else { 4 };
+        self.reach_lane(flush.whole, cost + step, item, flush, lane.get(), on.places(lane.get()))
+    }
+
+    /// The flushes of an item, which costs so much, lead on.
+    fn expand(
+        &mut self,
+        core: &Core<A>,
+        on: &Buckets<A>,
+        item: ItemId,
+        cost: u16,
+    ) -> Result<(), AllocError>
+        requires on { AreItemsOn core.now.wiring on.now }
+        requires one_each { length self.old.costs ≡ items core.now.wiring }
+        requires by_each { length self.old.by ≡ items core.now.wiring }
+        requires lanes_each { length self.old.lane_costs ≡ core.now.wiring.lanes }
+        requires item { item < items core.now.wiring }
+        requires low { cost ≤ 32767 }
+        ensures { IfOk result (λ _. self.new ≡ expand core.now.wiring on.now item cost self.old) }
+    {
+        let _items = core.items();
+        for flush in core.waits(item) {
+            self.follow(core, on, item, cost, flush)?;
+        }
+        Ok(())
+    }
+
+    /// What it costs to come to an item.
+    pub(crate) fn cost(&self, item: ItemId) -> u16
+        requires { item < length self.now.costs }
+        ensures { result ≡ slice_index self.now.costs item }
+    {
+        self.costs[usize::from(item.get())]
+    }
+
+    /// The hop by which an item is reached.
+    pub(crate) fn hop_to(&self, item: ItemId) -> Hop
+        requires { item < length self.now.by }
+        ensures { (d : Hop) → result ≡ slice_index_or self.now.by item d }
+    {
+        self.by[usize::from(item.get())]
+    }
+
+    /// What it costs to come to an item, as far as is known.
+    fn cost_so_far(&self, item: ItemId) -> u16 {
+        let cost = self.costs.get(usize::from(item.get())).copied();
+        cost.unwrap_or(u16::MAX)
+    }
+
+    /// Whether the next item to go on from is the first of those that were reached at a cost of 3 more.
+    fn near_comes_first(&self) -> bool
+        ensures near { IsTrue result → 0 < length self.now.near }
+        ensures far { result ≡ false → (length self.now.near ≡ 0) ⊎ (0 < length self.now.far) }
+    {
+        let Some(near) = self.near.get(0) else {
+            return false;
+        };
+        match self.far.get(0) {
+            Some(far) => self.cost_so_far(*near) <= self.cost_so_far(*far),
+            None => true,
+        }
+    }
+
+    /// The next item to go on from, the cheapest.
+    fn take(&mut self) -> Option<ItemId>
+        ensures some { IfSome result (λ i. IsTaken self.old i self.new) }
+        ensures none { IfNone result (self.new ≡ self.old) }
+        ensures near { IfNone result (length self.old.near ≡ 0) }
+        ensures far { IfNone result (length self.old.far ≡ 0) }
+    {
+        if self.near_comes_first() {
+            self.near.pop_front()
+        } else {
+            self.far.pop_front()
+        }
+    }
+}
+
+/// The search from an item, which has a rescuer, for rounds that cost less than the limit.
+pub(crate) fn search_from<A: Allocator + Copy>(
+    alloc: A,
+    core: &Core<A>,
+    on: &Buckets<A>,
+    first: ItemId,
+    limit: u16,
+) -> Result<Search<A>, AllocError>
+    requires on { AreItemsOn core.now.wiring on.now }
+    requires first { first < items core.now.wiring }
+    requires rescuer { HasRescuer core.now.wiring (lane_of core.now.wiring first) }
+    requires low { limit ≤ 16385 }
+    ensures { IfOk result (IsSearched core.now.wiring first limit) }
+{
+    let mut search = Search::new(alloc, core.items(), core.lanes(), limit)?;
+    search.expand(core, on, first, 0)?;
+    while let Some(item) = search.take() {
+        let cost = search.cost(item);
+        search.expand(core, on, item, cost)?;
+    }
+    Ok(search)
+}
