@@ -805,8 +805,7 @@ def look_at_search(choose):
         behind = dict(steps.all_steps(found))
         may = [step for step in all_steps if state.may(step[:3], *step[3:])]
         demand(sorted(map(repr, may)) == sorted(map(repr, behind)), "both allow the same steps")
-        end = search.end_of(found, list(steps.executions(found)))
-        demand(state.is_stuck() == (end is not None and search.is_end(*end, bare)), "both are stuck")
+        demand(state.is_stuck() == search.is_stuck(found, list(steps.executions(found)), bare), "both are stuck")
         starts = {search.named(*step, helper) for step, helper in state.helper_starts()}
         demand(starts == {step for step, _ in steps.helper_starts(found)}, "both have the same starts of helpers")
         step = choose.choice(may)
@@ -819,9 +818,8 @@ def look_at_searches(seed, walks, declarations):
     for number in range(walks):
         look_at_search(random.Random(f"{seed} walk {number}"))
     for number in range(declarations):
-        choose = random.Random(f"{seed} model {number}")
-        text = search.make_declaration(choose)
-        *_, wrong = search.look_at_declaration(search.ask_model, choose, text, search.DEFAULT_SETS)
+        text = search.make_declaration(random.Random(f"{seed} model {number}"))
+        *_, wrong = search.look_at_declaration(search.ask_model, text, number < declarations // 10)
         demand(not wrong, f"the search finds what the model answers: {text!r}: {wrong}")
 
 

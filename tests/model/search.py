@@ -1,6 +1,6 @@
 # Looks for runs that end stuck among all runs, and compares the program with what it finds:
 #
-#     search.py PROGRAM [SEED] [DECLARATIONS] [SETS]
+#     search.py PROGRAM [SEED] [DECLARATIONS] [WITHOUT]
 #
 # It makes up small declarations, and for each one all assignments, up to the numbers of the
 # workqueues. Of each assignment it goes through all states that steps lead to, by the rules of
@@ -10,8 +10,8 @@
 # none. Where PROGRAM is `-`, the model is asked in its place. Of the smaller declarations all runs with one and
 # with two helpers are gone through, too: some run ends stuck exactly where one without helpers does.
 #
-# All this is so for each set of workqueues that may have no rescuer. `deadlock` is asked where there is none, and of SETS
-# others, or of all where there are no more: 16 are all.
+# All this is so whichever workqueues have no rescuer. Of the first WITHOUT declarations each assignment is looked at with each
+# set of such workqueues, and else with none.
 
 import functools
 import itertools
@@ -29,7 +29,7 @@ from make_declarations import join  # noqa: E402
 
 DEFAULT_SEED = "1"
 DEFAULT_DECLARATIONS = 600
-DEFAULT_SETS = 2
+DEFAULT_WITHOUT = 40
 
 # With so many helpers a run ends stuck where one does without them. That is looked at where there are no more items and flushes than
 # these.
@@ -235,48 +235,39 @@ def steps_of_rows(rows, helpers):
     return Steps(waits, workqueue_of, ordered, helpers), 1 + max(workqueue_of.values(), default=-1)
 
 
-# Which workqueues have no rescuer matters for no step, but for where a run ends stuck: there the workqueues that could make a
-# `start` have none, and one that has an unfinished entry has one. So a search finds the pairs of those that could start and those
-# with an unfinished entry, of each state in which no other step but `queue`, `cancel` and the `start` of a helper may be made.
-
-
-def is_end(starting, unfinished, bare):
-    """Whether a run ends stuck in the state of such a pair, where these workqueues have no rescuer."""
-    return starting <= bare and not unfinished <= bare
+# Which workqueues have no rescuer matters for no step, but for where a run ends stuck. So one search finds for several sets of
+# such workqueues whether some run ends stuck.
 
 
 @functools.cache
-def ends(rows):
-    """The pairs of the ends of runs without helpers, and of those in which each execution flushes as declared."""
+def ends(rows, sets):
+    """For which of these sets some run without helpers ends stuck, and for which some run deadlocks."""
     steps, count = steps_of_rows(rows, 0)
-    return ends_of_runs(steps, count), ends_as_declared(steps, count)
+    return sets_of_stuck_runs(steps, count, sets), sets_of_deadlocks(steps, count, sets)
 
 
 @functools.cache
-def ends_with(rows, helpers):
-    """The pairs of the ends of runs with so many helpers."""
-    return ends_of_runs(*steps_of_rows(rows, helpers))
+def ends_with(rows, sets, helpers):
+    """For which of these sets some run with so many helpers ends stuck."""
+    return sets_of_stuck_runs(*steps_of_rows(rows, helpers), sets)
 
 
-def end_of(state, executions):
-    """The pair of this state, or None if another step than a `start` may be made."""
-    if all(step[0] == b"start" for step, _ in executions):
-        starting = frozenset(step[1] for step, _ in executions)
-        unfinished = frozenset(number for number, (pending, contexts) in enumerate(state) if pending or any(contexts))
-        return starting, unfinished
-    return None
+def is_stuck(state, executions, bare):
+    """Whether a run that ends in this state, in which these steps may be made, ends stuck where these workqueues have no rescuer."""
+    unfinished = any((pending or any(contexts)) and number not in bare for number, (pending, contexts) in enumerate(state))
+    return unfinished and all(step[0] == b"start" and step[1] in bare for step, _ in executions)
 
 
-def ends_of_runs(steps, count):
-    """The pairs of all runs. Items are queued and cancelled at any time, however often."""
+def sets_of_stuck_runs(steps, count, sets):
+    """For which of these sets some run ends stuck. Items are queued and cancelled at any time, however often."""
     first = steps.begin(count)
     seen = {first}
     left = [first]
-    found = set()
-    while left:
+    others = set(sets)
+    while left and others:
         state = left.pop()
         executions = list(steps.executions(state))
-        found.add(end_of(state, executions))
+        others -= {bare for bare in others if is_stuck(state, executions, bare)}
         new = {behind for _, behind in executions}
         new.update(behind for _, behind in steps.helper_starts(state))
         new.update(behind for _, behind in steps.queueings(state))
@@ -285,7 +276,7 @@ def ends_of_runs(steps, count):
         new -= seen
         seen |= new
         left += new
-    return found - {None}
+    return sets - others
 
 
 def is_as_declared(steps, state, step):
@@ -300,17 +291,17 @@ def is_as_declared(steps, state, step):
     return (word, name) == waits[made]
 
 
-def ends_as_declared(steps, count):
-    """The pairs of the runs that may deadlock: each item is queued once, and none is cancelled."""
+def sets_of_deadlocks(steps, count, sets):
+    """For which of these sets some run deadlocks: each item is queued once, and none is cancelled."""
     first = steps.begin(count), frozenset(steps.waits)
     seen = {first}
     left = [first]
-    found = set()
-    while left:
+    others = set(sets)
+    while left and others:
         state, not_queued = left.pop()
         executions = list(steps.executions(state))
         if not not_queued:
-            found.add(end_of(state, executions))
+            others -= {bare for bare in others if is_stuck(state, executions, bare)}
         new = {(behind, not_queued) for step, behind in executions
                if is_as_declared(steps, state, step)}
         new |= {(behind, not_queued - {step[2]}) for step, behind in steps.queueings(state)
@@ -318,11 +309,11 @@ def ends_as_declared(steps, count):
         new -= seen
         seen |= new
         left += new
-    return found - {None}
+    return sets - others
 
 
 def is_deadlock(steps, count, bare, run):
-    """Whether this run deadlocks, where these workqueues have no rescuer: whether it is one of those that ends_as_declared looks for."""
+    """Whether this run deadlocks, where these workqueues have no rescuer: whether it is one of those that sets_of_deadlocks looks for."""
     state = steps.begin(count)
     for step in run:
         behind = dict(steps.all_steps(state))
@@ -331,8 +322,7 @@ def is_deadlock(steps, count, bare, run):
         state = behind[step]
     queued = [name for word, _, name in run if word == b"queue"]
     once = sorted(queued) == sorted(steps.waits) and all(word != b"cancel" for word, _, _ in run)
-    end = end_of(state, list(steps.executions(state)))
-    return once and end is not None and is_end(*end, bare)
+    return once and is_stuck(state, list(steps.executions(state)), bare)
 
 
 # Declarations and assignments --------------------------------------------------------------------
@@ -375,10 +365,9 @@ def partitions(count):
             yield parts + [part]
 
 
-def sets_without(choose, count, sets):
-    """The sets of workqueues without a rescuer of which `deadlock` is asked: the empty one, and so many others."""
-    others = [frozenset(found) for size in range(1, count + 1) for found in itertools.combinations(range(count), size)]
-    return [frozenset(), *choose.sample(others, min(sets, len(others)))]
+def all_sets(count):
+    """All sets of so many workqueues: those that may have no rescuer."""
+    return [frozenset(found) for size in range(count + 1) for found in itertools.combinations(range(count), size)]
 
 
 def assignment_text(declared, parts, bare):
@@ -412,11 +401,11 @@ def look_at_assignment(ask, text, declared, parts, sets):
     ordered = {workqueue_of[group[0]] for group in declared.groups if len(group) > 1}
     steps = Steps(waits, workqueue_of)
     rows, numbers = numbered(waits, workqueue_of, ordered)
-    all_ends, ends_declared = ends(rows)
+    set_of = {bare: frozenset(numbers[number] for number in bare) for bare in sets}
+    all_of = frozenset(set_of.values())
+    all_stuck, all_deadlocks = ends(rows, all_of)
     for bare in sets:
-        without = frozenset(numbers[number] for number in bare)
-        stuck = any(is_end(*end, without) for end in all_ends)
-        deadlocks = any(is_end(*end, without) for end in ends_declared)
+        stuck, deadlocks = set_of[bare] in all_stuck, set_of[bare] in all_deadlocks
         assignment = assignment_text(declared, parts, bare)
         printed, status = ask("deadlock", [text, assignment])
         is_safe = (printed, status) == (b"safe\n", 0)
@@ -427,20 +416,23 @@ def look_at_assignment(ask, text, declared, parts, sets):
                           f"{deadlocks}, the answer: {printed!r}, status {status}")
         elif is_helped(declared):
             for helpers in HELPERS:
-                if any(is_end(*end, without) for end in ends_with(rows, helpers)) != stuck:
+                if (set_of[bare] in ends_with(rows, all_of, helpers)) != stuck:
                     difference = f"{assignment!r}: some run ends stuck: {stuck}; with {helpers} helpers: {not stuck}"
         yield not stuck, difference
 
 
-def look_at_declaration(ask, choose, text, set_count):
-    """How many assignments were looked at, and how many of them with helpers, too; and what is wrong with the answers."""
+def look_at_declaration(ask, text, without):
+    """How many assignments were looked at, and how many of them with helpers, too; and what is wrong with the answers.
+
+    If `without`, each assignment is looked at with each set of workqueues without a rescuer.
+    """
     declared = read_declaration(text)
     wrong = []
     counts = []
     looked = 0
     for parts in partitions(len(declared.groups)):
         count = max(parts, default=-1) + 1
-        sets = sets_without(choose, count, set_count)
+        sets = all_sets(count) if without else [frozenset()]
         for bare, (is_safe, difference) in zip(sets, look_at_assignment(ask, text, declared, parts, sets)):
             looked += 1
             if is_safe and not bare:
@@ -459,11 +451,11 @@ def ask_model(command, texts):
 
 
 def main(arguments):
-    found = seed_and_counts(arguments[1:], DEFAULT_SEED, DEFAULT_DECLARATIONS, DEFAULT_SETS)
+    found = seed_and_counts(arguments[1:], DEFAULT_SEED, DEFAULT_DECLARATIONS, DEFAULT_WITHOUT)
     if not arguments or not found:
-        print("usage: search.py PROGRAM [SEED] [DECLARATIONS] [SETS]", file=sys.stderr)
+        print("usage: search.py PROGRAM [SEED] [DECLARATIONS] [WITHOUT]", file=sys.stderr)
         return 2
-    seed, count, set_count = found
+    seed, count, without = found
     program = os.path.realpath(arguments[0])
     if arguments[0] != "-" and not compare.programs.is_there("search", program):
         return 1
@@ -477,9 +469,8 @@ def main(arguments):
             return compare.ask(program, command, texts, folder, 0)[0]
 
         for number in range(count):
-            choose = random.Random(f"{seed} search {number}")
-            text = make_declaration(choose)
-            assignments, with_helpers, wrong = look_at_declaration(ask, choose, text, set_count)
+            text = make_declaration(random.Random(f"{seed} search {number}"))
+            assignments, with_helpers, wrong = look_at_declaration(ask, text, number < without)
             looked, helped = looked + assignments, helped + with_helpers
             if wrong:
                 print(f"FAILED  search, declaration {number} (seed {seed}): {text!r}")
