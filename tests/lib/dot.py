@@ -14,13 +14,12 @@ import sys
 # What is drawn in words, and what its marks mean.
 WAITS = r", (?:1 wait|(?:[2-9]|[1-9][0-9]+) waits) in "
 WORDS = re.compile(rf"plan of (?:1 workqueue|(?:0|[2-9]|[1-9][0-9]+) workqueues)(?:{WAITS}bold)?"
-                   rf"|safe|every assignment can hang{WAITS}red|can hang{WAITS}red(?:, [1-9][0-9]* to no rescuer)?")
-LEADING = re.compile(", ([0-9]+) to no rescuer")
-BOLD = r"\lBold: the chain that needs so many workqueues.\l"
-RED = r"\lRed: while memory is short, a worker may wait for work\lthat "
-CIRCLED = "only it, or one that waits for it, can do"
-LEADS = "no rescuer does"
-DASHED = r"\lDashed: no rescuer. While memory is short, nothing\lguarantees that work there runs."
+                   rf"|safe|(?:every assignment )?can hang{WAITS}red")
+LEGENDS = {
+    "bold": r"\lBold: the chain that needs so many workqueues.\l",
+    "red": r"\lRed: while memory is short, a worker may wait for work"
+           r"\lthat only it, or one that waits for it, can do.\l",
+}
 HEAD = [
     rb'digraph wqplan \{',
     rb'  graph \[label="([^"\\]*)((?:\\l[^"\\]*)*)", labelloc=t, labeljust=l, rankdir=LR, nodesep=0\.15, ranksep=1,'
@@ -30,6 +29,8 @@ HEAD = [
 ]
 NAME = rb'"([A-Za-z0-9_.-]{1,63})"'
 WORKQUEUE = rb'  subgraph "cluster wq (0|[1-9][0-9]*)" \{'
+WORKQUEUE_LOOKS = (rb'    graph \[label="", style=filled, color=gray92\];'
+                   rb' "wq (0|[1-9][0-9]*)" \[shape=plaintext, style="", fontsize=14\];')
 ITEM = rb'    ' + NAME + rb';'
 ORDERED = rb'    subgraph "cluster ordered ([A-Za-z0-9_.-]{1,63})" \{'
 ORDERED_LOOKS = (rb'      graph \[label="", style=dashed, color=black\];'
@@ -54,19 +55,8 @@ def one_of(texts):
     return rb'(' + b"|".join(map(re.escape, texts)) + rb')'
 
 
-# What is between quotes, with an escape for what Graphviz would read otherwise.
-ESCAPE = rb'(?:[ !#-%\'-\[\]-~]|\\"|\\\\|&amp;)'
-
-# A workqueue's frame, which is dashed where it has no rescuer; and its label, where it isn't just the number: a name of 63 bytes
-# at most, the number or both.
-FRAMES = {b"style=filled, color=gray92": False, b'style="filled,dashed", fillcolor=gray92, color=black': True}
-RESCUER = b" (no rescuer)"
-LABEL = rb'(?:label="(' + ESCAPE + rb'{1,85})", )?'
-WORKQUEUE_LOOKS = (rb'    graph \[label="", ' + one_of(FRAMES) + rb'\]; "wq (0|[1-9][0-9]*)" \[' + LABEL
-                   + rb'shape=plaintext, style="", fontsize=14\];')
-
 # The comment of the line that declares the flush, of 256 bytes at most.
-TOOLTIP = rb'(?: \[edgetooltip="(' + ESCAPE + rb'{1,256})"\])?'
+TOOLTIP = rb'(?: \[edgetooltip="((?:[ !#-%\'-\[\]-~]|\\"|\\\\|&amp;){1,256})"\])?'
 ARROW = rb'  ' + NAME + rb' -> ' + NAME + one_of(LOOKS) + one_of(HEADS) + TOOLTIP + rb';'
 ESCAPED = re.compile(rb'\\(.)|&amp;')
 
@@ -83,8 +73,6 @@ class Drawing:
     workqueues: list  # by number, each as its groups, each of these as the names of its items
     arrows: list  # in order, each as the names of its item and of its target, `black`, `red` or `bold`, and whether it is whole
     comments: list = dataclasses.field(default_factory=list)  # of each arrow, empty if it has none
-    bare: set = dataclasses.field(default_factory=set)  # the numbers of the workqueues without a rescuer
-    labels: dict = dataclasses.field(default_factory=dict)  # by number, where it isn't just the number: the name, with `wq Q` or not
 
     def workqueue_of(self):
         """By the name of an item, the number of its workqueue."""
@@ -124,54 +112,13 @@ class Reader:
         return match
 
 
-def red_legend(words):
-    """What red says, where these are the words of TITLE."""
-    red, leading = int(re.search(", ([0-9]+) wait", words)[1]), LEADING.search(words)
-    if leading is None:
-        return f"{RED}{CIRCLED}."
-    return f"{RED}{LEADS}." if int(leading[1]) == red else rf"{RED}{CIRCLED},\lor that {LEADS}."
-
-
-def legends_of(words):
-    """The legends that may follow these words of TITLE, each with whether it speaks of dashed frames."""
-    if words.endswith("in bold"):
-        return {BOLD: False}
-    if words.startswith("plan"):
-        return {"": False}
-    if words == "safe":
-        return {"": False, rf"{DASHED}\l": True}
-    red = red_legend(words)
-    return {rf"{red}\l": False, rf"{red}{DASHED}\l": True}
-
-
 def read_head(reader):
-    """TITLE, without its legend, and whether this speaks of dashed frames."""
+    """TITLE, without its legend."""
     match = [reader.take(line, "the line of the head that stands here") for line in HEAD][1]
     words, legend = match[1].decode(), match[2].decode()
     reader.must(WORDS.fullmatch(words), "TITLE has other words", 2)
-    legends = legends_of(words)
-    reader.must(legend in legends, "TITLE has another legend", 2)
-    return words, legends[legend]
-
-
-def unescaped(text):
-    """What stands for this text of a drawing."""
-    return ESCAPED.sub(lambda found: found[1] or b"&", text)
-
-
-def read_label(reader, drawing, number, label, bare):
-    """Notes how a workqueue looks. One without a rescuer says so in its label."""
-    if bare:
-        drawing.bare.add(number)
-        reader.must(label and label.endswith(RESCUER), "a dashed frame whose label doesn't say why")
-        label = label[:-len(RESCUER)]
-    numbered = b"wq %d" % number
-    if label is None or bare and label == numbered:
-        return
-    name = unescaped(label)
-    reader.must(1 <= len(name) <= 63 or len(name) <= len(numbered) + 64 and name.startswith(numbered + b" "),
-                "a label is too long or empty")
-    drawing.labels[number] = name.decode()
+    reader.must(legend == LEGENDS.get(words.rpartition(" in ")[2], ""), "TITLE has another legend", 2)
+    return words
 
 
 def read_ordered(reader, box):
@@ -199,45 +146,43 @@ def read_groups(reader):
     return groups
 
 
-def read_workqueues(reader, drawing):
+def read_workqueues(reader):
     """The workqueues by their numbers. No item may be on two."""
-    workqueues = drawing.workqueues
+    workqueues = []
     seen = set()
     while match := reader.may_take(WORKQUEUE):
         number = b"%d" % len(workqueues)
         reader.must(match[1] == number, "this isn't the number of the next workqueue")
         looks = reader.take(WORKQUEUE_LOOKS, "how a workqueue looks")
-        reader.must(looks[2] == number, "this isn't the number of the workqueue")
-        read_label(reader, drawing, len(workqueues), looks[3], FRAMES[looks[1]])
+        reader.must(looks[1] == number, "this isn't the number of the workqueue")
         groups = read_groups(reader)
         names = [name for group in groups for name in group]
         reader.must(len(set(names)) == len(names) and seen.isdisjoint(names), "an item of this box stands twice")
         seen.update(names)
         workqueues.append(groups)
+    return workqueues
 
 
-def read_arrows(reader, drawing):
+def read_arrows(reader, items):
     """The arrows, each between items. Those that are drawn from their targets are returned to their items."""
-    items = drawing.workqueue_of()
-    arrows, turned, comments = drawing.arrows, [], drawing.comments
+    arrows, turned, comments = [], [], []
     while match := reader.may_take(ARROW):
         one, other = match[1].decode(), match[2].decode()
         reader.must(one in items and other in items, "an end of this arrow is no item")
         colour, (back, whole) = LOOKS[match[3]], HEADS[match[4]]
         arrows.append((other, one, colour, whole) if back else (one, other, colour, whole))
         turned.append(back)
-        comments.append(unescaped(match[5] or b"").decode())
-    must_be_turned(reader, arrows, turned, {item for item, number in items.items() if number in drawing.bare})
+        comments.append(ESCAPED.sub(lambda found: found[1] or b"&", match[5] or b"").decode())
+    must_be_turned(reader, arrows, turned)
+    return arrows, comments
 
 
-def must_be_turned(reader, arrows, turned, on_bare):
-    """Of arrows that go both ways between two items, those that are turned are all those of one of the two. If both are on
-    workqueues with a rescuer, these arrows lie on a circle."""
+def must_be_turned(reader, arrows, turned):
+    """Of arrows that go both ways between two items, those that are turned are all those of one of the two."""
     ways = {}
     for (item, target, colour, _), back in zip(arrows, turned):
         ways.setdefault((item, target), set()).add(back)
-        reader.must(colour == "red" or not back or colour == "black" and not on_bare.isdisjoint((item, target)),
-                    "an arrow is drawn from its target, and isn't red")
+        reader.must(colour == "red" or not back, "an arrow is drawn from its target, and isn't red")
     for (item, target), backs in ways.items():
         reader.must(len(backs) == 1, "arrows of one item and one target are drawn from either")
         other = ways.get((target, item)) if item != target else None
@@ -263,26 +208,8 @@ def must_be_plan(reader, drawing, count):
 PLANNED = re.compile("plan of ([0-9]+) ")
 
 
-def must_lead(reader, drawing):
-    """Red are all arrows that lead from a workqueue with a rescuer to one without, so many as TITLE says, and no others that
-    begin or end on one without."""
-    workqueue_of = drawing.workqueue_of()
-    leading = 0
-    for item, target, colour, _ in drawing.arrows:
-        ends = workqueue_of[item] in drawing.bare, workqueue_of[target] in drawing.bare
-        leading += ends == (False, True)
-        reader.must(ends == (False, False) or (colour == "red") == (ends == (False, True)),
-                    "an arrow that leads to no rescuer isn't red, or another one is")
-    said = LEADING.search(drawing.title)
-    reader.must(leading == (int(said[1]) if said else 0), "TITLE has another number of arrows that lead to no rescuer")
-
-
-def must_fit_title(reader, drawing, is_dashed):
+def must_fit_title(reader, drawing):
     """What TITLE says fits the workqueues and the colours."""
-    reader.must(is_dashed == bool(drawing.bare), "the legend speaks of dashed frames, and there is none, or the other way round")
-    reader.must(drawing.title.startswith(("safe", "can")) or not drawing.bare and not drawing.labels,
-                "without an assignment a workqueue has a name, or no rescuer")
-    must_lead(reader, drawing)
     planned = PLANNED.match(drawing.title)
     for colour in ("red", "bold"):
         said = re.search(f", ([0-9]+) waits? in {colour}", drawing.title)
@@ -295,13 +222,13 @@ def must_fit_title(reader, drawing, is_dashed):
 def read(text):
     """The drawing that the text, bytes, holds. Raises NotADrawing where it holds none."""
     reader = Reader(text)
-    title, is_dashed = read_head(reader)
-    drawing = Drawing(title, [], [])
-    read_workqueues(reader, drawing)
-    read_arrows(reader, drawing)
+    title = read_head(reader)
+    workqueues = read_workqueues(reader)
+    drawing = Drawing(title, workqueues, [])
+    drawing.arrows, drawing.comments = read_arrows(reader, drawing.workqueue_of())
     reader.take(END, "a workqueue in front of all arrows, an arrow, or the end")
     reader.must(reader.at == len(reader.lines), "a line stands behind the end", reader.at + 1)
-    must_fit_title(reader, drawing, is_dashed)
+    must_fit_title(reader, drawing)
     return drawing
 
 
