@@ -8,9 +8,9 @@ standard error. Where OUT is a refusal, or a `no` of `check`, ERR must be its di
 shows the line and its marks where a line is meant; where that is of a declaration, up to nine further ones of the same form may follow.
 Where OUT is the answer to a declaration without an item, ERR must be the note
 that says so, with FILE; where it may be one, as `safe`, this note or nothing. Where OUT is `not lawful N` of `replay`, ERR must say so of FILE, too,
-and show the step. Where OUT is `safe` or a run, what ERR says of workqueues without a rescuer may be there, of an assignment. Where
-OUT is any other answer, ERR must be empty. The words and the hints of a diagnosis may be any: they aren't compared here. `belongs`,
-`meant` and `fits` do this for other scripts.
+and show the step. Where OUT is any other answer, ERR must be empty. The words and the hints of a diagnosis may be any: they aren't
+compared here. `belongs`, `meant` and `fits` do this for other scripts. For them what is said of workqueues without a rescuer
+may be beside `safe` and beside a run, too, where the files are two.
 """
 
 import functools
@@ -37,12 +37,16 @@ MARKED = rb"    [ -~]+\n {4,}\^+(?: [ -~]+)?\n"
 # <ASSIGN> stand for the files.
 WORKQUEUE = rb"workqueue (?:0|[1-9][0-9]*)(?: \([ -~]{1,63}\))?"
 ON_ONE = rb"`[^`\n]+` on " + WORKQUEUE
+NO_HINT = MARKED.replace(rb"(?: [ -~]+)?", b"")
 UNRESCUED = {
-    b"safe": rb"<ASSIGN>: note: nothing guarantees that these run while memory is short: " + ON_ONE + rb"(?:, " + ON_ONE + rb")*\n"
-             rb"<ASSIGN>: note: where reclaim waits for one of them, declare who waits: an item of its own, on a `wq` line, that flushes it\n",
-    b"run": rb"<DECL>:[1-9][0-9]*:[1-9][0-9]*: `[^`\n]+`, on " + WORKQUEUE + rb", waits for (?:the workqueue of )?`[^`\n]+`,"
-            rb" which nothing guarantees to run: (" + WORKQUEUE + rb") has no rescuer\n" + MARKED.replace(rb"(?: [ -~]+)?", b"")
-            + rb"<ASSIGN>:[1-9][0-9]*:[1-9][0-9]*: \1 has no rescuer\n" + MARKED.replace(rb"(?: [ -~]+)?", b""),
+    b"safe": rb"<ASSIGN>: note: nothing guarantees that these run while memory is short: " + ON_ONE
+             + rb"(?:, " + ON_ONE + rb")*\n"
+             rb"<ASSIGN>: note: where reclaim waits for one of them, declare who waits: an item of its own,"
+             rb" on a `wq` line, that flushes it\n",
+    b"run": rb"<DECL>:[1-9][0-9]*:[1-9][0-9]*: `[^`\n]+`, on " + WORKQUEUE
+            + rb", waits for (?:the workqueue of )?`[^`\n]+`, which nothing guarantees to run: (" + WORKQUEUE
+            + rb") has no rescuer\n" + NO_HINT
+            + rb"<ASSIGN>:[1-9][0-9]*:[1-9][0-9]*: \1 has no rescuer\n" + NO_HINT,
 }
 
 

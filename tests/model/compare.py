@@ -10,8 +10,8 @@
 # same cases. It fails where an answer differs, and where some kind of answer never came, as may be with
 # few CASES. Before all this the model must answer the worked examples (examples.py).
 #
-# With --with WORD the cases are only those of which an assignment has a line with this first word: with `--with norescuer`
-# those of workqueues without a rescuer. Commands that read no assignment then have none.
+# With --with WORD the cases are only those of which an assignment has a line with this first word: with
+# `--with norescuer` those of workqueues without a rescuer. Commands that read no assignment then have none.
 #
 # What the program prints is then given back to it: the plans and circles to `PROGRAM check`, the
 # plans as assignments to `PROGRAM deadlock`, and the runs, those behind circles too, to `PROGRAM
@@ -84,7 +84,8 @@ DRAWING = (
 PLANNED = (r"plan of (1 workqueue|N workqueues)"
            r"(, (1 wait|N waits) in bold\\lBold: the chain that needs so many workqueues\.\\l)?")
 DASHED = r"\\lDashed: no rescuer\. While memory is short, nothing\\lguarantees that work there runs\."
-HANGING = (r"(every assignment )?can hang, (1 wait|N waits) in redLEADING\\lRed: while memory is short, a worker may wait for work"
+HANGING = (r"(every assignment )?can hang, (1 wait|N waits) in redLEADING"
+           r"\\lRed: while memory is short, a worker may wait for work"
            rf"\\lthat WORK\.({DASHED})?\\l")
 ON_CIRCLES = r"only it, or one that waits for it, can do"
 ON_NONE = r"no rescuer does"
@@ -99,7 +100,7 @@ def drawing(title, look):
 
 
 def hanging(leading, work):
-    """The form of a drawing with red arrows, of which those that lead to no rescuer are told so, and what no one does."""
+    """The form of a drawing with red arrows: how many lead to no rescuer, and what no one does."""
     return drawing(HANGING.replace("LEADING", leading).replace("WORK", work), "color=red, style=bold")
 
 
@@ -213,7 +214,7 @@ def words_behind(command, number):
 
 
 def ask(program, command, texts, folder, number):
-    """The program's answer, what it prints to standard error, and whether that belongs to the answer and to the texts."""
+    """The program's answer, what it prints to standard error, and whether that belongs to both."""
     named, given = {}, None
     if command == "plan":
         given = texts[0]
@@ -380,7 +381,7 @@ def show_counts(command, kinds, stood):
 
 
 def options(arguments):
-    """The program, the seed, how many random cases, how many of `run`, what the program is asked for, and the word of --with."""
+    """The program, the seed, how many random cases, how many of `run`, what is asked for, and the word of --with."""
     arguments = list(arguments)
     asked = list(COMMANDS)
     word = None

@@ -41,11 +41,12 @@ def safe_assignment(choose, declared):
 
 
 def bare_above(choose, declared, wqs):
-    """Workqueues without a rescuer, to which no flush leads from another one: some, and all that flush what is on these."""
+    """Workqueues without a rescuer, to which no flush leads from another one: some, and all that wait for these."""
     workqueue_of = assignment_of(wqs).workqueue_of
     bare = some_bare(choose, wqs)
     while True:
-        above = {workqueue_of.get(item) for item, target in declared.flushes if workqueue_of.get(target) in bare} - {None}
+        above = {workqueue_of.get(item) for item, target in declared.flushes if workqueue_of.get(target) in bare}
+        above.discard(None)
         if above <= bare:
             return bare
         bare |= above
@@ -175,12 +176,18 @@ def limit_deadlock_cases():
     for text in BARE_FAULTS[::7]:
         add(f"{text.decode()!r} in a plan of 2", GROUPED, b"plan 2\n" + text)
     for what, text in [
-        ("all without a rescuer", b"norescuer 0 a"), ("empty ones without a rescuer", b"norescuer 0\nwq 1 a\nnorescuer 2"),
-        ("a plan behind `norescuer`", b"norescuer 0\nplan 1\nwq 0 a\nchain 1"), ("`norescuer` behind a plan",
-         b"plan 1\nwq 0 a\nchain 1\nnorescuer 1"), ("a number twice", b"wq 0 a\nnorescuer 0"), ("upper case", b"NoRescuer 0 a"),
-        ("a `wq` line that isn't one", b"wq norescuer 0 a"), ("a comment behind the word", b"norescuer# 0 a\n"),
-        ("a name with no blank", b"norescuer 0 a#x,y\nwq 1# x"), ("a bad byte in the word", b"norescuer\x80 0 a"),
-        ("a CR behind the word", b"norescuer\r0 a"), ("an item of this name", b"norescuer 0 norescuer"),
+        ("all without a rescuer", b"norescuer 0 a"),
+        ("empty ones without a rescuer", b"norescuer 0\nwq 1 a\nnorescuer 2"),
+        ("a plan behind `norescuer`", b"norescuer 0\nplan 1\nwq 0 a\nchain 1"),
+        ("`norescuer` behind a plan", b"plan 1\nwq 0 a\nchain 1\nnorescuer 1"),
+        ("a number twice", b"wq 0 a\nnorescuer 0"),
+        ("upper case", b"NoRescuer 0 a"),
+        ("a `wq` line that isn't one", b"wq norescuer 0 a"),
+        ("a comment behind the word", b"norescuer# 0 a\n"),
+        ("a name with no blank", b"norescuer 0 a#x,y\nwq 1# x"),
+        ("a bad byte in the word", b"norescuer\x80 0 a"),
+        ("a CR behind the word", b"norescuer\r0 a"),
+        ("an item of this name", b"norescuer 0 norescuer"),
     ]:
         add(what, looped, text)
     add("items with the names of keywords", join(b"item norescuer", b"item wq", b"flush wq norescuer"),
@@ -219,7 +226,8 @@ def limit_deadlock_cases():
             text = join(*lines)[:-1] + b" a\n"
             add(f"{count} workqueues, none used, {what}", declaration, join(*lines))
             for bare in range(count), range(0, count, 2), [count - 1]:
-                add(f"{count} workqueues, the item last, {len(bare)} without a rescuer, {what}", declaration, with_bare(text, bare))
+                add(f"{count} workqueues, the item last, {len(bare)} without a rescuer, {what}",
+                    declaration, with_bare(text, bare))
             add(f"{count} workqueues, the item last, {what}", declaration, text)
             unknown = text[:-2] + b"b\n"
             add(f"{count} workqueues, then an unknown item, {what}", declaration, unknown)
@@ -272,7 +280,8 @@ def limit_deadlock_cases():
     add_wqs("a chain of 4,096, every other one without a rescuer", chain, alone, range(0, 4_096, 2))
     add_wqs("a circle of 4,096, one without a rescuer", chain + join(b"flush i4095 i0"), alone, {2_048})
     add_wqs("a circle of 4,096, all without a rescuer", chain + join(b"flush i4095 i0"), alone, range(4_096))
-    add_wqs("a circle beside 4,095 without a rescuer", join(*items, *to_last, b"flush i4095 i4095"), alone, range(4_095))
+    add_wqs("a circle beside 4,095 without a rescuer",
+            join(*items, *to_last, b"flush i4095 i4095"), alone, range(4_095))
     add_wqs("16,380 flushes that lead to no rescuer", join(*items, *others), [names[:1], names[1:]], {1})
     for turned in False, True:
         add(f"2,046 that wait for the whole workqueue of 2,046 items, turned: {turned}", *whole_case(2_046, turned))

@@ -22,8 +22,8 @@ OTHER_NUMBERS = [b"007", b"+1", b"-1", b"1.", b"0x1", b"00", b"01", b"4294967295
                  b"42949672950", b"99999999999999999999", b"4095", b"4096", b"4097", b"0", b"1"]
 # Comments of the lines of an assignment: what begins them, names of workqueues and what is none, and what is behind.
 LEADS = [b"# ", b"# ", b"#", b"## ", b"# # ", b"#\t"]
-CALLED = [b"xfs-sync", b"xfs-sync", b"kblockd", b"x", b"x", b"a b", b"wq 0", b'"a" & \\N', b"~<b>", b"n" * 63, b"n" * 64, b"",
-          b"a\tb", b"\xc3\xa4", b"a\x7f"]
+CALLED = [b"xfs-sync", b"xfs-sync", b"kblockd", b"x", b"x", b"a b", b"wq 0", b'"a" & \\N', b"~<b>", b"n" * 63,
+          b"n" * 64, b"", b"a\tb", b"\xc3\xa4", b"a\x7f"]
 BEHIND = [b"", b"", b"", b"", b", core.c:5529", b",", b" ", b" \t , x", b"#", b"\r", b" " * 70 + b",x"]
 
 

@@ -259,13 +259,14 @@ def second_end(declared, assignment, steps):
 
 def arcs_of_rescuers(declared, assignment):
     """The flushes of items on workqueues with a rescuer, each with the workqueues of its item and of its target."""
-    arcs = [(assignment.workqueue_of[item], assignment.workqueue_of[target], (item, target)) for item, target in declared.flushes]
+    arcs = [(*map(assignment.workqueue_of.get, flush), flush) for flush in declared.flushes]
     return [arc for arc in arcs if arc[0] not in assignment.bare]
 
 
 def is_safe(declared, assignment):
-    """Whether no flush leads to no rescuer, and the workqueues with one wait in no circle. Those for which none waits are taken
-    off first.
+    """Whether no flush leads to no rescuer, and the workqueues with one wait in no circle.
+
+    Those for which none waits are taken off first.
     """
     arcs = {(begin, end) for begin, end, _ in arcs_of_rescuers(declared, assignment)}
     if any(end in assignment.bare for _, end in arcs):
@@ -280,7 +281,7 @@ def is_safe(declared, assignment):
 
 
 def second_circle(declared, assignment):
-    """The arcs of the circle, with their workqueues. There is one, and each flush of an item with a rescuer leads to one."""
+    """The arcs of the circle, with their workqueues. There is one, and no flush leads to no rescuer."""
 
     workqueue_of = assignment.workqueue_of
     with_rescuer = [number for number in workqueue_of.values() if number not in assignment.bare]
@@ -315,7 +316,8 @@ def second_run(declared, assignment):
         state.make(step)
     while True:
         may = [step for step in state.rescuer_steps()
-               if make_certificates.is_faithful(state, step) and (step[0] != b"start" or step[1] not in assignment.bare)]
+               if make_certificates.is_faithful(state, step)
+               and (step[0] != b"start" or step[1] not in assignment.bare)]
         if not may:
             return steps
         steps.append(min(may, key=lambda step: step[1]))
@@ -335,9 +337,13 @@ def demand(holds, law):
 
 
 def wqs_text(wqs, bare=(), called=None):
-    """The text of an assignment: the names on each workqueue, those without a rescuer, and by number what they are called."""
-    lines = [b" ".join([(b"norescuer %d" if number in bare else b"wq %d") % number, *names]) for number, names in enumerate(wqs)]
-    return joined(line + b"#" + called[number] if called and number in called else line for number, line in enumerate(lines))
+    """The text of an assignment: the names on each workqueue, those without a rescuer, and what some are called."""
+    lines = []
+    for number, names in enumerate(wqs):
+        word = b"norescuer" if number in bare else b"wq"
+        comment = b"#" + called[number] if called and number in called else b""
+        lines.append(b" ".join([word, b"%d" % number, *names]) + comment)
+    return joined(lines)
 
 
 def look_at_plan(text):
@@ -490,8 +496,9 @@ def look_at_replay(declaration_text, assignment_text, run_text):
         else:
             demand(not end.startswith(b"not"), "the steps before an unlawful one may be made")
             later = lines[count].split() if count < bad - 1 else [None]
-            demand(not (later[0] in EXECUTIONS and end != b"open\n") or later[0] == b"start" and int(later[1]) in assignment.bare,
-                   "what ends stuck goes on with queue or cancel alone, or where there is no rescuer")
+            is_bare = later[0] == b"start" and int(later[1]) in assignment.bare
+            demand(not (later[0] in EXECUTIONS and end != b"open\n") or is_bare,
+                   "what ends stuck goes on with queue or cancel alone, or a start where there is no rescuer")
             demand(not (end == b"deadlock\n" and later[0] is not None and count < len(lines)
                         and printed == b"deadlock\n") or assignment.bare, "no front of a deadlock is one")
 
@@ -573,7 +580,8 @@ def look_at_bare(declared, wqs, assignment, answer):
     demand(deadlock.answer(whole, wqs_text(wqs, range(len(wqs)))) == (b"safe\n", 0), "without any rescuer it is safe")
     empty = {number for number, names in enumerate(wqs) if not names}
     for other in bare | empty, bare - empty:
-        demand(deadlock.answer(whole, wqs_text(wqs, other)) == answer, "whether an empty workqueue has a rescuer means nothing")
+        demand(deadlock.answer(whole, wqs_text(wqs, other)) == answer,
+               "whether an empty workqueue has a rescuer means nothing")
     of_rescuers = [place for place in every if assignment.workqueue_of[declared.flushes[place][0]] not in bare]
     if bare:
         demand(deadlock.answer(text_declaring(declared, of_rescuers), wqs_text(wqs, bare)) == answer,

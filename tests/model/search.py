@@ -10,8 +10,8 @@
 # none. Where PROGRAM is `-`, the model is asked in its place. Of the smaller declarations all runs with one and
 # with two helpers are gone through, too: some run ends stuck exactly where one without helpers does.
 #
-# All this is so whichever workqueues have no rescuer. Of the first WITHOUT declarations each assignment is looked at with each
-# set of such workqueues, and else with none.
+# All this is so whichever workqueues have no rescuer. Of the first WITHOUT declarations each assignment is looked at
+# with each set of such workqueues, and else with none.
 
 import functools
 import itertools
@@ -211,8 +211,8 @@ def named(word, workqueue, name, context):
 
 
 def numbered(waits, workqueue_of, ordered):
-    """The workqueue of each item, whether that is ordered, and the waits, where items and workqueues are numbers in place of names;
-    and the numbers of the workqueues there.
+    """The workqueue of each item, whether that is ordered, and the waits, where items and workqueues are numbers in
+    place of names; and by the number of each workqueue its number there.
 
     Of all orders of the items it is the one that makes these the least. So it is the same for all assignments that differ in names,
     in the order of the items and in the numbers of the workqueues alone: their runs are the same but for these.
@@ -235,8 +235,8 @@ def steps_of_rows(rows, helpers):
     return Steps(waits, workqueue_of, ordered, helpers), 1 + max(workqueue_of.values(), default=-1)
 
 
-# Which workqueues have no rescuer matters for no step, but for where a run ends stuck. So one search finds for several sets of
-# such workqueues whether some run ends stuck.
+# Which workqueues have no rescuer matters for no step, but for where a run ends stuck. So one search finds for several
+# sets of such workqueues whether some run ends stuck.
 
 
 @functools.cache
@@ -253,9 +253,12 @@ def ends_with(rows, sets, helpers):
 
 
 def is_stuck(state, executions, bare):
-    """Whether a run that ends in this state, in which these steps may be made, ends stuck where these workqueues have no rescuer."""
-    unfinished = any((pending or any(contexts)) and number not in bare for number, (pending, contexts) in enumerate(state))
-    return unfinished and all(step[0] == b"start" and step[1] in bare for step, _ in executions)
+    """Whether a run that ends in this state, in which these steps may be made, ends stuck.
+
+    The workqueues in `bare` have no rescuer.
+    """
+    unfinished = {number for number, (pending, contexts) in enumerate(state) if pending or any(contexts)}
+    return not unfinished <= bare and all(step[0] == b"start" and step[1] in bare for step, _ in executions)
 
 
 def sets_of_stuck_runs(steps, count, sets):
@@ -313,7 +316,7 @@ def sets_of_deadlocks(steps, count, sets):
 
 
 def is_deadlock(steps, count, bare, run):
-    """Whether this run deadlocks, where these workqueues have no rescuer: whether it is one of those that sets_of_deadlocks looks for."""
+    """Whether this run deadlocks: whether it is one of those that sets_of_deadlocks looks for."""
     state = steps.begin(count)
     for step in run:
         behind = dict(steps.all_steps(state))
@@ -394,7 +397,7 @@ def is_helped(declared):
 
 
 def look_at_assignment(ask, text, declared, parts, sets):
-    """Of each set of workqueues without a rescuer whether no run ends stuck, and what is wrong with the answer of `deadlock`, or None."""
+    """Of each set of workqueues without a rescuer whether no run ends stuck, and what is wrong, or None."""
     count = max(parts, default=-1) + 1
     workqueue_of = {name: parts[group] for name, group in declared.group_of.items()}
     waits = waits_of(declared)

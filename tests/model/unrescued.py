@@ -1,5 +1,5 @@
-# A model of what standard error says of workqueues without a rescuer, beside `safe` and beside a run: docs/FORMAT.md, "Diagnoses",
-# Workqueues without a rescuer.
+# A model of what standard error says of workqueues without a rescuer, beside `safe` and beside a run: docs/FORMAT.md,
+# "Diagnoses", Workqueues without a rescuer.
 
 import certificate
 from deadlock import led_to_no_rescuer
@@ -32,21 +32,24 @@ def line_of_flush(text, place):
 
 def line_of_workqueue(text, workqueue):
     """The number of the line of this workqueue, the line, and its first word."""
-    lines = [(number, line, words_of(line)) for number, line in enumerate(split_lines(text), start=1)]
-    lines = [(number, line, words[0]) for number, line, words in lines if words and words[0].word in certificate.HAS_RESCUER]
-    return lines[workqueue]
+    found = []
+    for number, line in enumerate(split_lines(text), start=1):
+        words = words_of(line)
+        if words and words[0].word in certificate.HAS_RESCUER:
+            found.append((number, line, words[0]))
+    return found[workqueue]
 
 
 def of_safe(file, declared, assignment):
     """What is said beside `safe`."""
     number_of = assignment.workqueue_of
-    items = [b"`%s` on %s" % (name, workqueue(assignment, number_of[name])) for name in declared.items if number_of[name] in assignment.bare]
-    if not items:
-        return []
-    return [
-        file + b": note: nothing guarantees that these run while memory is short: " + b", ".join(items),
-        file + b": note: where reclaim waits for one of them, declare who waits: an item of its own, on a `wq` line, that flushes it",
+    items = [b"`%s` on %s" % (name, workqueue(assignment, number_of[name])) for name in declared.items
+             if number_of[name] in assignment.bare]
+    notes = [
+        b"nothing guarantees that these run while memory is short: " + b", ".join(items),
+        b"where reclaim waits for one of them, declare who waits: an item of its own, on a `wq` line, that flushes it",
     ]
+    return [file + b": note: " + note for note in notes] if items else []
 
 
 def of_run(files, texts, declared, assignment):
@@ -64,7 +67,7 @@ def of_run(files, texts, declared, assignment):
 
 
 def beside(command, files, texts, printed):
-    """The bytes that belong on standard error beside this answer, as far as they are of workqueues without a rescuer."""
+    """The bytes on standard error that are of workqueues without a rescuer, beside this answer."""
     if command not in ("deadlock", "circles") or len(texts) < 2:
         return b""
     try:

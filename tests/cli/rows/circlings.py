@@ -87,7 +87,8 @@ ASSIGNED = [
         ("norescuer 0 a b c x", "safe"),
         ("norescuer 0 a b c / wq 1 x", "components 0 / norescuer 1 / arc x c"),
         # Two components, and none that leads to no rescuer.
-        ("norescuer 0 / wq 1 c x / wq 2 a b", "components 2 / component 3 / arc c x / arc c x / arc x c / component 2 / arc a b / arc b a"),
+        ("norescuer 0 / wq 1 c x / wq 2 a b",
+         "components 2 / component 3 / arc c x / arc c x / arc x c / component 2 / arc a b / arc b a"),
     ]),
     # A circle by way of one without a rescuer is none.
     (CHAIN + " / flush c a", [

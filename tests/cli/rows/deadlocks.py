@@ -136,7 +136,8 @@ DEADLOCKS = [
     # Nobody is sure to start x. Only who waits for it on a workqueue with a rescuer hangs, and only x isn't started.
     ("item a / item x / flush a x", [
         ("wq 0 a / norescuer 1 x", "run 4 / queue a / queue x / start 0 a / wait 0 x"),
-        ("\tnorescuer  0 x#xfsdiscard, x\r / # norescuer 0 a /  / wq 1 a# norescuer", "run 4 / queue a / queue x / start 1 a / wait 1 x"),
+        ("\tnorescuer  0 x#xfsdiscard, x\r / # norescuer 0 a /  / wq 1 a# norescuer",
+         "run 4 / queue a / queue x / start 1 a / wait 1 x"),
         ("norescuer 0 a / wq 1 x", "safe"),
         ("norescuer 0 a / norescuer 1 x", "safe"),
         ("norescuer 0 x a", "safe"),
@@ -146,7 +147,8 @@ DEADLOCKS = [
     # c makes the flush of least place that leads to no rescuer. That of a, which is a circle, has a lower one.
     ("item a / item b / item c / item x / flush a a / flush c x / flush b x", [
         ("wq 0 a / wq 1 b / wq 2 c / norescuer 3 x",
-         "run 10 / queue c / queue a / queue b / queue x / start 0 a / wait 0 a / start 1 b / wait 1 x / start 2 c / wait 2 x"),
+         "run 10 / queue c / queue a / queue b / queue x / start 0 a / wait 0 a / start 1 b / wait 1 x / start 2 c / "
+         "wait 2 x"),
         # That of c doesn't matter, nor that of a.
         ("norescuer 0 a c x / wq 1 b", "run 6 / queue b / queue a / queue c / queue x / start 1 b / wait 1 x"),
         # The circle of workqueue 0. On workqueue 1 b waits for what is behind it.
@@ -156,7 +158,8 @@ DEADLOCKS = [
     ]),
     # Two items that wait for each other: a circle of two rescuers, or one that waits for none.
     ("item x / item a / item b / flush x a / flush a b / flush b a", [
-        ("norescuer 0 x / wq 1 a / wq 2 b", "run 7 / queue a / queue b / queue x / start 1 a / wait 1 b / start 2 b / wait 2 a"),
+        ("norescuer 0 x / wq 1 a / wq 2 b",
+         "run 7 / queue a / queue b / queue x / start 1 a / wait 1 b / start 2 b / wait 2 a"),
         ("norescuer 0 x a / wq 1 b", "run 5 / queue b / queue x / queue a / start 1 b / wait 1 a"),
         ("norescuer 0 x / norescuer 1 a / norescuer 2 b", "safe"),
         ("wq 0 x / norescuer 1 a b", "run 5 / queue x / queue a / queue b / start 0 x / wait 0 a"),

@@ -207,7 +207,8 @@ DEADLOCKS = [
      " / finish 3 z / over 2 z / wait 2 b"),
     (W, "wq 0 a / wq 1 b c", W_HANGS),
     (W, "wq 0 a / wq 1 b / wq 2 c", "safe"),
-    # A workqueue without a rescuer: nobody promises that `a` ever runs, and in the second row `a` waits for `b`, which nobody starts.
+    # A workqueue without a rescuer: nobody promises that `a` ever runs. In the second row `a` waits for `b`, which
+    # nobody is sure to start.
     (S, "norescuer 0 a", "safe"),
     (P, "wq 0 a / norescuer 1 b", "run 4 / queue a / queue b / start 0 a / wait 0 b"),
     (P, "norescuer 0 a / wq 1 b", "safe"),
