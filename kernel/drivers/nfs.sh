@@ -1,10 +1,21 @@
-# For kernel/driver: draft
+# For kernel/driver: an NFS mount ends while a delegation is on its way back (examples/nfs.md). The guest mounts its own
+# export twice. While no worker can be created, a process closes a file of /mnt, so that its delegation is returned, and
+# unmounts /mnt before the answer is there. So the answer ends the mount, which has other delegations. Then a process
+# writes to the other mount, and calls fsync.
+#
+#     kernel/driver kernel/drivers/nfs.sh netfs fscache sunrpc grace lockd nfs dns_resolver nfsv4 nfs_acl auth_rpcgss nfsd
+#
+# With --patch kernel/drivers/nfs.patch, nfsiod ends the mount, and nothing hangs. nfs-dirty.sh is the same where the
+# mount has an inode that was written to.
+
+files="0 1 2 3"
 $busybox ifconfig lo 127.0.0.1
 $busybox mkdir /export /mnt /other /nfsd
 $busybox mount -t tmpfs export /export
-for file in 0 1 2 3; do echo hello >/export/$file; done
-echo a >/export/other
+for file in $files; do echo hello >/export/$file; done
 
+# The server, without the programs that go with it: what the client's address and the export are is written into the
+# caches that mountd fills (flags 9218: fsid, no_subtree_check, insecure).
 $busybox mount -t nfsd nfsd /nfsd
 echo 10 >/nfsd/nfsv4gracetime
 echo '-3 +4 +4.1' >/nfsd/versions
@@ -13,38 +24,51 @@ echo 4 >/nfsd/threads
 echo 'nfsd 127.0.0.1 2147483647 here' >/proc/net/rpc/auth.unix.ip/channel
 echo 'here /export 2147483647 9218 65534 65534 0' >/proc/net/rpc/nfsd.export/channel
 echo 'here 1 \x00000000 2147483647 /export' >/proc/net/rpc/nfsd.fh/channel
-wait_for 15
+wait_for 15 # the grace period, in which the server gives no delegation
+
 options=vers=4.1,addr=127.0.0.1,clientaddr=127.0.0.1
-$busybox mount -t nfs4 -o $options 127.0.0.1:/ /mnt || echo mount failed
-$busybox mount -t nfs4 -o $options,nosharecache 127.0.0.1:/ /other || echo mount 2 failed
-$busybox cat /proc/mounts
-for file in 0 1 2 3; do $busybox cat /mnt/$file; done
+$busybox mount -t nfs4 -o $options 127.0.0.1:/ /mnt
+$busybox mount -t nfs4 -o $options,nosharecache 127.0.0.1:/ /other
+for file in $files; do $busybox cat /mnt/$file >/dev/null; done
+echo "what the server has given to /mnt:"
 $busybox cat /nfsd/clients/*/states
+# From now on each delegation is returned when its file is closed, as if there were too many (5000).
 echo 0 >/sys/module/nfsv4/parameters/delegation_watermark
-$busybox mkfifo /go1 /go2
+
+# Processes that begin when somebody opens /go or /go.other, since none can be made later.
+$busybox mkfifo /go /go.other
 (
-    exec 9</mnt/0
-    read -r nothing </go1
-    exec 9<&-
+    exec 9</mnt/0 8>/mnt/new
+    read -r nothing </go
+    [ "$dirty" ] && echo hello >&8
+    exec 8>&- 9<&-
     exec $busybox umount /mnt
 ) &
 umount=$!
 (
-    exec 8<>/other/other
-    read -r nothing </go2
-    exec $busybox dd if=/init bs=1 count=1 conv=fsync >&8
+    exec 8>/other/new
+    read -r nothing </go.other
+    exec $busybox dd if=/init bs=1 count=1 conv=fsync >&8 2>/dev/null
 ) &
 fsync=$!
+
+# tell WHAT PID: whether this process has returned from it.
+tell() {
+    if ended "$2"; then echo "$1 has returned"; else echo "$1 HASN'T RETURNED"; fi
+}
+
 wait_for 2
 short
-exec 7>/go1 7>&-
+exec 7>/go 7>&-
 wait_for 5
-while read -r line; do case $line in *mnt*) echo "still $line";; esac; done </proc/mounts
-exec 7>/go2 7>&-
-wait_for 20
-echo "20 seconds later:"
-stacks 'rpciod*' 'nfsiod*' 'xprtiod*' busybox
+tell "umount" $umount
+exec 7>/go.other 7>&-
+wait_for 30
+echo "30 seconds later:"
+tell "fsync of another mount" $fsync
+stacks 'rpciod*' 'kworker/R-rpcio*' 'nfsiod*' 'kworker/R-nfsio*' 'writeback*' 'kworker/R-write*' busybox
 plenty
-wait_for 20
-echo "20 seconds later, with memory again:"
-stacks 'rpciod*' 'nfsiod*' 'xprtiod*' busybox
+wait_for 30
+echo "30 seconds later, with memory again:"
+tell "fsync of another mount" $fsync
+stacks busybox

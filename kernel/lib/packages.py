@@ -227,6 +227,68 @@ def modules(kernel, names):
     return [files[name] for name in names]
 
 
+# Modules with a patch ------------------------------------------------------------------------------
+
+
+def folders_of(patch):
+    """The folders with the files that a patch changes, as fs/nfs."""
+    return sorted({os.path.dirname(path) for path in re.findall(r"^\+\+\+ b/(\S+)", patch.read_text(), re.MULTILINE)})
+
+
+def source_of(kernel, folder):
+    """A folder of the sources of a kernel, from Debian's linux-source-SERIES."""
+    tree = f"linux-source-{kernel.series}"
+
+    def make(place):
+        with tempfile.TemporaryDirectory(dir=cache()) as downloaded:
+            package = fetch([tree], pathlib.Path(downloaded))[0]
+            output_of(
+                [
+                    "bash",
+                    "-c",
+                    'set -o pipefail; dpkg-deb --fsys-tarfile "$1" | tar -xO "./usr/src/$2.tar.xz" |'
+                    ' tar -xJ -C "$3" --strip-components=1 "$2/Makefile" "$2/$4"',
+                    "bash",
+                    package,
+                    tree,
+                    place,
+                    folder,
+                ]
+            )
+
+    root = made(cache() / f"source-{kernel.release}-{folder.replace('/', '-')}", make)
+    version = ".".join(re.findall(r"^(?:VERSION|PATCHLEVEL|SUBLEVEL) = (\d+)$", (root / "Makefile").read_text(), re.M))
+    if version != kernel.version:
+        raise Missing(f"Debian's {tree} is Linux {version}, and the kernel {kernel.version}")
+    return root / folder
+
+
+def patched(kernel, patch, names):
+    """The files of these modules of the kernel's package, by their names; those that come from a folder which the patch
+    changes are built anew, with it. The patch applies to the top of the sources.
+    """
+    files = dict(zip(names, modules(kernel, names)))
+    for folder in folders_of(patch):
+        here = [name for name in names if f"/kernel/{folder}/{name}.ko" in str(files[name])]
+        if not here:
+            raise Missing(f"{patch}: none of the modules is in {folder}")
+        said = hashlib.sha256(patch.read_bytes() + " ".join(here).encode()).hexdigest()[:16]
+
+        def build(place, folder=folder, here=here):
+            at = place / "tree" / folder
+            shutil.copytree(source_of(kernel, folder), at)
+            output_of(["patch", "-p1", "-d", place / "tree", "-i", patch.resolve()])
+            targets = [f"{name}.ko" for name in here]
+            output_of(["make", "-C", kernel.headers(), f"M={at}", *kernel.compiler(), *targets])
+            for target in targets:
+                output_of(["strip", "-g", "-o", place / target, at / target])
+            shutil.rmtree(place / "tree")
+
+        place = made(cache() / f"patched-{kernel.release}-{said}", build)
+        files |= {name: place / f"{name}.ko" for name in here}
+    return [files[name] for name in names]
+
+
 def image_package(release):
     image = f"linux-image-{release}"
     return image if image in known_packages(image) else f"{image}-unsigned"
