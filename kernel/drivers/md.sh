@@ -2,6 +2,8 @@
 # worker can be created, processes have both flushed.
 #
 #     kernel/driver kernel/drivers/md.sh brd md-mod raid1
+#
+# With --patch kernel/drivers/md.patch each array has a workqueue for its flushes, and nothing hangs.
 
 # array NAME DEVICE: a mirror of one disk, MAJOR:MINOR.
 array() {
@@ -31,15 +33,26 @@ for number in 1 2; do
             for ten in $many; do for one in $many; do files="$files /dev/$md"; done; done
             exec $busybox sync -d $files
         ) &
+        flushing="$flushing $md:$!"
     done
 done
+
+# tell: which of these processes have flushed their array 81 times.
+tell() {
+    for one in $flushing; do
+        if ended "${one#*:}"; then echo "flushes of ${one%:*} have returned"; else echo "flushes of ${one%:*} HAVEN'T RETURNED"; fi
+    done
+}
+
 wait_for 2
 short
 exec 8>/go 8>&-
-wait_for 20
-echo "20 seconds later:"
+wait_for 30
+echo "30 seconds later:"
+tell
 stacks 'md*' busybox
 plenty
-wait_for 20
-echo "20 seconds later, with memory again:"
+wait_for 30
+echo "30 seconds later, with memory again:"
+tell
 stacks 'md*' busybox

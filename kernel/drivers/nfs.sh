@@ -3,7 +3,7 @@
 # unmounts /mnt before the answer is there. So the answer ends the mount, which has other delegations. Then a process
 # writes to the other mount, and calls fsync.
 #
-#     kernel/driver kernel/drivers/nfs.sh netfs fscache sunrpc grace lockd nfs dns_resolver nfsv4 nfs_acl auth_rpcgss nfsd
+#     kernel/driver kernel/drivers/nfs.sh nfsv4 nfsd
 #
 # With --patch kernel/drivers/nfs.patch, nfsiod ends the mount, and nothing hangs. nfs-dirty.sh is the same where the
 # mount has an inode that was written to.

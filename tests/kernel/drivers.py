@@ -1,0 +1,127 @@
+#!/usr/bin/env python3
+"""Do real drivers hang in a real kernel as the pages of examples/ say? By kernel/driver and its scripts.
+
+    drivers.py [--patched]
+
+On Linux 6.1, unchanged: an NFS mount that ends while a delegation is on its way back (examples/nfs.md), and md on md
+(examples/md.md). While no worker can be created both must hang, and the rescuer must sleep where the page says. It takes
+half a minute of processor time.
+
+With --patched also what the pages say of the patched drivers, and NFS on 6.12: that takes ten minutes more, and
+downloads the sources of two kernels, 290 MB.
+
+Where QEMU or a kernel can't be had, it says so, and skips what needs it: that is no failure.
+"""
+
+import pathlib
+import re
+import sys
+
+sys.dont_write_bytecode = True
+ROOT = pathlib.Path(__file__).resolve().parents[2]
+sys.path.append(str(ROOT / "tests/lib"))
+from programs import counts_of, run  # noqa: E402  (in tests/lib)
+
+SCRIPTS = ROOT / "kernel/drivers"
+SECONDS = 3600
+MISSING = 3
+counts = {True: 0, False: 0}
+
+NFS, FSYNC = "nfs.sh", "fsync of another mount"
+ENDS_A_MOUNT = "generic_shutdown_super", "nfs_kill_super", "deactivate_locked_super", "nfs4_delegreturn_release"
+ON_RPCIOD = "rpc_wait_bit_killable", "_nfs4_proc_delegreturn", "evict_inodes", *ENDS_A_MOUNT, "rpc_async_schedule"
+ON_NFSIOD = "wb_wait_for_completion", "sync_filesystem", *ENDS_A_MOUNT, "rpc_async_release"
+ON_MD = "md_flush_request", "raid1_make_request", "submit_flushes"
+
+
+class Run:
+    """One guest: its script, the flags of kernel/driver, and what must be so while no worker can be created: what
+    hasn't returned, and where a rescuer sleeps, as functions of its stack in their order. Without both nothing hangs.
+    """
+
+    def __init__(self, script, *flags, hung=(), rescuer=None, frames=()):
+        self.script, self.flags, self.hung, self.rescuer, self.frames = script, flags, hung, rescuer, frames
+
+    def words(self):
+        """The command that the script's head has, with the flags."""
+        text = (SCRIPTS / self.script.replace("-dirty", "")).read_text()
+        modules = re.search(r"^# +kernel/driver kernel/drivers/\S+ (.+)$", text, re.MULTILINE)[1].split()
+        return [ROOT / "kernel/driver", *self.flags, SCRIPTS / self.script, *modules]
+
+
+UNCHANGED = [
+    Run(NFS, hung=[FSYNC], rescuer="rpciod", frames=ON_RPCIOD),
+    Run("md.sh", hung=["flushes of md0", "flushes of md1"], rescuer="md", frames=ON_MD),
+]
+WITH_NFS = "--patch", SCRIPTS / "nfs.patch"
+PATCHED = [
+    Run(NFS, *WITH_NFS),
+    Run("nfs-dirty.sh", "--file", SCRIPTS / NFS, *WITH_NFS, hung=[FSYNC], rescuer="nfsiod", frames=ON_NFSIOD),
+    Run("md.sh", "--patch", SCRIPTS / "md.patch"),
+    Run(NFS, "--kernel", "6.12", hung=[FSYNC], rescuer="kworker/R-rpcio", frames=ON_RPCIOD),
+    Run(NFS, "--kernel", "6.12", *WITH_NFS),
+]
+
+
+def tell(passed, name, why=""):
+    """Counts one that passed or failed."""
+    counts[bool(passed)] += 1
+    print(f"{'ok     ' if passed else 'FAILED '} {name}{f': {why}' if not passed and why else ''}", flush=True)
+
+
+def parts_of(console):
+    """What the script said after the shortage began, and after it was over."""
+    return re.split(r"^.*30 seconds later.*\n", console, flags=re.MULTILINE)[1:]
+
+
+def returned(part):
+    """What has returned, and what hasn't, as the script says, by what that is."""
+    lines = re.findall(r"^(.+) (HA(?:S|VE)N'T RETURNED|ha(?:s|ve) returned)$", part, re.MULTILINE)
+    over = {}
+    for what, how in lines:
+        over[what] = over.get(what, True) and "RETURNED" not in how
+    return over
+
+
+def stack_of(part, thread):
+    """The functions of a thread's stack, the innermost first. A rescuer's name goes on with what it executes."""
+    found = re.search(rf"^== {re.escape(thread)}(?:\+.*)?\n((?: +\[<0>\].*\n)*)", part, re.MULTILINE)
+    return re.findall(r"\] (\w+)", found[1]) if found else []
+
+
+def is_part_of(wanted, functions):
+    """Whether the wanted functions are among these, in their order."""
+    left = iter(functions)
+    return all(any(name == each for each in left) for name in wanted)
+
+
+def judge(asked, console):
+    """Counts what the console of a guest says."""
+    name = " ".join(str(word).replace(f"{ROOT}/", "") for word in [*asked.flags, asked.script])
+    parts = parts_of(console)
+    if len(parts) != 2:
+        tell(False, name, f"the guest didn't come to its end:\n{console[-2000:]}")
+        return
+    during, after = parts
+    said = returned(during)
+    hung = sorted(what for what, is_over in said.items() if not is_over)
+    tell(said and hung == sorted(asked.hung), f"{name}: what hangs", f"{hung}, and not {sorted(asked.hung)}")
+    if asked.rescuer:
+        stack = stack_of(during, asked.rescuer)
+        tell(is_part_of([*asked.frames, "rescuer_thread"], stack), f"{name}: where the rescuer sleeps", " ".join(stack))
+    said = returned(after)
+    tell(said and all(said.values()), f"{name}: with memory again", str(said))
+
+
+def main(arguments):
+    for asked in UNCHANGED + (PATCHED if arguments == ["--patched"] else []):
+        ended = run(asked.words(), timeout=SECONDS, capture_output=True)
+        if ended.returncode == MISSING:
+            print(f"skipped drivers, {asked.script}: {ended.stderr.decode().strip()}")
+            continue
+        judge(asked, ended.stdout.decode("latin-1"))
+    return counts_of("drivers", counts[True], counts[False])
+
+
+if __name__ == "__main__":
+    sys.exit(main(sys.argv[1:]))
