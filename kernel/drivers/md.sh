@@ -1,5 +1,5 @@
-# For kernel/driver: md on md (examples/md.md). md0 is a mirror on a RAM disk, and md1 a mirror on md0. While no
-# worker can be created, processes have both flushed.
+# For kernel/driver: md on md (examples/md.md). md0 is a mirror on a RAM disk, and md1 a mirror on md0. Processes
+# have both flushed, with memory, then while no worker can be created, and then with memory again.
 #
 #     kernel/driver kernel/drivers/md.sh brd md-mod raid1
 #
@@ -22,37 +22,55 @@ array() {
 
 array md0 1:0
 array md1 9:0
-# Processes that begin when somebody opens /go, since none can be made later. Each has its array flushed again and
-# again.
-$busybox mkfifo /go
-many="1 2 3 4 5 6 7 8 9"
+# Four processes flush an array each, again and again.
+many() {
+    files=/dev/$1
+    for double in 1 2 3 4 5 6 7 8 9 10 11 12 13 14 15; do files="$files $files"; done
+}
 for number in 1 2; do
     for md in md1 md0; do
-        (
-            read -r nothing </go
-            for ten in $many; do for one in $many; do files="$files /dev/$md"; done; done
-            exec $busybox sync -d $files
-        ) &
-        flushing="$flushing $md:$!"
+        many $md
+        $busybox sync -d $files &
+        flushing="$flushing $!"
+        what="$what $md"
     done
 done
 
-# tell: which of these processes have flushed their array 81 times.
+# slept PID: how often the process has slept, which it does in each flush.
+slept() {
+    times=over
+    while read -r name count; do
+        case $name in
+            voluntary_ctxt_switches:) times=$count ;;
+        esac
+    done 2>/dev/null <"/proc/$1/status"
+}
+
+# tell: which of these processes go on.
 tell() {
+    before=
     for one in $flushing; do
-        if ended "${one#*:}"; then echo "flushes of ${one%:*} have returned"; else echo "flushes of ${one%:*} HAVEN'T RETURNED"; fi
+        slept $one
+        before="$before $times"
+    done
+    wait_for 10
+    set -- $before
+    for one in $flushing; do
+        slept $one
+        if ended $one || [ "$times" != "$1" ]; then echo "flushes, process $one: go on"; else echo "flushes, process $one: HANG"; fi
+        shift
     done
 }
 
-wait_for 2
+echo "processes$flushing flush$what"
+wait_for 1
 short
-exec 8>/go 8>&-
-wait_for 30
-echo "30 seconds later:"
+wait_for 20
+echo "while no worker can be created:"
 tell
 stacks 'md*' busybox
 plenty
-wait_for 30
-echo "30 seconds later, with memory again:"
+wait_for 20
+echo "with memory again:"
 tell
 stacks 'md*' busybox

@@ -52,9 +52,9 @@ umount=$!
 ) &
 fsync=$!
 
-# tell WHAT PID: whether this process has returned from it.
+# tell WHAT PID: whether this process is over.
 tell() {
-    if ended "$2"; then echo "$1 has returned"; else echo "$1 HASN'T RETURNED"; fi
+    if ended "$2"; then echo "$1: returned"; else echo "$1: HANGS"; fi
 }
 
 wait_for 2
@@ -63,12 +63,12 @@ exec 7>/go 7>&-
 wait_for 5
 tell "umount" $umount
 exec 7>/go.other 7>&-
-wait_for 30
-echo "30 seconds later:"
+wait_for 20
+echo "while no worker can be created:"
 tell "fsync of another mount" $fsync
 stacks 'rpciod*' 'kworker/R-rpcio*' 'nfsiod*' 'kworker/R-nfsio*' 'writeback*' 'kworker/R-write*' busybox
 plenty
-wait_for 30
-echo "30 seconds later, with memory again:"
+wait_for 20
+echo "with memory again:"
 tell "fsync of another mount" $fsync
 stacks busybox

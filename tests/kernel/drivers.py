@@ -7,8 +7,8 @@ On Linux 6.1, unchanged: an NFS mount that ends while a delegation is on its way
 (examples/md.md). While no worker can be created both must hang, and the rescuer must sleep where the page says. It takes
 half a minute of processor time.
 
-With --patched also what the pages say of the patched drivers, and NFS on 6.12: that takes ten minutes more, and
-downloads the sources of two kernels, 290 MB.
+With --patched also what the pages say of patched drivers, and NFS on 6.12: that takes some ten minutes more the first
+time, and downloads the sources of two kernels, some 290 MB.
 
 Where QEMU or a kernel can't be had, it says so, and skips what needs it: that is no failure.
 """
@@ -27,7 +27,7 @@ SECONDS = 3600
 MISSING = 3
 counts = {True: 0, False: 0}
 
-NFS, FSYNC = "nfs.sh", "fsync of another mount"
+NFS = "nfs.sh"
 ENDS_A_MOUNT = "generic_shutdown_super", "nfs_kill_super", "deactivate_locked_super", "nfs4_delegreturn_release"
 ON_RPCIOD = "rpc_wait_bit_killable", "_nfs4_proc_delegreturn", "evict_inodes", *ENDS_A_MOUNT, "rpc_async_schedule"
 ON_NFSIOD = "wb_wait_for_completion", "sync_filesystem", *ENDS_A_MOUNT, "rpc_async_release"
@@ -35,12 +35,13 @@ ON_MD = "md_flush_request", "raid1_make_request", "submit_flushes"
 
 
 class Run:
-    """One guest: its script, the flags of kernel/driver, and what must be so while no worker can be created: what
-    hasn't returned, and where a rescuer sleeps, as functions of its stack in their order. Without both nothing hangs.
+    """One guest: its script, the flags of kernel/driver, and what must be so while no worker can be created: how much
+    hangs, and where the rescuer sleeps, as functions of its stack in their order. `stays`: so it is with memory again.
     """
 
-    def __init__(self, script, *flags, hung=(), rescuer=None, frames=()):
+    def __init__(self, script, *flags, hung=0, rescuer=None, frames=(), stays=False):
         self.script, self.flags, self.hung, self.rescuer, self.frames = script, flags, hung, rescuer, frames
+        self.stays = stays
 
     def words(self):
         """The command that the script's head has, with the flags."""
@@ -50,15 +51,17 @@ class Run:
 
 
 UNCHANGED = [
-    Run(NFS, hung=[FSYNC], rescuer="rpciod", frames=ON_RPCIOD),
-    Run("md.sh", hung=["flushes of md0", "flushes of md1"], rescuer="md", frames=ON_MD),
+    Run(NFS, hung=1, rescuer="rpciod", frames=ON_RPCIOD),
+    Run("md.sh", hung=4, rescuer="md", frames=ON_MD, stays=True),
 ]
 WITH_NFS = "--patch", SCRIPTS / "nfs.patch"
 PATCHED = [
     Run(NFS, *WITH_NFS),
-    Run("nfs-dirty.sh", "--file", SCRIPTS / NFS, *WITH_NFS, hung=[FSYNC], rescuer="nfsiod", frames=ON_NFSIOD),
+    Run("nfs-dirty.sh", "--file", SCRIPTS / NFS, *WITH_NFS, hung=1, rescuer="nfsiod", frames=ON_NFSIOD),
+    Run(NFS, "--patch", SCRIPTS / "nfs-own.patch"),
+    Run("nfs-dirty.sh", "--file", SCRIPTS / NFS, "--patch", SCRIPTS / "nfs-own.patch"),
     Run("md.sh", "--patch", SCRIPTS / "md.patch"),
-    Run(NFS, "--kernel", "6.12", hung=[FSYNC], rescuer="kworker/R-rpcio", frames=ON_RPCIOD),
+    Run(NFS, "--kernel", "6.12", hung=1, rescuer="kworker/R-rpciod", frames=ON_RPCIOD),
     Run(NFS, "--kernel", "6.12", *WITH_NFS),
 ]
 
@@ -70,17 +73,14 @@ def tell(passed, name, why=""):
 
 
 def parts_of(console):
-    """What the script said after the shortage began, and after it was over."""
-    return re.split(r"^.*30 seconds later.*\n", console, flags=re.MULTILINE)[1:]
+    """What the script said while no worker could be created, and what it said with memory again."""
+    return re.split(r"^(?:while no worker can be created|with memory again):\n", console, flags=re.MULTILINE)[1:]
 
 
-def returned(part):
-    """What has returned, and what hasn't, as the script says, by what that is."""
-    lines = re.findall(r"^(.+) (HA(?:S|VE)N'T RETURNED|ha(?:s|ve) returned)$", part, re.MULTILINE)
-    over = {}
-    for what, how in lines:
-        over[what] = over.get(what, True) and "RETURNED" not in how
-    return over
+def hanging(part):
+    """What hangs, as the script says, or None where it says nothing."""
+    said = re.findall(r"^(.+): (HANGS?|returned|go on)$", part, re.MULTILINE)
+    return [what for what, how in said if how.startswith("HANG")] if said else None
 
 
 def stack_of(part, thread):
@@ -103,14 +103,12 @@ def judge(asked, console):
         tell(False, name, f"the guest didn't come to its end:\n{console[-2000:]}")
         return
     during, after = parts
-    said = returned(during)
-    hung = sorted(what for what, is_over in said.items() if not is_over)
-    tell(said and hung == sorted(asked.hung), f"{name}: what hangs", f"{hung}, and not {sorted(asked.hung)}")
+    hung = hanging(during)
+    tell(hung is not None and len(hung) == asked.hung, f"{name}: what hangs", f"{hung}")
     if asked.rescuer:
         stack = stack_of(during, asked.rescuer)
         tell(is_part_of([*asked.frames, "rescuer_thread"], stack), f"{name}: where the rescuer sleeps", " ".join(stack))
-    said = returned(after)
-    tell(said and all(said.values()), f"{name}: with memory again", str(said))
+    tell(hanging(after) == (hung if asked.stays else []), f"{name}: with memory again", f"{hanging(after)}")
 
 
 def main(arguments):
