@@ -30,7 +30,7 @@ counts = {True: 0, False: 0}
 NFS = "nfs.sh"
 ENDS_A_MOUNT = "generic_shutdown_super", "nfs_kill_super", "deactivate_locked_super", "nfs4_delegreturn_release"
 ON_RPCIOD = "rpc_wait_bit_killable", "_nfs4_proc_delegreturn", "evict_inodes", *ENDS_A_MOUNT, "rpc_async_schedule"
-ON_NFSIOD = "wb_wait_for_completion", "sync_filesystem", *ENDS_A_MOUNT, "rpc_async_release"
+IN_SYNC = "wb_wait_for_completion", "sync_filesystem", *ENDS_A_MOUNT
 ON_MD = "md_flush_request", "raid1_make_request", "submit_flushes"
 
 
@@ -56,8 +56,9 @@ UNCHANGED = [
 ]
 WITH_NFS = "--patch", SCRIPTS / "nfs.patch"
 PATCHED = [
+    Run("nfs-dirty.sh", "--file", SCRIPTS / NFS, hung=1, rescuer="rpciod", frames=(*IN_SYNC, "rpc_async_schedule")),
     Run(NFS, *WITH_NFS),
-    Run("nfs-dirty.sh", "--file", SCRIPTS / NFS, *WITH_NFS, hung=1, rescuer="nfsiod", frames=ON_NFSIOD),
+    Run("nfs-dirty.sh", "--file", SCRIPTS / NFS, *WITH_NFS, hung=1, rescuer="nfsiod", frames=(*IN_SYNC, "rpc_async_release")),
     Run(NFS, "--patch", SCRIPTS / "nfs-own.patch"),
     Run("nfs-dirty.sh", "--file", SCRIPTS / NFS, "--patch", SCRIPTS / "nfs-own.patch"),
     Run("md.sh", "--patch", SCRIPTS / "md.patch"),
