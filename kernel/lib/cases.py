@@ -252,7 +252,7 @@ class DrivenCase(Case):
 # Guests -------------------------------------------------------------------------------------------
 
 # So many cases in one guest: each keeps its workqueues, and their rescuers, to its end.
-MOST_CASES = 500
+MOST_CASES = 700
 
 WEATHERS = {
     "short": "no worker can be created, and all that exist sleep",

@@ -8,7 +8,7 @@ import sys
 sys.dont_write_bytecode = True
 sys.path.append(str(pathlib.Path(__file__).resolve().parents[2] / "tests" / "model"))
 from certificate import Refused, read_assignment, read_run  # noqa: E402
-from deadlock import circle_of, run_text  # noqa: E402
+from deadlock import deadlocking_run, run_text  # noqa: E402
 from declaration import read_declaration  # noqa: E402
 from steps import RESCUER, State  # noqa: E402
 
@@ -16,7 +16,7 @@ __all__ = [
     "RESCUER",
     "Refused",
     "State",
-    "circle_of",
+    "deadlocking_run",
     "make_as_declared",
     "may_be_cancelled",
     "overs_of",

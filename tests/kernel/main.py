@@ -61,13 +61,19 @@ def declaration_of(path):
 
 
 def example_cases(choose, letters):
-    """All examples: each assignment of a declaration, and its plan, with the printed run, and in 3 or 4 orders."""
+    """All examples: each assignment of a declaration, and its plan, with the printed run, and in 3 or 4 orders. An assignment in
+    which workqueues have no rescuer is tried as if they had one, too.
+    """
     examples = ROOT / "examples"
     for path in sorted(examples.rglob("*.assign")):
         name = path.name.split(".")[0]
         places = path.with_name(f"{name}.wq"), path.parent / f"{path.parent.name}.wq"
         declaration = next(place for place in places if place.exists())
-        yield from program.Asked(f"{path.name}: ", [declaration, path], letters, choose).cases(3)
+        asked = program.Asked(f"{path.name}: ", [declaration, path], letters, choose)
+        yield from asked.cases(3)
+        if asked.assignment.bare:
+            texts = [declaration, re.sub(rb"^norescuer", b"wq", asked.texts[1], flags=re.MULTILINE)]
+            yield from program.Asked(f"{path.name}, with rescuers: ", texts, letters, choose).cases(1)
     for path in sorted(examples.rglob("*.wq")):
         declaration = declaration_of(path)
         plan = program.plan_of(declaration)
@@ -176,14 +182,14 @@ def bare_safe_cases(choose, count, letters, cpus):
 # The kernels --------------------------------------------------------------------------------------
 
 
-def judged(kernel, sets, cpus=1, weather="short"):
+def judged(kernel, sets, cpus=1, weather="short", beside=lambda made: []):
     """Has a kernel run sets of cases, by what they are, and counts of each whether it does what model and program say.
 
-    All cases are handed back.
+    All cases are handed back. Those that `beside` makes of them are run in the same guests, and nothing is said of them.
     """
     sets = {what: list(made) for what, made in sets.items()}
     made = [case for part in sets.values() for case in part]
-    cases.run(kernel, made, cpus, weather)
+    cases.run(kernel, made + beside(made), cpus, weather)
     for what, part in sets.items():
         wrong = [(case, why) for case in part if (why := case.judge())]
         for case, why in wrong[:10]:
@@ -229,28 +235,40 @@ def try_self_check(kernel, made):
         tell("somebody else" in case.judge(), f"this doesn't pass in a shortage: {case.name}", case.judge())
 
 
-def wants_rescuer(setting):
-    """Whether the assignment would be safe if each workqueue had a rescuer."""
-    rescued = dataclasses.replace(setting.assignment, bare=frozenset())
-    return bool(setting.assignment.bare) and not model.circle_of(setting.declaration, rescued)
+class Rescued(cases.Setting):
+    """Each workqueue is made with a rescuer, whatever the assignment says."""
+
+    def commands(self):
+        return (re.sub(r"^(wq \S+) 0", r"\1 1", line) for line in super().commands())
 
 
-def try_without_rescuers(kernel, made):
+def wants_rescuer(case):
+    """Whether it hangs, and wouldn't if each workqueue had a rescuer."""
+    declaration, assignment = case.setting.declaration, case.setting.assignment
+    rescued = dataclasses.replace(assignment, bare=frozenset())
+    return bool(assignment.bare) and bool(model.deadlocking_run(declaration, assignment)) and not model.deadlocking_run(
+        declaration, rescued)
+
+
+def with_rescuers(made):
+    """Some cases that hang for want of a rescuer, for a kernel in which each workqueue has one."""
+    found = [copy.copy(case) for case in made if wants_rescuer(case)][:30]
+    for case in found:
+        case.setting = Rescued(case.setting.declaration, case.setting.assignment, case.setting.kinds)
+        case.must = None
+    return found
+
+
+def try_without_rescuers(made, rescued):
     """Of cases that hang for want of a rescuer alone neither `safe` passes, nor a kernel that has one for each workqueue."""
-    made = [copy.copy(case) for case in made if case.weather == "short" and not case.ended() and wants_rescuer(case.setting)]
+    made = [copy.copy(case) for case in made if case.weather == "short" and wants_rescuer(case) and not case.ended()]
     for case in made:
         case.must = "end"
     taken = [case.name for case in made if "must end" not in case.judge()]
     told = f"{len(made)} cases that hang for want of a rescuer, such as {made[0].name if made else 'none'}"
     tell(made and not taken, f"`safe` is refused of {told}", taken)
-    made = made[:30]
-    commands = cases.commands_of(made, "short")
-    outcomes, _ = guest.run(kernel, re.sub(r"^(wq \S+) 0", r"\1 1", commands, flags=re.MULTILINE))
-    taken = []
-    for number, case in enumerate(made):
-        case.outcome, case.must = outcomes[number], None
-        taken += [] if case.judge() else [case.name]
-    tell(made and not taken, f"a kernel that has rescuers for all is refused in {len(made)} of them", taken)
+    taken = [case.name for case in rescued if not case.judge()]
+    tell(rescued and not taken, f"a kernel that has rescuers for all is refused in {len(rescued)} cases", taken)
 
 
 def try_command(series):
@@ -273,8 +291,7 @@ def try_command(series):
         for name, text in cancelled.items():
             pathlib.Path(folder, name).write_text(text)
         for status, last, words in (
-            (0, "nothing hangs", [examples / "rdisk/rdisk.wq", examples / "rdisk/rdisk.plan", "--orders", "1"]),
-            (0, "nothing hangs", ["d.wq", "safe.assign", "--orders", "0"]),
+            (0, "nothing hangs", ["d.wq", "safe.assign", "--orders", "1"]),
             (1, "hangs", [examples / "xfs.wq", examples / "xfs.assign", "--orders", "0"]),
             (2, "not lawful 1", ["d.wq", "d.assign", "bad.run"]),
             (2, "refused 41 line 0", ["d.wq", "/dev/null"]),
@@ -333,10 +350,11 @@ def main(arguments):
         "the worked rows": row_cases(rows, letters["per-cpu"]),
         "random declarations": random_sets(sets, 40, letters["mixed"]),
         "random runs": random_runs(runs, 40, letters["mixed"]),
-        "without rescuers": bare_sets(bare, 25, letters["mixed"]),
-        "random runs without rescuers": random_runs(bare, 25, letters["mixed"], WITHOUT_RESCUER),
+        "without rescuers": bare_sets(bare, 20, letters["mixed"]),
+        "random runs without rescuers": random_runs(bare, 20, letters["mixed"], WITHOUT_RESCUER),
     }
-    made = judged(kernel, sets)
+    rescued = []
+    made = judged(kernel, sets, beside=lambda made: rescued.extend(with_rescuers(made)) or rescued)
     sets = {
         "with memory enough": random_sets(plenty, 12, letters["mixed"], "plenty"),
         "with memory enough, without rescuers": bare_sets(bare, 6, letters["mixed"], "plenty"),
@@ -350,7 +368,7 @@ def main(arguments):
     compare_mutants(made)
     try_pinned(kernel)
     try_self_check(kernel, made)
-    try_without_rescuers(kernel, made)
+    try_without_rescuers(made, rescued)
     try_command("6.1")
     why = missing("6.12")
     if why:
