@@ -32,6 +32,7 @@ class Assignment:
 
     workqueue_of: dict  # by the name of an item, the number of its workqueue
     count: int  # how many workqueues there are
+    bare: frozenset = frozenset()  # the workqueues without a rescuer
 
 
 @dataclasses.dataclass
@@ -124,18 +125,20 @@ def read_arcs(lines, declaration, count):
 
 
 class WqLines:
-    """The `wq` lines of a plan text or of an assignment, as far as they are read."""
+    """The `wq` lines of a plan text or of an assignment, or the `norescuer` lines of this, as far as they are read."""
 
-    def __init__(self, declaration):
+    def __init__(self, declaration, keywords=(b"wq",)):
         self.declaration = declaration
+        self.keywords = keywords
         self.count = 0
+        self.bare = set()
         self.workqueue_of = {}
         self.groups = set()  # those with an item on a line that is read
 
     def read(self, lines):
-        """The next line, which must be a `wq` line."""
+        """The next line, which must be one of these."""
         line, words = lines.take()
-        must(len(words) >= 2 and words[0] == b"wq", BAD_CERT_LINE, line)
+        must(len(words) >= 2 and words[0] in self.keywords, BAD_CERT_LINE, line)
         number = read_number(words[1], line)
         names = [read_item(word, line, self.declaration) for word in words[2:]]
         must(number == self.count, NUMBER_OUT_OF_RANGE, line)
@@ -144,6 +147,8 @@ class WqLines:
         must(not any(name in self.workqueue_of for name in names), NOT_ALL_ITEMS, line)
         groups = {self.declaration.group_of[name] for name in names}
         must(groups.isdisjoint(self.groups), GROUP_SPLIT, line)
+        if words[0] == b"norescuer":
+            self.bare.add(number)
         self.count += 1
         self.workqueue_of.update((name, number) for name in names)
         self.groups |= groups
@@ -151,7 +156,7 @@ class WqLines:
     def end(self):
         """Behind the last `wq` line. Returns the assignment."""
         must(len(self.workqueue_of) == len(self.declaration.items), NOT_ALL_ITEMS, 0)
-        return Assignment(self.workqueue_of, self.count)
+        return Assignment(self.workqueue_of, self.count, frozenset(self.bare))
 
 
 def read_plan_text(lines, declaration):
@@ -206,8 +211,8 @@ def read_assignment(text, declaration):
     lines = Lines(text)
     if lines.first_word() == b"plan":
         return read_plan_text(lines, declaration).assignment
-    wq_lines = WqLines(declaration)
-    while lines.first_word() == b"wq":
+    wq_lines = WqLines(declaration, (b"wq", b"norescuer"))
+    while lines.first_word() in wq_lines.keywords:
         wq_lines.read(lines)
     assignment = wq_lines.end()
     lines.end()

@@ -16,9 +16,16 @@ from steps import RESCUER, State  # noqa: E402
 
 
 def circle_of(declared, assignment):
-    """Deadlocking runs, 1: the arcs of the circle of workqueues. There is none where it is safe."""
-    arcs = arcs_of(declared.flushes, assignment.workqueue_of, assignment.count)
-    return find_circle(arcs, assignment.workqueue_of)
+    """Deadlocking runs, 1: the flush of least place that leads to no rescuer, or else the arcs of the circle of workqueues with a
+    rescuer. There is none where it is safe.
+    """
+    on = assignment.workqueue_of
+    leads = [(on[item] in assignment.bare, on[target] in assignment.bare) for item, target in declared.flushes]
+    for arc, ends in zip(declared.flushes, leads):
+        if ends == (False, True):
+            return [arc]
+    arcs = arcs_of([arc for arc, ends in zip(declared.flushes, leads) if ends == (False, False)], on, assignment.count)
+    return find_circle(arcs, on)
 
 
 def queued_first(declared, circle):
@@ -31,7 +38,7 @@ def step_as_declared(state, workqueue):
     """Deadlocking runs, 3: the step that the workqueue can make as declared, or None."""
     entry = state.running.get((workqueue, RESCUER))
     if entry is None:
-        pending = state.pending[workqueue]
+        pending = [] if workqueue in state.bare else state.pending[workqueue]
         return (b"start", workqueue, pending[0].item) if pending else None
     if entry.target is not None:
         step = (entry.over, workqueue, entry.target)

@@ -38,6 +38,7 @@ class State:
             self.waits[item].append((WAIT[directive], target))
         self.declared = {item: frozenset(waits) for item, waits in self.waits.items()}
         self.workqueue_of = assignment.workqueue_of
+        self.bare = assignment.bare
         self.helpers = helpers  # of each workqueue that isn't ordered
         self.ordered = {assignment.workqueue_of[group[0]] for group in declaration.groups if len(group) > 1}
         self.workqueues = range(assignment.count)
@@ -154,10 +155,19 @@ class State:
                 if helper != RESCUER and self.may(step, helper):
                     yield step, helper
 
+    def forced_steps(self):
+        """Each step that may be made but `queue`, `cancel`, the `start` of a helper and the `start` on a workqueue without a rescuer,
+        with the context's number.
+        """
+        for step in self.rescuer_steps():
+            if step[0] != b"start" or step[1] not in self.bare:
+                yield step, RESCUER
+        yield from self.helper_steps()
+
     def is_stuck(self):
-        """An entry is unfinished, and no step may be made but `queue`, `cancel` and the `start` of a helper."""
-        unfinished = any(self.unfinished(item) for item in self.targets)
-        return unfinished and next(self.rescuer_steps(), None) is None and next(self.helper_steps(), None) is None
+        """An entry is unfinished on a workqueue with a rescuer, and no forced step may be made."""
+        unfinished = any(self.unfinished(item) and self.workqueue_of[item] not in self.bare for item in self.targets)
+        return unfinished and next(self.forced_steps(), None) is None
 
 
 def end_of_run(declaration, assignment, steps):
