@@ -276,6 +276,33 @@ ends 'md: a workqueue for each array' 0 safe
 draws md 'plan of 2 workqueues, 1 wait in bold: items 4, workqueues 2, arrows 4, red 0, bold 1' md.wq
 draws 'md: the kernel' 'can hang, 4 waits in red: items 4, workqueues 1, arrows 4, red 4, bold 0' md.wq md.assign
 
+# nfs: four workqueues, of which rpciod waits for itself; nfsiod doesn't. Two more waits lead to what has no rescuer, wherever the
+# mount ends, but for an item that nobody waits for.
+counts nfs 12 24 12 4
+answers nfs 'plan 2' rpc_async.put rpc_async
+without_cancel nfs 2
+plan_is_least nfs
+hangs 'nfs: the kernel' nfs.wq nfs.assign 30
+printf '%s\n' 'run 4' 'queue rpc_async.put' 'start 1 rpc_async.put' 'queue rpc_async' 'wait 1 rpc_async' >nfs.run
+run replay nfs.wq nfs.assign nfs.run
+is "nfs: the kernel's order" '1: stuck' "$status: $(cat out)"
+sed '1s/.*/run 3/; $d' nfs.run >shorter.run
+run replay nfs.wq nfs.assign shorter.run
+ends "nfs: the kernel's order, before the mount's end waits" 0 open
+run deadlock nfs.wq nfs.moved.assign
+ends 'nfs: released by nfsiod' 0 safe
+draws nfs 'plan of 2 workqueues, 1 wait in bold: items 12, workqueues 2, arrows 24, red 0, bold 1' nfs.wq
+draws 'nfs: the kernel' 'can hang, 2 waits in red: items 12, workqueues 4, arrows 24, red 2, bold 0' nfs.wq nfs.assign
+cat nfs.wq nfs.norescuer.wq >nfs.more.wq
+without=$'norescuer 4 wb_do_writeback\nnorescuer 5 inode_switch_wbs_work_fn'
+{ cat nfs.moved.assign && echo "$without"; } >nfs.more.assign
+hangs 'nfs: released by nfsiod, with the flusher' nfs.more.wq nfs.more.assign 48
+to_no_rescuer 'nfs: released by nfsiod, with the flusher' 6 nfs.more.wq nfs.more.assign rpc_async.put wb_do_writeback
+{ echo 'item nfs_sb_end' &&
+    grep -vE '^flush(wq)? (put_release|dreq_work)' nfs.more.wq | sed -E 's/^(flush|flushwq) rpc_async.put/\1 nfs_sb_end/'; } >nfs.own.wq
+{ cat nfs.assign && echo "$without" && echo 'norescuer 6 nfs_sb_end'; } >nfs.own.assign
+notes 'nfs: an item ends the mount' nfs.own.wq nfs.own.assign nfs_sb_end wb_do_writeback inode_switch_wbs_work_fn
+
 # rbd: two ordered groups, five workqueues and the system's, which has no rescuer. With one it would be safe.
 counts rbd 13 39 8 6
 answers rbd 'plan 3' rbd_acquire_lock do_watch_notify ceph_con_workfn
