@@ -10,6 +10,8 @@ half a minute of processor time.
 With --patched also what the pages say of patched drivers, and NFS on 6.12: that takes some ten minutes more the first
 time, and downloads the sources of two kernels, some 290 MB.
 
+A later kernel that doesn't hang fails this test: then the pages have to say so.
+
 Where QEMU or a kernel can't be had, it says so, and skips what needs it: that is no failure.
 """
 
