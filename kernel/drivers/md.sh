@@ -57,7 +57,9 @@ tell() {
     set -- $before
     for one in $flushing; do
         slept $one
-        if ended $one || [ "$times" != "$1" ]; then echo "flushes, process $one: go on"; else echo "flushes, process $one: HANG"; fi
+        how="go on"
+        [ "$times" = "$1" ] && ! ended $one && how=HANG
+        echo "flushes, process $one: $how"
         shift
     done
 }

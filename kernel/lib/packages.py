@@ -295,7 +295,10 @@ def patched(kernel, patch, files):
     the top of the sources.
     """
     built = {}
-    for folder in folders_of(patch):
+    folders = folders_of(patch)
+    if not folders:
+        raise Missing(f"{patch}: it changes no file (`+++ b/FILE`)")
+    for folder in folders:
         here = {name: path.name for name, path in files.items() if str(path.parent).endswith(f"/kernel/{folder}")}
         if not here:
             raise Missing(f"{patch}: none of the modules is in {folder}")

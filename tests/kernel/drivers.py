@@ -4,8 +4,8 @@
     drivers.py [--patched]
 
 On Linux 6.1, unchanged: an NFS mount that ends while a delegation is on its way back (examples/nfs.md), and md on md
-(examples/md.md). While no worker can be created both must hang, and the rescuer must sleep where the page says. It takes
-half a minute of processor time.
+(examples/md.md). While no worker can be created both must hang, and the rescuer must sleep where the page says. It
+takes half a minute of processor time.
 
 With --patched also what the pages say of patched drivers, and NFS on 6.12: that takes some ten minutes more the first
 time, and downloads the sources of two kernels, some 290 MB.
@@ -57,12 +57,13 @@ UNCHANGED = [
     Run("md.sh", hung=4, rescuer="md", frames=ON_MD, stays=True),
 ]
 WITH_NFS = "--patch", SCRIPTS / "nfs.patch"
+WITH_DIRTY = "nfs-dirty.sh", "--file", SCRIPTS / NFS
 PATCHED = [
-    Run("nfs-dirty.sh", "--file", SCRIPTS / NFS, hung=1, rescuer="rpciod", frames=(*IN_SYNC, "rpc_async_schedule")),
+    Run(*WITH_DIRTY, hung=1, rescuer="rpciod", frames=(*IN_SYNC, "rpc_async_schedule")),
     Run(NFS, *WITH_NFS),
-    Run("nfs-dirty.sh", "--file", SCRIPTS / NFS, *WITH_NFS, hung=1, rescuer="nfsiod", frames=(*IN_SYNC, "rpc_async_release")),
+    Run(*WITH_DIRTY, *WITH_NFS, hung=1, rescuer="nfsiod", frames=(*IN_SYNC, "rpc_async_release")),
     Run(NFS, "--patch", SCRIPTS / "nfs-own.patch"),
-    Run("nfs-dirty.sh", "--file", SCRIPTS / NFS, "--patch", SCRIPTS / "nfs-own.patch"),
+    Run(*WITH_DIRTY, "--patch", SCRIPTS / "nfs-own.patch"),
     Run("md.sh", "--patch", SCRIPTS / "md.patch"),
     Run(NFS, "--kernel", "6.12", hung=1, rescuer="kworker/R-rpciod", frames=ON_RPCIOD),
     Run(NFS, "--kernel", "6.12", *WITH_NFS),
