@@ -223,7 +223,8 @@ class DrivenCase(Case):
             return why
         *_, state = self.states(machine)
         expected = model.where_items_are(state)
-        # Where no rescuer can make a step, nothing happens either when each item may start as soon as its rescuer is idle.
+        # Where no rescuer can make a step, nothing happens either when each item may start as soon as its rescuer is
+        # idle.
         ends_here = next(model.steps_in_a_shortage(state), None) is None
         return self.differs("run", expected) or (self.differs("end", expected) if ends_here else "")
 
