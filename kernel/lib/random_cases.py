@@ -43,7 +43,8 @@ def assignment_text(choose, declared, without_rescuer=0):
 
 
 def possible_steps(state):
-    """All steps that may be made in a shortage but those by which kernels are known to differ, each with how likely it is.
+    """All steps that may be made in a shortage, but for those by which kernels are known to differ, each with how likely
+    it is.
     """
     for item in state.targets:
         if item not in state.pending_of:
