@@ -145,7 +145,6 @@ class WqLines:
         self.declaration = declaration
         self.keywords = keywords  # which first words there may be
         self.count = 0
-        self.bare = set()
         self.workqueue_of = {}
         self.bare = set()
         self.called = {}
@@ -163,8 +162,6 @@ class WqLines:
         must(not any(name in self.workqueue_of for name in names), NOT_ALL_ITEMS, line)
         groups = {self.declaration.group_of[name] for name in names}
         must(groups.isdisjoint(self.groups), GROUP_SPLIT, line)
-        if words[0] == b"norescuer":
-            self.bare.add(number)
         self.count += 1
         self.workqueue_of.update((name, number) for name in names)
         self.groups |= groups
