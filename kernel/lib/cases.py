@@ -52,6 +52,11 @@ class Setting:
     def number_of(self, item):
         return self.declaration.items.index(item)
 
+    def workqueue(self, number):
+        """A workqueue in words, with its name, if the assignment says it."""
+        name = self.assignment.called.get(number)
+        return f"workqueue {number}{f' ({name.decode()})' if name else ''}"
+
     def promised(self, where):
         """Of where items are, those on workqueues with a rescuer. Of the others nobody promises anything."""
         items, assignment = self.declaration.items, self.assignment
@@ -119,11 +124,12 @@ class Case:
         items = self.setting.declaration.items
         for number, item in enumerate(items):
             at = where.get(number, "")
+            workqueue = self.setting.workqueue(self.setting.assignment.workqueue_of[item])
             if "p" in at:
-                yield f"{item.decode()} is pending on workqueue {self.setting.assignment.workqueue_of[item]}"
+                yield f"{item.decode()} is pending on {workqueue}"
             if "r" in at:
                 wait = at.partition("r")[2]
-                line = f"{item.decode()} runs on workqueue {self.setting.assignment.workqueue_of[item]}"
+                line = f"{item.decode()} runs on {workqueue}"
                 if wait:
                     target = items[int(wait[1:].rstrip("~"))].decode()
                     line += f", and waits for {'the workqueue of ' if wait[0] == 'W' else ''}{target}"
