@@ -318,6 +318,12 @@ draws 'xfs: the kernel' 'can hang, 6 waits in red, 6 to no rescuer: items 13, wo
 grep -v '^flush .* xlog_discard_endio_work' xfs.wq >xfs.nodiscard.wq
 notes 'xfs: the kernel, without -o discard' xfs.nodiscard.wq xfs.assign \
     xfs_flush_inodes_worker xfs_log_worker xlog_discard_endio_work
+# What is on the flusher's list is done by no rescuer.
+{ cat xfs.wq && printf '%s\n' 'item wb_do_writeback' 'flush xfs_flush_inodes_worker wb_do_writeback'; } >xfs.list.wq
+{ cat xfs.rescued.assign && echo 'norescuer 12 wb_do_writeback'; } >xfs.list.assign
+hangs "xfs: the kernel, with rescuers, and the flusher's list" xfs.list.wq xfs.list.assign
+to_no_rescuer "xfs: the kernel, with rescuers, and the flusher's list" 1 xfs.list.wq xfs.list.assign \
+    xfs_flush_inodes_worker wb_do_writeback
 # Who is needed, and flushes what is on xfs-sync, has an item of its own.
 { cat xfs.wq && printf '%s\n' 'item writer' 'flush writer xfs_flush_inodes_worker'; } >xfs.writer.wq
 { cat xfs.discard.assign && echo 'wq 12 writer'; } >xfs.writer.assign
