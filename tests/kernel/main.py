@@ -109,12 +109,11 @@ def bare_assignments(choose, text, name, letters):
     declared = model.read_declaration(text)
     found = {}
     for _ in range(10):
-        texts = [text, random_cases.assignment_text(choose, declared, random_cases.WITHOUT_RESCUER)]
-        if b"norescuer" in texts[1]:
-            asked = program.Asked(name, texts, letters, choose)
-            found.setdefault(asked.is_safe, asked)
-        if len(found) == 2:
-            break
+        assignment = random_cases.assignment_text(choose, declared, random_cases.WITHOUT_RESCUER)
+        # (the model says which of them to take)
+        hangs = bool(model.deadlocking_run(declared, model.read_assignment(assignment, declared)))
+        if b"norescuer" in assignment and hangs not in found:
+            found[hangs] = program.Asked(name, [text, assignment], letters, choose)
     return list(found.values())
 
 
