@@ -52,6 +52,11 @@ class Setting:
     def number_of(self, item):
         return self.declaration.items.index(item)
 
+    def workqueue(self, number):
+        """A workqueue in words, with its name, if the assignment says it."""
+        name = self.assignment.called.get(number)
+        return f"workqueue {number}{f' ({name.decode()})' if name else ''}"
+
     def promised(self, where):
         """Of where items are, those on workqueues with a rescuer. Of the others nobody promises anything."""
         items, assignment = self.declaration.items, self.assignment
@@ -119,11 +124,12 @@ class Case:
         items = self.setting.declaration.items
         for number, item in enumerate(items):
             at = where.get(number, "")
+            workqueue = self.setting.workqueue(self.setting.assignment.workqueue_of[item])
             if "p" in at:
-                yield f"{item.decode()} is pending on workqueue {self.setting.assignment.workqueue_of[item]}"
+                yield f"{item.decode()} is pending on {workqueue}"
             if "r" in at:
                 wait = at.partition("r")[2]
-                line = f"{item.decode()} runs on workqueue {self.setting.assignment.workqueue_of[item]}"
+                line = f"{item.decode()} runs on {workqueue}"
                 if wait:
                     target = items[int(wait[1:].rstrip("~"))].decode()
                     line += f", and waits for {'the workqueue of ' if wait[0] == 'W' else ''}{target}"
@@ -223,7 +229,8 @@ class DrivenCase(Case):
             return why
         *_, state = self.states(machine)
         expected = model.where_items_are(state)
-        # Where no rescuer can make a step, nothing happens either when each item may start as soon as its rescuer is idle.
+        # Where no rescuer can make a step, nothing happens either when each item may start as soon as its rescuer is
+        # idle.
         ends_here = next(model.steps_in_a_shortage(state), None) is None
         return self.differs("run", expected) or (self.differs("end", expected) if ends_here else "")
 

@@ -3,6 +3,10 @@
 import model
 
 
+# So likely a workqueue has no rescuer, in those assignments in which some haven't.
+WITHOUT_RESCUER = 0.35
+
+
 def declaration_text(choose, most_items=7, most_flushes=9):
     """A declaration. In most of them all waits lead one way, so that it has a plan."""
     names = [bytes([97 + number]) for number in range(choose.randint(2, most_items))]
@@ -39,7 +43,9 @@ def assignment_text(choose, declared, without_rescuer=0):
 
 
 def possible_steps(state):
-    """All steps that may be made in a shortage, but those by which kernels are known to differ, each with how likely it is."""
+    """All steps that may be made in a shortage, but for those by which kernels are known to differ, each with how likely
+    it is.
+    """
     for item in state.targets:
         if item not in state.pending_of:
             yield (b"queue", None, item), 3

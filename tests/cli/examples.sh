@@ -225,6 +225,10 @@ answers nvmet-tcp 'circle 2' nvmet_tcp_io_work nvmet_tcp_release_queue_work nvme
 without_cancel nvmet-tcp 3
 hangs 'nvmet-tcp: the kernel' nvmet-tcp.wq nvmet-tcp.assign 20
 to_no_rescuer 'nvmet-tcp: the kernel' 3 nvmet-tcp.wq nvmet-tcp.assign nvmet_tcp_io_work nvmet_keep_alive_timer.system
+grep -vE '^flush .*(timer.system|auth_expired_work) +# cancel' nvmet-tcp.wq >nvmet-tcp.nosystem.wq
+hangs 'nvmet-tcp: the kernel, without cancel of what is on system_wq' nvmet-tcp.nosystem.wq nvmet-tcp.assign 20
+run circles nvmet-tcp.nosystem.wq nvmet-tcp.assign
+is 'nvmet-tcp: the same: no flush leads to no rescuer' '' "$(grep norescuer out)"
 rescued nvmet-tcp
 hangs 'nvmet-tcp: the kernel, with rescuers' nvmet-tcp.wq nvmet-tcp.rescued.assign 24
 hangs 'nvmet-tcp: the kernel, without cancel' nvmet-tcp.nocancel.wq nvmet-tcp.assign
@@ -251,6 +255,11 @@ hangs 'nvme-auth: the kernel' nvme-auth.wq nvme-auth.assign 8
 run deadlock nvme-auth.wq nvme-auth.later.assign
 ends 'nvme-auth: a later kernel' 0 safe
 draws nvme-auth 'plan of 3 workqueues, 2 waits in bold: items 4, workqueues 3, arrows 4, red 0, bold 2' nvme-auth.wq
+{ cat nvme-auth.wq && printf '%s\n' 'item call_usermodehelper_exec_work' 'flush auth_work call_usermodehelper_exec_work'; } >nvme-auth.module.wq
+{ cat nvme-auth.later.assign && echo 'norescuer 3 call_usermodehelper_exec_work'; } >nvme-auth.module.assign
+hangs 'nvme-auth: a later kernel, which loads a module' nvme-auth.module.wq nvme-auth.module.assign
+to_no_rescuer 'nvme-auth: a later kernel, which loads a module' 1 nvme-auth.module.wq nvme-auth.module.assign \
+    auth_work call_usermodehelper_exec_work
 { cat nvme-auth.wq && echo 'flush auth_work dhchap_auth_work connect_work'; } >nvme-auth.pool.wq
 run plan nvme-auth.pool.wq
 begins 'nvme-auth: plan, with a pool of buffers' 1 'circle 2'
@@ -336,6 +345,12 @@ draws 'xfs: the kernel' 'can hang, 6 waits in red, 6 to no rescuer: items 13, wo
 grep -v '^flush .* xlog_discard_endio_work' xfs.wq >xfs.nodiscard.wq
 notes 'xfs: the kernel, without -o discard' xfs.nodiscard.wq xfs.assign \
     xfs_flush_inodes_worker xfs_log_worker xlog_discard_endio_work
+# What is on the flusher's list is done by no rescuer.
+{ cat xfs.wq && printf '%s\n' 'item wb_do_writeback' 'flush xfs_flush_inodes_worker wb_do_writeback'; } >xfs.list.wq
+{ cat xfs.rescued.assign && echo 'norescuer 12 wb_do_writeback'; } >xfs.list.assign
+hangs "xfs: the kernel, with rescuers, and the flusher's list" xfs.list.wq xfs.list.assign
+to_no_rescuer "xfs: the kernel, with rescuers, and the flusher's list" 1 xfs.list.wq xfs.list.assign \
+    xfs_flush_inodes_worker wb_do_writeback
 # Who is needed, and flushes what is on xfs-sync, has an item of its own.
 { cat xfs.wq && printf '%s\n' 'item writer' 'flush writer xfs_flush_inodes_worker'; } >xfs.writer.wq
 { cat xfs.discard.assign && echo 'wq 12 writer'; } >xfs.writer.assign

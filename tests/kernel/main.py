@@ -61,8 +61,8 @@ def declaration_of(path):
 
 
 def example_cases(choose, letters):
-    """All examples: each assignment of a declaration, and its plan, with the printed run, and in 3 or 4 orders. An assignment in
-    which workqueues have no rescuer is tried as if they had one, too.
+    """All examples: each assignment of a declaration, and its plan, with the printed run, and in 3 or 4 orders. An
+    assignment in which workqueues have no rescuer is tried as if they had one, too.
     """
     examples = ROOT / "examples"
     for path in sorted(examples.rglob("*.assign")):
@@ -104,21 +104,16 @@ def unsafe_assignment(choose, text, name, letters):
     return None
 
 
-# So likely a workqueue of these assignments has no rescuer.
-WITHOUT_RESCUER = 0.35
-
-
 def bare_assignments(choose, text, name, letters):
-    """A safe random assignment and one that isn't, in each of which a workqueue has no rescuer, where they are found."""
+    """A safe random assignment and one that isn't, where they are found. In each a workqueue has no rescuer."""
     declared = model.read_declaration(text)
     found = {}
     for _ in range(10):
-        texts = [text, random_cases.assignment_text(choose, declared, WITHOUT_RESCUER)]
-        if b"norescuer" in texts[1]:
-            asked = program.Asked(name, texts, letters, choose)
-            found.setdefault(asked.is_safe, asked)
-        if len(found) == 2:
-            break
+        assignment = random_cases.assignment_text(choose, declared, random_cases.WITHOUT_RESCUER)
+        # (the model says which of them to take)
+        hangs = bool(model.deadlocking_run(declared, model.read_assignment(assignment, declared)))
+        if b"norescuer" in assignment and hangs not in found:
+            found[hangs] = program.Asked(name, [text, assignment], letters, choose)
     return list(found.values())
 
 
@@ -185,7 +180,7 @@ def bare_safe_cases(choose, count, letters, cpus):
 def judged(kernel, sets, cpus=1, weather="short", beside=lambda made: []):
     """Has a kernel run sets of cases, by what they are, and counts of each whether it does what model and program say.
 
-    All cases are handed back. Those that `beside` makes of them are run in the same guests, and nothing is said of them.
+    All cases are handed back. Those that `beside` makes of them are run in the same guests; nothing is said of them.
     """
     sets = {what: list(made) for what, made in sets.items()}
     made = [case for part in sets.values() for case in part]
@@ -260,7 +255,7 @@ def with_rescuers(made):
 
 
 def try_without_rescuers(made, rescued):
-    """Of cases that hang for want of a rescuer alone neither `safe` passes, nor a kernel that has one for each workqueue."""
+    """Of cases that hang for want of a rescuer neither `safe` passes, nor a kernel that has one for each workqueue."""
     made = [copy.copy(case) for case in made if case.weather == "short" and wants_rescuer(case) and not case.ended()]
     for case in made:
         case.must = "end"
@@ -351,7 +346,7 @@ def main(arguments):
         "random declarations": random_sets(sets, 40, letters["mixed"]),
         "random runs": random_runs(runs, 40, letters["mixed"]),
         "without rescuers": bare_sets(bare, 20, letters["mixed"]),
-        "random runs without rescuers": random_runs(bare, 20, letters["mixed"], WITHOUT_RESCUER),
+        "random runs without rescuers": random_runs(bare, 20, letters["mixed"], random_cases.WITHOUT_RESCUER),
     }
     rescued = []
     made = judged(kernel, sets, beside=lambda made: rescued.extend(with_rescuers(made)) or rescued)
@@ -380,7 +375,7 @@ def main(arguments):
             "random declarations": random_sets(later, 15, letters["mixed"]),
             "random runs": random_runs(later, 15, letters["mixed"]),
             "without rescuers": bare_sets(bare, 10, letters["mixed"]),
-            "random runs without rescuers": random_runs(bare, 10, letters["mixed"], WITHOUT_RESCUER),
+            "random runs without rescuers": random_runs(bare, 10, letters["mixed"], random_cases.WITHOUT_RESCUER),
         }
         judged(kernel, sets)
         try_pinned(kernel)
