@@ -16,7 +16,8 @@
 #     model      the program against a model that was written from docs/FORMAT.md alone: with wqplan
 #     source     the reader of C sources, source/wqsource: with Coccinelle and pytest, which it installs where it may
 #     runtime    books, runtimes and rescuers: with test_runtime
-#     kernel     the workqueue code of two series of Linux, in QEMU, where that and packages of Debian can be had: with wqplan
+#     kernel     the workqueue code of two series of Linux, and two drivers, in QEMU, where that and packages of Debian can be had:
+#                with wqplan, but for `drivers`
 #     edits      all wrong bodies of tests/edits, which takes hours, and the script that tries them
 #
 # wqplan is the one at crates/wqplan/out or, where there is none, the one that install.sh built in ~/.cache/wqplan or
@@ -56,6 +57,7 @@ runtime  book         runtime/book/main.py TEST_RUNTIME
 runtime  runtime      runtime/main.py TEST_RUNTIME | runtime/wakes.py TEST_RUNTIME | runtime/loads.py TEST_RUNTIME \
                       | runtime/interleavings.py
 kernel   kernel       kernel/main.py WQPLAN
+kernel   drivers      kernel/drivers.py
 docs     guide        docs/guide.sh WQPLAN EXAMPLE_RDISK
 runtime  book_model   model/book_properties.py | model/drive_books.py TEST_RUNTIME
 edits    edits        edits/edits.py

@@ -1,7 +1,9 @@
-# For kernel/driver: md on md (examples/md.md). md0 is a mirror on a RAM disk, and md1 a mirror on md0. While no
-# worker can be created, processes have both flushed.
+# For kernel/driver: md on md (examples/md.md). md0 is a mirror on a RAM disk, and md1 a mirror on md0. Processes
+# have both flushed, with memory, then while no worker can be created, and then with memory again.
 #
 #     kernel/driver kernel/drivers/md.sh brd md-mod raid1
+#
+# With --patch kernel/drivers/md.patch each array has a workqueue for its flushes, and nothing hangs.
 
 # array NAME DEVICE: a mirror of one disk, MAJOR:MINOR.
 array() {
@@ -20,26 +22,57 @@ array() {
 
 array md0 1:0
 array md1 9:0
-# Processes that begin when somebody opens /go, since none can be made later. Each has its array flushed again and
-# again.
-$busybox mkfifo /go
-many="1 2 3 4 5 6 7 8 9"
+# Four processes flush an array each, again and again.
+many() {
+    files=/dev/$1
+    for double in 1 2 3 4 5 6 7 8 9 10 11 12 13 14 15; do files="$files $files"; done
+}
 for number in 1 2; do
     for md in md1 md0; do
-        (
-            read -r nothing </go
-            for ten in $many; do for one in $many; do files="$files /dev/$md"; done; done
-            exec $busybox sync -d $files
-        ) &
+        many $md
+        $busybox sync -d $files &
+        flushing="$flushing $!"
+        what="$what $md"
     done
 done
-wait_for 2
+
+# slept PID: how often the process has slept, which it does in each flush.
+slept() {
+    times=over
+    while read -r name count; do
+        case $name in
+            voluntary_ctxt_switches:) times=$count ;;
+        esac
+    done 2>/dev/null <"/proc/$1/status"
+}
+
+# tell: which of these processes go on.
+tell() {
+    before=
+    for one in $flushing; do
+        slept $one
+        before="$before $times"
+    done
+    wait_for 10
+    set -- $before
+    for one in $flushing; do
+        slept $one
+        how="go on"
+        [ "$times" = "$1" ] && ! ended $one && how=HANG
+        echo "flushes, process $one: $how"
+        shift
+    done
+}
+
+echo "processes$flushing flush$what"
+wait_for 1
 short
-exec 8>/go 8>&-
 wait_for 20
-echo "20 seconds later:"
+echo "while no worker can be created:"
+tell
 stacks 'md*' busybox
 plenty
 wait_for 20
-echo "20 seconds later, with memory again:"
+echo "with memory again:"
+tell
 stacks 'md*' busybox

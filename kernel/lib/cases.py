@@ -30,11 +30,10 @@ class Setting:
     declaration: object
     assignment: object
     kinds: list  # by workqueue, its letter
-    without_rescuer: frozenset = frozenset()  # workqueues
 
     def commands(self):
         for workqueue, kind in enumerate(self.kinds):
-            rescuer = 0 if workqueue in self.without_rescuer else 1
+            rescuer = 0 if workqueue in self.assignment.bare else 1
             yield f"wq {KINDS[kind][1]} {rescuer}{' 1' if kind == '1' else ''}"
         for item in self.declaration.items:
             yield f"item {self.assignment.workqueue_of[item]}"
@@ -53,8 +52,17 @@ class Setting:
     def number_of(self, item):
         return self.declaration.items.index(item)
 
-    def workqueues_with_rescuer(self):
-        return [workqueue for workqueue in range(self.assignment.count) if workqueue not in self.without_rescuer]
+    def workqueue(self, number):
+        """A workqueue in words, with its name, if the assignment says it."""
+        name = self.assignment.called.get(number)
+        return f"workqueue {number}{f' ({name.decode()})' if name else ''}"
+
+    def promised(self, where):
+        """Of where items are, those on workqueues with a rescuer. Of the others nobody promises anything."""
+        items, assignment = self.declaration.items, self.assignment
+        return {
+            number: at for number, at in where.items() if assignment.workqueue_of[items[number]] not in assignment.bare
+        }
 
     def start(self, machine, helpers):
         """The machine at its start. A workqueue that executes one item at a time has no helper, whatever the
@@ -70,7 +78,7 @@ class Case:
 
     def __init__(self, name, setting, must=None):
         self.name, self.setting = name, setting
-        self.must = must  # "end" or "hang", where wqplan says so
+        self.must = must  # "end" or "hang", where wqplan says so of the items on workqueues with a rescuer
         self.weather = None
         self.outcome = None  # a guest.Outcome, once a guest has run it in this weather
 
@@ -79,8 +87,8 @@ class Case:
         return [by for letter, _, _, by in self.outcome.events if letter == "s"]
 
     def ended(self):
-        """Whether all items are finished."""
-        return self.outcome.states["end"][0]
+        """Whether all items on workqueues with a rescuer are finished."""
+        return not self.setting.promised(self.outcome.states["end"][1])
 
     def judge(self, machine=model.State):
         if self.outcome is None or "end" not in self.outcome.states:
@@ -100,7 +108,11 @@ class Case:
     def differs(self, word, expected):
         """Whether the state that the module printed at this word isn't this one."""
         done, where = self.outcome.states[word]
-        if where == expected and done == (not expected):
+        found = where
+        if self.weather == "free":
+            # A worker that is free may execute what has no rescuer, or may not.
+            found, expected = self.setting.promised(where), self.setting.promised(expected)
+        if found == expected and done == (not where):
             return ""
         return f"the model has {self.shown(expected)}; the kernel {self.shown(where)}"
 
@@ -112,11 +124,12 @@ class Case:
         items = self.setting.declaration.items
         for number, item in enumerate(items):
             at = where.get(number, "")
+            workqueue = self.setting.workqueue(self.setting.assignment.workqueue_of[item])
             if "p" in at:
-                yield f"{item.decode()} is pending on workqueue {self.setting.assignment.workqueue_of[item]}"
+                yield f"{item.decode()} is pending on {workqueue}"
             if "r" in at:
                 wait = at.partition("r")[2]
-                line = f"{item.decode()} runs on workqueue {self.setting.assignment.workqueue_of[item]}"
+                line = f"{item.decode()} runs on {workqueue}"
                 if wait:
                     target = items[int(wait[1:].rstrip("~"))].decode()
                     line += f", and waits for {'the workqueue of ' if wait[0] == 'W' else ''}{target}"
@@ -157,9 +170,7 @@ class FreeCase(Case):
         state = self.setting.start(machine, HELPERS[self.weather])
         for item in self.order:
             state.make((b"queue", None, item))
-        able = (
-            range(self.setting.assignment.count) if self.weather == "plenty" else self.setting.workqueues_with_rescuer()
-        )
+        able = [at for at in state.workqueues if self.weather == "plenty" or at not in state.bare]
         model.make_as_declared(state, able)
         return model.where_items_are(state)
 
@@ -167,7 +178,7 @@ class FreeCase(Case):
         expected = self.expected(machine)
         # With entries on the lists of several CPUs the order of queueing is one among several, and how many workers
         # are free for whom isn't known: then only `safe` says how it ends.
-        if expected and (not self.is_exact or self.weather == "free"):
+        if self.setting.promised(expected) and (not self.is_exact or self.weather == "free"):
             return ""
         return self.differs("end", expected)
 
@@ -218,8 +229,10 @@ class DrivenCase(Case):
             return why
         *_, state = self.states(machine)
         expected = model.where_items_are(state)
-        # Where the run ends stuck, nothing happens either when each item may start as soon as its rescuer is idle.
-        return self.differs("run", expected) or (self.differs("end", expected) if state.is_stuck() else "")
+        # Where no rescuer can make a step, nothing happens either when each item may start as soon as its rescuer is
+        # idle.
+        ends_here = next(model.steps_in_a_shortage(state), None) is None
+        return self.differs("run", expected) or (self.differs("end", expected) if ends_here else "")
 
     def compare_events(self, overs):
         """Each step happens; and no wait is over before it may be. `overs` has the waits that may be, before the
@@ -246,7 +259,7 @@ class DrivenCase(Case):
 # Guests -------------------------------------------------------------------------------------------
 
 # So many cases in one guest: each keeps its workqueues, and their rescuers, to its end.
-MOST_CASES = 500
+MOST_CASES = 700
 
 WEATHERS = {
     "short": "no worker can be created, and all that exist sleep",

@@ -8,7 +8,7 @@ import sys
 sys.dont_write_bytecode = True
 sys.path.append(str(pathlib.Path(__file__).resolve().parents[2] / "tests" / "model"))
 from certificate import Refused, read_assignment, read_run  # noqa: E402
-from deadlock import run_text  # noqa: E402
+from deadlock import deadlocking_run, run_text  # noqa: E402
 from declaration import read_declaration  # noqa: E402
 from steps import RESCUER, State  # noqa: E402
 
@@ -16,6 +16,7 @@ __all__ = [
     "RESCUER",
     "Refused",
     "State",
+    "deadlocking_run",
     "make_as_declared",
     "may_be_cancelled",
     "overs_of",
@@ -23,6 +24,7 @@ __all__ = [
     "read_declaration",
     "read_run",
     "run_text",
+    "steps_in_a_shortage",
     "where_items_are",
 ]
 
@@ -34,6 +36,11 @@ def overs_of(state):
         for (workqueue, helper), entry in state.running.items()
         if entry.target is not None and state.may((entry.over, workqueue, entry.target), helper)
     }
+
+
+def steps_in_a_shortage(state):
+    """Each step that may be made while rescuers alone execute work: what has none doesn't start."""
+    return (step for step in state.rescuer_steps() if step[0] != b"start" or step[1] not in state.bare)
 
 
 def step_as_declared(state, context):

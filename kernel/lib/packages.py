@@ -208,23 +208,114 @@ def fetch_kernel(release, place):
         image.unlink()
 
 
-def modules(kernel, names):
-    """The files of modules of the kernel's package, by their names."""
+def modules(kernel, names, patch=None):
+    """For each of these modules of the kernel's package its file, and before it those of modules that it needs and that
+    aren't there yet. With a patch, those that come from a folder which it changes are built anew.
+    """
 
     def make(place):
         with tempfile.TemporaryDirectory() as folder:
             unpack(*fetch([image_package(kernel.release)], pathlib.Path(folder)), place, "./lib/modules/*")
 
     root = made(cache() / f"modules-{kernel.release}", make)
-    files = {re.sub(r"\.ko(\.xz|\.zst)?$", "", path.name): path for path in root.rglob("*.ko*")}
-    for name in names:
+    files = {plain_name(path): path for path in root.rglob("*.ko*")}
+    found = {}
+
+    def load(name):
+        name = name.replace("-", "_")
+        if name in found:
+            return []
         if name not in files:
             raise Missing(f"the package of Linux {kernel.release} has no module {name}")
-        if files[name].suffix == ".xz":
-            path = files[name].with_suffix("")
-            path.write_bytes(lzma.decompress(files[name].read_bytes()))
-            files[name] = path
-    return [files[name] for name in names]
+        found[name] = files[name] = unpacked(files[name])
+        needed = re.search(rb"\0depends=([^\0]*)\0", found[name].read_bytes())[1].decode()
+        return [*(each for more in needed.split(",") if more for each in load(more)), name]
+
+    order = [load(name) for name in names]
+    if patch:
+        found |= patched(kernel, patch, found)
+    return [[found[name] for name in group] for group in order]
+
+
+def plain_name(path):
+    """What a module's file is called, with `_` for `-`, which means the same."""
+    return re.sub(r"\.ko(\.xz|\.zst)?$", "", path.name).replace("-", "_")
+
+
+def unpacked(path):
+    """The file of a module, without its compression."""
+    if path.suffix != ".xz":
+        return path
+    plain = path.with_suffix("")
+    if not plain.exists():
+        half = plain.with_suffix(f".{os.getpid()}")
+        half.write_bytes(lzma.decompress(path.read_bytes()))
+        half.rename(plain)
+    return plain
+
+
+# Modules with a patch ------------------------------------------------------------------------------
+
+
+def folders_of(patch):
+    """The folders with the files that a patch changes, as fs/nfs."""
+    return sorted({os.path.dirname(path) for path in re.findall(r"^\+\+\+ b/(\S+)", patch.read_text(), re.MULTILINE)})
+
+
+def source_of(kernel, folder):
+    """A folder of the sources of a kernel, from Debian's linux-source-SERIES."""
+    tree = f"linux-source-{kernel.series}"
+
+    def make(place):
+        with tempfile.TemporaryDirectory(dir=cache()) as downloaded:
+            package = fetch([tree], pathlib.Path(downloaded))[0]
+            output_of(
+                [
+                    "bash",
+                    "-c",
+                    'set -o pipefail; dpkg-deb --fsys-tarfile "$1" | tar -xO "./usr/src/$2.tar.xz" |'
+                    ' tar -xJ -C "$3" --strip-components=1 "$2/Makefile" "$2/$4"',
+                    "bash",
+                    package,
+                    tree,
+                    place,
+                    folder,
+                ]
+            )
+
+    root = made(cache() / f"source-{kernel.release}-{folder.replace('/', '-')}", make)
+    version = ".".join(re.findall(r"^(?:VERSION|PATCHLEVEL|SUBLEVEL) = (\d+)$", (root / "Makefile").read_text(), re.M))
+    if version != kernel.version:
+        raise Missing(f"Debian's {tree} is Linux {version}, and the kernel {kernel.version}")
+    return root / folder
+
+
+def patched(kernel, patch, files):
+    """Of these files of modules, by their names, those from a folder that the patch changes, built with it. It applies to
+    the top of the sources.
+    """
+    built = {}
+    folders = folders_of(patch)
+    if not folders:
+        raise Missing(f"{patch}: it changes no file (`+++ b/FILE`)")
+    for folder in folders:
+        here = {name: path.name for name, path in files.items() if str(path.parent).endswith(f"/kernel/{folder}")}
+        if not here:
+            raise Missing(f"{patch}: none of the modules is in {folder}")
+        said = hashlib.sha256(patch.read_bytes() + " ".join(sorted(here)).encode()).hexdigest()[:16]
+
+        def build(place, folder=folder, here=here):
+            at = place / "tree" / folder
+            shutil.copytree(source_of(kernel, folder), at)
+            output_of(["patch", "-p1", "-d", place / "tree", "-i", patch.resolve()])
+            output_of(["make", "-C", kernel.headers(), f"M={at}", *kernel.compiler(), *here.values()])
+            for file in here.values():
+                output_of(["strip", "-g", "-o", place / file, at / file])
+            shutil.rmtree(place / "tree")
+
+        place = made(cache() / f"patched-{kernel.release}-{said}", build)
+        built |= {name: place / file for name, file in here.items()}
+    return built
 
 
 def image_package(release):

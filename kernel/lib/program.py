@@ -77,7 +77,7 @@ class Asked:
     the same.
     """
 
-    def __init__(self, name, texts, letters, choose, without_rescuer=()):
+    def __init__(self, name, texts, letters, choose):
         self.name, self.choose = name, choose
         self.texts = [text if isinstance(text, bytes) else pathlib.Path(text).read_bytes() for text in texts]
         answer = ask("deadlock", *texts)
@@ -88,12 +88,12 @@ class Asked:
         # The workqueue of a group of several items is ordered.
         ordered = {self.assignment.workqueue_of[group[0]] for group in self.declaration.groups if len(group) > 1}
         kinds = ["o" if workqueue in ordered else choose.choice(letters) for workqueue in range(self.assignment.count)]
-        self.setting = cases.Setting(self.declaration, self.assignment, kinds, frozenset(without_rescuer))
+        self.setting = cases.Setting(self.declaration, self.assignment, kinds)
 
     def free_case(self, name, order, cpus):
         """On several CPUs an item of a safe assignment is queued on any, and of an unsafe one on the first."""
         on = {item: self.choose.randrange(cpus) if self.is_safe else 0 for item in order} if cpus > 1 else None
-        must = "end" if self.is_safe and not self.setting.without_rescuer else None
+        must = "end" if self.is_safe else None
         return cases.FreeCase(f"{self.name}{name}", self.setting, order, on, must)
 
     def free_cases(self, orders, cpus):
@@ -114,6 +114,6 @@ class Asked:
 
     def cases(self, orders, cpus=1, weather="short"):
         """The printed run, driven, while rescuers are alone; and the free cases."""
-        if self.steps and weather == "short" and not self.setting.without_rescuer:
+        if self.steps and weather == "short":
             yield self.driven_case()
         yield from self.free_cases(orders, cpus)

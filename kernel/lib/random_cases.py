@@ -3,6 +3,10 @@
 import model
 
 
+# So likely a workqueue has no rescuer, in those assignments in which some haven't.
+WITHOUT_RESCUER = 0.35
+
+
 def declaration_text(choose, most_items=7, most_flushes=9):
     """A declaration. In most of them all waits lead one way, so that it has a plan."""
     names = [bytes([97 + number]) for number in range(choose.randint(2, most_items))]
@@ -25,23 +29,29 @@ def declaration_text(choose, most_items=7, most_flushes=9):
     return b"".join(line + b"\n" for line in lines)
 
 
-def assignment_text(choose, declared):
-    """An assignment: each group is on any of some workqueues, none of which is empty."""
+def assignment_text(choose, declared, without_rescuer=0):
+    """An assignment: each group is on any of some workqueues, none of which is empty. So likely each has no rescuer."""
     count = choose.randint(1, len(declared.groups))
     on = {}
     for group in declared.groups:
         on.setdefault(choose.randrange(count), []).extend(group)
-    return b"".join(b"wq %d %s\n" % (number, b" ".join(on[workqueue])) for number, workqueue in enumerate(sorted(on)))
+    lines = []
+    for number, workqueue in enumerate(sorted(on)):
+        word = b"norescuer" if without_rescuer and choose.random() < without_rescuer else b"wq"
+        lines.append(b"%s %d %s\n" % (word, number, b" ".join(on[workqueue])))
+    return b"".join(lines)
 
 
 def possible_steps(state):
-    """All steps that may be made but those by which kernels are known to differ, each with how likely it is."""
+    """All steps that may be made in a shortage, but for those by which kernels are known to differ, each with how likely
+    it is.
+    """
     for item in state.targets:
         if item not in state.pending_of:
             yield (b"queue", None, item), 3
         elif model.may_be_cancelled(state, item):
             yield (b"cancel", None, item), 1
-    for step in state.rescuer_steps():
+    for step in model.steps_in_a_shortage(state):
         yield step, {b"start": 6, b"wait": 5, b"waitwq": 5, b"over": 6, b"overwq": 6, b"finish": 2}[step[0]]
 
 
@@ -58,7 +68,7 @@ def run_steps(choose, declared, assignment, length):
         steps.append(step)
     # Half of them go on until nobody can.
     if choose.random() < 0.5:
-        while step := next(state.rescuer_steps(), None):
+        while step := next(model.steps_in_a_shortage(state), None):
             state.make(step)
             steps.append(step)
     return steps

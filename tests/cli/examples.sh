@@ -89,11 +89,41 @@ counts() {
     is "$1: items, flushes, groups, workqueues in 6.1" "$2 $3 $4 $5" "$(awk '
         FILENAME ~ /txt$/ { if ($1 == "directive:") word = $2; if ($1 == "declares:") declares[word] = $2; next }
         { sub(/#.*/, "") }
-        FILENAME ~ /assign$/ { lanes += $1 == "wq"; next }
+        FILENAME ~ /assign$/ { lanes += $1 == "wq" || $1 == "norescuer"; next }
         declares[$1] == "item" { items++; groups++ }
         declares[$1] == "flushes" { flushes += NF - 2 }
         declares[$1] == "group" { groups -= NF - 2 }
         END { print items + 0, flushes + 0, groups + 0, lanes + 0 }' "$root/docs/tables/directives.txt" "$1.wq" "$1.assign")"
+}
+
+# rescued NAME: the kernel's assignment as if each workqueue had a rescuer, in the file NAME.rescued.assign.
+rescued() {
+    sed 's/^norescuer/wq/' "$1.assign" >"$1.rescued.assign"
+}
+
+# notes NAME DECL ASSIGN ITEM..: counts whether the assignment is safe, and whether what is said beside that names just these items.
+notes() {
+    local name=$1
+    run deadlock "$2" "$3"
+    is "$name" '0: safe' "$status: $(cat out)"
+    shift 3
+    is "$name: the items that nothing guarantees to run" "$*" "$(head -n 1 err | grep -oE '`[a-z_.]+`' | tr -d '`' | xargs)"
+}
+
+# to_no_rescuer NAME COUNT DECL ASSIGN ITEM TARGET: counts whether so many flushes lead from a workqueue with a rescuer to one
+# without, whether `circles` prints these behind all others, and whether `deadlock` begins with this item, and says that it waits for
+# this target.
+to_no_rescuer() {
+    local name=$1 wanted
+    wanted=$(awk '
+        { sub(/#.*/, "") }
+        FILENAME ~ /assign$/ { for (at = 3; at <= NF; at++) bare[$at] = $1 == "norescuer"; next }
+        $1 ~ /^flush/ { for (at = 3; at <= NF; at++) if (!bare[$2] && bare[$at]) print "arc", $2, $at }' "$4" "$3")
+    run circles "$3" "$4"
+    is "$name: the flushes that lead to no rescuer" "1: norescuer $2"$'\n'"$wanted" "$status: $(sed -n '/^norescuer/,$p' out)"
+    run deadlock "$3" "$4"
+    is "$name: what is queued first" "queue $5" "$(sed -n 2p out)"
+    is "$name: what is said" "\`$5\` \`$6\`" "$(head -n 1 err | grep -oE '`[a-z_.]+`' | xargs -d '\n')"
 }
 
 # without_cancel NAME K: counts whether there are K workqueues without the waits of cancel_work_sync.
@@ -135,7 +165,7 @@ arrows() {
 # boxes FILE: the items on each workqueue of a drawing, or of a file with `wq` lines, sorted.
 boxes() {
     tr -d '";' <"$1" | awk '
-        /^wq / { for (at = 3; at <= NF; at++) print $2, $at }
+        /^(wq|norescuer) / { for (at = 3; at <= NF; at++) print $2, $at }
         /^  subgraph / { lane = $4 }
         /^ +[^ ]+$/ && $1 != "}" { print lane, $1 }' | LC_ALL=C sort
 }
@@ -187,14 +217,23 @@ ends 'dm-integrity: the kernel' 0 safe
 hangs 'dm-integrity: without dm-integrity-offload' dm-integrity.wq dm-integrity.merged.assign 20
 draws dm-integrity 'plan of 3 workqueues, 2 waits in bold: items 8, workqueues 3, arrows 13, red 0, bold 2' dm-integrity.wq
 
-# nvmet-tcp: a circle, so that every assignment hangs: the kernel's, one workqueue for all, and one for each item. The
+# nvmet-tcp: a circle, and waits by cancel_work_sync for what has no rescuer, so that every assignment hangs: the kernel's, one workqueue for all, and one for each item. The
 # last is the one whose run stands behind the circle. Without the flush of nvmet-wq it needs three: the release of a queue waits
 # for io_work, which waits for the work of a file that gives back elements of a pool.
 counts nvmet-tcp 12 16 12 5
 answers nvmet-tcp 'circle 2' nvmet_tcp_io_work nvmet_tcp_release_queue_work nvmet_tcp_io_work
 without_cancel nvmet-tcp 3
-hangs 'nvmet-tcp: the kernel' nvmet-tcp.wq nvmet-tcp.assign
+hangs 'nvmet-tcp: the kernel' nvmet-tcp.wq nvmet-tcp.assign 20
+to_no_rescuer 'nvmet-tcp: the kernel' 3 nvmet-tcp.wq nvmet-tcp.assign nvmet_tcp_io_work nvmet_keep_alive_timer.system
+grep -vE '^flush .*(timer.system|auth_expired_work) +# cancel' nvmet-tcp.wq >nvmet-tcp.nosystem.wq
+hangs 'nvmet-tcp: the kernel, without cancel of what is on system_wq' nvmet-tcp.nosystem.wq nvmet-tcp.assign 20
+run circles nvmet-tcp.nosystem.wq nvmet-tcp.assign
+is 'nvmet-tcp: the same: no flush leads to no rescuer' '' "$(grep norescuer out)"
+rescued nvmet-tcp
+hangs 'nvmet-tcp: the kernel, with rescuers' nvmet-tcp.wq nvmet-tcp.rescued.assign 24
 hangs 'nvmet-tcp: the kernel, without cancel' nvmet-tcp.nocancel.wq nvmet-tcp.assign
+run circles nvmet-tcp.nocancel.wq nvmet-tcp.assign
+is 'nvmet-tcp: the kernel, without cancel: no flush leads to no rescuer' '' "$(grep norescuer out)"
 awk '$1 == "item" { all = all " " $2 } END { print "wq 0" all }' nvmet-tcp.wq >one.assign
 hangs 'nvmet-tcp: one workqueue' nvmet-tcp.wq one.assign
 awk '$1 == "item" { print "wq", lanes++, $2 }' nvmet-tcp.wq >own.assign
@@ -216,6 +255,11 @@ hangs 'nvme-auth: the kernel' nvme-auth.wq nvme-auth.assign 8
 run deadlock nvme-auth.wq nvme-auth.later.assign
 ends 'nvme-auth: a later kernel' 0 safe
 draws nvme-auth 'plan of 3 workqueues, 2 waits in bold: items 4, workqueues 3, arrows 4, red 0, bold 2' nvme-auth.wq
+{ cat nvme-auth.wq && printf '%s\n' 'item call_usermodehelper_exec_work' 'flush auth_work call_usermodehelper_exec_work'; } >nvme-auth.module.wq
+{ cat nvme-auth.later.assign && echo 'norescuer 3 call_usermodehelper_exec_work'; } >nvme-auth.module.assign
+hangs 'nvme-auth: a later kernel, which loads a module' nvme-auth.module.wq nvme-auth.module.assign
+to_no_rescuer 'nvme-auth: a later kernel, which loads a module' 1 nvme-auth.module.wq nvme-auth.module.assign \
+    auth_work call_usermodehelper_exec_work
 { cat nvme-auth.wq && echo 'flush auth_work dhchap_auth_work connect_work'; } >nvme-auth.pool.wq
 run plan nvme-auth.pool.wq
 begins 'nvme-auth: plan, with a pool of buffers' 1 'circle 2'
@@ -241,24 +285,77 @@ ends 'md: a workqueue for each array' 0 safe
 draws md 'plan of 2 workqueues, 1 wait in bold: items 4, workqueues 2, arrows 4, red 0, bold 1' md.wq
 draws 'md: the kernel' 'can hang, 4 waits in red: items 4, workqueues 1, arrows 4, red 4, bold 0' md.wq md.assign
 
-# rbd: two ordered groups, five workqueues and the system's, safe.
+# nfs: four workqueues, of which rpciod waits for itself; nfsiod doesn't. Two more waits lead to what has no rescuer, wherever the
+# mount ends, but for an item that nobody waits for.
+counts nfs 12 24 12 4
+answers nfs 'plan 2' rpc_async.put rpc_async
+without_cancel nfs 2
+plan_is_least nfs
+hangs 'nfs: the kernel' nfs.wq nfs.assign 30
+printf '%s\n' 'run 4' 'queue rpc_async.put' 'start 1 rpc_async.put' 'queue rpc_async' 'wait 1 rpc_async' >nfs.run
+run replay nfs.wq nfs.assign nfs.run
+is "nfs: the kernel's order" '1: stuck' "$status: $(cat out)"
+sed '1s/.*/run 3/; $d' nfs.run >shorter.run
+run replay nfs.wq nfs.assign shorter.run
+ends "nfs: the kernel's order, before the mount's end waits" 0 open
+run deadlock nfs.wq nfs.moved.assign
+ends 'nfs: released by nfsiod' 0 safe
+draws nfs 'plan of 2 workqueues, 1 wait in bold: items 12, workqueues 2, arrows 24, red 0, bold 1' nfs.wq
+draws 'nfs: the kernel' 'can hang, 2 waits in red: items 12, workqueues 4, arrows 24, red 2, bold 0' nfs.wq nfs.assign
+cat nfs.wq nfs.norescuer.wq >nfs.more.wq
+without=$'norescuer 4 wb_do_writeback\nnorescuer 5 inode_switch_wbs_work_fn'
+{ cat nfs.moved.assign && echo "$without"; } >nfs.more.assign
+hangs 'nfs: released by nfsiod, with the flusher' nfs.more.wq nfs.more.assign 48
+to_no_rescuer 'nfs: released by nfsiod, with the flusher' 6 nfs.more.wq nfs.more.assign rpc_async.put wb_do_writeback
+{ echo 'item nfs_sb_end' &&
+    grep -vE '^flush(wq)? (put_release|dreq_work)' nfs.more.wq | sed -E 's/^(flush|flushwq) rpc_async.put/\1 nfs_sb_end/'; } >nfs.own.wq
+{ cat nfs.assign && echo "$without" && echo 'norescuer 6 nfs_sb_end'; } >nfs.own.assign
+notes 'nfs: an item ends the mount' nfs.own.wq nfs.own.assign nfs_sb_end wb_do_writeback inode_switch_wbs_work_fn
+
+# rbd: two ordered groups, five workqueues and the system's, which has no rescuer. With one it would be safe.
 counts rbd 13 39 8 6
 answers rbd 'plan 3' rbd_acquire_lock do_watch_notify ceph_con_workfn
 without_cancel rbd 3
 plan_is_least rbd
-run deadlock rbd.wq rbd.assign
-ends 'rbd: the kernel' 0 safe
+hangs 'rbd: the kernel' rbd.wq rbd.assign 35
+to_no_rescuer 'rbd: the kernel' 14 rbd.wq rbd.assign rbd_acquire_lock handle_timeout
+rescued rbd
+run deadlock rbd.wq rbd.rescued.assign
+ends 'rbd: the kernel, with rescuers' 0 safe
 draws rbd 'plan of 3 workqueues, 2 waits in bold: items 13, workqueues 3, arrows 39, red 0, bold 2' rbd.wq
-draws 'rbd: the kernel' 'safe: items 13, workqueues 6, arrows 39, red 0, bold 0' rbd.wq rbd.assign
+draws 'rbd: the kernel' \
+    'can hang, 14 waits in red, 14 to no rescuer: items 13, workqueues 6, arrows 39, red 14, bold 0' rbd.wq rbd.assign
+draws 'rbd: the kernel, with rescuers' 'safe: items 13, workqueues 6, arrows 39, red 0, bold 0' rbd.wq rbd.rescued.assign
 
-# xfs: twelve workqueues, safe; six are enough, with and without the two that have no rescuer. Where there is no free block, an
-# end of a write waits for the cleaners, which wait for ends of writes, and a cleaner flushes its own workqueue.
+# xfs: twelve workqueues; six are enough, with and without the two that have no rescuer. All that changes trees of extents waits for
+# one of these; if it had one, the twelve would be safe. Where there is no free block, an end of a write waits for the cleaners, which
+# wait for ends of writes, and a cleaner flushes its own workqueue.
 counts xfs 13 42 13 12
 answers xfs 'plan 6' xfs_flush_inodes_worker wb_workfn xfs_end_io xfs_btree_split_worker xlog_cil_push_work xlog_ioend_work
 without_cancel xfs 6
 plan_is_least xfs
-run deadlock xfs.wq xfs.assign
-ends 'xfs: the kernel' 0 safe
+hangs 'xfs: the kernel' xfs.wq xfs.assign 43
+to_no_rescuer 'xfs: the kernel' 6 xfs.wq xfs.assign wb_workfn xlog_discard_endio_work
+rescued xfs
+run deadlock xfs.wq xfs.rescued.assign
+ends 'xfs: the kernel, with rescuers' 0 safe
+sed '/xfsdiscard/s/^norescuer/wq/' xfs.assign >xfs.discard.assign
+notes 'xfs: the kernel, with a rescuer of xfsdiscard' xfs.wq xfs.discard.assign xfs_flush_inodes_worker xfs_log_worker
+draws 'xfs: the kernel' 'can hang, 6 waits in red, 6 to no rescuer: items 13, workqueues 12, arrows 42, red 6, bold 0' xfs.wq xfs.assign
+grep -v '^flush .* xlog_discard_endio_work' xfs.wq >xfs.nodiscard.wq
+notes 'xfs: the kernel, without -o discard' xfs.nodiscard.wq xfs.assign \
+    xfs_flush_inodes_worker xfs_log_worker xlog_discard_endio_work
+# What is on the flusher's list is done by no rescuer.
+{ cat xfs.wq && printf '%s\n' 'item wb_do_writeback' 'flush xfs_flush_inodes_worker wb_do_writeback'; } >xfs.list.wq
+{ cat xfs.rescued.assign && echo 'norescuer 12 wb_do_writeback'; } >xfs.list.assign
+hangs "xfs: the kernel, with rescuers, and the flusher's list" xfs.list.wq xfs.list.assign
+to_no_rescuer "xfs: the kernel, with rescuers, and the flusher's list" 1 xfs.list.wq xfs.list.assign \
+    xfs_flush_inodes_worker wb_do_writeback
+# Who is needed, and flushes what is on xfs-sync, has an item of its own.
+{ cat xfs.wq && printf '%s\n' 'item writer' 'flush writer xfs_flush_inodes_worker'; } >xfs.writer.wq
+{ cat xfs.discard.assign && echo 'wq 12 writer'; } >xfs.writer.assign
+hangs 'xfs: somebody who is needed flushes xfs-sync' xfs.writer.wq xfs.writer.assign
+to_no_rescuer 'xfs: somebody who is needed flushes xfs-sync' 1 xfs.writer.wq xfs.writer.assign writer xfs_flush_inodes_worker
 draws xfs 'plan of 6 workqueues, 5 waits in bold: items 13, workqueues 6, arrows 42, red 0, bold 5' xfs.wq
 grep -vE '^[^#]*(xfs_flush_inodes_worker|xfs_log_worker|xlog_discard_endio_work)' xfs.wq >xfs.rescuers.wq
 answers xfs.rescuers 'plan 6' xfs_blockgc_worker iomap_dio_complete_work xfs_end_io xfs_btree_split_worker xlog_cil_push_work \
@@ -271,36 +368,47 @@ for arc in 'xfs_end_io xfs_blockgc_worker' 'xfs_blockgc_worker xfs_end_io' 'xfs_
     is "xfs: without a free block, on a circle: $arc" "arc $arc" "$(grep -x "arc $arc" out)"
 done
 hangs 'xfs: the kernel, without a free block' xfs.full.wq xfs.assign
+hangs 'xfs: the kernel, with rescuers, without a free block' xfs.full.wq xfs.rescued.assign
 # Where a block of metadata can't be written, its end waits for the log.
 cat xfs.wq xfs.shutdown.wq >xfs.down.wq
 answers xfs.down 'plan 7' xfs_flush_inodes_worker wb_workfn xfs_end_io xfs_btree_split_worker xfs_buf_ioend_work \
     xlog_cil_push_work xlog_ioend_work
 plan_is_least xfs.down
-run deadlock xfs.down.wq xfs.assign
-ends 'xfs: the kernel, at a shutdown' 0 safe
+run deadlock xfs.down.wq xfs.rescued.assign
+ends 'xfs: the kernel, with rescuers, at a shutdown' 0 safe
+hangs 'xfs: the kernel, at a shutdown' xfs.down.wq xfs.assign
 
-# nbd: five workqueues, safe, though the least is five as well. A line for whoever runs already would be a false alarm.
+# nbd: five workqueues, of which two have no rescuer; four items wait for one of these. If it had one, the five would be safe, though
+# the least is five as well. A line for whoever runs already would be a false alarm.
 counts nbd 8 15 8 5
 answers nbd 'plan 5' nbd_dev_remove_work wb_workfn recv_work blk_mq_run_work_fn nbd_dead_link_work
 without_cancel nbd 5
 plan_is_least nbd
-run deadlock nbd.wq nbd.assign
-ends 'nbd: the kernel' 0 safe
+hangs 'nbd: the kernel' nbd.wq nbd.assign 14
+to_no_rescuer 'nbd: the kernel' 4 nbd.wq nbd.assign blk_mq_run_work_fn nbd_dead_link_work
+rescued nbd
+run deadlock nbd.wq nbd.rescued.assign
+ends 'nbd: the kernel, with rescuers' 0 safe
+sed '/system_wq/s/^norescuer/wq/' nbd.assign >nbd.system.assign
+notes 'nbd: the kernel, with a rescuer of system_wq' nbd.wq nbd.system.assign nbd_dev_remove_work
 draws nbd 'plan of 5 workqueues, 4 waits in bold: items 8, workqueues 5, arrows 15, red 0, bold 4' nbd.wq
-draws 'nbd: the kernel' 'safe: items 8, workqueues 5, arrows 15, red 0, bold 0' nbd.wq nbd.assign
+draws 'nbd: the kernel' 'can hang, 4 waits in red, 4 to no rescuer: items 8, workqueues 5, arrows 15, red 4, bold 0' nbd.wq nbd.assign
+draws 'nbd: the kernel, with rescuers' 'safe: items 8, workqueues 5, arrows 15, red 0, bold 0' nbd.wq nbd.rescued.assign
 { cat nbd.wq && echo 'flush blk_mq_timeout_work blk_mq_run_work_fn'; } >nbd.alarm.wq
-hangs 'nbd: the kernel, with a line for what runs already' nbd.alarm.wq nbd.assign
+hangs 'nbd: the kernel, with rescuers, with a line for what runs already' nbd.alarm.wq nbd.rescued.assign
 
-# bcache: six workqueues, safe; three are enough. With what is moved, or the journal, on the workqueue of the requests it hangs.
+# bcache: six workqueues, safe, though one has no rescuer; three are enough. With what is moved, or the journal, on the workqueue of the requests it hangs.
 # Where no bucket is left for the btree, what is moved waits for itself.
 counts bcache 17 30 17 6
 answers bcache 'plan 3' bch_data_insert_start.io bch_data_insert_keys.gc journal_write
 without_cancel bcache 3
 plan_is_least bcache
-run deadlock bcache.wq bcache.assign
-ends 'bcache: the kernel' 0 safe
-hangs 'bcache: what is moved among the requests' bcache.wq bcache.merged.assign 39
-sed -e '/^wq 2/d' -e 's/^wq 0/& journal_write journal_discard_work/' -e 's/^wq 3/wq 2/' -e 's/^wq 4/wq 3/' -e 's/^wq 5/wq 4/' \
+notes 'bcache: the kernel' bcache.wq bcache.assign journal_write_work
+rescued bcache
+run deadlock bcache.wq bcache.rescued.assign
+ends 'bcache: the kernel, with rescuers' 0 safe
+hangs 'bcache: what is moved among the requests' bcache.wq bcache.merged.assign 37
+sed -e '/^wq 2/d' -e 's/^wq 0/& journal_write journal_discard_work/' -e 's/^norescuer 3/norescuer 2/' -e 's/^wq 4/wq 3/' -e 's/^wq 5/wq 4/' \
     bcache.assign >bcache.onejournal.assign
 hangs 'bcache: the journal among the requests' bcache.wq bcache.onejournal.assign
 draws bcache 'plan of 3 workqueues, 2 waits in bold: items 17, workqueues 3, arrows 30, red 0, bold 2' bcache.wq
@@ -327,6 +435,14 @@ done <<'end'
 4 nvme-auth nvme-auth
 4 md md
 3 xfs.full xfs
+4 xfs xfs
+4 xfs.down xfs
+4 xfs.list xfs.list
+4 xfs.writer xfs.writer
+4 nbd nbd
+4 rbd rbd
+4 nvme-auth.module nvme-auth.module
+4 nfs nfs
 4 bcache bcache.merged
 4 bcache bcache.onejournal
 3 bcache.full bcache
@@ -338,12 +454,13 @@ done
 run hang nvme-auth.wq nvme-auth.later.assign
 ends 'nvme-auth: a later kernel: hang' 0 safe
 
-# The tests of want of memory have the largest declaration and its workqueues, byte for byte.
+# The tests of want of memory have the largest declaration, byte for byte, and its workqueues, as if each had a rescuer.
 cases=$(<"$root/crates/test_cases/src/largest.rt")
 largest=$(basename -- "$(ls -S -- "$examples"/*.wq | head -n 1)" .wq)
-for file in "$largest.wq" "$largest.assign"; do
-    [[ $cases == *"$(<"$examples/$file")"* ]] && found=yes || found=no
-    is "$file in test_cases" yes "$found"
-done
+[[ $cases == *"$(<"$examples/$largest.wq")"* ]] && found=yes || found=no
+is "$largest.wq in test_cases" yes "$found"
+rescued "$largest"
+is "$largest.assign in test_cases" "$(sed -n 's/ *#.*//; /^wq/p' "$largest.rescued.assign")" \
+    "$(sed -n '/const LARGEST_LANES/,/^"/{s/ *#.*//; /^wq/p}' "$root/crates/test_cases/src/largest.rt")"
 
 counts_of examples

@@ -6,7 +6,8 @@
 KERNEL is the folder of a kernel's sources. Without one, those in the variable KERNEL are taken, with `:` between them,
 or else Debian's /usr/src/linux-source-6.1.tar.xz, if it is there, or else what tests/source/linux_tree.sh has fetched or
 can fetch. In a kernel whose version is that of a file's `# Sources:` line each cited line must stand in the cited
-function. What couldn't be looked up, as there is no such kernel, is said at the end.
+function, and that of a `wq` or `norescuer` line must make a workqueue with or without WQ_MEM_RECLAIM. What couldn't be
+looked up, as there is no such kernel, is said at the end.
 
 The form is checked without a kernel. First of all, texts with mistakes must be found faulty.
 """
@@ -26,6 +27,9 @@ PLACE = re.compile(r"(?<![\w./-])([\w./-]+\.[ch]):(\d+) ([A-Za-z_]\w*)")
 LEFT_OVER = re.compile(r"[\w./-]+\.[chS]:\S*|(?<![\w.])\d{3,}(?![\w.])")
 KINDS = {"flush": ("flush", "done", "cancel"), "flushwq": ("flushwq",)}
 QUEUED = re.compile(r"queued to \w[\w-]* at ")
+WORKQUEUES = ("wq", "norescuer")
+# A call that makes a workqueue. Those of the older macros have WQ_MEM_RECLAIM (include/linux/workqueue.h).
+MAKES = re.compile(r"[^;]*?\b(alloc_workqueue|alloc_ordered_workqueue|create_\w*workqueue)\s*\(([^;]*)\);")
 
 
 class Places:
@@ -34,6 +38,7 @@ class Places:
     def __init__(self, name, text):
         self.name, self.version, self.folders = name, None, []
         self.found, self.wrong = [], []
+        self.made = []  # the places that make the workqueues of a kernel's assignment, each with the first word of its line
         lines = text.splitlines()
         self.is_kernels = not lines[0].startswith("# Not in ")
         for number, line in enumerate(lines, 1):
@@ -55,6 +60,8 @@ class Places:
         words, _, comment = line.partition("#")
         places = [(where, place[1], int(place[2]), place[3]) for place in PLACE.finditer(comment)]
         self.found += places
+        if places and self.is_kernels and words.startswith(WORKQUEUES):
+            self.made.append((places[0], words.split()[0]))
         for left in LEFT_OVER.findall(PLACE.sub("", comment)):
             self.wrong.append(f"{where}: `{left}` isn't FILE:LINE FUNCTION")
         wanted = self.wanted((words.split() or [""])[0], comment.strip())
@@ -71,7 +78,7 @@ class Places:
             queued = QUEUED.search(comment)
             if not queued or not PLACE.match(comment, queued.end()):
                 return "the comment doesn't say `queued to WORKQUEUE at` and a place"
-        elif directive == "wq" and self.is_kernels and not PLACE.search(comment):
+        elif directive in WORKQUEUES and self.is_kernels and not PLACE.search(comment):
             return "the comment has no place that makes the workqueue"
         return None
 
@@ -86,11 +93,23 @@ class Tree:
         numbers = dict(re.findall(r"^(VERSION|PATCHLEVEL|SUBLEVEL) *= *(\d+)$", makefile, re.M))
         self.version = ".".join(numbers[part] for part in ("VERSION", "PATCHLEVEL", "SUBLEVEL"))
 
+    def path(self, folders, name):
+        """The file of this name, or None."""
+        paths = [self.folder / folder / name for folder in folders] + [self.folder / name]
+        return next((path for path in paths if path.is_file()), None)
+
+    def wrong_maker(self, folders, place, word):
+        """Why a place doesn't make the workqueue of a line that begins with this word."""
+        where, name, line, _ = place
+        path = self.path(folders, name)
+        lines = path.read_text(errors="replace").splitlines()[line - 1:] if path else []
+        made = made_by("\n".join(lines))
+        return None if made == word else f"{where}: line {line} of {name} makes {f'a workqueue of a `{made}` line' if made else 'no workqueue'}"
+
     def wrong(self, folders, place):
         """Why a place isn't there."""
         where, name, line, function = place
-        paths = [self.folder / folder / name for folder in folders] + [self.folder / name]
-        path = next((path for path in paths if path.is_file()), None)
+        path = self.path(folders, name)
         if path is None:
             return f"{where}: Linux {self.version} has no {name}"
         if path not in self.functions:
@@ -100,6 +119,14 @@ class Tree:
             stands = ", ".join(f"lines {first} to {last}" for first, last in spans) or "nowhere"
             return f"{where}: line {line} of {name} isn't in {function}, which stands at {stands}"
         return None
+
+
+def made_by(text):
+    """The first word of the line of the workqueue that this C text begins by making, or None."""
+    call = MAKES.match(text)
+    if call is None:
+        return None
+    return "wq" if call[1].startswith("create_") or "WQ_MEM_RECLAIM" in call[2] else "norescuer"
 
 
 def functions_of(lines):
@@ -131,6 +158,7 @@ FORMS = [
     (HEAD + "wq 0 a  # made at a.c:2 f\n", ""),
     ("# Not in 6.1: x\nwq 0 a\n", ""),
     (HEAD + "wq 0 a  # made\n", "no place that makes the workqueue"),
+    (HEAD + "norescuer 0 a  # made\n", "no place that makes the workqueue"),
     ("# x\n" + ITEM, "no line `# Sources:"),
     (HEAD + HEAD, "a second `# Sources:` line"),
     ("# Sources: 6.1.192\n", "not `# Sources:"),
@@ -160,6 +188,14 @@ int __init g(void)
 {
 }
 """
+MADE = [
+    ('\ta->wq = alloc_workqueue("x/%s",\n\t\tF(A | WQ_MEM_RECLAIM), 0,\n\t\tid);\n', "wq"),
+    ('\ta->wq = alloc_workqueue("x", F(WQ_UNBOUND),\n\t\t0);\n\tb = alloc_workqueue("y", WQ_MEM_RECLAIM, 0);\n', "norescuer"),
+    ('\ta = alloc_ordered_workqueue("x", 0);\n', "norescuer"),
+    ('\ta = create_singlethread_workqueue("x");\n', "wq"),
+    ('\tif (!a)\n\t\treturn;\n\tb = alloc_workqueue("y", 0, 0);\n', None),
+    ("", None),
+]
 LINES = range(1, len(C.splitlines()) + 1)
 IN_FUNCTION = {("f", line): 1 <= line <= 8 for line in LINES} | {("g", line): 11 <= line <= 13 for line in LINES}
 
@@ -170,6 +206,9 @@ def planted():
         said = "; ".join(Places("x", text).wrong)
         if wanted not in said or bool(wanted) != bool(said):
             yield f"of {text!r} is said: {said or 'nothing'}"
+    for text, wanted in MADE:
+        if made_by(text) != wanted:
+            yield f"{text!r} is said to make {made_by(text)}"
     functions = functions_of(C.splitlines())
     for (name, line), wanted in IN_FUNCTION.items():
         if any(first <= line <= last for first, last in functions[name]) != wanted:
@@ -204,7 +243,7 @@ def main():
     cited = sum(len(text.found) for text in texts)
     if not cited:
         wrong.append("examples/ cites nothing")
-    passed = len(FORMS) + len(IN_FUNCTION) + sum(not text.wrong for text in texts)
+    passed = len(FORMS) + len(MADE) + len(IN_FUNCTION) + sum(not text.wrong for text in texts)
 
     with tempfile.TemporaryDirectory() as into:
         kernels = sys.argv[1:] or [name for name in os.environ.get("KERNEL", "").split(":") if name]
@@ -222,10 +261,10 @@ def main():
             if tree is None:
                 skipped[text.version] = skipped.get(text.version, 0) + len(text.found)
                 continue
-            for place in text.found:
-                said = tree.wrong(text.folders, place)
-                passed += said is None
-                wrong += [said] if said else []
+            looked_up = [tree.wrong(text.folders, place) for place in text.found]
+            looked_up += [tree.wrong_maker(text.folders, *made) for made in text.made]
+            passed += looked_up.count(None)
+            wrong += filter(None, looked_up)
     for what in wrong:
         print(f"FAILED  {what}")
     for version, count in skipped.items():

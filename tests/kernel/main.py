@@ -5,16 +5,17 @@ README.md says how.
 
 On Linux 6.1, with one CPU, while no worker can be created: all examples under their assignments and plans; the worked
 rows of `deadlock` (tests/cli/rows/deadlocks.py), with the answers that stand there; random declarations under their
-plans and under unsafe assignments; and random runs, driven. Then random declarations with memory enough, and safe
-ones on two CPUs. On Linux 6.12 fewer of these. On both the situations of kernel/cases. Each wrong machine of
-mutants.py must be refused by something that 6.1 did; and what is no shortage, or not the right one, must not pass for
-one.
+plans and under unsafe assignments; random runs, driven; and both with workqueues without a rescuer. Then random
+declarations with memory enough, and safe ones on two CPUs. On Linux 6.12 fewer of these. On both the situations of
+kernel/cases. Each wrong machine of mutants.py must be refused by something that 6.1 did; and so must what is no
+shortage, or not the right one, and a kernel and an answer in which each workqueue has a rescuer.
 
 Where QEMU or a kernel can't be had, it says so, and skips what needs it: that is no failure. It takes some two
 minutes of processor time once the cache of kernel/ has what it needs.
 """
 
 import copy
+import dataclasses
 import os
 import pathlib
 import random
@@ -60,13 +61,19 @@ def declaration_of(path):
 
 
 def example_cases(choose, letters):
-    """All examples: each assignment of a declaration, and its plan, with the printed run, and in 3 or 4 orders."""
+    """All examples: each assignment of a declaration, and its plan, with the printed run, and in 3 or 4 orders. An
+    assignment in which workqueues have no rescuer is tried as if they had one, too.
+    """
     examples = ROOT / "examples"
     for path in sorted(examples.rglob("*.assign")):
         name = path.name.split(".")[0]
         places = path.with_name(f"{name}.wq"), path.parent / f"{path.parent.name}.wq"
         declaration = next(place for place in places if place.exists())
-        yield from program.Asked(f"{path.name}: ", [declaration, path], letters, choose).cases(3)
+        asked = program.Asked(f"{path.name}: ", [declaration, path], letters, choose)
+        yield from asked.cases(3)
+        if asked.assignment.bare:
+            texts = [declaration, re.sub(rb"^norescuer", b"wq", asked.texts[1], flags=re.MULTILINE)]
+            yield from program.Asked(f"{path.name}, with rescuers: ", texts, letters, choose).cases(1)
     for path in sorted(examples.rglob("*.wq")):
         declaration = declaration_of(path)
         plan = program.plan_of(declaration)
@@ -97,6 +104,27 @@ def unsafe_assignment(choose, text, name, letters):
     return None
 
 
+def bare_assignments(choose, text, name, letters):
+    """A safe random assignment and one that isn't, where they are found. In each a workqueue has no rescuer."""
+    declared = model.read_declaration(text)
+    found = {}
+    for _ in range(10):
+        assignment = random_cases.assignment_text(choose, declared, random_cases.WITHOUT_RESCUER)
+        # (the model says which of them to take)
+        hangs = bool(model.deadlocking_run(declared, model.read_assignment(assignment, declared)))
+        if b"norescuer" in assignment and hangs not in found:
+            found[hangs] = program.Asked(name, [text, assignment], letters, choose)
+    return list(found.values())
+
+
+def bare_sets(choose, count, letters, weather="short"):
+    """Random declarations on workqueues of which some have no rescuer: in 2 orders, and driven by the printed run."""
+    for number in range(count):
+        text = random_cases.declaration_text(choose)
+        for asked in bare_assignments(choose, text, f"without a rescuer {number}: ", letters):
+            yield from asked.cases(1, 1, weather)
+
+
 def random_sets(choose, count, letters, weather="short"):
     """Random declarations: the plan in 3 orders, and an unsafe assignment, driven by the printed run, and free."""
     for number in range(count):
@@ -109,11 +137,11 @@ def random_sets(choose, count, letters, weather="short"):
             yield from asked.cases(1, 1, weather)
 
 
-def random_runs(choose, count, letters):
+def random_runs(choose, count, letters, without_rescuer=0):
     """Random runs, with queueings of items that run, and any waits."""
     for number in range(count):
         text = random_cases.declaration_text(choose, 5, 8)
-        assignment = random_cases.assignment_text(choose, model.read_declaration(text))
+        assignment = random_cases.assignment_text(choose, model.read_declaration(text), without_rescuer)
         asked = program.Asked(f"random run {number}: ", [text, assignment], letters, choose)
         steps = random_cases.run_steps(choose, asked.declaration, asked.assignment, choose.randint(8, 40))
         case = asked.driven_case("driven", steps)
@@ -137,17 +165,26 @@ def safe_cases(choose, count, letters, cpus):
             yield from program.Asked(f"two CPUs, {number}: ", [text, plan], letters, choose).free_cases(0, cpus)
 
 
+def bare_safe_cases(choose, count, letters, cpus):
+    """The same of safe assignments in which a workqueue has no rescuer."""
+    for number in range(count):
+        text = random_cases.declaration_text(choose)
+        for asked in bare_assignments(choose, text, f"two CPUs, without a rescuer {number}: ", letters):
+            if asked.is_safe:
+                yield from asked.free_cases(0, cpus)
+
+
 # The kernels --------------------------------------------------------------------------------------
 
 
-def judged(kernel, sets, cpus=1, weather="short"):
+def judged(kernel, sets, cpus=1, weather="short", beside=lambda made: []):
     """Has a kernel run sets of cases, by what they are, and counts of each whether it does what model and program say.
 
-    All cases are handed back.
+    All cases are handed back. Those that `beside` makes of them are run in the same guests; nothing is said of them.
     """
     sets = {what: list(made) for what, made in sets.items()}
     made = [case for part in sets.values() for case in part]
-    cases.run(kernel, made, cpus, weather)
+    cases.run(kernel, made + beside(made), cpus, weather)
     for what, part in sets.items():
         wrong = [(case, why) for case in part if (why := case.judge())]
         for case, why in wrong[:10]:
@@ -193,16 +230,51 @@ def try_self_check(kernel, made):
         tell("somebody else" in case.judge(), f"this doesn't pass in a shortage: {case.name}", case.judge())
 
 
+class Rescued(cases.Setting):
+    """Each workqueue is made with a rescuer, whatever the assignment says."""
+
+    def commands(self):
+        return (re.sub(r"^(wq \S+) 0", r"\1 1", line) for line in super().commands())
+
+
+def wants_rescuer(case):
+    """Whether it hangs, and wouldn't if each workqueue had a rescuer."""
+    declaration, assignment = case.setting.declaration, case.setting.assignment
+    rescued = dataclasses.replace(assignment, bare=frozenset())
+    return bool(assignment.bare) and bool(model.deadlocking_run(declaration, assignment)) and not model.deadlocking_run(
+        declaration, rescued)
+
+
+def with_rescuers(made):
+    """Some cases that hang for want of a rescuer, for a kernel in which each workqueue has one."""
+    found = [copy.copy(case) for case in made if wants_rescuer(case)][:30]
+    for case in found:
+        case.setting = Rescued(case.setting.declaration, case.setting.assignment, case.setting.kinds)
+        case.must = None
+    return found
+
+
+def try_without_rescuers(made, rescued):
+    """Of cases that hang for want of a rescuer neither `safe` passes, nor a kernel that has one for each workqueue."""
+    made = [copy.copy(case) for case in made if case.weather == "short" and wants_rescuer(case) and not case.ended()]
+    for case in made:
+        case.must = "end"
+    taken = [case.name for case in made if "must end" not in case.judge()]
+    told = f"{len(made)} cases that hang for want of a rescuer, such as {made[0].name if made else 'none'}"
+    tell(made and not taken, f"`safe` is refused of {told}", taken)
+    taken = [case.name for case in rescued if not case.judge()]
+    tell(rescued and not taken, f"a kernel that has rescuers for all is refused in {len(rescued)} cases", taken)
+
+
 def try_command(series):
     """kernel/judge: its statuses, and its last line."""
     examples = ROOT / "examples"
-    xfs = (examples / "xfs.assign").read_text()
-    without = ",".join(re.findall(r"^wq (\d+) .*no WQ_MEM_RECLAIM", xfs, re.MULTILINE))
-    page = (ROOT / "kernel" / "README.md").read_text()
-    tell(f"--no-rescuer {without}`" in page, f"kernel/README.md names the workqueues of xfs without a rescuer: {without}")
     cancelled = {
         "d.wq": "item a\nitem b\nflush a b\n",
         "d.assign": "wq 0 a b\n",
+        "bare.assign": "wq 0 a\nnorescuer 1 b\n",
+        "bare.run": "run 2\nqueue b\nstart 1 b\n",
+        "safe.assign": "norescuer 0 a\nwq 1 b\n",
         "d.run": "run 5\nqueue a\nstart 0 a\nqueue b\nwait 0 b\ncancel b\n",
         "bad.run": "run 1\nstart 0 a\n",
         "many.wq": "".join(f"item i{number}\n" for number in range(257)),
@@ -214,13 +286,14 @@ def try_command(series):
         for name, text in cancelled.items():
             pathlib.Path(folder, name).write_text(text)
         for status, last, words in (
-            (0, "nothing hangs", [examples / "rdisk/rdisk.wq", examples / "rdisk/rdisk.plan", "--orders", "1"]),
-            (1, "hangs", [examples / "xfs.wq", examples / "xfs.assign", "--orders", "0", "--no-rescuer", without]),
+            (0, "nothing hangs", ["d.wq", "safe.assign", "--orders", "1"]),
+            (1, "hangs", [examples / "xfs.wq", examples / "xfs.assign", "--orders", "0"]),
             (2, "not lawful 1", ["d.wq", "d.assign", "bad.run"]),
             (2, "refused 41 line 0", ["d.wq", "/dev/null"]),
             (2, "", ["many.wq", "many.assign"]),
             (2, "", ["waits.wq", "waits.assign"]),
-            (2, "", ["d.wq", "d.assign", "--no-rescuer", "-1"]),
+            (2, "", ["d.wq", "bare.assign", "bare.run"]),
+            (2, "", ["d.wq", "d.assign", "--orders", "-1"]),
             (3, "", ["d.wq", "nothing.there"]),
             (3, "", ["d.wq", "d.assign", "--keep-log", "nothing/there"]),
             # The known difference: the model lets the flush of a cancelled entry go at once.
@@ -266,20 +339,31 @@ def main(arguments):
         return 0
     kernel = guest.kernel_of("6.1")
     # Each has random numbers of its own: the random cases stay the same if an example or a row comes to it.
-    examples, rows, sets, runs, plenty, two, later = (random.Random(f"kernel {number}") for number in range(7))
+    examples, rows, sets, runs, plenty, two, later, bare = (random.Random(f"kernel {number}") for number in range(8))
     sets = {
         "the examples": example_cases(examples, letters["mixed"]),
         "the worked rows": row_cases(rows, letters["per-cpu"]),
         "random declarations": random_sets(sets, 40, letters["mixed"]),
         "random runs": random_runs(runs, 40, letters["mixed"]),
+        "without rescuers": bare_sets(bare, 20, letters["mixed"]),
+        "random runs without rescuers": random_runs(bare, 20, letters["mixed"], random_cases.WITHOUT_RESCUER),
     }
-    made = judged(kernel, sets)
-    sets = {"with memory enough": random_sets(plenty, 12, letters["mixed"], "plenty")}
+    rescued = []
+    made = judged(kernel, sets, beside=lambda made: rescued.extend(with_rescuers(made)) or rescued)
+    sets = {
+        "with memory enough": random_sets(plenty, 12, letters["mixed"], "plenty"),
+        "with memory enough, without rescuers": bare_sets(bare, 6, letters["mixed"], "plenty"),
+    }
     made += judged(kernel, sets, weather="plenty")
-    judged(kernel, {"two CPUs": safe_cases(two, 20, letters["mixed"], 2)}, cpus=2)
+    sets = {
+        "two CPUs": safe_cases(two, 20, letters["mixed"], 2),
+        "two CPUs, without rescuers": bare_safe_cases(bare, 10, letters["mixed"], 2),
+    }
+    judged(kernel, sets, cpus=2)
     compare_mutants(made)
     try_pinned(kernel)
     try_self_check(kernel, made)
+    try_without_rescuers(made, rescued)
     try_command("6.1")
     why = missing("6.12")
     if why:
@@ -290,6 +374,8 @@ def main(arguments):
             "the examples": example_cases(later, letters["mixed"]),
             "random declarations": random_sets(later, 15, letters["mixed"]),
             "random runs": random_runs(later, 15, letters["mixed"]),
+            "without rescuers": bare_sets(bare, 10, letters["mixed"]),
+            "random runs without rescuers": random_runs(bare, 10, letters["mixed"], random_cases.WITHOUT_RESCUER),
         }
         judged(kernel, sets)
         try_pinned(kernel)

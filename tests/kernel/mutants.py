@@ -84,6 +84,21 @@ class OrderedIsNot(State):
         return [(workqueue, helper) for helper in range(1 + self.helpers)]
 
 
+class EachHasARescuer(State):
+    """Each workqueue has a rescuer, whatever its line says."""
+
+    def __init__(self, *words):
+        super().__init__(*words)
+        self.bare = frozenset()
+
+
+class NobodyWaitsForWhatHasNoRescuer(State):
+    """Waits for what is on a workqueue without a rescuer are over at once."""
+
+    def waited_for(self, word, target):
+        return [] if self.workqueue_of[target] in self.bare else super().waited_for(word, target)
+
+
 MUTANTS = (
     LastInFirstOut,
     FlushReturnsAtOnce,
@@ -94,4 +109,6 @@ MUTANTS = (
     FlushwqWaitsForItsItem,
     FlushwqIgnoresItsCaller,
     OrderedIsNot,
+    EachHasARescuer,
+    NobodyWaitsForWhatHasNoRescuer,
 )

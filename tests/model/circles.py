@@ -1,7 +1,7 @@
 """A model of `wqplan circles DECL [ASSIGN]`.
 
-It prints all flushes that lie on a circle or lead to no rescuer, as docs/FORMAT.md asks for in "The command `circles`". It
-looks, workqueue by workqueue, which others it leads to and which lead to it. See plan.py for what the model is.
+It prints all flushes that lie on a circle or lead to no rescuer, as docs/FORMAT.md asks for in "The command `circles`".
+It looks, workqueue by workqueue, which others it leads to and which lead to it. See plan.py for what the model is.
 """
 
 import sys
@@ -22,7 +22,7 @@ def own_workqueues(declared):
 
 
 def waiting(declared, assignment):
-    """For each workqueue those that it waits for, and for each those that wait for it. Those without a rescuer are in none."""
+    """For each workqueue those that it waits for, and for each those that wait for it. All of them have a rescuer."""
     waits_for = [set() for _ in range(assignment.count)]
     waited_by = [set() for _ in range(assignment.count)]
     for item, target in declared.flushes:

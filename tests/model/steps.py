@@ -156,8 +156,9 @@ class State:
                     yield step, helper
 
     def forced_steps(self):
-        """Each step that may be made, with its context, but `queue`, `cancel`, the `start` of a helper, and each `start` on a
-        workqueue without a rescuer.
+        """Each step that may be made, with its helper or RESCUER.
+
+        Left out are `queue`, `cancel`, the `start` of a helper, and each `start` on a workqueue without a rescuer.
         """
         for step in self.rescuer_steps():
             word, workqueue, _ = step

@@ -1,4 +1,4 @@
-//! The largest declaration of examples/, byte for byte that of examples/xfs.wq and examples/xfs.assign, as tests/cli/examples.sh tests.
+//! The largest declaration of examples/, byte for byte that of examples/xfs.wq, and its workqueues, as tests/cli/examples.sh tests.
 
 /// examples/xfs.wq.
 pub const LARGEST: &str = "\
@@ -126,7 +126,7 @@ flush xlog_cil_push_work xlog_ioend_work             # done xfs_log.c:890 xlog_w
 # no wait: truncate.c truncate_inode_pages_range folio_lock(folio): the same
 ";
 
-/// examples/xfs.assign.
+/// The workqueues of examples/xfs.assign, as if each had a rescuer.
 pub const LARGEST_LANES: &str = "\
 # XFS and writeback as Linux 6.1.192 has them: twelve workqueues.
 # Sources: Linux 6.1.192, fs/xfs

@@ -1,0 +1,74 @@
+# For kernel/driver: an NFS mount ends while a delegation is on its way back (examples/nfs.md). The guest mounts its own
+# export twice. While no worker can be created, a process closes a file of /mnt, so that its delegation is returned, and
+# unmounts /mnt before the answer is there. So the answer ends the mount, which has other delegations. Then a process
+# writes to the other mount, and calls fsync.
+#
+#     kernel/driver kernel/drivers/nfs.sh nfsv4 nfsd
+#
+# With --patch kernel/drivers/nfs.patch, nfsiod ends the mount, and nothing hangs. nfs-dirty.sh is the same where the
+# mount has an inode that was written to.
+
+files="0 1 2 3"
+$busybox ifconfig lo 127.0.0.1
+$busybox mkdir /export /mnt /other /nfsd
+$busybox mount -t tmpfs export /export
+for file in $files; do echo hello >/export/$file; done
+
+# The server, without the programs that go with it: what the client's address and the export are is written into the
+# caches that mountd fills (flags 9218: fsid, no_subtree_check, insecure).
+$busybox mount -t nfsd nfsd /nfsd
+echo 10 >/nfsd/nfsv4gracetime
+echo '-3 +4 +4.1' >/nfsd/versions
+echo 'tcp 2049' >/nfsd/portlist
+echo 4 >/nfsd/threads
+echo 'nfsd 127.0.0.1 2147483647 here' >/proc/net/rpc/auth.unix.ip/channel
+echo 'here /export 2147483647 9218 65534 65534 0' >/proc/net/rpc/nfsd.export/channel
+echo 'here 1 \x00000000 2147483647 /export' >/proc/net/rpc/nfsd.fh/channel
+wait_for 15 # the grace period, in which the server gives no delegation
+
+options=vers=4.1,addr=127.0.0.1,clientaddr=127.0.0.1
+$busybox mount -t nfs4 -o $options 127.0.0.1:/ /mnt
+$busybox mount -t nfs4 -o $options,nosharecache 127.0.0.1:/ /other
+for file in $files; do $busybox cat /mnt/$file >/dev/null; done
+echo "what the server has given to /mnt:"
+$busybox cat /nfsd/clients/*/states
+# From now on each delegation is returned when its file is closed, as if there were too many (5000).
+echo 0 >/sys/module/nfsv4/parameters/delegation_watermark
+
+# Processes that begin when somebody opens /go or /go.other, since none can be made later.
+$busybox mkfifo /go /go.other
+(
+    exec 9</mnt/0 8>/mnt/new
+    read -r nothing </go
+    [ "$dirty" ] && echo hello >&8
+    exec 8>&- 9<&-
+    exec $busybox umount /mnt
+) &
+umount=$!
+(
+    exec 8>/other/new
+    read -r nothing </go.other
+    exec $busybox dd if=/init bs=1 count=1 conv=fsync >&8 2>/dev/null
+) &
+fsync=$!
+
+# tell WHAT PID: whether this process is over.
+tell() {
+    if ended "$2"; then echo "$1: returned"; else echo "$1: HANGS"; fi
+}
+
+wait_for 2
+short
+exec 7>/go 7>&-
+wait_for 5
+tell "umount" $umount
+exec 7>/go.other 7>&-
+wait_for 20
+echo "while no worker can be created:"
+tell "fsync of another mount" $fsync
+stacks 'rpciod*' 'kworker/R-rpcio*' 'nfsiod*' 'kworker/R-nfsio*' 'writeback*' 'kworker/R-write*' busybox
+plenty
+wait_for 20
+echo "with memory again:"
+tell "fsync of another mount" $fsync
+stacks busybox

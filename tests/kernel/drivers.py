@@ -1,0 +1,129 @@
+#!/usr/bin/env python3
+"""Do real drivers hang in a real kernel as the pages of examples/ say? By kernel/driver and its scripts.
+
+    drivers.py [--patched]
+
+On Linux 6.1, unchanged: an NFS mount that ends while a delegation is on its way back (examples/nfs.md), and md on md
+(examples/md.md). While no worker can be created both must hang, and the rescuer must sleep where the page says. It
+takes half a minute of processor time.
+
+With --patched also what the pages say of patched drivers, and NFS on 6.12: that takes some ten minutes more the first
+time, and downloads the sources of two kernels, some 290 MB.
+
+A later kernel that doesn't hang fails this test: then the pages have to say so.
+
+Where QEMU or a kernel can't be had, it says so, and skips what needs it: that is no failure.
+"""
+
+import pathlib
+import re
+import sys
+
+sys.dont_write_bytecode = True
+ROOT = pathlib.Path(__file__).resolve().parents[2]
+sys.path.append(str(ROOT / "tests/lib"))
+from programs import counts_of, run  # noqa: E402  (in tests/lib)
+
+SCRIPTS = ROOT / "kernel/drivers"
+SECONDS = 3600
+MISSING = 3
+counts = {True: 0, False: 0}
+
+NFS = "nfs.sh"
+ENDS_A_MOUNT = "generic_shutdown_super", "nfs_kill_super", "deactivate_locked_super", "nfs4_delegreturn_release"
+ON_RPCIOD = "rpc_wait_bit_killable", "_nfs4_proc_delegreturn", "evict_inodes", *ENDS_A_MOUNT, "rpc_async_schedule"
+IN_SYNC = "wb_wait_for_completion", "sync_filesystem", *ENDS_A_MOUNT
+ON_MD = "md_flush_request", "raid1_make_request", "submit_flushes"
+
+
+class Run:
+    """One guest: its script, the flags of kernel/driver, and what must be so while no worker can be created: how much
+    hangs, and where the rescuer sleeps, as functions of its stack in their order. `stays`: so it is with memory again.
+    """
+
+    def __init__(self, script, *flags, hung=0, rescuer=None, frames=(), stays=False):
+        self.script, self.flags, self.hung, self.rescuer, self.frames = script, flags, hung, rescuer, frames
+        self.stays = stays
+
+    def words(self):
+        """The command that the script's head has, with the flags."""
+        text = (SCRIPTS / self.script.replace("-dirty", "")).read_text()
+        modules = re.search(r"^# +kernel/driver kernel/drivers/\S+ (.+)$", text, re.MULTILINE)[1].split()
+        return [ROOT / "kernel/driver", *self.flags, SCRIPTS / self.script, *modules]
+
+
+UNCHANGED = [
+    Run(NFS, hung=1, rescuer="rpciod", frames=ON_RPCIOD),
+    Run("md.sh", hung=4, rescuer="md", frames=ON_MD, stays=True),
+]
+WITH_NFS = "--patch", SCRIPTS / "nfs.patch"
+WITH_DIRTY = "nfs-dirty.sh", "--file", SCRIPTS / NFS
+PATCHED = [
+    Run(*WITH_DIRTY, hung=1, rescuer="rpciod", frames=(*IN_SYNC, "rpc_async_schedule")),
+    Run(NFS, *WITH_NFS),
+    Run(*WITH_DIRTY, *WITH_NFS, hung=1, rescuer="nfsiod", frames=(*IN_SYNC, "rpc_async_release")),
+    Run(NFS, "--patch", SCRIPTS / "nfs-own.patch"),
+    Run(*WITH_DIRTY, "--patch", SCRIPTS / "nfs-own.patch"),
+    Run("md.sh", "--patch", SCRIPTS / "md.patch"),
+    Run(NFS, "--kernel", "6.12", hung=1, rescuer="kworker/R-rpciod", frames=ON_RPCIOD),
+    Run(NFS, "--kernel", "6.12", *WITH_NFS),
+]
+
+
+def tell(passed, name, why=""):
+    """Counts one that passed or failed."""
+    counts[bool(passed)] += 1
+    print(f"{'ok     ' if passed else 'FAILED '} {name}{f': {why}' if not passed and why else ''}", flush=True)
+
+
+def parts_of(console):
+    """What the script said while no worker could be created, and what it said with memory again."""
+    return re.split(r"^(?:while no worker can be created|with memory again):\n", console, flags=re.MULTILINE)[1:]
+
+
+def hanging(part):
+    """What hangs, as the script says, or None where it says nothing."""
+    said = re.findall(r"^(.+): (HANGS?|returned|go on)$", part, re.MULTILINE)
+    return [what for what, how in said if how.startswith("HANG")] if said else None
+
+
+def stack_of(part, thread):
+    """The functions of a thread's stack, the innermost first. A rescuer's name goes on with what it executes."""
+    found = re.search(rf"^== {re.escape(thread)}(?:\+.*)?\n((?: +\[<0>\].*\n)*)", part, re.MULTILINE)
+    return re.findall(r"\] (\w+)", found[1]) if found else []
+
+
+def is_part_of(wanted, functions):
+    """Whether the wanted functions are among these, in their order."""
+    left = iter(functions)
+    return all(any(name == each for each in left) for name in wanted)
+
+
+def judge(asked, console):
+    """Counts what the console of a guest says."""
+    name = " ".join(str(word).replace(f"{ROOT}/", "") for word in [*asked.flags, asked.script])
+    parts = parts_of(console)
+    if len(parts) != 2:
+        tell(False, name, f"the guest didn't come to its end:\n{console[-2000:]}")
+        return
+    during, after = parts
+    hung = hanging(during)
+    tell(hung is not None and len(hung) == asked.hung, f"{name}: what hangs", f"{hung}")
+    if asked.rescuer:
+        stack = stack_of(during, asked.rescuer)
+        tell(is_part_of([*asked.frames, "rescuer_thread"], stack), f"{name}: where the rescuer sleeps", " ".join(stack))
+    tell(hanging(after) == (hung if asked.stays else []), f"{name}: with memory again", f"{hanging(after)}")
+
+
+def main(arguments):
+    for asked in UNCHANGED + (PATCHED if arguments == ["--patched"] else []):
+        ended = run(asked.words(), timeout=SECONDS, capture_output=True)
+        if ended.returncode == MISSING:
+            print(f"skipped drivers, {asked.script}: {ended.stderr.decode().strip()}")
+            continue
+        judge(asked, ended.stdout.decode("latin-1"))
+    return counts_of("drivers", counts[True], counts[False])
+
+
+if __name__ == "__main__":
+    sys.exit(main(sys.argv[1:]))
