@@ -90,16 +90,26 @@ IsLeastRound-best w numbers marks limit n least hops marked enough best = record
 pub no_round-best : (w : Wiring) (numbers : List ℕ) (marks : List Bool) (limit n least : ℕ) → AreMarked w numbers marks → items w ≤ n → IsBest w marks limit n least None → (hops : List Hop) → IsRound w hops → limit ≤ hops_cost hops
 no_round-best w numbers marks limit n least marked enough best hops round = omega (arith, best.found, all_rounds w numbers marks limit n least None marked enough best hops round)
 
--- the same of any kind of list
-pub IfSome-best : {V : Type 0} (hops : V → List Hop) (w : Wiring) (numbers : List ℕ) (marks : List Bool) (limit n least : ℕ) (found : Option V) → AreMarked w numbers marks → items w ≤ n → IsBest w marks limit n least (option_map hops found)
-    → IfSome found (λ v. IsLeastRound w limit (hops v))
-IfSome-best hops w numbers marks limit n least None marked enough best = tt
-IfSome-best hops w numbers marks limit n least (Some v) marked enough best = IsLeastRound-best w numbers marks limit n least (hops v) marked enough best
+-- the same where a round is held in some way
+pub IsBest-some : {V : Type 0} (found now : Option V) (v : V) (hops : V → List Hop) (w : Wiring) (marks : List Bool) (limit n least cost after : ℕ) → IsBest w marks limit n least (option_map hops found) → IsBetter w n least cost (hops v)
+    → after ≡ cost → now ≡ Some v → IsBest w marks limit (n + 1) after (option_map hops now)
+IsBest-some {V} found now v hops w marks limit n least cost after best better same is =
+    subst (λ (o : Option V). IsBest w marks limit (n + 1) after (option_map hops o)) (sym is) (subst (λ (k : ℕ). IsBest w marks limit (n + 1) k (Some (hops v))) (sym same) (IsBest-better w marks limit n least (option_map hops found) best cost (hops v) better))
 
-pub IfNone-best : {V : Type 0} (hops : V → List Hop) (w : Wiring) (numbers : List ℕ) (marks : List Bool) (limit n least : ℕ) (found : Option V) → AreMarked w numbers marks → items w ≤ n → IsBest w marks limit n least (option_map hops found)
+pub IsBest-kept : {V : Type 0} (found now : Option V) (hops : V → List Hop) (w : Wiring) (marks : List Bool) (limit n least after : ℕ) → IsBest w marks limit n least (option_map hops found) → IsNoBetter w marks n least
+    → after ≡ least → now ≡ found → IsBest w marks limit (n + 1) after (option_map hops now)
+IsBest-kept {V} found now hops w marks limit n least after best none same is =
+    subst (λ (o : Option V). IsBest w marks limit (n + 1) after (option_map hops o)) (sym is) (subst (λ (k : ℕ). IsBest w marks limit (n + 1) k (option_map hops found)) (sym same) (IsBest-same w marks limit n least (option_map hops found) best none))
+
+pub IfSome-best : {V : Type 0} (found : Option V) (hops : V → List Hop) (w : Wiring) (numbers : List ℕ) (marks : List Bool) (limit n least : ℕ) → AreMarked w numbers marks → items w ≤ n → IsBest w marks limit n least (option_map hops found)
+    → IfSome found (λ v. IsLeastRound w limit (hops v))
+IfSome-best None hops w numbers marks limit n least marked enough best = tt
+IfSome-best (Some v) hops w numbers marks limit n least marked enough best = IsLeastRound-best w numbers marks limit n least (hops v) marked enough best
+
+pub IfNone-best : {V : Type 0} (found : Option V) (hops : V → List Hop) (w : Wiring) (numbers : List ℕ) (marks : List Bool) (limit n least : ℕ) → AreMarked w numbers marks → items w ≤ n → IsBest w marks limit n least (option_map hops found)
     → IfNone found ((others : List Hop) → IsRound w others → limit ≤ hops_cost others)
-IfNone-best hops w numbers marks limit n least None marked enough best = no_round-best w numbers marks limit n least marked enough best
-IfNone-best hops w numbers marks limit n least (Some v) marked enough best = tt
+IfNone-best None hops w numbers marks limit n least marked enough best = no_round-best w numbers marks limit n least marked enough best
+IfNone-best (Some v) hops w numbers marks limit n least marked enough best = tt
 
 -- ---- the least walk
 
