@@ -1,6 +1,6 @@
 -- The best round so far, and the least walk in the end.
-use Rattle.std.proofs.Common.{◌≡◌, ◌≢◌, ℕ, ◌+◌, ◌*◌, ◌<◌, ◌≤◌, ◌⊎◌, inl, inr, Bool, true, false, List, [], ◌∷◌, length, Option, Some, None, refl, sym, ap, subst, ◌∙◌, arith}
-use Rattle.std.specs.Prelude.{Contains, flat_map, slice_index, slice_index_or, option_map, MatchOption, IfSome, IfNone}
+use Rattle.std.proofs.Common.{◌≡◌, ℕ, ◌+◌, ◌*◌, ◌<◌, ◌≤◌, inl, inr, Bool, true, false, List, [], ◌∷◌, length, Option, Some, None, refl, sym, ap, subst, ◌∙◌, arith}
+use Rattle.std.specs.Prelude.{flat_map, slice_index, slice_index_or, option_map, MatchOption, IfSome, IfNone}
 use Rattle.std.specs.List.{All}
 use Rattle.std.proofs.lemmas.List.Elements.{All-nil, All-cons}
 use Rattle.std.proofs.lemmas.Bool.{cases_eq, false≢true}
@@ -38,10 +38,14 @@ path_rescuer w i j (h ∷ hops) some path = (
 
 module _ (w : Wiring) (marks : List Bool) (limit n least : ℕ) (found : Option (List Hop)) (best : IsBest w marks limit n least found) where
   pub IsBest-same : IsNoBetter w marks n least → IsBest w marks limit (n + 1) least found
-  IsBest-same none = record { low = best.low; found = best.found; all = λ hops i some path marked less. elim (cases_eq i n) [
-    | inl same ↦ none (ap (λ (k : ℕ). slice_index_or marks (lane_of w k) false) (sym same) ∙ marked) hops some (subst (λ (k : ℕ). IsPath w k hops k) same path)
-    | inr other ↦ best.all hops i some path marked (omega arith)
-  ] }
+  IsBest-same none = record {
+    low = best.low;
+    found = best.found;
+    all = λ hops i some path marked less. elim (cases_eq i n) [
+      | inl same ↦ none (ap (λ (k : ℕ). slice_index_or marks (lane_of w k) false) (sym same) ∙ marked) hops some (subst (λ (k : ℕ). IsPath w k hops k) same path)
+      | inr other ↦ best.all hops i some path marked (omega arith)
+    ];
+  }
 
   pub IsBest-better : (cost : ℕ) (hops : List Hop) → IsBetter w n least cost hops → IsBest w marks limit (n + 1) cost (Some hops)
   IsBest-better cost hops better = record {

@@ -1,7 +1,7 @@
-use Rattle.std.proofs.Common.{◌≡◌, ◌≤◌, ◌<◌, ℕ, false, ap, ◌∙◌, sym, subst, arith, get_or}
+use Rattle.std.proofs.Common.{◌<◌, ℕ, false, ap, ◌∙◌, sym, subst, arith, get_or}
 use Rattle.std.specs.Prelude.{slice_index}
 use Rattle.std.proofs.lemmas.Bool.{false≢true}
-use Rattle.wq_core.specs.Wiring.{HasRescuer, lane_of}
+use Rattle.wq_core.specs.Wiring.{HasRescuer}
 use Rattle.wq_hang.specs.Search.{IsBetter}
 use Rattle.wq_hang.proofs.LeastFound.{IsNoBetter-bare, IsNoBetter-unmarked, IsNoBetter-searched, IsBetter-searched}
 use Rattle.wq_hang.proofs.least.better_round.Goals as goal

@@ -1,4 +1,4 @@
-use Rattle.std.proofs.Common.{◌≡◌, ◌≤◌, ℕ, Bool, List, sym, subst, ◌∙◌, arith}
+use Rattle.std.proofs.Common.{◌≤◌, ℕ, Bool, List, subst, arith}
 use Rattle.wq_core.specs.Wiring.{items}
 use Rattle.wq_hang.specs.Search.{IsBetter, IsNoBetter}
 use Rattle.wq_hang.proofs.LeastFound.{IsBest-none, IsBest-some, IsBest-kept, IfSome-best, IfNone-best}

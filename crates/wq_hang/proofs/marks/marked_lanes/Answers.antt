@@ -1,9 +1,7 @@
-use Rattle.std.proofs.Common.{◌≡◌, ◌<◌, ◌≤◌, ℕ, inl, inr, Bool, true, false, List, length, take, drop, get_or, sym, ap, subst, ◌∙◌, arith, take_at}
+use Rattle.std.proofs.Common.{◌≡◌, ◌≤◌, ℕ, inl, inr, Bool, true, false, List, length, drop, sym, ap, subst, ◌∙◌, arith, take_at}
 use Rattle.std.specs.Prelude.{Contains, slice_index, slice_index_or}
 use Rattle.std.proofs.lemmas.Bool.{cases_eq}
-use Rattle.wq_items.specs.declared.target.Target.{Target}
 use Rattle.wq_core.specs.Wiring.{lane_of, declared_by}
-use Rattle.wq_hang.specs.declared.hop.Hop.{Hop}
 use Rattle.wq_hang.proofs.marks.marked_lanes.Goals as goal
 
 pub loop-i-preserved : goal.loop-i-preserved
