@@ -1,12 +1,9 @@
 -- Numbers no two of which are the same.
-use Rattle.std.proofs.Common.{◌≡◌, ◌≢◌, ℕ, zero, suc, ◌+◌, ◌<◌, ◌≤◌, ◌⊎◌, inl, inr, List, [], ◌∷◌, ◌++◌, length, get_or, refl, sym, ap, subst, ◌∙◌, arith}
+use Rattle.std.proofs.Common.{◌≡◌, ◌≢◌, ℕ, zero, suc, ◌<◌, ◌≤◌, ◌⊎◌, inl, inr, List, [], ◌∷◌, ◌++◌, length, get_or, refl, sym, subst, arith}
 use Rattle.std.specs.Prelude.{Contains, AllPairs, ⊤}
 use Rattle.std.specs.List.{All}
 use Rattle.std.proofs.lemmas.Bool.{cases_lt, cases_eq}
-use Rattle.std.proofs.lemmas.List.Kept.{AllPairs-cons}
-use Rattle.wq_items.specs.Chain.{Repeats}
 use Rattle.wq_items.proofs.Pigeonhole.{repeats_from_length}
-use Rattle.wq_core.proofs.LaneLemmas.{AllPairs-nil}
 
 -- q isn't among these
 abbrev pub Avoids : ℕ → List ℕ → Type 0

@@ -1,6 +1,8 @@
 -- The best round so far, and the least walk in the end.
-use Rattle.std.proofs.Common.{◌≡◌, ◌≢◌, ℕ, ◌+◌, ◌*◌, ◌<◌, ◌≤◌, ◌⊎◌, inl, inr, Bool, true, false, List, [], ◌∷◌, length, Option, Some, None, refl, sym, ap, subst, ◌∙◌, arith}
-use Rattle.std.specs.Prelude.{flat_map, slice_index, slice_index_or, MatchOption, IfNone}
+use Rattle.std.proofs.Common.{◌≡◌, ℕ, ◌+◌, ◌*◌, ◌<◌, ◌≤◌, inl, inr, Bool, true, false, List, [], ◌∷◌, length, Option, Some, None, refl, sym, ap, subst, ◌∙◌, arith}
+use Rattle.std.specs.Prelude.{flat_map, slice_index, slice_index_or, option_map, MatchOption, IfSome, IfNone}
+use Rattle.std.specs.List.{All}
+use Rattle.std.proofs.lemmas.List.Elements.{All-nil, All-cons}
 use Rattle.std.proofs.lemmas.Bool.{cases_eq, false≢true}
 use Rattle.wq_core.specs.Wiring.{Wiring, IsWiring, HasRescuer, items, lane_of}
 use Rattle.wq_core.specs.Deadlock.{IsSafe}
@@ -18,9 +20,9 @@ IsFound w limit least None = least ≡ limit
 IsFound w limit least (Some hops) = IsRound w hops × (hops_cost hops ≤ least) × (least < limit)
 
 -- after the searches from the items below n that are on marked lanes
-pub record IsBest (w : Wiring) (marks : List Bool) (limit n least : ℕ) (found : Option (List Hop)) : Type 0 where
+pub record IsBest (w : Wiring) (marks : List Bool) (limit n least : ℕ) (round : Option (List Hop)) : Type 0 where
   pub low : least ≤ limit
-  pub found : IsFound w limit least found
+  pub found : IsFound w limit least round
   pub all : (hops : List Hop) (i : ℕ) → 0 < length hops → IsPath w i hops i → slice_index_or marks (lane_of w i) false ≡ true → i < n → least ≤ hops_cost hops
 
 pub IsBest-none : (w : Wiring) (marks : List Bool) (limit : ℕ) → IsBest w marks limit 0 limit None
@@ -36,10 +38,14 @@ path_rescuer w i j (h ∷ hops) some path = (
 
 module _ (w : Wiring) (marks : List Bool) (limit n least : ℕ) (found : Option (List Hop)) (best : IsBest w marks limit n least found) where
   pub IsBest-same : IsNoBetter w marks n least → IsBest w marks limit (n + 1) least found
-  IsBest-same none = record { low = best.low; found = best.found; all = λ hops i some path marked less. elim (cases_eq i n) [
-    | inl same ↦ none (ap (λ (k : ℕ). slice_index_or marks (lane_of w k) false) (sym same) ∙ marked) hops some (subst (λ (k : ℕ). IsPath w k hops k) same path)
-    | inr other ↦ best.all hops i some path marked (omega arith)
-  ] }
+  IsBest-same none = record {
+    low = best.low;
+    found = best.found;
+    all = λ hops i some path marked less. elim (cases_eq i n) [
+      | inl same ↦ none (ap (λ (k : ℕ). slice_index_or marks (lane_of w k) false) (sym same) ∙ marked) hops some (subst (λ (k : ℕ). IsPath w k hops k) same path)
+      | inr other ↦ best.all hops i some path marked (omega arith)
+    ];
+  }
 
   pub IsBest-better : (cost : ℕ) (hops : List Hop) → IsBetter w n least cost hops → IsBest w marks limit (n + 1) cost (Some hops)
   IsBest-better cost hops better = record {
@@ -88,6 +94,27 @@ IsLeastRound-best w numbers marks limit n least hops marked enough best = record
 pub no_round-best : (w : Wiring) (numbers : List ℕ) (marks : List Bool) (limit n least : ℕ) → AreMarked w numbers marks → items w ≤ n → IsBest w marks limit n least None → (hops : List Hop) → IsRound w hops → limit ≤ hops_cost hops
 no_round-best w numbers marks limit n least marked enough best hops round = omega (arith, best.found, all_rounds w numbers marks limit n least None marked enough best hops round)
 
+-- the same where a round is held in some way
+pub IsBest-some : {V : Type 0} (found now : Option V) (v : V) (hops : V → List Hop) (w : Wiring) (marks : List Bool) (limit n least cost after : ℕ) → IsBest w marks limit n least (option_map hops found) → IsBetter w n least cost (hops v)
+    → after ≡ cost → now ≡ Some v → IsBest w marks limit (n + 1) after (option_map hops now)
+IsBest-some {V} found now v hops w marks limit n least cost after best better same is =
+    subst (λ (o : Option V). IsBest w marks limit (n + 1) after (option_map hops o)) (sym is) (subst (λ (k : ℕ). IsBest w marks limit (n + 1) k (Some (hops v))) (sym same) (IsBest-better w marks limit n least (option_map hops found) best cost (hops v) better))
+
+pub IsBest-kept : {V : Type 0} (found now : Option V) (hops : V → List Hop) (w : Wiring) (marks : List Bool) (limit n least after : ℕ) → IsBest w marks limit n least (option_map hops found) → IsNoBetter w marks n least
+    → after ≡ least → now ≡ found → IsBest w marks limit (n + 1) after (option_map hops now)
+IsBest-kept {V} found now hops w marks limit n least after best none same is =
+    subst (λ (o : Option V). IsBest w marks limit (n + 1) after (option_map hops o)) (sym is) (subst (λ (k : ℕ). IsBest w marks limit (n + 1) k (option_map hops found)) (sym same) (IsBest-same w marks limit n least (option_map hops found) best none))
+
+pub IfSome-best : {V : Type 0} (found : Option V) (hops : V → List Hop) (w : Wiring) (numbers : List ℕ) (marks : List Bool) (limit n least : ℕ) → AreMarked w numbers marks → items w ≤ n → IsBest w marks limit n least (option_map hops found)
+    → IfSome found (λ v. IsLeastRound w limit (hops v))
+IfSome-best None hops w numbers marks limit n least marked enough best = tt
+IfSome-best (Some v) hops w numbers marks limit n least marked enough best = IsLeastRound-best w numbers marks limit n least (hops v) marked enough best
+
+pub IfNone-best : {V : Type 0} (found : Option V) (hops : V → List Hop) (w : Wiring) (numbers : List ℕ) (marks : List Bool) (limit n least : ℕ) → AreMarked w numbers marks → items w ≤ n → IsBest w marks limit n least (option_map hops found)
+    → IfNone found ((others : List Hop) → IsRound w others → limit ≤ hops_cost others)
+IfNone-best None hops w numbers marks limit n least marked enough best = no_round-best w numbers marks limit n least marked enough best
+IfNone-best (Some v) hops w numbers marks limit n least marked enough best = tt
+
 -- ---- the least walk
 
 -- a walk costs 4 if it leads to a bare lane
@@ -133,3 +160,17 @@ IsSafe-no_lane w wiring none = IsSafe-no_cheap_walk w wiring cheap
     cheap : (hops : List Hop) (beside : List ℕ) → IsWalk w hops beside → 4 * w.lanes < walk_cost hops beside
     cheap hops beside (inl (round, with_targets)) = omega (arith, none, round.some)
     cheap hops beside (inr (h, hop, bare, one, other)) = omega (arith, none, bare_cost w hops beside h one other)
+
+pub limit-low : (bare : Option Hop) (limit : ℕ) → MatchOption bare (limit ≡ 16385) (λ _. limit ≡ 4) → limit ≤ 16385
+limit-low None limit is = omega (arith, is)
+limit-low (Some h) limit is = omega (arith, is)
+
+-- the items that wait exist
+path_items : (w : Wiring) (i j : ℕ) (hops : List Hop) → IsPath w i hops j → All (λ (h : Hop). h.item < items w) hops
+path_items w i j [] path = All-nil (λ (h : Hop). h.item < items w)
+path_items w i j (h ∷ hops) path = All-cons (λ (g : Hop). g.item < items w) h hops (declared-item w h.item h.flush path.1.declared) (path_items w h.next j hops path.3)
+
+pub walk_items : (w : Wiring) (hops : List Hop) (beside : List ℕ) → IsWalk w hops beside → All (λ (h : Hop). h.item < items w) hops
+walk_items w hops beside (inl (round, with_targets)) = path_items w round.first round.first hops round.path
+walk_items w hops beside (inr (h, hop, bare, one, other)) =
+    subst (λ (l : List Hop). All (λ (g : Hop). g.item < items w) l) (sym one) (All-cons (λ (g : Hop). g.item < items w) h [] (declared-item w h.item h.flush hop.declared) (All-nil (λ (g : Hop). g.item < items w)))

@@ -1,9 +1,9 @@
 -- A least walk meets no lane twice.
-use Rattle.std.proofs.Common.{◌≡◌, ◌≢◌, ℕ, zero, suc, ◌+◌, ◌*◌, ◌<◌, ◌≤◌, ◌⊎◌, inl, inr, Bool, true, false, eqb, List, [], ◌∷◌, ◌++◌, length, map, refl, sym, ap, subst, ◌∙◌, arith}
-use Rattle.std.specs.Prelude.{flat_map, if◌then◌else◌, ◌||◌, ⊤}
+use Rattle.std.proofs.Common.{◌≡◌, ◌≢◌, ℕ, ◌+◌, ◌<◌, ◌≤◌, inl, inr, List, [], ◌∷◌, ◌++◌, length, refl, sym, ap, subst, ◌∙◌, arith}
+use Rattle.std.specs.Prelude.{flat_map}
 use Rattle.wq_core.specs.Wiring.{Wiring, lane_of}
 use Rattle.wq_hang.specs.declared.hop.Hop.{Hop}
-use Rattle.wq_hang.specs.Walk.{IsHop, IsPath, IsRound, GoesRound, IsWalk, IsLeastWalk, target_beside, walk_cost}
+use Rattle.wq_hang.specs.Walk.{IsPath, IsRound, IsWalk, IsLeastWalk, target_beside, walk_cost}
 use Rattle.wq_hang.specs.Search.{hops_cost}
 use Rattle.wq_hang.proofs.Apart.{Avoids, Apart}
 use Rattle.wq_hang.proofs.Declared.{target_beside-most}

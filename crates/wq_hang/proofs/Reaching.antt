@@ -1,16 +1,16 @@
 -- What a search finds: each step keeps what holds at each time, and no cost rises.
-use Rattle.std.proofs.Common.{◌≡◌, ◌≢◌, ℕ, zero, suc, ◌+◌, ◌*◌, ◌<◌, ◌≤◌, ◌⊎◌, inl, inr, Bool, true, false, eqb, ltb, List, [], ◌∷◌, ◌++◌, length, get_or, set, refl, sym, ap, subst, ◌∙◌, arith}
-use Rattle.std.specs.Prelude.{Contains, fold, slice_index, slice_index_or, slice_set, if◌then◌else◌, ◌||◌, replicate}
-use Rattle.std.proofs.lemmas.Bool.{cases_eq, cases_lt, ltb-true, ltb-false, both_ways, false≢true, eqb-true, eq-eqb}
-use Rattle.std.proofs.lemmas.List.{get_or-set_same, get_or-set_other, get_or_past, get_or-replicate, length-set, length-append, length-replicate, set_past}
+use Rattle.std.proofs.Common.{◌≡◌, ◌≢◌, ℕ, zero, suc, ◌+◌, ◌*◌, ◌<◌, ◌≤◌, ◌⊎◌, inl, inr, Bool, true, false, eqb, ltb, List, [], ◌∷◌, length, get_or, set, refl, sym, ap, subst, ◌∙◌, arith}
+use Rattle.std.specs.Prelude.{Contains, fold, slice_index, slice_index_or, if◌then◌else◌, ◌||◌}
+use Rattle.std.proofs.lemmas.Bool.{cases_eq, ltb-true, ltb-false, both_ways, false≢true, eq-eqb}
+use Rattle.std.proofs.lemmas.List.{get_or-set_same, get_or-set_other, length-set, length-append}
 use Rattle.std.proofs.lemmas.List.Elements.{Contains-append_left, Contains-push, Contains-push_cases}
 use Rattle.wq_items.specs.declared.target.Target.{Target}
 use Rattle.wq_items.proofs.Lists.{Contains-later}
 use Rattle.wq_core.specs.Wiring.{Wiring, IsWiring, HasRescuer, items, lane_of, declared_by}
 use Rattle.wq_core.proofs.Wirings.{lane_of-within}
 use Rattle.wq_hang.specs.declared.hop.Hop.{Hop}
-use Rattle.wq_hang.specs.Walk.{IsHop, IsPath, target_beside}
-use Rattle.wq_hang.specs.Search.{hop_cost, hops_cost, Reach, IsTodo, reached, reach, hop_to, reach_all, with_lane_cost, reach_lane, lane_step, follow, expand, AreItemsOn, IsReachedBy, IsReach, IsFollowed, IsGoing, IsSearched}
+use Rattle.wq_hang.specs.Walk.{IsHop}
+use Rattle.wq_hang.specs.Search.{hop_cost, Reach, IsTodo, reached, reach, hop_to, reach_all, with_lane_cost, reach_lane, lane_step, follow, expand, AreItemsOn, IsReachedBy, IsReach, IsFollowed}
 use Rattle.wq_hang.proofs.Declared.{declared-target}
 
 -- ---- how much is left to do

@@ -1,10 +1,10 @@
 -- A round may begin with any of its hops, and numbers of lanes can't rise all the way round.
-use Rattle.std.proofs.Common.{◌≡◌, ℕ, ◌+◌, ◌<◌, ◌≤◌, ◌⊎◌, inl, inr, Bool, true, List, [], ◌∷◌, ◌++◌, length, refl, sym, ap, subst, ◌∙◌, arith}
+use Rattle.std.proofs.Common.{◌≡◌, ℕ, ◌+◌, ◌<◌, ◌≤◌, ◌⊎◌, inl, inr, List, [], ◌∷◌, ◌++◌, length, refl, sym, ap, arith}
 use Rattle.std.proofs.lemmas.Bool.{cases_lt}
 use Rattle.std.proofs.lemmas.List.{length-append}
-use Rattle.wq_core.specs.Wiring.{Wiring, HasRescuer, items, lane_of}
+use Rattle.wq_core.specs.Wiring.{Wiring, lane_of}
 use Rattle.wq_hang.specs.declared.hop.Hop.{Hop}
-use Rattle.wq_hang.specs.Walk.{IsHop, IsPath, IsRound}
+use Rattle.wq_hang.specs.Walk.{IsHop, IsPath}
 use Rattle.wq_hang.specs.Search.{hops_cost}
 use Rattle.wq_hang.proofs.LeastWalks.{IsPath-append, hops_cost-append}
 

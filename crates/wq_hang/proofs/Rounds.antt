@@ -1,24 +1,21 @@
 -- From a busy lane of a stuck state hops lead on, until they lead to a bare lane, or to a lane for the second time.
-use Rattle.std.proofs.Common.{◌≡◌, ◌≢◌, ℕ, zero, suc, ◌+◌, ◌*◌, ◌<◌, ◌≤◌, ◌⊎◌, inl, inr, List, [], ◌∷◌, ◌++◌, length, map, refl, sym, ap, subst, ◌∙◌, arith}
-use Rattle.std.specs.Prelude.{Contains, flat_map, ⊤}
+use Rattle.std.proofs.Common.{◌≡◌, ◌≢◌, ℕ, zero, suc, ◌+◌, ◌*◌, ◌<◌, ◌≤◌, ◌⊎◌, inl, inr, List, [], ◌∷◌, length, refl, sym, ap, subst, ◌∙◌, arith}
+use Rattle.std.specs.Prelude.{flat_map, ⊤}
 use Rattle.std.specs.List.{All}
 use Rattle.std.proofs.lemmas.Bool.{cases_eq}
 use Rattle.std.proofs.lemmas.List.{length-append}
 use Rattle.std.proofs.lemmas.List.Elements.{All-nil, All-cons}
-use Rattle.wq_items.specs.declared.target.Target.{Target}
-use Rattle.wq_items.proofs.Tables.{targets_of-below}
 use Rattle.wq_core.specs.declared.step.Step.{Step}
-use Rattle.wq_core.specs.Wiring.{Wiring, IsWiring, HasRescuer, with_helpers, items, lane_of, declared_by}
-use Rattle.wq_core.specs.State.{State, lane_at, empty_state, IsBusy}
+use Rattle.wq_core.specs.Wiring.{Wiring, IsWiring, HasRescuer, with_helpers, lane_of}
+use Rattle.wq_core.specs.State.{State, lane_at, IsBusy}
 use Rattle.wq_core.specs.Rules.{Lawful}
-use Rattle.wq_core.specs.Runs.{IsForcedStep, IsRun, end_of}
+use Rattle.wq_core.specs.Runs.{IsForcedStep, end_of}
 use Rattle.wq_core.specs.Held.{IsSoundState}
-use Rattle.wq_core.specs.Deadlock.{IsStuck}
 use Rattle.wq_core.proofs.Sound.{IsSoundState-end_of}
 use Rattle.wq_core.proofs.Wirings.{cases_rescuer, lane_of-within, IsWiring-with_helpers}
 use Rattle.wq_hang.specs.declared.hop.Hop.{Hop}
 use Rattle.wq_hang.specs.Shortest.{EndsStuck}
-use Rattle.wq_hang.specs.Walk.{IsHop, IsPath, IsRound, GoesRound, LeadsToBare, IsWalk, target_beside, walk_cost}
+use Rattle.wq_hang.specs.Walk.{IsHop, IsPath, IsWalk, target_beside, walk_cost}
 use Rattle.wq_hang.specs.Search.{hops_cost}
 use Rattle.wq_hang.proofs.Apart.{Avoids, Apart, In, cases_In, not_in, Apart-few}
 use Rattle.wq_hang.proofs.Declared.{declared-target, target_beside-most}

@@ -1,12 +1,12 @@
 -- The round that a search found.
-use Rattle.std.proofs.Common.{◌≡◌, ◌≢◌, ℕ, zero, suc, ◌+◌, ◌<◌, ◌≤◌, inl, inr, Bool, true, false, eqb, cond, List, [], ◌∷◌, ◌++◌, length, get_or, reverse, refl, sym, ap, subst, ◌∙◌, arith}
-use Rattle.std.specs.Prelude.{slice_index, slice_index_or}
+use Rattle.std.proofs.Common.{◌≡◌, ◌≢◌, ℕ, ◌+◌, ◌<◌, ◌≤◌, inl, inr, eqb, cond, List, [], ◌∷◌, ◌++◌, length, reverse, refl, sym, subst, arith}
+use Rattle.std.specs.Prelude.{slice_index}
 use Rattle.std.proofs.lemmas.Bool.{cases_eq, cond-true, cond-false, eq-eqb, ne_eqb}
 use Rattle.std.proofs.lemmas.List.{reverse-append, length-reverse}
-use Rattle.wq_core.specs.Wiring.{Wiring, items, lane_of}
+use Rattle.wq_core.specs.Wiring.{Wiring, items}
 use Rattle.wq_hang.specs.declared.hop.Hop.{Hop}
-use Rattle.wq_hang.specs.Walk.{IsHop, IsPath, IsRound}
-use Rattle.wq_hang.specs.Search.{hop_cost, hops_cost, Reach, IsReachedBy, IsReach, IsSearched, IsLeastRound}
+use Rattle.wq_hang.specs.Walk.{IsPath, IsRound}
+use Rattle.wq_hang.specs.Search.{hop_cost, hops_cost, Reach, IsReachedBy, IsReach}
 use Rattle.wq_hang.proofs.Declared.{declared-item}
 
 -- what it costs to come to the item, nothing if it is the first

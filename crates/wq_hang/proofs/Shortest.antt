@@ -1,12 +1,9 @@
 -- The run of a least walk is a shortest run that ends stuck.
-use Rattle.std.proofs.Common.{◌≡◌, ◌≢◌, ℕ, zero, suc, ◌+◌, ◌*◌, ◌<◌, ◌≤◌, ◌⊎◌, inl, inr, Bool, true, false, eqb, List, [], ◌∷◌, ◌++◌, length, map, get_or, refl, sym, ap, subst, ◌∙◌, arith}
-use Rattle.std.specs.Prelude.{Contains, flat_map, if◌then◌else◌, ◌||◌, ⊤}
+use Rattle.std.proofs.Common.{◌≡◌, ◌≢◌, ℕ, zero, suc, ◌*◌, ◌<◌, ◌≤◌, ◌⊎◌, inl, inr, Bool, true, false, List, [], ◌∷◌, ◌++◌, length, map, refl, sym, ap, subst, ◌∙◌, arith}
+use Rattle.std.specs.Prelude.{Contains, flat_map}
 use Rattle.std.specs.List.{All}
-use Rattle.std.proofs.lemmas.Bool.{cases_lt, eqb-true, eq-eqb, both_ways}
-use Rattle.std.proofs.lemmas.List.{length-append, length-map, get_or_past}
+use Rattle.std.proofs.lemmas.List.{length-append, length-map}
 use Rattle.std.proofs.lemmas.List.Elements.{All-nil, All-cons, All-append}
-use Rattle.wq_items.specs.declared.target.Target.{Target}
-use Rattle.wq_items.proofs.Tables.{targets_of-below}
 use Rattle.wq_core.specs.declared.step.Step.{Step}
 use Rattle.wq_core.specs.declared.step.Step.TheVariants.{Queue, Start}
 use Rattle.wq_core.specs.Wiring.{Wiring, IsWiring, HasRescuer, with_helpers, items, lane_of, declared_by}
@@ -15,12 +12,12 @@ use Rattle.wq_core.specs.Deadlock.{IsSafe}
 use Rattle.wq_core.proofs.Wirings.{IsWiring-with_helpers}
 use Rattle.wq_hang.specs.declared.hop.Hop.{Hop}
 use Rattle.wq_hang.specs.Shortest.{EndsStuck, NeedsWorker, IsShortestHang}
-use Rattle.wq_hang.specs.Walk.{IsHop, IsPath, IsRound, GoesRound, LeadsToBare, IsWalk, IsLeastWalk, target_beside, walk_cost, moves_of, run_of_walk}
+use Rattle.wq_hang.specs.Walk.{IsHop, IsPath, IsRound, IsWalk, IsLeastWalk, target_beside, walk_cost, moves_of, run_of_walk}
 use Rattle.wq_hang.proofs.Apart.{Avoids, Apart, In, not_in, Avoids-from, In-append_left, In-append_right, Apart-append}
 use Rattle.wq_hang.proofs.Declared.{declared-item, declared-target, beside_cases}
 use Rattle.wq_hang.proofs.Rounds.{lanes_to, IsWalk-stuck}
 use Rattle.wq_hang.proofs.LeastWalks.{lanes_from, Apart-least}
-use Rattle.wq_hang.proofs.WalkRuns.{items_of, queued, lane_In, item_In, In_item, HoldUp, IsRun-walk, IsStuck-walk}
+use Rattle.wq_hang.proofs.WalkRuns.{items_of, queued, lane_In, In_item, HoldUp, IsRun-walk, IsStuck-walk}
 
 All-from_In : (P : ℕ → Type 0) (xs : List ℕ) → ((x : ℕ) → In x xs → P x) → All P xs
 All-from_In P [] each = All-nil P

@@ -1,11 +1,11 @@
 -- A search keeps the numbers of items and lanes.
-use Rattle.std.proofs.Common.{◌≡◌, ℕ, ◌+◌, ◌<◌, Bool, true, false, ltb, List, [], ◌∷◌, length, take, get_or, refl, sym, ap, ◌∙◌, arith}
+use Rattle.std.proofs.Common.{◌≡◌, ℕ, ◌+◌, Bool, true, false, ltb, List, [], ◌∷◌, length, refl, ◌∙◌}
 use Rattle.std.specs.Prelude.{fold, slice_index, slice_index_or, if◌then◌else◌}
 use Rattle.std.proofs.lemmas.List.{length-set}
 use Rattle.wq_items.specs.declared.target.Target.{Target}
 use Rattle.wq_core.specs.Wiring.{Wiring, lane_of}
 use Rattle.wq_hang.specs.declared.hop.Hop.{Hop}
-use Rattle.wq_hang.specs.Search.{Reach, reached, reach, hop_to, reach_all, with_lane_cost, reach_lane, lane_step, follow, expand}
+use Rattle.wq_hang.specs.Search.{Reach, reached, reach, hop_to, reach_all, with_lane_cost, reach_lane, lane_step, follow}
 
 -- as many items and lanes
 pub record AsLarge (s r : Reach) : Type 0 where

@@ -1,30 +1,28 @@
 -- The run of a walk that meets no lane twice is a run, and ends stuck.
-use Rattle.std.proofs.Common.{◌≡◌, ◌≢◌, ℕ, zero, suc, ◌+◌, ◌*◌, ◌<◌, ◌≤◌, ◌⊎◌, inl, inr, Bool, true, false, not, eqb, List, [], ◌∷◌, ◌++◌, length, map, get_or, replicate, Option, Some, None, refl, sym, ap, subst, ◌∙◌, arith}
-use Rattle.std.specs.Prelude.{AllPairs, Contains, flat_map, find, filter, option_map, slice_get}
+use Rattle.std.proofs.Common.{◌≡◌, ◌≢◌, ℕ, zero, suc, ◌<◌, ◌⊎◌, inl, inr, Bool, true, false, not, eqb, List, [], ◌∷◌, ◌++◌, length, map, Some, None, refl, sym, ap, subst, ◌∙◌, arith}
+use Rattle.std.specs.Prelude.{AllPairs, Contains, flat_map, find, option_map, slice_get}
 use Rattle.std.specs.List.{All}
-use Rattle.std.proofs.lemmas.Bool.{cond-true, eq-eqb, false_from_ne_true, both_ways}
+use Rattle.std.proofs.lemmas.Bool.{cond-true, eq-eqb, false_from_ne_true}
 use Rattle.std.proofs.lemmas.List.{length-set, length-replicate}
 use Rattle.std.proofs.lemmas.List.Elements.{All-nil, All-cons, All-weaker, All-contains}
 use Rattle.std.proofs.lemmas.List.Kept.{AllPairs-cons}
-use Rattle.wq_items.specs.declared.target.Target.{Target}
 use Rattle.wq_items.proofs.Lists.{Contains-later, Contains-filtered}
 use Rattle.wq_core.specs.declared.entry.Entry.{Entry}
 use Rattle.wq_core.specs.declared.entry.Waiting.{Waiting}
 use Rattle.wq_core.specs.declared.entry.Running.{Running}
 use Rattle.wq_core.specs.declared.step.Step.{Step}
 use Rattle.wq_core.specs.declared.step.Step.TheVariants.{Queue, Cancel, Start, Wait, Over, WaitAll, OverAll, Finish, Help}
-use Rattle.wq_core.specs.declared.step.HelpStep.{HelpStep}
 use Rattle.wq_core.specs.declared.step.HelpStep.TheVariants.{Start as DoStart, Wait as DoWait, WaitAll as DoWaitAll, Over as DoOver, OverAll as DoOverAll, Finish as DoFinish}
 use Rattle.wq_core.specs.Wiring.{Wiring, IsWiring, HasRescuer, items, lane_of, declared_by}
-use Rattle.wq_core.specs.State.{Lane, State, idle_lane, lane_at, with_lane, empty_state, run_by, RunsIn, is_running, next_of, pending_of, HasPending, IsUnfinishedOn}
-use Rattle.wq_core.specs.Rules.{IsHeldBack, IsHolder, MayWait, MayBeOver, MayStartFirst, Lawful, effect, wait_of, begun, waiting_for, with_started, with_wait}
-use Rattle.wq_core.specs.Runs.{after, end_of, IsRun, IsRunFrom, IsForcedStep, GoesOn}
+use Rattle.wq_core.specs.State.{Lane, State, idle_lane, lane_at, with_lane, empty_state, run_by, RunsIn, is_running, HasPending, IsUnfinishedOn}
+use Rattle.wq_core.specs.Rules.{MayWait, MayBeOver, MayStartFirst, Lawful, effect, wait_of, begun, waiting_for, with_started, with_wait}
+use Rattle.wq_core.specs.Runs.{after, end_of, IsRun, IsRunFrom, IsForcedStep}
 use Rattle.wq_core.specs.Held.{IsSoundState}
 use Rattle.wq_core.specs.Deadlock.{IsStuck}
 use Rattle.wq_core.proofs.Contexts.{is_running-some, found-pending, next-may, MayStart-first}
 use Rattle.wq_core.proofs.Helpers.{OnlyRescuersRun, only_rescuers-end_of}
 use Rattle.wq_core.proofs.Knots.{unfinished-started, unfinished-going_on}
-use Rattle.wq_core.proofs.LaneLemmas.{lane_at-with_lane_same, lane_at-with_lane_other, lane_at-empty_state, idle_lane-unfinished, same_running, Contains-filter, AllPairs-nil}
+use Rattle.wq_core.proofs.LaneLemmas.{lane_at-with_lane_same, lane_at-with_lane_other, lane_at-empty_state, idle_lane-unfinished, Contains-filter, AllPairs-nil}
 use Rattle.wq_core.proofs.Plays.{after-append, IsRunFrom-append, no_help-queued}
 use Rattle.wq_core.proofs.Queued.{pending_items, on_lane, pending_items-all_queued, running-all_queued, IsRunFrom-queued}
 use Rattle.wq_core.proofs.QueueOrder.{first_on_lane}
@@ -33,7 +31,7 @@ use Rattle.wq_core.proofs.WaitSteps.{held_back-holder}
 use Rattle.wq_core.proofs.Wirings.{lane_of-within}
 use Rattle.wq_hang.specs.declared.hop.Hop.{Hop}
 use Rattle.wq_hang.specs.Walk.{moves_of, run_of_walk}
-use Rattle.wq_hang.proofs.Apart.{Avoids, Apart, In, cases_In, not_in, In-Contains, Contains-In, AllPairs-Apart, In-append_left, In-append_right}
+use Rattle.wq_hang.proofs.Apart.{Avoids, Apart, In, cases_In, not_in, In-Contains, Contains-In, AllPairs-Apart, In-append_left}
 use Rattle.wq_hang.proofs.LeastWalks.{lanes_from}
 
 -- ---- lists
@@ -185,12 +183,14 @@ all_move w s (h ∷ hops) apart can =
     let one = can h (0, omega arith, refl) in
     let new : State = waits w s h one in
     let has = has_moved w s h one in
-    let rest = all_move w new hops apart.1 (λ g there. can_later has g there (can g (Contains-later h hops g there))) in
-    ((one.may, (lawful_wait w s h one, rest.0)), record {
-      next = rest.1.next ∙ has.next;
-      here = λ g there. here has rest.1 g there;
-      others = λ p avoids. rest.1.others p avoids.1 ∙ has.others p avoids.0;
-    })
+    let rest = all_move w new hops apart.1 (λ g there. can_later has g there (can g (Contains-later h hops g there))) in (
+      (one.may, (lawful_wait w s h one, rest.0)),
+      record {
+        next = rest.1.next ∙ has.next;
+        here = λ g there. here has rest.1 g there;
+        others = λ p avoids. rest.1.others p avoids.1 ∙ has.others p avoids.0;
+      },
+    )
   where
     unlike : (g : Hop) → Contains hops g → lane_of w g.item ≢ lane_of w h.item
     unlike g there same = not_in (lane_of w h.item) (lanes_from w hops) apart.0 (subst (λ (q : ℕ). In q (lanes_from w hops)) same (lane_In w hops g there))

@@ -1,5 +1,5 @@
 -- What a state weighs: one for each pending entry, two for each that runs, and one more while it waits. A step adds at most one.
-use Rattle.std.proofs.Common.{◌≡◌, ◌≢◌, ℕ, zero, suc, ◌+◌, ◌<◌, ◌≤◌, ◌⊎◌, inl, inr, Bool, true, false, not, eqb, cond, List, [], ◌∷◌, ◌++◌, length, get_or, set, replicate, Option, Some, None, refl, sym, ap, subst, ◌∙◌, arith}
+use Rattle.std.proofs.Common.{◌≡◌, ℕ, zero, suc, ◌+◌, ◌≤◌, inl, inr, Bool, true, false, not, eqb, cond, List, [], ◌∷◌, ◌++◌, length, get_or, set, replicate, Option, Some, None, refl, sym, ap, arith}
 use Rattle.std.specs.Prelude.{Contains, option_map, find, filter}
 use Rattle.std.proofs.lemmas.List.{get_or-set_other, length-append}
 use Rattle.wq_core.specs.declared.entry.Entry.{Entry}
@@ -10,7 +10,7 @@ use Rattle.wq_core.specs.declared.step.Step.TheVariants.{Queue, Cancel, Start, W
 use Rattle.wq_core.specs.declared.step.HelpStep.{HelpStep}
 use Rattle.wq_core.specs.declared.step.HelpStep.TheVariants.{Start as DoStart, Wait as DoWait, WaitAll as DoWaitAll, Over as DoOver, OverAll as DoOverAll, Finish as DoFinish}
 use Rattle.wq_core.specs.Wiring.{Wiring, lane_of}
-use Rattle.wq_core.specs.State.{Lane, State, idle_lane, lane_at, with_lane, empty_state, run_by, with_run_by, pending_of, RunsIn, IsUnfinishedOn}
+use Rattle.wq_core.specs.State.{Lane, State, idle_lane, lane_at, empty_state, run_by, with_run_by, pending_of, IsUnfinishedOn}
 use Rattle.wq_core.specs.Rules.{begun, waiting_for, going_on, with_queued, with_cancelled, with_started, with_wait, with_over, with_finished, done_by, effect}
 use Rattle.wq_core.specs.Runs.{after}
 use Rattle.wq_hang.proofs.Apart.{Avoids, Apart}

@@ -1,6 +1,5 @@
 -- Walks: waits that hold one another up, from lane to lane. They are about flushes and lanes alone, and no run is spoken of.
 use Rattle.std.specs.Prelude.{◌≡◌, ℕ, ◌<◌, ◌≤◌, ◌+◌, ◌*◌, ◌==◌, ◌||◌, if◌then◌else◌, ◌⊎◌, List, [], ◌∷◌, ◌++◌, length, map, flat_map, Contains}
-use Rattle.wq_items.specs.declared.target.Target.{Target}
 use Rattle.wq_core.specs.declared.step.Step.{Step}
 use Rattle.wq_core.specs.declared.step.Step.TheVariants.{Queue, Start}
 use Rattle.wq_core.specs.Wiring.{Wiring, HasRescuer, lane_of, declared_by}

@@ -51,10 +51,7 @@ fn least_walk<A: Allocator + Copy>(
         return Ok(Some((hops, beside)));
     }
     match bare {
-        Some(hop) => Ok(Some((
-            vec![in alloc; hop]?,
-            vec![in alloc; hop.flush.item]?,
-        ))),
+        Some(hop) => Ok(Some((vec![in alloc; hop]?, vec![in alloc; hop.flush.item]?))),
         None => Ok(None),
     }
 }

@@ -95,7 +95,7 @@ fn round<A: Allocator + Copy>(
     let mut hop = search.hop_to(first);
     let mut hops = Vec::new(alloc);
     hops.push(hop)?;
-    while hop.item.get() != first.get() {
+    while hop.item != first {
         hop = search.hop_to(hop.item);
         hops.push(hop)?;
     }

@@ -119,10 +119,7 @@ fn count_arcs(left: &mut [u16], arcs: &[WaitArc])
 }
 
 /// How many arcs lead to each vertex.
-fn arcs_to<A: Allocator + Copy>(
-    alloc: A,
-    graph: &WaitGraph<A>,
-) -> Result<Vec<u16, A>, AllocError>
+fn arcs_to<A: Allocator + Copy>(alloc: A, graph: &WaitGraph<A>) -> Result<Vec<u16, A>, AllocError>
     ensures { IfOk result (λ left. length left.items ≡ length graph.now) }
 {
     let mut left = vec![in alloc; 0; usize::from(graph.vertices())]?;

@@ -162,7 +162,14 @@ impl<A: Allocator + Copy> Search<A> {
         };
         self.reach(true, cost + 3, &direct)?;
         let step = if flush.whole { 3 } else { 4 };
-        self.reach_lane(flush.whole, cost + step, item, flush, lane.get(), on.places(lane.get()))
+        self.reach_lane(
+            flush.whole,
+            cost + step,
+            item,
+            flush,
+            lane.get(),
+            on.places(lane.get()),
+        )
     }
 
     /// The flushes of an item, which costs so much, lead on.

@@ -1,8 +1,8 @@
-use Rattle.std.proofs.Common.{◌≡◌, ◌<◌, ℕ, List, length, sym, ap, subst, ◌∙◌, arith}
+use Rattle.std.proofs.Common.{◌<◌, ℕ, List, length, sym, ap, subst, ◌∙◌, arith}
 use Rattle.std.specs.List.{All}
 use Rattle.wq_buckets.specs.Places.{buckets_of}
 use Rattle.wq_hang.specs.Search.{AreItemsOn}
-use Rattle.wq_hang.proofs.LaneItems.{item_lanes, item_lanes-within, length-item_lanes, AreItemsOn-buckets}
+use Rattle.wq_hang.proofs.LaneItems.{item_lanes-within, length-item_lanes, AreItemsOn-buckets}
 use Rattle.wq_hang.proofs.Taken.{IfOk-is}
 use Rattle.wq_hang.proofs.least.items_on_lanes.Goals as goal
 

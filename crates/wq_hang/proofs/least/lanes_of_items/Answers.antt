@@ -1,4 +1,4 @@
-use Rattle.std.proofs.Common.{◌≡◌, ap, ◌∙◌, arith}
+use Rattle.std.proofs.Common.{ap, ◌∙◌}
 use Rattle.wq_core.specs.Wiring.{lane_of}
 use Rattle.wq_hang.proofs.LaneItems.{item_lanes-more}
 use Rattle.wq_hang.proofs.least.lanes_of_items.Goals as goal

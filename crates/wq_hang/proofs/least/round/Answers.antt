@@ -1,5 +1,6 @@
-use Rattle.std.proofs.Common.{◌≡◌, ◌≢◌, ◌≤◌, ℕ, List, [], ◌∷◌, ◌++◌, sym, ap, subst, ◌∙◌, arith}
+use Rattle.std.proofs.Common.{◌≡◌, ◌≢◌, ◌≤◌, eqb, List, [], ◌∷◌, ◌++◌, sym, ap, subst, ◌∙◌}
 use Rattle.std.specs.Prelude.{slice_index}
+use Rattle.std.proofs.lemmas.Bool.{eqb-true, eqb-false, not-true, not-false}
 use Rattle.wq_hang.specs.declared.hop.Hop.{Hop}
 use Rattle.wq_hang.specs.Walk.{IsRound}
 use Rattle.wq_hang.specs.Search.{IsReachedBy, hops_cost}
@@ -24,7 +25,7 @@ loop-first-preserved g c =
     let h : Hop = c.loop-first.hop in
     let next : Hop = c.hop_to-hop-in-loop-first.result in
     let trace = c.loop-first.invariant in
-    let other : h.item ≢ first = λ same. c.loop-first-test.true (c.get.ensures ∙ same ∙ sym c.get-2.ensures) in
+    let other : h.item ≢ first = eqb-false h.item first (not-true (eqb h.item first) (sym c.ne.ensures ∙ c.loop-first-test.true)) in
     let by : IsReachedBy w first s h.item next = subst (IsReachedBy w first s h.item) (sym (c.hop_to-hop-in-loop-first.ensures next)) (c.requires.reach.reached h.item next trace.below (trace.low other)) in
     subst (IsTrace w first c.args.limit s next) (sym c.in_ok-push-2.ensures.items) (IsTrace-next w first c.args.limit s c.requires.reach h c.loop-first.hops.items next trace other by)
 
@@ -36,20 +37,20 @@ loop-first-smaller g c =
     let h : Hop = c.loop-first.hop in
     let next : Hop = c.hop_to-hop-in-loop-first.result in
     let trace = c.loop-first.invariant in
-    let other : h.item ≢ first = λ same. c.loop-first-test.true (c.get.ensures ∙ same ∙ sym c.get-2.ensures) in
+    let other : h.item ≢ first = eqb-false h.item first (not-true (eqb h.item first) (sym c.ne.ensures ∙ c.loop-first-test.true)) in
     let by : IsReachedBy w first s h.item next = subst (IsReachedBy w first s h.item) (sym (c.hop_to-hop-in-loop-first.ensures next)) (c.requires.reach.reached h.item next trace.below (trace.low other)) in
     trace_left w first c.args.limit s c.requires.reach h next other by
 
 pub returns-clause-round : goal.returns-clause-round
 returns-clause-round g c =
     let w = c.args.core.now.wiring in
-    let same = sym c.get.ensures ∙ c.loop-first-test.false ∙ c.get-2.ensures in
+    let same : c.loop-first.hop.item ≡ c.args.first = eqb-true c.loop-first.hop.item c.args.first (not-false (eqb c.loop-first.hop.item c.args.first) (sym c.ne.ensures ∙ c.loop-first-test.false)) in
     let traced = IsRound-traced w c.args.first c.args.limit c.args.search.now c.requires.reach c.loop-first.hop c.loop-first.hops.items c.loop-first.invariant same in
     subst (IsRound w) (sym c.reverse.ensures.items) traced.0
 
 pub returns-clause-cost : goal.returns-clause-cost
 returns-clause-cost g c =
     let w = c.args.core.now.wiring in
-    let same = sym c.get.ensures ∙ c.loop-first-test.false ∙ c.get-2.ensures in
+    let same : c.loop-first.hop.item ≡ c.args.first = eqb-true c.loop-first.hop.item c.args.first (not-false (eqb c.loop-first.hop.item c.args.first) (sym c.ne.ensures ∙ c.loop-first-test.false)) in
     let traced = IsRound-traced w c.args.first c.args.limit c.args.search.now c.requires.reach c.loop-first.hop c.loop-first.hops.items c.loop-first.invariant same in
     subst (λ (l : List Hop). hops_cost l ≤ slice_index c.args.search.now.costs c.args.first) (sym c.reverse.ensures.items) traced.1

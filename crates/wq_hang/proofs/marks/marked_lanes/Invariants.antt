@@ -8,5 +8,5 @@ abbrev pub invariant-loop-i : goal.invariant-loop-i
 invariant-loop-i g l = record {
   len : length l.marks.items ≡ l.core.wiring.lanes;
   marked : (h : Hop) → IsHop l.core.wiring h → h.item < l.i → slice_index l.numbers (lane_of l.core.wiring h.flush.item) ≤ slice_index l.numbers (lane_of l.core.wiring h.item)
-    → slice_index_or l.marks.items (lane_of l.core.wiring h.flush.item) false ≡ true;
+      → slice_index_or l.marks.items (lane_of l.core.wiring h.flush.item) false ≡ true;
 }

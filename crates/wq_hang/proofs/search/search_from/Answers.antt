@@ -1,5 +1,4 @@
-use Rattle.std.proofs.Common.{◌≡◌, ◌<◌, ℕ, inl, inr, List, length, replicate, get_or, sym, ap, subst, ◌∙◌, arith}
-use Rattle.std.proofs.lemmas.List.Elements.{Contains-get_or}
+use Rattle.std.proofs.Common.{ℕ, List, length, replicate, sym, ap, subst, ◌∙◌, arith}
 use Rattle.wq_hang.specs.Search.{IsSearched}
 use Rattle.wq_hang.proofs.Searching.{IsNew, IsGoing-first, IsGoing-next, work-less, taken_was, IsSearched-all}
 use Rattle.wq_hang.proofs.search.search_from.Goals as goal

@@ -1,7 +1,7 @@
-use Rattle.std.proofs.Common.{◌≡◌, ◌<◌, List, length, take, get_or, ap, sym, subst, ◌∙◌, arith}
+use Rattle.std.proofs.Common.{List, length, take, ap, sym, subst, ◌∙◌}
 use Rattle.std.specs.Prelude.{Contains}
 use Rattle.wq_items.specs.declared.target.Target.{Target}
-use Rattle.wq_core.specs.Wiring.{items, declared_by}
+use Rattle.wq_core.specs.Wiring.{declared_by}
 use Rattle.wq_hang.specs.Search.{Reach}
 use Rattle.wq_hang.proofs.Declared.{declared-target}
 use Rattle.wq_hang.proofs.Sizes.{AsLarge-follows}

@@ -1,4 +1,4 @@
-use Rattle.std.proofs.Common.{◌≡◌, ◌<◌, List, ℕ, get_or, [], length, ◌+◌, true, ap, sym, subst, ◌∙◌, arith}
+use Rattle.std.proofs.Common.{List, ℕ, get_or, [], length, ◌+◌, true, ap, subst, arith}
 use Rattle.std.specs.Prelude.{Contains}
 use Rattle.std.proofs.lemmas.List.Elements.{Contains-get_or}
 use Rattle.wq_hang.specs.Search.{Reach, hop_to}

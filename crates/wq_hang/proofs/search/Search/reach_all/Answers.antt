@@ -1,4 +1,4 @@
-use Rattle.std.proofs.Common.{◌≡◌, ◌<◌, length, take, ap, sym, ◌∙◌, arith}
+use Rattle.std.proofs.Common.{length, take, ap, sym, ◌∙◌, arith}
 use Rattle.wq_hang.specs.Search.{Reach}
 use Rattle.wq_hang.proofs.Sizes.{AsLarge-all}
 use Rattle.wq_hang.proofs.search.Search.reach_all.Goals as goal
