@@ -156,9 +156,9 @@ def workqueues(queues, name=short):
     return "".join(f"wq {q}" + "".join(f" {name(i)}" for i in items) + "\n" for q, items in enumerate(queues))
 
 
-def half_bare(name=short, comment=""):
-    """Each item on its own workqueue, of which the second half have no rescuer."""
-    return "".join(f"{'wq' if i < HALF else 'norescuer'} {i} {name(i)}{comment}\n" for i in range(ITEMS))
+def half_bare(called=None):
+    """Each item on its own workqueue, of which the second half have no rescuer. `called(i)` is the name of workqueue i, if they have one."""
+    return "".join(f"{'wq' if i < HALF else 'norescuer'} {i} {short(i)}{f'  # {called(i)}' if called else ''}\n" for i in range(ITEMS))
 
 
 def half_on_one_bare(name=short):
@@ -337,7 +337,8 @@ def cases(program, folder, write, most_run=MOST_CERTIFICATE):
     for name, text in bare_declarations():
         path = write(text)
         for kind, assignment in [("2,048 workqueues without a rescuer", half_bare()), ("one workqueue without a rescuer", half_on_one_bare()),
-                                 ("2,048 named workqueues without a rescuer", half_bare(comment=f"  # {'x' * 63}, "))]:
+                                 ("2,048 named workqueues without a rescuer", half_bare(called=lambda i: "x" * 63)),
+                                 ("names that differ at the end", half_bare(called=lambda i: short(i).rjust(63, "x")))]:
             queues = write(assignment)
             yield "deadlock", f"{name}, {kind}", [path, queues]
             yield "hang", f"{name}, {kind}", [path, queues]
