@@ -5,6 +5,7 @@ mod checks;
 mod circles;
 mod deadlocks;
 mod drawings;
+mod hangs;
 mod plans;
 mod replays;
 
@@ -12,6 +13,7 @@ use crate::command::checks::CHECKS;
 use crate::command::circles::CIRCLES;
 use crate::command::deadlocks::DEADLOCKS;
 use crate::command::drawings::DRAWINGS;
+use crate::command::hangs::HANGS;
 use crate::command::plans::PLANS;
 use crate::command::replays::REPLAYS;
 use std::alloc::{AllocError, Allocator};
@@ -23,6 +25,7 @@ use wq_commands::{
 };
 use wq_diagnosis::{CertificateKind, Diagnosing, Unrescued};
 use wq_dot::DotCommand;
+use wq_hang_command::HangCommand;
 
 /// The seed of the hashes of names. No answer depends on it.
 pub const SEED: u64 = 0;
@@ -33,6 +36,7 @@ pub enum PlainCommand {
     Plan,
     Check,
     Deadlock,
+    Hang,
     Replay,
     /// `circles` of a declaration and an assignment.
     Circles,
@@ -51,6 +55,7 @@ impl PlainCommand {
             PlainCommand::Plan | PlainCommand::OwnCircles | PlainCommand::OwnDot => 1,
             PlainCommand::Check
             | PlainCommand::Deadlock
+            | PlainCommand::Hang
             | PlainCommand::Circles
             | PlainCommand::Dot => 2,
             PlainCommand::Replay => 3,
@@ -63,6 +68,7 @@ impl PlainCommand {
             PlainCommand::Plan => "plan DECL",
             PlainCommand::Check => "check DECL CERT",
             PlainCommand::Deadlock => "deadlock DECL ASSIGN",
+            PlainCommand::Hang => "hang DECL ASSIGN",
             PlainCommand::Replay => "replay DECL ASSIGN RUN",
             PlainCommand::Circles => "circles DECL ASSIGN",
             PlainCommand::OwnCircles => "circles DECL",
@@ -91,8 +97,8 @@ impl Case {
 
 /// The cases: one of each kind of answer, at least. Each is to be answered so over any devices, and with any heap that is large
 /// enough.
-pub fn cases() -> [&'static [Case]; 6] {
-    [PLANS, CHECKS, DEADLOCKS, REPLAYS, CIRCLES, DRAWINGS]
+pub fn cases() -> [&'static [Case]; 7] {
+    [PLANS, CHECKS, DEADLOCKS, HANGS, REPLAYS, CIRCLES, DRAWINGS]
 }
 
 /// What a command reads its texts from: the declaration first.
@@ -114,7 +120,7 @@ fn voice(command: PlainCommand) -> Diagnosing<'static> {
         _ => CertificateKind::Assignment,
     };
     let unrescued = match command {
-        PlainCommand::Deadlock => Unrescued::Explained,
+        PlainCommand::Deadlock | PlainCommand::Hang => Unrescued::Explained,
         PlainCommand::Circles => Unrescued::Noted,
         _ => Unrescued::Unsaid,
     };
@@ -180,6 +186,7 @@ pub fn perform<A: Allocator + Copy, R: Read, W: Write, E: Write>(
             writer,
             teller,
         ),
+        PlainCommand::Hang => carry(alloc, &HangCommand { seed }, voice, readers, writer, teller),
         PlainCommand::Replay => carry(
             alloc,
             &ReplayCommand { seed },

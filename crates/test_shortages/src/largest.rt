@@ -58,9 +58,10 @@ fn put_assigned<R: Print + AllocGlobal + Threads + Wait + Sync>(
     lanes: &[u8],
 ) -> io::Result<bool> {
     let deadlock = put_with(rt, PlainCommand::Deadlock, name, lanes)?;
+    let hang = put_with(rt, PlainCommand::Hang, name, lanes)?;
     let circles = put_with(rt, PlainCommand::Circles, name, lanes)?;
     let dot = put_with(rt, PlainCommand::Dot, name, lanes)?;
-    Ok(deadlock && circles && dot)
+    Ok(deadlock && hang && circles && dot)
 }
 
 /// Checks the plan. Gives whether all runs ended as they should.
