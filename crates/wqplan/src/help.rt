@@ -18,8 +18,7 @@ pub(crate) const DEADLOCK: &str =
     "Reads a declaration and an assignment, prints `safe` or a deadlock";
 
 /// What `hang` does.
-pub(crate) const HANG: &str =
-    "Reads a declaration and an assignment, prints `safe` or the shortest hang";
+pub(crate) const HANG: &str = "Reads what `deadlock` reads, prints the shortest hang, or `safe`";
 
 /// What `replay` does.
 pub(crate) const REPLAY: &str = "Reads a declaration, an assignment and a run, prints how it ends";
