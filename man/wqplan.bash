@@ -65,12 +65,12 @@ _wqplan() {
     local files
     case $command in
         '')
-            mapfile -t COMPREPLY < <(compgen -W 'plan check deadlock replay circles dot run explain help' -- "$word")
+            mapfile -t COMPREPLY < <(compgen -W 'plan check deadlock hang replay circles dot run explain help' -- "$word")
             return
             ;;
         help)
             [ "$words" -gt 0 ] ||
-                mapfile -t COMPREPLY < <(compgen -W 'plan check deadlock replay circles dot run explain' -- "$word")
+                mapfile -t COMPREPLY < <(compgen -W 'plan check deadlock hang replay circles dot run explain' -- "$word")
             return
             ;;
         explain)
@@ -94,7 +94,7 @@ _wqplan() {
             files=1
             ;;
         plan) files=1 ;;
-        check | deadlock | circles | dot) files=2 ;;
+        check | deadlock | hang | circles | dot) files=2 ;;
         replay) files=3 ;;
         *) return ;;
     esac

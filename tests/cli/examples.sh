@@ -1,10 +1,10 @@
 #!/usr/bin/env bash
-# Runs `plan`, `check`, `deadlock`, `replay`, `run`, `circles` and `dot` over the subsystems of Linux 6.1 in examples/. What is
-# expected of each (how many workqueues, which circle, whether the kernel's assignment is safe, how long the run is) was worked
-# out by hand from the kernel's sources, and stands in this script. Of all else that the program prints the program's own checkers
-# are asked: `check` says yes to each plan and circle, `replay` says deadlock of each run. `run` has each item on the workqueue
-# that `plan` gives it, queued once and finished once. tests/lib/dot.py reads each drawing, and what is drawn is what `plan` and
-# `circles` print.
+# Runs `plan`, `check`, `deadlock`, `hang`, `replay`, `run`, `circles` and `dot` over the subsystems of Linux 6.1 in
+# examples/. What is expected of each (how many workqueues, which circle, whether the kernel's assignment is safe, how
+# long the run is) was worked out by hand from the kernel's sources, and stands in this script. Of all else that the
+# program prints the program's own checkers are asked: `check` says yes to each plan and circle, `replay` says deadlock
+# of each run. `run` has each item on the workqueue that `plan` gives it, queued once and finished once.
+# tests/lib/dot.py reads each drawing, and what is drawn is what `plan` and `circles` print.
 # Run it once the gate or `rt run` has built the program. The argument, if there is one, names another program.
 set -u
 . "$(dirname "$0")/../lib/script.bash"
@@ -308,6 +308,35 @@ draws 'bcache: the kernel' 'safe: items 17, workqueues 6, arrows 30, red 0, bold
 cat bcache.wq bcache.nobucket.wq >bcache.full.wq
 answers bcache.full 'circle 1' bch_data_insert_keys.gc bch_data_insert_keys.gc
 hangs 'bcache: the kernel, without a bucket for the btree' bcache.full.wq bcache.assign
+
+# How few steps each of them hangs in: 3 where an item waits for itself or for its own workqueue, and 4 where one waits for another item of
+# its workqueue. Other items have no part in it, so `replay` says stuck.
+while read -r steps name assign; do
+    run hang "$name.wq" "$assign.assign"
+    cp out shortest.run
+    begins "$name, $assign: hang" 1 "run $steps"
+    run replay "$name.wq" "$assign.assign" shortest.run
+    ends "$name, $assign: the shortest run, replayed" 1 stuck
+    sed "1s/.*/run $((steps - 1))/; \$d" shortest.run >shorter.run
+    run replay "$name.wq" "$assign.assign" shorter.run
+    ends "$name, $assign: the shortest run without its last step" 0 open
+done <<'end'
+4 dm-snapshot dm-snapshot.merged
+4 dm-integrity dm-integrity.merged
+4 nvmet-tcp nvmet-tcp
+4 nvme-auth nvme-auth
+4 md md
+3 xfs.full xfs
+4 bcache bcache.merged
+4 bcache bcache.onejournal
+3 bcache.full bcache
+end
+for name in dm-snapshot dm-integrity bcache; do
+    run hang "$name.wq" "$name.assign"
+    is "$name: the kernel: hang" '0: safe' "$status: $(cat out)"
+done
+run hang nvme-auth.wq nvme-auth.later.assign
+ends 'nvme-auth: a later kernel: hang' 0 safe
 
 # The tests of want of memory have the largest declaration and its workqueues, byte for byte.
 cases=$(<"$root/crates/test_cases/src/largest.rt")

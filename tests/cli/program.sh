@@ -157,6 +157,63 @@ check 'deadlock: the plan that is printed' 0 'safe\n' ''
 run deadlock chain lanes_of_a_plan </dev/null
 check 'deadlock: a plan text as an assignment' 1 "$hangs" ''
 
+# Workqueues without a rescuer: by which flush a run hangs, and which items `safe` doesn't speak of. Without such items it says nothing.
+printf 'wq 0 a # md, md.c:1\nnorescuer 1 b # log\n' >bare_target
+printf 'norescuer 0 a # md, md.c:1\nwq 1 b\n' >bare_item
+printf 'wq 0 b\nwq 1 a\nnorescuer 2\n' >bare_and_empty
+bare_hangs='run 4\nqueue a\nqueue b\nstart 0 a\nwait 0 b\n'
+bare_reason='declaration:3:9: `a`, on workqueue 0 (md), waits for `b`, which nothing guarantees to run: workqueue 1 (log) has no rescuer
+    flush a b\n            ^\nbare_target:2:1: workqueue 1 (log) has no rescuer\n    norescuer 1 b # log\n    ^^^^^^^^^\n'
+bare_note='bare_item: note: nothing guarantees that these run while memory is short: `a` on workqueue 0 (md)
+bare_item: note: where reclaim waits for one of them, declare who waits: an item of its own, on a `wq` line, that flushes it\n'
+run deadlock declaration bare_target </dev/null
+check 'deadlock: a flush that leads to no rescuer' 1 "$bare_hangs" "$bare_reason"
+run deadlock declaration bare_item </dev/null
+check 'deadlock: safe, with an item on a workqueue without a rescuer' 0 'safe\n' "$bare_note"
+run deadlock declaration bare_and_empty </dev/null
+check 'deadlock: safe, with a workqueue without a rescuer and without items' 0 'safe\n' ''
+run circles declaration bare_item </dev/null
+check 'circles: safe, with an item on a workqueue without a rescuer' 0 'safe\n' "$bare_note"
+run circles declaration bare_target </dev/null
+check 'circles: a flush that leads to no rescuer' 1 'components 0\nnorescuer 1\narc a b\n' ''
+run circles declaration bare_and_empty </dev/null
+check 'circles: safe, with a workqueue without a rescuer and without items' 0 'safe\n' ''
+run deadlock declaration - <bare_item
+check 'deadlock: the same note of standard input' 0 'safe\n' "${bare_note//bare_item/<stdin>}"
+limited "$program" deadlock declaration bare_item </dev/null >out 2>/dev/full
+status=$?
+: >err
+check 'deadlock: a note that cannot be written' 0 'safe\n' ''
+
+# The shortest run that ends stuck. What is said of workqueues without a rescuer is what `deadlock` says, also where a shorter run has
+# no part in it.
+printf 'item a\nitem b\nitem c\nflush b c\n' >one_flush
+printf 'wq 0 a b c\n' >one_lane
+printf 'plan 1\nwq 0 a b c\nchain 0\n' >one_lane_of_a_plan
+printf 'item a\nitem b\nflush a b\nflush a a\n' >waits_for_itself
+two_of_three='run 4\nqueue b\nqueue c\nstart 0 b\nwait 0 c\n'
+run hang one_flush one_lane </dev/null
+check 'hang: two of three items' 1 "$two_of_three" ''
+run hang one_flush one_lane_of_a_plan </dev/null
+check 'hang: a plan text as an assignment' 1 "$two_of_three" ''
+run hang one_flush - <one_lane
+check 'hang: an assignment from standard input' 1 "$two_of_three" ''
+run hang whole one_lane </dev/null
+check 'hang: a wait for the whole workqueue that it is on' 1 'run 3\nqueue a\nstart 0 a\nwaitwq 0 b\n' ''
+run hang chain safe_lanes </dev/null
+check 'hang: a safe assignment' 0 'safe\n' ''
+run hang declaration plan_of_two </dev/null
+check 'hang: the plan that is printed' 0 'safe\n' ''
+run hang declaration bare_target </dev/null
+check 'hang: a flush that leads to no rescuer' 1 "$bare_hangs" "$bare_reason"
+run hang waits_for_itself bare_target </dev/null
+check 'hang: a shorter run than that of the flush that leads to no rescuer' 1 'run 3\nqueue a\nstart 0 a\nwait 0 a\n' \
+    "${bare_reason/#declaration/waits_for_itself}"
+run hang declaration bare_item </dev/null
+check 'hang: safe, with an item on a workqueue without a rescuer' 0 'safe\n' "$bare_note"
+run hang declaration bare_and_empty </dev/null
+check 'hang: safe, with a workqueue without a rescuer and without items' 0 'safe\n' ''
+
 # All flushes on circles at once.
 components='components 1\ncomponent 2\narc a b\narc b c\n'
 run circles chain lanes </dev/null
@@ -225,6 +282,9 @@ printf 'run 7\nqueue a\ncancel a\nqueue a\nqueue b\nqueue c\nstart 0 a\nwait 0 b
 printf 'run 9\nqueue a\ncancel a\nqueue a\nqueue b\nqueue c\nstart 0 a\nwait 0 b\nstart 1 b\nwait 1 c\n' >stuck
 run replay chain lanes deadlock </dev/null
 check 'replay: a deadlock' 1 'deadlock\n' ''
+printf "$two_of_three" >shortest
+run replay one_flush one_lane shortest </dev/null
+check 'replay: the shortest run that ends stuck' 1 'stuck\n' ''
 run replay chain lanes open </dev/null
 check 'replay: a run that can go on' 0 'open\n' ''
 run deadlock chain lanes </dev/null
@@ -546,6 +606,10 @@ seconds=$usual
 printf 'wq 0 a b\nwq 1\n' >without_c
 run deadlock chain without_c </dev/null
 check 'deadlock: an assignment without an item' 2 'refused 41 line 0\n' 'of 2'
+run hang chain without_c </dev/null
+check 'hang: an assignment without an item' 2 'refused 41 line 0\n' 'of 2'
+run hang refused without_c </dev/null
+check 'hang: a wrong declaration before a wrong assignment' 2 'refused 8 line 2\n' 'of 1'
 run circles chain without_c </dev/null
 check 'circles: an assignment without an item' 2 'refused 41 line 0\n' 'of 2'
 run dot chain without_c </dev/null
@@ -577,6 +641,8 @@ above 'item a\nitem b\nflush a b\n' 0 "$plan" plan
 above '' 0 '<stdin>: note: no item is declared: is this the right file?\nplan 0\nchain 0\n' plan
 above 'plan 1\nwq 0 a b\nchain 1\n' 1 '<stdin>:2:6: `a` flushes `b`, so it should be on a higher workqueue [no 50, `wqplan explain 50`]
     wq 0 a b\n         ^ `b` is on workqueue 0\nno 50 a b\n' check declaration -
+above 'norescuer 0 a\nwq 1 b\n' 0 '<stdin>: note: nothing guarantees that these run while memory is short: `a` on workqueue 0
+<stdin>: note: where reclaim waits for one of them, declare who waits: an item of its own, on a `wq` line, that flushes it\nsafe\n' deadlock declaration -
 
 # Faults of the system.
 run plan $'mis\tsi\ang\303\251' </dev/null
@@ -594,8 +660,8 @@ check 'standard input that is a folder' 3 '' 'wqplan: <stdin>: is a directory\nf
 run plan <&-
 check 'standard input that is closed' 3 '' "wqplan: <stdin>: can't be read\nfault read\n"
 # Of a circle, a refusal or a `no` that can't be written there is no diagnosis, either.
-for words in 'plan circle' 'check declaration no_circle' 'deadlock chain without_c' 'replay chain without_c unlawful' 'circles circle' \
-    'circles chain without_c' 'dot circle' 'dot chain without_c' 'run circle'; do
+for words in 'plan circle' 'check declaration no_circle' 'deadlock chain without_c' 'hang chain without_c' \
+    'replay chain without_c unlawful' 'circles circle' 'circles chain without_c' 'dot circle' 'dot chain without_c' 'run circle'; do
     # Each word is an argument of its own.
     unwritten $words
 done

@@ -4,7 +4,7 @@
 import dataclasses
 import functools
 
-from declaration import Refused, split_lines, split_words
+from declaration import Refused, has_only, split_lines, split_words
 
 # Limits
 TEXT_LIMIT = 8_388_608
@@ -12,6 +12,7 @@ LINE_LIMIT = 524_288
 WORKQUEUE_LIMIT = 4_096
 ARC_LIMIT = 4_096
 NUMBER_LIMIT = 4_294_967_295
+WORKQUEUE_NAME_LIMIT = 63
 
 # The refusals.
 BAD_CERT_LINE = 40
@@ -32,6 +33,8 @@ class Assignment:
 
     workqueue_of: dict  # by the name of an item, the number of its workqueue
     count: int  # how many workqueues there are
+    bare: frozenset = frozenset()  # the numbers of those without a rescuer
+    called: dict = dataclasses.field(default_factory=dict)  # by the number of a workqueue, its name, if it has one
 
 
 @dataclasses.dataclass
@@ -58,7 +61,8 @@ class Lines:
         if len(text) > TEXT_LIMIT:
             raise Refused(BAD_CERT_LINE, 0)
         self.left = []
-        for number, line in enumerate(split_lines(text), start=1):
+        self.lines = split_lines(text)
+        for number, line in enumerate(self.lines, start=1):
             if len(line) > LINE_LIMIT:
                 raise Refused(BAD_CERT_LINE, number)
             self.left.append((number, split_words(line)))
@@ -123,19 +127,33 @@ def read_arcs(lines, declaration, count):
     return arcs
 
 
-class WqLines:
-    """The `wq` lines of a plan text or of an assignment, as far as they are read."""
+def name_of_workqueue(line):
+    """Certificates: Names of workqueues. What this line calls its workqueue, or None."""
+    comment = line.partition(b"#")[2].lstrip(b"# \t")
+    name = comment.split(b",", 1)[0].rstrip(b" \t")
+    return name if 1 <= len(name) <= WORKQUEUE_NAME_LIMIT and has_only(name, bytes(range(0x20, 0x7F))) else None
 
-    def __init__(self, declaration):
+
+# The first words of the lines of an assignment: whether the workqueue has a rescuer.
+HAS_RESCUER = {b"wq": True, b"norescuer": False}
+
+
+class WqLines:
+    """The `wq` lines of a plan text, or the `wq` and `norescuer` lines of an assignment, as far as they are read."""
+
+    def __init__(self, declaration, keywords):
         self.declaration = declaration
+        self.keywords = keywords  # which first words there may be
         self.count = 0
         self.workqueue_of = {}
+        self.bare = set()
+        self.called = {}
         self.groups = set()  # those with an item on a line that is read
 
     def read(self, lines):
-        """The next line, which must be a `wq` line."""
+        """The next line, which must be one of these."""
         line, words = lines.take()
-        must(len(words) >= 2 and words[0] == b"wq", BAD_CERT_LINE, line)
+        must(len(words) >= 2 and words[0] in self.keywords, BAD_CERT_LINE, line)
         number = read_number(words[1], line)
         names = [read_item(word, line, self.declaration) for word in words[2:]]
         must(number == self.count, NUMBER_OUT_OF_RANGE, line)
@@ -147,16 +165,21 @@ class WqLines:
         self.count += 1
         self.workqueue_of.update((name, number) for name in names)
         self.groups |= groups
+        if not HAS_RESCUER[words[0]]:
+            self.bare.add(number)
+        called = name_of_workqueue(lines.lines[line - 1])
+        if called is not None:
+            self.called[number] = called
 
     def end(self):
-        """Behind the last `wq` line. Returns the assignment."""
+        """Behind the last of these lines. Returns the assignment."""
         must(len(self.workqueue_of) == len(self.declaration.items), NOT_ALL_ITEMS, 0)
-        return Assignment(self.workqueue_of, self.count)
+        return Assignment(self.workqueue_of, self.count, frozenset(self.bare), self.called)
 
 
 def read_plan_text(lines, declaration):
     count = read_head(lines, b"plan", 0, WORKQUEUE_LIMIT)
-    wq_lines = WqLines(declaration)
+    wq_lines = WqLines(declaration, [b"wq"])
     for _ in range(count):
         wq_lines.read(lines)
     assignment = wq_lines.end()
@@ -206,8 +229,8 @@ def read_assignment(text, declaration):
     lines = Lines(text)
     if lines.first_word() == b"plan":
         return read_plan_text(lines, declaration).assignment
-    wq_lines = WqLines(declaration)
-    while lines.first_word() == b"wq":
+    wq_lines = WqLines(declaration, HAS_RESCUER)
+    while lines.first_word() in HAS_RESCUER:
         wq_lines.read(lines)
     assignment = wq_lines.end()
     lines.end()

@@ -1,7 +1,7 @@
 """A model of `wqplan circles DECL [ASSIGN]`.
 
-It prints all flushes that lie on a circle, as docs/FORMAT.md asks for in "The command `circles`". It looks, workqueue by
-workqueue, which others it leads to and which lead to it. See plan.py for what the model is.
+It prints all flushes that lie on a circle or lead to no rescuer, as docs/FORMAT.md asks for in "The command `circles`". It
+looks, workqueue by workqueue, which others it leads to and which lead to it. See plan.py for what the model is.
 """
 
 import sys
@@ -12,6 +12,7 @@ import declaration  # noqa: E402
 from certificate import Assignment  # noqa: E402
 from circle import what_remains  # noqa: E402
 from command_line import answer_texts  # noqa: E402
+from deadlock import led_to_no_rescuer  # noqa: E402
 from declaration import Refused  # noqa: E402
 
 
@@ -21,11 +22,13 @@ def own_workqueues(declared):
 
 
 def waiting(declared, assignment):
-    """For each workqueue those that it waits for, and for each those that wait for it."""
+    """For each workqueue those that it waits for, and for each those that wait for it. Those without a rescuer are in none."""
     waits_for = [set() for _ in range(assignment.count)]
     waited_by = [set() for _ in range(assignment.count)]
     for item, target in declared.flushes:
         here, there = assignment.workqueue_of[item], assignment.workqueue_of[target]
+        if here in assignment.bare or there in assignment.bare:
+            continue
         waits_for[here].add(there)
         waited_by[there].add(here)
     return waits_for, waited_by
@@ -69,13 +72,16 @@ def arcs_on_circles(declared, assignment):
     return arcs
 
 
-def circles_text(declared, arcs):
-    """The lines that are printed, of the places of the arcs of each component."""
-    if not arcs:
+def circles_text(declared, arcs, to_none):
+    """The lines that are printed, of the places of the arcs of each component, and of those that lead to no rescuer."""
+    if not arcs and not to_none:
         return [b"safe"]
+    parts = [(b"component", places) for places in arcs]
+    if to_none:
+        parts.append((b"norescuer", to_none))
     lines = [b"components %d" % len(arcs)]
-    for places in arcs:
-        lines.append(b"component %d" % len(places))
+    for word, places in parts:
+        lines.append(b"%s %d" % (word, len(places)))
         lines += [b"arc %s %s" % declared.flushes[place] for place in places]
     return lines
 
@@ -94,8 +100,8 @@ def answer(declaration_text, assignment_text=None):
         declared, assignment = read_texts(declaration_text, assignment_text)
     except Refused as refused:
         return refused.answer()
-    arcs = arcs_on_circles(declared, assignment or own_workqueues(declared))
-    lines = circles_text(declared, arcs)
+    assignment = assignment or own_workqueues(declared)
+    lines = circles_text(declared, arcs_on_circles(declared, assignment), led_to_no_rescuer(declared, assignment))
     return b"".join(line + b"\n" for line in lines), 0 if lines == [b"safe"] else 1
 
 

@@ -15,16 +15,26 @@ from declaration import Refused  # noqa: E402
 from steps import RESCUER, State  # noqa: E402
 
 
+def led_to_no_rescuer(declared, assignment):
+    """Deadlocking runs: the places of the flushes that lead to no rescuer."""
+    has_none = [(assignment.workqueue_of[item] in assignment.bare, assignment.workqueue_of[target] in assignment.bare)
+                for item, target in declared.flushes]
+    return [place for place, ends in enumerate(has_none) if ends == (False, True)]
+
+
 def circle_of(declared, assignment):
-    """Deadlocking runs, 1: the arcs of the circle of workqueues. There is none where it is safe."""
-    arcs = arcs_of(declared.flushes, assignment.workqueue_of, assignment.count)
+    """Deadlocking runs, 1: the arcs of the circle of workqueues with a rescuer, or none."""
+    with_rescuer = [flush for flush in declared.flushes
+                    if not any(assignment.workqueue_of[name] in assignment.bare for name in flush)]
+    arcs = arcs_of(with_rescuer, assignment.workqueue_of, assignment.count)
     return find_circle(arcs, assignment.workqueue_of)
 
 
-def queued_first(declared, circle):
-    """Deadlocking runs, 2: the items in the order in which they are queued."""
-    first = dict.fromkeys(item for item, _ in circle)
-    return [*first, *(item for item in declared.items if item not in first)]
+def queued_first(declared, assignment):
+    """Deadlocking runs, 1: the items that are queued first. There are none where the assignment is safe."""
+    to_none = led_to_no_rescuer(declared, assignment)
+    arcs = [declared.flushes[to_none[0]]] if to_none else circle_of(declared, assignment)
+    return list(dict.fromkeys(item for item, _ in arcs))
 
 
 def step_as_declared(state, workqueue):
@@ -32,7 +42,7 @@ def step_as_declared(state, workqueue):
     entry = state.running.get((workqueue, RESCUER))
     if entry is None:
         pending = state.pending[workqueue]
-        return (b"start", workqueue, pending[0].item) if pending else None
+        return (b"start", workqueue, pending[0].item) if pending and workqueue not in state.bare else None
     if entry.target is not None:
         step = (entry.over, workqueue, entry.target)
         return step if state.may(step) else None
@@ -45,11 +55,12 @@ def step_as_declared(state, workqueue):
 
 def deadlocking_run(declared, assignment):
     """The steps of the deadlocking run. There is none where the assignment is safe."""
-    circle = circle_of(declared, assignment)
-    if not circle:
+    first = queued_first(declared, assignment)
+    if not first:
         return []
     state = State(declared, assignment)
-    steps = [(b"queue", None, item) for item in queued_first(declared, circle)]
+    others = [item for item in declared.items if item not in first]
+    steps = [(b"queue", None, item) for item in first + others]
     for step in steps:
         state.make(step)
 

@@ -46,8 +46,8 @@ import unlawful  # noqa: E402
 from command_line import seed_and_counts  # noqa: E402
 from commands import TEXTS_OF, given  # noqa: E402  (in tests/lib)
 from declaration import (  # noqa: E402
-    DIRECTIVES, FEWEST_WORDS, FLUSHES_WHOLE, LINE_BYTES, LINE_LIMIT, LISTED, NAME_LIMIT, Refused, before_comment, is_name,
-    read_declaration, split_lines, split_words,
+    DIRECTIVES, FEWEST_WORDS, FLUSHES, FLUSHES_WHOLE, LINE_BYTES, LINE_LIMIT, LISTED, NAME_LIMIT, Refused, before_comment,
+    is_name, read_declaration, split_lines, split_words,
 )
 from models import ANSWERS  # noqa: E402
 from records import records  # noqa: E402  (in tests/lib)
@@ -79,6 +79,7 @@ CALLS = {
 KINDS = {
     **dict.fromkeys(DIRECTIVE_FORMS, b"a declaration"),
     **dict.fromkeys([b"plan", b"wq", b"chain"], b"a plan or an assignment"),
+    b"norescuer": b"an assignment",
     b"circle": b"a circle",
     **dict.fromkeys([b"run", *certificate.NAMES_WORKQUEUE], b"a run"),
     b"refused": b"a refusal, written here in place of an answer",
@@ -188,7 +189,7 @@ def comment_hint(word):
 
 def kind_hint(word, form=None, is_among_directives=False):
     """(f), and what (b) says of it."""
-    if word == b"wq" and form == b"`plan K`":
+    if word in certificate.HAS_RESCUER and form == b"`plan K`":
         return b"this is an assignment: ask `deadlock`"
     asked = b"it needs a file of its own" if is_among_directives else b"are the files in the right order?"
     return b"this looks like %s: %s" % (KINDS[word], asked) if word in KINDS else b""
@@ -219,8 +220,8 @@ def encoding_hint(word):
 
 
 def assignment_hint(word, is_first):
-    """(h) The first word of a line that isn't a `wq` line, with its place."""
-    alike = near(word.word, [b"wq", b"plan"] if is_first else [b"wq"])
+    """(h) The first word of a line that isn't one of a workqueue, with its place."""
+    alike = near(word.word, [b"wq", b"norescuer", b"plan"] if is_first else [b"wq", b"norescuer"])
     ends_plan = word.word in (b"plan", b"chain", b"arc") and b"in a plan the line `plan K` comes first"
     return (encoding_hint(word) or comment_hint(word.word) or ends_plan or kind_hint(word.word)
             or (alike and b"did you mean `%s`?" % alike) or b"")
@@ -359,7 +360,8 @@ def form_at(kind, lines, at):
     if kind == "run":
         return run_form(at, lambda: number_of(0))
     if kind == "assignment" and first != b"plan":
-        return b"`wq %d NAME..`" % at if at < len(lines) and lines[at][0] == b"wq" else None
+        is_there = at < len(lines) and lines[at][0] in certificate.HAS_RESCUER
+        return b"`%s %d NAME..`" % (lines[at][0], at) if is_there else None
     if at == 0:
         return b"`plan K`"
     count = number_of(0)
@@ -378,8 +380,9 @@ def run_form(at, steps):
 
 
 # The keywords of the forms, and how many words a line has at least and at most.
-SHAPES = {b"plan": (2, 2), b"circle": (2, 2), b"chain": (2, 2), b"run": (2, 2), b"arc": (3, 3), b"wq": (2, None)}
-NUMBERED = [b"plan", b"circle", b"chain", b"run", b"wq"]
+SHAPES = {b"plan": (2, 2), b"circle": (2, 2), b"chain": (2, 2), b"run": (2, 2), b"arc": (3, 3),
+          **dict.fromkeys(certificate.HAS_RESCUER, (2, None))}
+NUMBERED = [b"plan", b"circle", b"chain", b"run", *certificate.HAS_RESCUER]
 
 
 def shape_of(word):
@@ -401,13 +404,13 @@ def is_number(word):
 def number_hint(keyword, word):
     if word.isdigit() and word[:1] != b"0":
         return b"a number is at most 4,294,967,295"
-    if keyword == b"wq" and (word[:1].isalpha() or word[:1] == b"_"):
+    if keyword in certificate.HAS_RESCUER and (word[:1].isalpha() or word[:1] == b"_"):
         return b"workqueues have numbers: put a name into a comment"
     return b"a number has only digits, and no leading zero"
 
 
-def of_bad_line(declaration, words, form, is_assignment):
-    """40 of a line that isn't of the form. `is_assignment`: the text is one of only `wq` lines."""
+def of_bad_line(declaration, words, form, is_assignment, is_plan):
+    """40 of a line that isn't of the form. `is_assignment`: the text is one of lines of workqueues alone."""
     first = words[0]
     if form is None:
         what = b"the text should end before this line"
@@ -415,11 +418,13 @@ def of_bad_line(declaration, words, form, is_assignment):
         return about(first, what, hint)
     fits = first.word in certificate.NAMES_WORKQUEUE if form == STEP else form[1:].startswith(first.word + b" ")
     if not fits:
-        hint = encoding_hint(first) or comment_hint(first.word) or kind_hint(first.word, form)
+        all_rescued = is_plan and form != b"`plan K`" and first.word == b"norescuer" and b"in a plan each workqueue has a rescuer"
+        hint = encoding_hint(first) or comment_hint(first.word) or all_rescued or kind_hint(first.word, form)
         return about(first, b"expected %s, found `%s`" % (form, first.word), hint)
     least, most, has_number = shape_of(first.word)
     if has_number and len(words) > 1 and not is_number(words[1].word):
-        hint = number_hint(first.word, words[1].word)
+        is_item = first.word in certificate.HAS_RESCUER and words[1].word in declaration.group_of
+        hint = b"the line should be " + form if is_item else number_hint(first.word, words[1].word)
         return about(words[1], b"`%s` isn't a number" % words[1].word, hint)
     if len(words) < least:
         return behind_last(words, b"a word is missing", b"the line should be " + form)
@@ -435,19 +440,21 @@ def of_bad_line(declaration, words, form, is_assignment):
         hint = b"flags don't belong here: put them into a comment"
     elif not alike and name.word == b"ordered":
         hint = b"which items are `ordered` is said in the declaration"
+    elif not alike and name.word == b"norescuer":
+        hint = b"`norescuer` comes first on a line, in place of `wq`"
     return about(name, b"no item `%s` is declared" % name.word, hint)
 
 
 def of_range(kind, words, at):
     """43."""
     keyword, number = words[0].word, words[1]
-    if keyword == b"wq":
+    if keyword in certificate.HAS_RESCUER:
         hint = b"workqueues are numbered from 0, in order"
         if int(number.word) < at:
             hint = b"each workqueue has one line: add these names to the one above"
         if kind == "assignment" and at == certificate.WORKQUEUE_LIMIT:
             return about(number, b"an assignment has at most 4,096 workqueues", hint)
-        return about(number, b"expected `wq %d`" % at, hint)
+        return about(number, b"expected `%s %d`" % (keyword, at), hint)
     return about(number, {
         b"plan": b"a plan has at most 4,096 workqueues",
         b"chain": b"a chain has at most 4,096 groups",
@@ -466,19 +473,25 @@ def of_nowhere(declaration, served):
 
 
 def of_stray(found, number, words, is_first):
-    """The same where this line of an assignment isn't a `wq` line."""
+    """The same where this line of an assignment isn't one of a workqueue."""
     hint = assignment_hint(words[0], is_first)
-    what = b"%s: line %d isn't a `wq` line" % (found.what, number)
+    what = b"%s: line %d isn't a `wq` or `norescuer` line" % (found.what, number)
     return Finding(what, words[0].first, words[0].behind, hint, number)
 
 
-def of_place(declaration, code, words, served):
+def place_above(raw, number):
+    """The line of this number, on which another name is, and its workqueue, where that has a name."""
+    name = certificate.name_of_workqueue(raw[number - 1])
+    workqueue = b", workqueue %s (%s)" % (split_words(raw[number - 1])[1], name) if name else b""
+    return b"on line %d" % number + workqueue
+
+
+def of_place(declaration, code, raw, words, served):
     """41 and 42 of a line. `served` has the line of each item that is on a workqueue above, in order."""
     before = set()
     for name in words[2:]:
         if code == 41 and name.word in served:
-            hint = b"on line %d" % served[name.word]
-            return about(name, b"`%s` is on a workqueue already" % name.word, hint)
+            return about(name, b"`%s` is on a workqueue already" % name.word, place_above(raw, served[name.word]))
         if code == 41 and name.word in before:
             return about(name, b"`%s` is on this line twice" % name.word)
         before.add(name.word)
@@ -486,7 +499,7 @@ def of_place(declaration, code, words, served):
         others = [other for other, of in declaration.group_of.items() if of == group and other in served]
         if code == 42 and others:
             what = b"`%s` and `%s` are on one `ordered` line, and on two workqueues" % (name.word, others[0])
-            return about(name, what, b"the other one on line %d" % served[others[0]])
+            return about(name, what, b"the other one " + place_above(raw, served[others[0]]))
     raise AssertionError("each item is where it may be")
 
 
@@ -503,28 +516,29 @@ def of_certificate(kind, declaration, text, code, number):
     if code == 40 and number == 0:
         return Finding(b"expected %s, but the text ends" % form_at(kind, lines, len(lines)))
 
-    # The `wq` lines above the refused one, or all that count.
+    # The lines of workqueues above the refused one, or all that count.
     served = {}
     for place in range(len(lines) if at is None else at):
         form = form_at(kind, lines, place)
         if form is None or form == b"`chain N`":
             break
-        if form.startswith(b"`wq "):
+        if form.startswith((b"`wq ", b"`norescuer ")):
             for name in lines[place][2:]:
                 served.setdefault(name, numbers[place])
     is_assignment = kind == "assignment" and lines and lines[0][0] != b"plan"
     if number == 0:
         found = of_nowhere(declaration, served)
-        strays = [number for number, line in zip(numbers, lines) if is_assignment and line[0] != b"wq"]
+        strays = [number for number, line in zip(numbers, lines) if is_assignment and line[0] not in certificate.HAS_RESCUER]
         return of_stray(found, strays[0], words_of(raw[strays[0] - 1]), strays[0] == numbers[0]) if strays else found
 
     words = words_of(raw[number - 1])
     if code == 40:
-        return of_bad_line(declaration, words, form_at(kind, lines, at), is_assignment)
+        is_plan = kind != "run" and not is_assignment and lines[0][0] != b"circle"
+        return of_bad_line(declaration, words, form_at(kind, lines, at), is_assignment, is_plan)
     if code == 43:
         is_plan = lines[0][0] == b"plan"
         return of_range("plan" if is_plan else kind, words, at - 1 if is_plan else at)
-    return of_place(declaration, code, words, served)
+    return of_place(declaration, code, raw, words, served)
 
 
 # The text that is printed ------------------------------------------------------------------------
@@ -542,9 +556,11 @@ def of_no(declared, text, printed):
         item, target = rest
         served = {name.word: (number, words[1].word, name) for number, words in beginning(b"wq") for name in words[2:]}
         number, _, name = served[item]
+        called = certificate.name_of_workqueue(split_lines(text)[served[target][0] - 1])
         whole = declared.directive_of[declared.flushes.index((item, target))] in FLUSHES_WHOLE
         what = b"`%s` flushes %s`%s`, so it should be on a higher workqueue" % (item, b"the workqueue of " if whole else b"", target)
-        return number, about(name, what, b"`%s` is on workqueue %s" % (target, served[target][1]))
+        hint = b"`%s` is on workqueue %s" % (target, served[target][1]) + (b" (%s)" % called if called else b"")
+        return number, about(name, what, hint)
     if code in (b"51", b"53") and rest != [b"0"]:
         number, words = beginning(b"arc")[int(rest[0]) - 1]
         where = b"above" if code == b"51" else b"before it"
@@ -611,7 +627,9 @@ def answer(command, files, texts):
     if printed.startswith(b"not lawful "):
         return printed, status, of_step(files[2], texts, int(printed.split()[2]))
     if status != 2:
-        return printed, status, b"" if read_declaration(texts[0]).items else note(files[0])
+        if not read_declaration(texts[0]).items:
+            return printed, status, note(files[0])
+        return printed, status, of_no_rescuer(command, files, texts, status)
     code, line = (int(word) for word in printed.split()[1::2])
     return printed, status, said(TEXTS_OF[command][1:], files, texts, code, line)
 
@@ -619,6 +637,51 @@ def answer(command, files, texts):
 def note(file):
     """What is said beside the answer to a declaration without an item."""
     return shown(file + b": note: no item is declared: is this the right file?") + b"\n"
+
+
+def of_no_rescuer(command, files, texts, status):
+    """What is said of workqueues without a rescuer, beside `safe` and beside a run."""
+    if command not in ("deadlock", "circles") or len(texts) < 2:
+        return b""
+    declared = read_declaration(texts[0])
+    assignment = certificate.read_assignment(texts[1], declared)
+    if status == 0:
+        return note_of_items(files[1], declared, assignment)
+    places = deadlock.led_to_no_rescuer(declared, assignment)
+    return reason_of_run(files, texts, declared, assignment, places[0]) if places and command == "deadlock" else b""
+
+
+def note_of_items(file, declared, assignment):
+    """Which items `safe` doesn't speak of, and what to do."""
+    items = [b"`%s` on %s" % (item, unlawful.workqueue(assignment, assignment.workqueue_of[item]))
+             for item in declared.items if assignment.workqueue_of[item] in assignment.bare]
+    if not items:
+        return b""
+    return b"".join(shown(file + b": note: " + line) + b"\n" for line in (
+        b"nothing guarantees that these run while memory is short: " + b", ".join(items),
+        b"where reclaim waits for one of them, declare who waits: an item of its own, on a `wq` line, that flushes it",
+    ))
+
+
+def reason_of_run(files, texts, declared, assignment, place):
+    """The flush at this place, which leads to no rescuer."""
+    item, target = declared.flushes[place]
+    here, there = (unlawful.workqueue(assignment, assignment.workqueue_of[name]) for name in (item, target))
+    whole = b"the workqueue of " if declared.directive_of[place] in FLUSHES_WHOLE else b""
+    none = b"%s has no rescuer" % there
+    what = b"`%s`, on %s, waits for %s`%s`, which nothing guarantees to run: %s" % (item, here, whole, target, none)
+    flushes = [(number, word) for number, line in enumerate(split_lines(texts[0]), start=1)
+               for word in words_of(line)[2:] if split_words(line)[0] in FLUSHES]
+    lines = [(number, words_of(line)[0]) for number, line in enumerate(split_lines(texts[1]), start=1)
+             if split_words(line)[:1] and split_words(line)[0] in certificate.HAS_RESCUER]
+    parts = []
+    for file, text, (number, word), said in (
+        (files[0], texts[0], flushes[place], what),
+        (files[1], texts[1], lines[assignment.workqueue_of[target]], none),
+    ):
+        parts.append(b"%s:%d:%d: %s" % (file, number, word.first + 1, said))
+        parts += [b"    " + part for part in excerpt(split_lines(text)[number - 1], about(word, said))]
+    return b"".join(shown(part) + b"\n" for part in parts)
 
 
 def of_step(file, texts, number):
@@ -664,7 +727,7 @@ MUST_COME = [
 
 BYTES = b"\t\r\n\0 #,;.-_/!aZ09\x01\x7f\x80\xc3\xa4\xef\xff"
 OTHER_WORDS = [
-    *DIRECTIVES, b"plan", b"wq", b"chain", b"arc", b"circle", b"run", b"queue", b"cancel", b"start",
+    *DIRECTIVES, b"plan", b"wq", b"norescuer", b"chain", b"arc", b"circle", b"run", b"queue", b"cancel", b"start",
     b"wait", b"waitwq", b"over", b"overwq", b"finish", b"refused", b"Item", b"depends", b"waits", b"flush_work", b"queue_work", b"cancels",
     b"WQ", b"Plan", b"WQ_UNBOUND", b"md", b"_", b"\xef\xbb\xbfwq", b"\xff\xfe", b"w\0q",
     b"//", b"/*", b"*", b";", b"%", b"--", b"a,", b"a;", b"-",

@@ -3,6 +3,7 @@
 It prints a drawing for Graphviz, as docs/FORMAT.md asks for in "The command `dot`". See plan.py for what the model is.
 """
 
+import collections
 import sys
 
 sys.dont_write_bytecode = True
@@ -11,9 +12,10 @@ import declaration  # noqa: E402
 import plan  # noqa: E402
 from circles import arcs_on_circles, own_workqueues, read_texts  # noqa: E402
 from command_line import answer_texts  # noqa: E402
+from deadlock import led_to_no_rescuer  # noqa: E402
 from declaration import Refused  # noqa: E402
 
-# The text. TITLE, Q and NAME are %b.
+# The text. TITLE, Q, FRAME, LABEL and NAME are %b.
 HEAD = [
     b'digraph wqplan {',
     b'  graph [label="%b", labelloc=t, labeljust=l, rankdir=LR, nodesep=0.15, ranksep=1,'
@@ -23,21 +25,20 @@ HEAD = [
 ]
 WORKQUEUE = [
     b'  subgraph "cluster wq %b" {',
-    b'    graph [label="", style=filled, color=gray92]; "wq %b" [shape=plaintext, style="", fontsize=14];',
+    b'    graph [label="", %b]; "wq %b" [%bshape=plaintext, style="", fontsize=14];',
 ]
+FRAME = {True: b"style=filled, color=gray92", False: b'style="filled,dashed", fillcolor=gray92, color=black'}
 ORDERED = [
     b'    subgraph "cluster ordered %b" {',
     b'      graph [label="", style=dashed, color=black];'
     b' "ordered %b" [label="ordered", shape=plaintext, style=""];',
 ]
-LEGEND = {
-    b"bold": rb"\lBold: the chain that needs so many workqueues.\l",
-    b"red": rb"\lRed: while memory is short, a worker may wait for work\l"
-           rb"that only it, or one that waits for it, can do.\l",
-}
+BOLD = rb"\lBold: the chain that needs so many workqueues."
+RED = rb"\lRed: while memory is short, a worker may wait for work\lthat %b."
+DASHED = rb"\lDashed: no rescuer. While memory is short, nothing\lguarantees that work there runs."
 LOOKS = {b"bold": [b"style=bold"], b"red": [b"color=red", b"style=bold"]}
 
-# What is shown of a comment: how many bytes, and how some of them.
+# What is shown of a comment: how many bytes, and how some of them, as in the name of a workqueue.
 SHOWN = 256
 ESCAPES = {b'"'[0]: rb'\"', b"\\"[0]: rb"\\", b"&"[0]: b"&amp;", b"\t"[0]: b" "}
 
@@ -55,9 +56,29 @@ def counted(number, thing):
     return b"%d %b%b" % (number, thing, b"" if number == 1 else b"s")
 
 
-def title(words, mark, places):
-    """TITLE: what is drawn, and how many waits are marked."""
-    return words + (b", %b in %b%b" % (counted(len(places), b"wait"), mark, LEGEND[mark]) if places else b"")
+def what_no_one_does(red, to_none):
+    """RED, of so many red flushes, of which so many lead to no rescuer."""
+    if to_none == 0:
+        return b"only it, or one that waits for it, can do"
+    if to_none == red:
+        return b"no rescuer does"
+    return rb"only it, or one that waits for it, can do,\lor that no rescuer does"
+
+
+def title(words, mark, marked, to_none, has_bare):
+    """TITLE: WHAT and the parts that apply. So many flushes are marked, and so many of them lead to no rescuer."""
+    parts = []
+    if marked:
+        parts.append(b", %b in %b" % (counted(marked, b"wait"), mark))
+    if marked and mark == b"bold":
+        parts.append(BOLD)
+    if to_none:
+        parts.append(b", %d to no rescuer" % to_none)
+    if marked and mark == b"red":
+        parts.append(RED % what_no_one_does(marked, to_none))
+    if has_bare:
+        parts.append(DASHED)
+    return b"".join([words, *parts, rb"\l" if parts else b""])
 
 
 def drawn(declared, assignment, declaration_text):
@@ -65,15 +86,17 @@ def drawn(declared, assignment, declaration_text):
 
     `assignment` is None where no ASSIGN is named.
     """
-    arcs = arcs_on_circles(declared, assignment or own_workqueues(declared))
+    shown = assignment or own_workqueues(declared)
+    arcs, to_none = arcs_on_circles(declared, shown), led_to_no_rescuer(declared, shown)
     if assignment is None and not arcs:
         printed, _ = plan.answer(declaration_text)
         planned = certificate.read_assignment(printed, declared)
         bold = followed(declared, printed)
-        return planned, title(b"plan of " + counted(planned.count, b"workqueue"), b"bold", bold), b"bold", bold
-    red = [place for places in arcs for place in places]
+        words = b"plan of " + counted(planned.count, b"workqueue")
+        return planned, title(words, b"bold", len(bold), 0, False), b"bold", bold
+    red = [place for places in arcs for place in places] + to_none
     words = b"safe" if not red else b"every assignment can hang" if assignment is None else b"can hang"
-    return assignment or own_workqueues(declared), title(words, b"red", red), b"red", red
+    return shown, title(words, b"red", len(red), len(to_none), bool(shown.bare)), b"red", red
 
 
 def group_lines(members):
@@ -84,9 +107,27 @@ def group_lines(members):
     return lines + [b'      "%b";' % name for name in members] + [b"    }"]
 
 
-def workqueue_lines(number, groups):
+def escaped(text):
+    """The text with its escapes."""
+    return b"".join(ESCAPES.get(byte, b"%c" % byte if 32 <= byte < 127 else b"?") for byte in text)
+
+
+def label(assignment, number, how_often):
+    """LABEL of a workqueue, before `shape`, or nothing. `how_often` says how many have each name."""
+    called = assignment.called.get(number)
+    has_rescuer = number not in assignment.bare
+    if called is None and has_rescuer:
+        return b""
+    shown = b"wq %d" % number
+    if called is not None:
+        shown = escaped(called) if how_often[called] == 1 else shown + b" " + escaped(called)
+    return b'label="%b%b", ' % (shown, b"" if has_rescuer else b" (no rescuer)")
+
+
+def workqueue_lines(number, has_rescuer, label, groups):
     """A workqueue with its groups."""
-    lines = [line % b"%d" % number for line in WORKQUEUE]
+    q = b"%d" % number
+    lines = [WORKQUEUE[0] % q, WORKQUEUE[1] % (FRAME[has_rescuer], q, label)]
     for members in groups:
         lines += group_lines(members)
     return lines + [b"  }"]
@@ -110,8 +151,7 @@ def comments(declaration_text):
 
 def tooltip(comment):
     """A comment as an attribute, with its escapes."""
-    shown = b"".join(ESCAPES.get(byte, b"%c" % byte if 32 <= byte < 127 else b"?") for byte in comment)
-    return [b'edgetooltip="%b"' % shown] if comment else []
+    return [b'edgetooltip="%b"' % escaped(comment)] if comment else []
 
 
 def arrow_line(ends, turned, whole, look, comment):
@@ -129,8 +169,10 @@ def dot_text(declared, assignment, words, mark, places, said):
     for members in declared.groups:
         groups[assignment.workqueue_of[members[0]]].append(members)
     lines = [HEAD[0], HEAD[1] % words, *HEAD[2:]]
+    how_often = collections.Counter(assignment.called.values())
     for number in range(assignment.count):
-        lines += workqueue_lines(number, groups[number])
+        shown = label(assignment, number, how_often)
+        lines += workqueue_lines(number, number not in assignment.bare, shown, groups[number])
     turned, marked = turned_ends(declared), set(places)
     for place, (ends, comment) in enumerate(zip(declared.flushes, said, strict=True)):
         whole = declared.directive_of[place] in declaration.FLUSHES_WHOLE

@@ -20,7 +20,7 @@ class Entry:
     over: bytes = None  # while it waits, the word of the step by which the wait is over
 
 
-# The context that a workqueue has for certain; its helpers are numbered from 1.
+# The first context of a workqueue, its rescuer, or a worker where it has none; its helpers are numbered from 1.
 RESCUER = 0
 
 
@@ -38,6 +38,7 @@ class State:
             self.waits[item].append((WAIT[directive], target))
         self.declared = {item: frozenset(waits) for item, waits in self.waits.items()}
         self.workqueue_of = assignment.workqueue_of
+        self.bare = assignment.bare  # the workqueues without a rescuer
         self.helpers = helpers  # of each workqueue that isn't ordered
         self.ordered = {assignment.workqueue_of[group[0]] for group in declaration.groups if len(group) > 1}
         self.workqueues = range(assignment.count)
@@ -133,7 +134,7 @@ class State:
         yield from (step for step in steps if self.may(step, helper))
 
     def rescuer_steps(self):
-        """Each step of the rescuers, `start`, `finish` and those of waits, that may be made."""
+        """Each step of the first contexts, `start`, `finish` and those of waits, that may be made."""
         for workqueue in sorted(set(self.workqueue_of.values())):
             yield from self.steps_of(workqueue, RESCUER)
             first = self.first_to_start(workqueue)
@@ -154,10 +155,20 @@ class State:
                 if helper != RESCUER and self.may(step, helper):
                     yield step, helper
 
+    def forced_steps(self):
+        """Each step that may be made, with its context, but `queue`, `cancel`, the `start` of a helper, and each `start` on a
+        workqueue without a rescuer.
+        """
+        for step in self.rescuer_steps():
+            word, workqueue, _ = step
+            if word != b"start" or workqueue not in self.bare:
+                yield step, RESCUER
+        yield from self.helper_steps()
+
     def is_stuck(self):
-        """An entry is unfinished, and no step may be made but `queue`, `cancel` and the `start` of a helper."""
-        unfinished = any(self.unfinished(item) for item in self.targets)
-        return unfinished and next(self.rescuer_steps(), None) is None and next(self.helper_steps(), None) is None
+        """An entry is unfinished on a workqueue with a rescuer, and no step is forced."""
+        unfinished = any(self.unfinished(item) for item in self.targets if self.workqueue_of[item] not in self.bare)
+        return unfinished and next(self.forced_steps(), None) is None
 
 
 def end_of_run(declaration, assignment, steps):

@@ -21,7 +21,7 @@ use wq_commands::{
     CheckCommand, DeadlockCommand, End, Fault, Metered, Outcome, PlanCommand, ReplayCommand,
     carry_out, end_of,
 };
-use wq_diagnosis::{CertificateKind, Diagnosing};
+use wq_diagnosis::{CertificateKind, Diagnosing, Unrescued};
 use wq_dot::DotCommand;
 
 /// The seed of the hashes of names. No answer depends on it.
@@ -113,12 +113,18 @@ fn voice(command: PlainCommand) -> Diagnosing<'static> {
         PlainCommand::Check => CertificateKind::Answer,
         _ => CertificateKind::Assignment,
     };
+    let unrescued = match command {
+        PlainCommand::Deadlock => Unrescued::Explained,
+        PlainCommand::Circles => Unrescued::Noted,
+        _ => Unrescued::Unsaid,
+    };
     Diagnosing {
         seed: SEED,
         declaration,
         kind,
         certificate,
         run,
+        unrescued,
     }
 }
 

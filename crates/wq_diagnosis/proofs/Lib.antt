@@ -1,1 +1,2 @@
+pub mod BareNotes
 pub mod Lines

@@ -1,4 +1,5 @@
 pub mod Diagnosis
 pub mod Refused
 pub mod Unlawful
+pub mod Unrescued
 pub mod Voice

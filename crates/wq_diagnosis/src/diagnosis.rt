@@ -16,8 +16,8 @@ use wq_cert::{CertError, read_answer, read_run, read_workqueues};
 use wq_checker::{No, check_answer};
 use wq_commands::{Declaration, Stop, read_declaration};
 use wq_findings::{
-    CertificateKind, Excerpt, Finding, Found, Mark, Marks, Refused, What, has_words, in_answer,
-    in_certificate, in_declaration, line_at, put_place, shown,
+    CertificateKind, Excerpt, Finding, Found, Hint, Mark, Marks, Refused, What, has_words,
+    in_answer, in_certificate, in_declaration, line_at, put_place, shown,
 };
 use wq_lines::put;
 use wq_text::{Line, Text};
@@ -148,6 +148,20 @@ pub(crate) fn head<A: Allocator + Copy>(
     Ok(line)
 }
 
+/// Adds a line and its marks.
+pub(crate) fn push_excerpt<A: Allocator + Copy>(
+    alloc: A,
+    details: &mut Vec<Vec<u8, A>, A>,
+    bytes: &[u8],
+    mark: Mark,
+    hint: Hint<'_>,
+) -> Result<(), AllocError> {
+    let marks = Marks::of(bytes.len(), mark, hint);
+    details.push(Excerpt::of(bytes, mark).to_string(alloc)?.into_bytes())?;
+    details.push(marks.to_string(alloc)?.into_bytes())?;
+    Ok(())
+}
+
 /// Adds the line that is meant and its marks, where bytes of it are meant.
 pub(crate) fn push_details<A: Allocator + Copy>(
     alloc: A,
@@ -156,10 +170,7 @@ pub(crate) fn push_details<A: Allocator + Copy>(
     finding: Finding<'_>,
 ) -> Result<(), AllocError> {
     if let (Some(line), Some(mark)) = (line, finding.mark) {
-        let bytes = line.bytes();
-        let marks = Marks::of(bytes.len(), mark, finding.hint);
-        details.push(Excerpt::of(bytes, mark).to_string(alloc)?.into_bytes())?;
-        details.push(marks.to_string(alloc)?.into_bytes())?;
+        push_excerpt(alloc, details, line.bytes(), mark, finding.hint)?;
     }
     Ok(())
 }

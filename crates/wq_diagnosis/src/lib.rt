@@ -2,11 +2,13 @@
 //! and of a file that can't be read or written.
 //!
 //! What the program relies on: a diagnosis begins with the file and the line of the refusal, has the number of the refusal on its
-//! first line, and is printable ASCII and line feeds, whatever the text holds; the reason why a step isn't lawful holds in the state.
+//! first line, and is printable ASCII and line feeds, whatever the text holds; the reason why a step isn't lawful holds in the state;
+//! the note beside `safe` has each item whose workqueue has no rescuer; and the reason of a run is a flush that leads to one of these.
 //! wq_findings decides which word is meant, and what was most likely meant. The form is that of "Diagnoses" in docs/FORMAT.md. Each call takes time in the length of the texts and,
 //! where a name is unknown, in the names of the declaration times the length of one.
 #![tactic(auto)]
 
+mod bare;
 mod diagnosis;
 mod failed;
 mod further;
@@ -21,5 +23,5 @@ pub use diagnosis::{
 pub use failed::of_failed;
 pub use replayed::of_unlawful;
 pub use unlawful::{Unlawful, reason_of};
-pub use voice::Diagnosing;
+pub use voice::{Diagnosing, Unrescued};
 pub use wq_findings::CertificateKind;

@@ -16,10 +16,11 @@ use std::fmt;
 use wq_cert::{CertError, read_run, read_workqueues};
 use wq_commands::{Declaration, Stop, read_declaration};
 use wq_core::{Core, Step};
-use wq_findings::{Excerpt, Hint, Mark, Marks, Quoted, put_place};
+use wq_findings::{Excerpt, Hint, Mark, Marks, Quoted, Workqueue, put_place};
 use wq_groups::Assignment;
 use wq_items::{ItemId, ItemTable};
 use wq_lines::put;
+use wq_names::{name_at, workqueue_names};
 use wq_text::{Line, Text};
 
 /// The first step that isn't lawful: how many steps stand before it, the step, and why it isn't.
@@ -92,15 +93,28 @@ fn others(why: Unlawful, item: ItemId) -> (ItemId, ItemId) {
 #[derive(Clone, Copy)]
 struct Sentence<'a> {
     why: Unlawful,
-    /// The number of the step's workqueue, and how many there are.
-    q: u16,
+    /// The step's workqueue, and how many there are.
+    q: Workqueue<'a>,
     lanes: usize,
     /// The item of the step, that which runs or is the first, and that which is waited for.
     item: Quoted<'a>,
     other: Quoted<'a>,
     target: Quoted<'a>,
+    /// The name of the workqueue of that which is waited for; no byte where it has none.
+    target_workqueue: Quoted<'a>,
     /// How many flushes the one that runs declares.
     flushes: usize,
+}
+
+impl Sentence<'_> {
+    /// Writes the workqueue of that which is waited for.
+    fn say_whole<W: fmt::Write>(&self, f: &mut fmt::Formatter<W>) -> fmt::Result {
+        write!(f, "the workqueue of `{}`", self.target)?;
+        if !self.target_workqueue.0.is_empty() {
+            write!(f, " ({})", self.target_workqueue)?;
+        }
+        Ok(())
+    }
 }
 
 impl fmt::Display for Sentence<'_> {
@@ -112,47 +126,42 @@ impl fmt::Display for Sentence<'_> {
             Unlawful::NoItem => f.write_str("there is no such item"),
             Unlawful::Pending => write!(f, "`{}` is pending already", self.item),
             Unlawful::NotPending => write!(f, "`{}` isn't pending", self.item),
-            Unlawful::Runs(_) => write!(f, "workqueue {q} runs `{}`", self.other),
-            Unlawful::NothingPending | Unlawful::NothingRuns if q as usize >= self.lanes => {
-                write!(f, "there is no workqueue {q}")
+            Unlawful::Runs(_) => write!(f, "{q} runs `{}`", self.other),
+            Unlawful::NothingPending | Unlawful::NothingRuns if q.number as usize >= self.lanes => {
+                write!(f, "there is no {q}")
             }
-            Unlawful::NothingPending => write!(f, "nothing is pending on workqueue {q}"),
+            Unlawful::NothingPending => write!(f, "nothing is pending on {q}"),
             Unlawful::First(_) => {
                 write!(
                     f,
-                    "`{}` isn't the first entry of workqueue {q}, which is `{}`",
+                    "`{}` isn't the first entry of {q}, which is `{}`",
                     self.item, self.other
                 )
             }
-            Unlawful::NothingRuns => write!(f, "nothing runs on workqueue {q}"),
+            Unlawful::NothingRuns => write!(f, "nothing runs on {q}"),
             Unlawful::Waits(_, flush) => {
-                let of = if flush.whole { "the workqueue of " } else { "" };
-                write!(
-                    f,
-                    "`{}`, which runs on workqueue {q}, waits for {of}`{}`",
-                    self.other, self.target
-                )
+                write!(f, "`{}`, which runs on {q}, waits for ", self.other)?;
+                if flush.whole {
+                    return self.say_whole(f);
+                }
+                write!(f, "`{}`", self.target)
             }
             Unlawful::Undeclared(_, whole) => {
                 let flush = if whole { "`flushwq`" } else { "flush" };
                 write!(
                     f,
-                    "`{}`, which runs on workqueue {q}, declares no {flush} of `{}`",
+                    "`{}`, which runs on {q}, declares no {flush} of `{}`",
                     self.other, self.item
                 )
             }
             Unlawful::AllMade(_) => {
                 write!(
                     f,
-                    "`{}`, which runs on workqueue {q}, has made all of its waits: {}",
+                    "`{}`, which runs on {q}, has made all of its waits: {}",
                     self.other, self.flushes
                 )
             }
-            Unlawful::Awake(_) => write!(
-                f,
-                "`{}`, which runs on workqueue {q}, doesn't wait",
-                self.other
-            ),
+            Unlawful::Awake(_) => write!(f, "`{}`, which runs on {q}, doesn't wait", self.other),
             Unlawful::Unfinished(false) => {
                 write!(
                     f,
@@ -161,22 +170,42 @@ impl fmt::Display for Sentence<'_> {
                 )
             }
             Unlawful::Unfinished(true) => {
-                write!(
-                    f,
-                    "an entry from before this wait is unfinished on the workqueue of `{}`",
-                    self.item
-                )
+                f.write_str("an entry from before this wait is unfinished on ")?;
+                self.say_whole(f)
             }
         }
     }
 }
 
+/// The name of the workqueue of an item; no byte where it has none.
+fn workqueue_name<'a, A: Allocator + Copy>(
+    declared: &Declaration<'_, A>,
+    assignment: &Assignment<A>,
+    names: &[&'a [u8]],
+    item: ItemId,
+) -> Quoted<'a>
+    requires grouped { length declared.now.groups.group_of ≡ length declared.now.table.names }
+    requires assigned { length assignment.now.lane_of_group ≡ declared.now.groups.groups }
+{
+    if item.get() < declared.table.len() {
+        let lane = assignment.lane(declared.groups.of(item));
+        Quoted(name_at(names, lane.get()))
+    } else {
+        Quoted(b"")
+    }
+}
+
 /// Why this step isn't lawful, in words.
 fn said_why<'a, A: Allocator + Copy>(
-    table: &ItemTable<'a, A>,
-    lanes: usize,
+    declared: &Declaration<'a, A>,
+    assignment: &Assignment<A>,
+    names: &[&'a [u8]],
     unlawful: &UnlawfulStep,
-) -> Sentence<'a> {
+) -> Sentence<'a>
+    requires grouped { length declared.now.groups.group_of ≡ length declared.now.table.names }
+    requires assigned { length assignment.now.lane_of_group ≡ declared.now.groups.groups }
+{
+    let table = &declared.table;
     let step = unlawful.step;
     let (q, item) = named(step);
     let reason = unlawful.why;
@@ -189,11 +218,15 @@ fn said_why<'a, A: Allocator + Copy>(
     let why = unlawful.why;
     Sentence {
         why,
-        q,
-        lanes,
+        q: Workqueue {
+            number: u32::from(q),
+            name: Quoted(name_at(names, q)),
+        },
+        lanes: usize::from(assignment.lanes()),
         item: name(table, item),
         other: name(table, other),
         target: name(table, target),
+        target_workqueue: workqueue_name(declared, assignment, names, target),
         flushes,
     }
 }
@@ -320,6 +353,7 @@ fn of_steps<A: Allocator + Copy>(
     alloc: A,
     declared: &Declaration<'_, A>,
     assignment: &Assignment<A>,
+    names: &[&[u8]],
     steps: &[Step],
     run: Source<'_>,
     number: u32,
@@ -337,7 +371,7 @@ fn of_steps<A: Allocator + Copy>(
     if unlawful.at.saturating_add(1) != number {
         return Ok(None);
     }
-    let sentence = said_why(table, core.lanes(), &unlawful);
+    let sentence = said_why(declared, assignment, names, &unlawful);
     let what = sentence.to_string(alloc)?;
     let said = said_of(alloc, run, &what, number)?;
     Ok(Some(said))
@@ -349,6 +383,7 @@ fn of_run<A: Allocator + Copy>(
     alloc: A,
     declared: &Declaration<'_, A>,
     assignment: &Assignment<A>,
+    names: &[&[u8]],
     run: Source<'_>,
     number: u32,
 ) -> Result<Option<Vec<u8, A>>, AllocError>
@@ -361,13 +396,38 @@ fn of_run<A: Allocator + Copy>(
     let _groups = declared.groups.len();
     match read_run(alloc, run.text, &declared.table) {
         Ok(steps) => {
-            let said = of_steps(alloc, declared, assignment, steps.as_slice(), run, number);
+            let said = of_steps(
+                alloc,
+                declared,
+                assignment,
+                names,
+                steps.as_slice(),
+                run,
+                number,
+            );
             drop(steps);
             said
         }
         Err(CertError::OutOfMemory) => Err(AllocError),
         Err(_) => Ok(None),
     }
+}
+
+/// The same under the assignment with this text.
+fn of_named<A: Allocator + Copy>(
+    alloc: A,
+    declared: &Declaration<'_, A>,
+    assignment: &Assignment<A>,
+    text: &[u8],
+    run: Source<'_>,
+    number: u32,
+) -> Result<Option<Vec<u8, A>>, AllocError>
+    requires grouped { length declared.now.groups.group_of ≡ length declared.now.table.names }
+    requires assigned { length assignment.now.lane_of_group ≡ declared.now.groups.groups }
+    ensures { IfOk result (λ said. IfSome said (λ text. IsUnlawfulText run.entry.file.now number text.items)) }
+{
+    let names = workqueue_names(alloc, text)?;
+    of_run(alloc, declared, assignment, &names, run, number)
 }
 
 /// What is said of a run of this declaration: nothing where the assignment or the run is refused, or the step of this number isn't
@@ -388,7 +448,14 @@ fn of_declared<A: Allocator + Copy>(
     match read_workqueues(alloc, assignment, &declared.table, &declared.groups) {
         Ok(workqueues) => {
             // Which steps are lawful doesn't depend on rescuers.
-            let said = of_run(alloc, declared, workqueues.assignment(), run, number);
+            let said = of_named(
+                alloc,
+                declared,
+                workqueues.assignment(),
+                assignment,
+                run,
+                number,
+            );
             drop(workqueues);
             said
         }

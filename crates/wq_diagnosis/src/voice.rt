@@ -1,23 +1,37 @@
 //! What is said beside the answer of a command: the diagnosis of the text that is refused, or of what a certificate lacks; why
-//! a step isn't lawful; or a note on a declaration without an item.
+//! a step isn't lawful; which items `safe` doesn't speak of, or by which flush workqueues hang; or a note on a declaration without an
+//! item.
 //!
 //! It takes the time and the memory of the diagnosis.
 
 ghost use Rattle.std.specs.Prelude.{◌≡◌, IfOk, Some, codes, option_map};
 ghost use Rattle.wq_commands.specs.declared.why.Why.TheVariants.{Refused};
 ghost use Rattle.wq_diagnosis.specs.Diagnosis.{IsDiagnosis};
-ghost use Rattle.wq_diagnosis.specs.Voice.{SaysWhy};
+ghost use Rattle.wq_diagnosis.specs.Refused.{NotesNoItem};
+ghost use Rattle.wq_diagnosis.specs.Voice.{Says, SaysMore, SaysWhy};
 
+use crate::bare::{of_hang, of_safe};
 use crate::diagnosis::{
     Source, TOO_MANY, of_answered_no, of_no_item, of_refused_certificate, of_refused_declaration,
     of_too_many,
 };
 use crate::replayed::of_unlawful;
 use std::alloc::{AllocError, Allocator};
-use wq_commands::{Outcome, Texts, Voice, Which, Why};
+use wq_commands::{End, Outcome, Texts, Voice, Which, Why};
 use wq_findings::CertificateKind;
 
-/// Says why an answer is no good one.
+/// What is said of workqueues without a rescuer.
+#[derive(Clone, Copy, Debug, PartialEq, Eq)]
+pub enum Unrescued {
+    /// Nothing.
+    Unsaid,
+    /// Beside `safe`, which items are on such workqueues.
+    Noted,
+    /// The same, and beside a run by which workqueues hang, which flush leads to one, where one does.
+    Explained,
+}
+
+/// Says why an answer is no good one, or what it doesn't say.
 #[derive(Clone, Copy, Debug)]
 pub struct Diagnosing<'a> {
     /// The names are hashed with this. Nothing that is said depends on it.
@@ -30,6 +44,8 @@ pub struct Diagnosing<'a> {
     pub certificate: &'a str,
     /// The name of the file of the run.
     pub run: &'a str,
+    /// What is said of workqueues without a rescuer, where the second text is an assignment.
+    pub unrescued: Unrescued,
 }
 
 impl<'a> Diagnosing<'a> {
@@ -43,6 +59,7 @@ impl<'a> Diagnosing<'a> {
             kind: CertificateKind::Assignment,
             certificate: "",
             run: "",
+            unrescued: Unrescued::Unsaid,
         }
     }
 
@@ -62,6 +79,29 @@ impl<'a> Diagnosing<'a> {
             kind,
             certificate,
             run: "",
+            unrescued: Unrescued::Unsaid,
+        }
+    }
+
+    /// For a command whose second text is an assignment, from the file of this name, and that says so much of workqueues without a
+    /// rescuer.
+    pub fn assigned(
+        seed: u64,
+        declaration: &'a str,
+        assignment: &'a str,
+        unrescued: Unrescued,
+    ) -> Diagnosing<'a>
+        ensures declaration { result.declaration.now ≡ declaration.entry.now }
+        ensures assignment { result.certificate.now ≡ assignment.entry.now }
+        ensures unrescued { result.unrescued ≡ unrescued }
+    {
+        Diagnosing {
+            seed,
+            declaration,
+            kind: CertificateKind::Assignment,
+            certificate: assignment,
+            run: "",
+            unrescued,
         }
     }
 }
@@ -129,25 +169,48 @@ fn of_text<A: Allocator + Copy>(
     }
 }
 
-/// What is said of these texts and the reason of their answer. Where there is none, the declaration may still have no item.
+/// What is said where an answer needs no reason: what it doesn't say of workqueues without a rescuer, or that no item is declared.
+fn of_more<A: Allocator + Copy>(
+    alloc: A,
+    voice: &Diagnosing<'_>,
+    texts: &Texts<A>,
+    end: End,
+) -> Result<Option<Vec<u8, A>>, AllocError>
+    ensures { IfOk result (λ said. SaysMore voice.now.unrescued voice.now.declaration.now voice.now.certificate.now texts.now end
+        (option_map (λ text. text.items) said)) }
+{
+    let declaration = Source {
+        file: voice.declaration,
+        text: texts.first(),
+    };
+    let assignment = Source {
+        file: voice.certificate,
+        text: texts.second(),
+    };
+    match (voice.unrescued, end) {
+        (Unrescued::Noted | Unrescued::Explained, End::Good) => {
+            of_safe(alloc, voice.seed, declaration, assignment)
+        }
+        (Unrescued::Explained, End::Bad) => of_hang(alloc, voice.seed, declaration, assignment),
+        (Unrescued::Unsaid, _) | (Unrescued::Noted, End::Bad) | (_, End::Refused) => {
+            of_no_item(alloc, voice.seed, declaration)
+        }
+    }
+}
+
+/// What is said of these texts, the end of their answer, and why it ended so, where there is more to say.
 fn of_why<A: Allocator + Copy>(
     alloc: A,
     voice: &Diagnosing<'_>,
     texts: &Texts<A>,
+    end: End,
     why: Option<Why>,
 ) -> Result<Option<Vec<u8, A>>, AllocError>
-    ensures { IfOk result (λ said. SaysWhy voice.now.declaration.now voice.now.certificate.now voice.now.run.now texts.now
-        why (option_map (λ text. text.items) said)) }
+    ensures { IfOk result (λ said. Says voice.now.unrescued voice.now.declaration.now voice.now.certificate.now voice.now.run.now texts.now
+        end why (option_map (λ text. text.items) said)) }
 {
     match why {
-        None => of_no_item(
-            alloc,
-            voice.seed,
-            Source {
-                file: voice.declaration,
-                text: texts.first(),
-            },
-        ),
+        None => of_more(alloc, voice, texts, end),
         Some(Why::NotLawful(step)) => of_unlawful(
             alloc,
             voice.seed,
@@ -171,10 +234,10 @@ fn of_why<A: Allocator + Copy>(
 }
 
 impl<A: Allocator + Copy> Voice<A, Outcome> for Diagnosing<'_> {
-    ghost use Rattle.wq_diagnosis.specs.Voice.{SaysWhy};
+    ghost use Rattle.wq_diagnosis.specs.Voice.{Says};
 
     ghost says = { λ voice texts outcome said.
-        SaysWhy voice.declaration.now voice.certificate.now voice.run.now texts outcome.why said };
+        Says voice.unrescued voice.declaration.now voice.certificate.now voice.run.now texts outcome.end outcome.why said };
 
     fn say(
         &self,
@@ -182,6 +245,6 @@ impl<A: Allocator + Copy> Voice<A, Outcome> for Diagnosing<'_> {
         texts: &Texts<A>,
         outcome: &Outcome,
     ) -> Result<Option<Vec<u8, A>>, AllocError> {
-        of_why(alloc, self, texts, outcome.why)
+        of_why(alloc, self, texts, outcome.end, outcome.why)
     }
 }

@@ -129,8 +129,9 @@ To see it:
 What to do:
 Look at the last `wait` or `waitwq` of each workqueue: each waits for an item
 that another one of them holds up, that is behind it, or that is on a workqueue
-without a rescuer. `wqplan circles` prints the flushes that cause it, and
-`wqplan plan` workqueues on which it can't happen.
+without a rescuer. `wqplan hang` prints a run than which none is shorter,
+`wqplan circles` the flushes that cause it, and `wqplan plan` workqueues on
+which it can't happen.
 ",
 );
 
@@ -232,7 +233,8 @@ const STUCK: Explanation = (
     "\
 `stuck`: at the end of the run that was replayed nothing is sure to go on, so
 the assignment isn't safe. It isn't called `deadlock`, since an item was queued
-twice or never, or was cancelled, or didn't flush as declared.
+twice or never, or was cancelled, or didn't flush as declared. What `wqplan
+hang` prints mostly ends so: it queues only the items that it takes.
 
 The rule: docs/FORMAT.md, \"Steps\"
 

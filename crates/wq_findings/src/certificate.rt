@@ -13,6 +13,7 @@ use crate::refused::Refused;
 use crate::stage::{Shape, Stage, line_and_stage, stray_line};
 use crate::token::{Mark, Token, bytes_at, first_mark, word_at};
 use crate::what::{Unplaced, What};
+use crate::workqueue::is_workqueue;
 use std::alloc::{AllocError, Allocator};
 use wq_cert::{MAX_CERTIFICATE, MAX_CERTIFICATE_LINE, MAX_COUNT};
 use wq_items::ItemTable;
@@ -38,7 +39,7 @@ pub fn in_certificate<'a, A: Allocator + Copy>(
     }
 }
 
-/// Which items are on no workqueue, and the line that isn't a `wq` line and so ends these, if there is one.
+/// Which items are on no workqueue, and the line that isn't one of a workqueue and so ends these, if there is one.
 fn unplaced<'a, A: Allocator + Copy>(
     alloc: A,
     refused: &Refused<'_, 'a, A>,
@@ -53,7 +54,7 @@ fn unplaced<'a, A: Allocator + Copy>(
     }
 }
 
-/// Finds that items are on no workqueue since this line, which isn't a `wq` line, ends these.
+/// Finds that items are on no workqueue since this line, which isn't one of a workqueue, ends these.
 fn cut_off<'a, A: Allocator + Copy>(
     alloc: A,
     items: Unplaced<'a>,
@@ -89,16 +90,16 @@ fn cut_short<'a>(text: &Text<'_>, stage: Stage) -> What<'a> {
     What::EndsAt(stage)
 }
 
-/// What is wrong with a `wq` line whose number isn't the next one.
-fn out_of_order<'a>(next: u32) -> What<'a> {
+/// What is wrong with the line of a workqueue whose number isn't the next one.
+fn out_of_order<'a>(line: &Line<'a>, next: u32) -> What<'a> {
     if next < MAX_COUNT {
-        What::OutOfOrder(next)
+        What::OutOfOrder(Quoted(bytes_at(line, 0)), next)
     } else {
         What::Said("an assignment has at most 4,096 workqueues")
     }
 }
 
-/// What is wrong with the number of a `wq` line that isn't the next one: it had a line above, or it is too large.
+/// What is wrong with the number of a workqueue that isn't the next one: it had a line above, or it is too large.
 fn order_hint(line: &Line<'_>, next: u32) -> &'static str {
     match number(bytes_at(line, 1)) {
         Some(given) if given < next =>
@@ -116,7 +117,7 @@ fn out_of_range<'a>(line: &Line<'a>, stage: Stage) -> Finding<'a> {
     let what = match stage {
         Stage::Workqueue { next, .. } => {
             let hint = Hint::Said(order_hint(line, next));
-            return Finding::marked(mark, out_of_order(next), hint);
+            return Finding::marked(mark, out_of_order(line, next), hint);
         }
         Stage::Plan => "a plan has at most 4,096 workqueues",
         Stage::Chain => "a chain has at most 4,096 groups",
@@ -176,7 +177,7 @@ fn other_hint<A: Allocator + Copy>(
     }
 }
 
-/// What a line in the place of a `wq` line was most likely meant to be, where nothing says how many there are.
+/// What a line in the place of one of a workqueue was most likely meant to be, where nothing says how many there are.
 fn stray_hint<A: Allocator + Copy>(
     alloc: A,
     word: &[u8],
@@ -206,8 +207,13 @@ fn is_of_plan(word: &[u8]) -> bool {
 
 /// Which text a line that should be another one belongs to.
 fn text_hint(word: &[u8], stage: Stage) -> Hint<'static> {
-    if matches!(stage, Stage::Plan) && word == b"wq".as_slice() {
-        return Hint::ASSIGNMENT;
+    let is_bare = word == b"norescuer".as_slice();
+    match stage {
+        Stage::Plan if is_workqueue(word) => return Hint::ASSIGNMENT,
+        Stage::Workqueue { .. } | Stage::Chain | Stage::ChainArc { .. } if is_bare => {
+            return Hint::ALL_RESCUED;
+        }
+        _ => {}
     }
     match text_with(word) {
         Some(text) => Hint::LooksLike(text),
@@ -228,6 +234,30 @@ fn number_hint(word: &[u8], stage: Stage) -> &'static str {
     }
 }
 
+/// The form of a line with this stage: a `norescuer` line may be in the place of a `wq` line.
+fn form_hint<'a>(line: &Line<'_>, stage: Stage) -> Hint<'a> {
+    match stage {
+        Stage::Workqueue { next, .. } if bytes_at(line, 0) == b"norescuer".as_slice() => {
+            Hint::BareLine(next)
+        }
+        _ => Hint::Line(stage),
+    }
+}
+
+/// How to mend a word that isn't a number: where it is an item of a workqueue, the number is missing.
+fn no_number_hint<'a, A: Allocator + Copy>(
+    table: &ItemTable<'_, A>,
+    line: &Line<'_>,
+    word: &[u8],
+    stage: Stage,
+) -> Hint<'a> {
+    let is_item = table.find(word).is_some();
+    match stage {
+        Stage::Workqueue { .. } if is_item => form_hint(line, stage),
+        _ => Hint::Said(number_hint(word, stage)),
+    }
+}
+
 /// The word of a line where a number should be, if it isn't one.
 fn wrong_number<'a>(line: &Line<'a>, shape: Shape) -> Option<Token<'a>> {
     match word_at(line, 1) {
@@ -245,19 +275,24 @@ fn surplus_word<'a>(line: &Line<'a>, shape: Shape) -> Option<Token<'a>> {
 }
 
 /// A line with the wrong number of words, or with a word that isn't a number.
-fn wrong_form<'a>(line: &Line<'a>, stage: Stage, shape: Shape) -> Option<Finding<'a>> {
+fn wrong_form<'a, A: Allocator + Copy>(
+    table: &ItemTable<'_, A>,
+    line: &Line<'a>,
+    stage: Stage,
+    shape: Shape,
+) -> Option<Finding<'a>> {
     if let Some(word) = wrong_number(line, shape) {
-        let hint = Hint::Said(number_hint(word.bytes, stage));
+        let hint = no_number_hint(table, line, word.bytes, stage);
         return Some(Finding::marked(word.mark, What::NoNumber(word.quoted()), hint));
     }
     if word_at(line, shape.fewest().saturating_sub(1)).is_none() {
         let what = What::Said("a word is missing");
-        return Some(Finding::marked(Mark::behind(line), what, Hint::Line(stage)));
+        return Some(Finding::marked(Mark::behind(line), what, form_hint(line, stage)));
     }
     match surplus_word(line, shape) {
         Some(word) => {
             let what = What::Said("one word too many");
-            Some(Finding::marked(word.mark, what, Hint::Line(stage)))
+            Some(Finding::marked(word.mark, what, form_hint(line, stage)))
         }
         None => None,
     }
@@ -271,7 +306,7 @@ fn wrong_words<'a, A: Allocator + Copy>(
     stage: Stage,
     shape: Shape,
 ) -> Result<Finding<'a>, AllocError> {
-    if let Some(finding) = wrong_form(line, stage, shape) {
+    if let Some(finding) = wrong_form(refused.table, line, stage, shape) {
         return Ok(finding);
     }
     match unknown_name(refused.table, line, shape) {
@@ -317,6 +352,7 @@ fn no_item_hint<'a, A: Allocator + Copy>(
         Some(near) => Hint::Near(Quoted(near.name)),
         None if word.starts_with(b"WQ_") || word.starts_with(b"__WQ_") => Hint::FLAG,
         None if word == b"ordered".as_slice() => Hint::ORDERED,
+        None if word == b"norescuer".as_slice() => Hint::FIRST_WORD,
         None => Hint::Nothing,
     })
 }

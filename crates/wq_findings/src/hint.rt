@@ -6,6 +6,7 @@ ghost use Rattle.std.specs.Prelude.{None};
 
 use crate::quoted::Quoted;
 use crate::stage::Stage;
+use crate::workqueue::Workqueue;
 use std::fmt;
 
 /// What was most likely meant, or how to mend it.
@@ -19,6 +20,8 @@ pub enum Hint<'a> {
     Form(&'static str),
     /// The line that should be there.
     Line(Stage),
+    /// The line of a workqueue without a rescuer that should be there, by its number.
+    BareLine(u32),
     /// The text that this one looks like.
     LooksLike(&'static str),
     /// The text that this line looks like, in the file of a declaration.
@@ -35,12 +38,12 @@ pub enum Hint<'a> {
     Declare(Quoted<'a>),
     /// The first line that a name is on.
     FirstOn(u32),
-    /// Another line that a name is on.
-    On(u32),
-    /// The line that the other name is on.
-    OtherOn(u32),
+    /// Another line that a name is on, and the workqueue of that line.
+    On(u32, Workqueue<'a>),
+    /// The line that the other name is on, and the workqueue of that line.
+    OtherOn(u32, Workqueue<'a>),
     /// An item, and the workqueue that it is on.
-    OnWorkqueue(Quoted<'a>, Quoted<'a>),
+    OnWorkqueue(Quoted<'a>, Workqueue<'a>),
 }
 
 impl Hint<'_> {
@@ -76,7 +79,17 @@ impl Hint<'_> {
         "`cancel_work` doesn't wait, and needs no line: for `cancel_work_sync` write `flush`",
     );
 
-    /// The hint for a line of a plan in an assignment of only `wq` lines.
+    /// The hint for the word `norescuer` in the place of an item.
+    pub(crate) const FIRST_WORD: Hint<'static> = Hint::Said(
+        "`norescuer` comes first on a line, in place of `wq`",
+    );
+
+    /// The hint for a `norescuer` line in a plan.
+    pub(crate) const ALL_RESCUED: Hint<'static> = Hint::Said(
+        "in a plan each workqueue has a rescuer",
+    );
+
+    /// The hint for a line of a plan in an assignment that isn't one.
     pub(crate) const IN_A_PLAN: Hint<'static> = Hint::Said(
         "in a plan the line `plan K` comes first",
     );
@@ -101,6 +114,7 @@ impl fmt::Display for Hint<'_> {
             Hint::Said(said) => f.write_str(said),
             Hint::Form(form) => write!(f, "the line should be `{form}`"),
             Hint::Line(stage) => write!(f, "the line should be {stage}"),
+            Hint::BareLine(next) => write!(f, "the line should be `norescuer {next} NAME..`"),
             Hint::LooksLike(text) => write!(
                 f,
                 "this looks like {text}: are the files in the right order?"
@@ -112,11 +126,23 @@ impl fmt::Display for Hint<'_> {
             Hint::Below(line) => write!(f, "it is declared below, on line {line}"),
             Hint::Declare(name) => write!(f, "write `item {name}` above"),
             Hint::FirstOn(line) => write!(f, "first on line {line}"),
-            Hint::On(line) => write!(f, "on line {line}"),
-            Hint::OtherOn(line) => write!(f, "the other one on line {line}"),
-            Hint::OnWorkqueue(item, workqueue) => {
-                write!(f, "`{item}` is on workqueue {workqueue}")
-            }
+            Hint::On(line, workqueue) => on_line(f, "", line, workqueue),
+            Hint::OtherOn(line, workqueue) => on_line(f, "the other one ", line, workqueue),
+            Hint::OnWorkqueue(item, workqueue) => write!(f, "`{item}` is on {workqueue}"),
         }
     }
+}
+
+/// Writes the line that a name is on, and the workqueue of that line, where it has a name.
+fn on_line<W: fmt::Write>(
+    f: &mut fmt::Formatter<W>,
+    before: &str,
+    line: u32,
+    workqueue: Workqueue<'_>,
+) -> fmt::Result {
+    write!(f, "{before}on line {line}")?;
+    if workqueue.is_named() {
+        write!(f, ", {workqueue}")?;
+    }
+    Ok(())
 }

@@ -5,9 +5,9 @@
 
 use crate::finding::{Finding, Found};
 use crate::hint::Hint;
-use crate::quoted::Quoted;
-use crate::token::{Token, bytes_at, first_word, word_at};
+use crate::token::{Token, first_word, word_at};
 use crate::what::What;
+use crate::workqueue::Workqueue;
 use std::alloc::Allocator;
 use wq_checker::No;
 use wq_items::{ItemId, ItemTable};
@@ -89,7 +89,7 @@ fn not_falling<'a, A: Allocator + Copy>(
             continue;
         }
         if let Some(word) = word_of(table, &line, target) {
-            flushed = Some((word.quoted(), Quoted(bytes_at(&line, 1))));
+            flushed = Some((word.quoted(), Workqueue::of(&line)));
         }
         if let Some(word) = word_of(table, &line, item) {
             low = Some((line, word));

@@ -24,6 +24,7 @@ mod refused;
 mod stage;
 mod token;
 mod what;
+mod workqueue;
 
 pub use certificate::in_certificate;
 pub use declaration::{in_declaration, in_mended};
@@ -38,3 +39,4 @@ pub use refused::Refused;
 pub use stage::{CertificateKind, Stage};
 pub use token::{Mark, has_words, line_at};
 pub use what::{Unplaced, What};
+pub use workqueue::{Workqueue, flush_at, workqueue_at};

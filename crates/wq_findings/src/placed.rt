@@ -1,4 +1,4 @@
-//! Which items are on which `wq` lines of a certificate that is refused because of that.
+//! Which items are on which lines of workqueues of a certificate that is refused because of that.
 //!
 //! It takes time in the length of the text, and, for a group that is split, in the number of items times the names on its line.
 
@@ -11,18 +11,19 @@ use crate::refused::Refused;
 use crate::stage::Stage;
 use crate::token::{Token, first_word, stands_before};
 use crate::what::{Unplaced, What};
+use crate::workqueue::Workqueue;
 use std::alloc::{AllocError, Allocator};
 use wq_items::{ItemId, ItemTable};
 use wq_text::Line;
 
-/// For each item, the number of the first `wq` line that it is on; 0 where it is on none.
+/// For each item, the number of the first line of a workqueue that it is on; 0 where it is on none.
 #[derive(Drop)]
 struct Places<A: Allocator> {
     lines: Vec<u32, A>,
 }
 
 impl<A: Allocator + Copy> Places<A> {
-    /// The places of the items on the `wq` lines above a line, or on all where the line is 0.
+    /// The places of the items on the lines of workqueues above a line, or on all where the line is 0.
     fn above(alloc: A, refused: &Refused<'_, '_, A>, no: u32) -> Result<Self, AllocError> {
         let mut places = Places {
             lines: vec![in alloc; 0; usize::from(refused.table.len())]?,
@@ -31,7 +32,7 @@ impl<A: Allocator + Copy> Places<A> {
         Ok(places)
     }
 
-    /// Adds the items of such `wq` lines.
+    /// Adds the items of such lines.
     fn add_lines(&mut self, refused: &Refused<'_, '_, A>, no: u32) {
         let mut stage = None;
         for line in refused.text.lines() {
@@ -53,7 +54,7 @@ impl<A: Allocator + Copy> Places<A> {
         }
     }
 
-    /// Adds the items of a `wq` line that are on none above.
+    /// Adds the items of such a line that are on none above.
     fn add(&mut self, table: &ItemTable<'_, A>, line: &Line<'_>) {
         for word in line.words().skip(2) {
             if let Some(item) = table.find(word.bytes())
@@ -98,28 +99,28 @@ fn unplaced<'a, A: Allocator + Copy>(table: &ItemTable<'a, A>, places: &Places<A
 /// An item that is on a second workqueue, or twice on one.
 pub(crate) fn find_twice<'a, A: Allocator + Copy>(
     alloc: A,
-    refused: &Refused<'_, '_, A>,
+    refused: &Refused<'_, 'a, A>,
     line: &Line<'a>,
 ) -> Result<Finding<'a>, AllocError> {
     let places = Places::above(alloc, refused, line.no())?;
-    Ok(placed_twice(refused.table, &places, line))
+    Ok(placed_twice(refused, &places, line))
 }
 
 /// The first item of a line that has a place already, or is also earlier on the line.
 fn placed_twice<'a, A: Allocator + Copy>(
-    table: &ItemTable<'_, A>,
+    refused: &Refused<'_, 'a, A>,
     places: &Places<A>,
     line: &Line<'a>,
 ) -> Finding<'a> {
     for word in line.words().skip(2) {
         let word = Token::of(line, &word);
-        if let Some(item) = table.find(word.bytes)
+        if let Some(item) = refused.table.find(word.bytes)
             && let Some(first) = places.line_of(item)
         {
             return Finding::marked(
                 word.mark,
                 What::PlacedAlready(word.quoted()),
-                Hint::On(first),
+                Hint::On(first, Workqueue::on(refused.text, first)),
             );
         }
         if stands_before(line, 2, word) {
@@ -170,7 +171,8 @@ fn split<'a, A: Allocator + Copy>(
         {
             let word = Token::of(line, &word);
             let what = What::Split(word.quoted(), Quoted(other));
-            return Finding::marked(word.mark, what, Hint::OtherOn(first));
+            let hint = Hint::OtherOn(first, Workqueue::on(refused.text, first));
+            return Finding::marked(word.mark, what, hint);
         }
     }
     Finding::whole(What::Said("a group of the line is on another workqueue too"))

@@ -6,6 +6,7 @@
 ghost use Rattle.std.specs.Prelude.{None};
 
 use crate::token::{bytes_at, first_word};
+use crate::workqueue::is_workqueue;
 use std::fmt;
 use wq_text::{Line, Text, number};
 
@@ -14,7 +15,7 @@ use wq_text::{Line, Text, number};
 pub enum CertificateKind {
     /// A plan or a circle.
     Answer,
-    /// `wq` lines alone, or a whole plan.
+    /// `wq` and `norescuer` lines alone, or a whole plan.
     Assignment,
     /// A run.
     Run,
@@ -134,7 +135,7 @@ impl Stage {
         let first: &[u8] = match self {
             Stage::Plan => b"plan",
             Stage::Circle => b"circle",
-            Stage::Workqueue { left: None, .. } => return is_lane(word),
+            Stage::Workqueue { left: None, .. } => return is_workqueue(word),
             Stage::Workqueue { .. } => b"wq",
             Stage::Chain => b"chain",
             Stage::ChainArc { .. } | Stage::CircleArc { .. } => b"arc",
@@ -210,11 +211,6 @@ fn is_call(word: &[u8]) -> bool {
     word == b"queue".as_slice() || word == b"cancel".as_slice()
 }
 
-/// Whether a word begins the line of a workqueue in an assignment.
-fn is_lane(word: &[u8]) -> bool {
-    word == b"wq".as_slice() || word == b"norescuer".as_slice()
-}
-
 /// Whether a word begins a step.
 fn is_step(word: &[u8]) -> bool {
     is_call(word)
@@ -226,7 +222,8 @@ fn is_step(word: &[u8]) -> bool {
         || word == b"finish".as_slice()
 }
 
-/// The first line of an assignment of only `wq` lines that isn't one, if there is such a line, and what should be in its place.
+/// The first line that isn't one of a workqueue, in an assignment of these lines alone, if there is such a line, and what should be
+/// in its place.
 pub(crate) fn stray_line<'a>(kind: CertificateKind, text: &Text<'a>) -> Option<(Line<'a>, Stage)> {
     let mut stage = None;
     for line in text.lines() {

@@ -38,11 +38,11 @@ pub enum What<'a> {
     EndsAt(Stage),
     /// A first word, and the line that should be there.
     Other(Quoted<'a>, Stage),
-    /// The number of the workqueue that should be there.
-    OutOfOrder(u32),
+    /// The first word of the line of a workqueue, and the number that should be there.
+    OutOfOrder(Quoted<'a>, u32),
     /// Items that are on no workqueue.
     OnNoWorkqueue(Unplaced<'a>),
-    /// Items that are on no workqueue, and the number of the line that isn't a `wq` line and so ends these.
+    /// Items that are on no workqueue, and the number of the line that isn't one of a workqueue and so ends these.
     CutOff(Unplaced<'a>, u32),
     /// A name that is on a workqueue already.
     PlacedAlready(Quoted<'a>),
@@ -71,9 +71,11 @@ impl fmt::Display for What<'_> {
             What::TwiceOnLine(word) => say(f, "", word, " is on this line twice"),
             What::EndsAt(stage) => write!(f, "expected {stage}, but the text ends"),
             What::Other(word, stage) => write!(f, "expected {stage}, found `{word}`"),
-            What::OutOfOrder(next) => write!(f, "expected `wq {next}`"),
+            What::OutOfOrder(word, next) => write!(f, "expected `{word} {next}`"),
             What::OnNoWorkqueue(items) => items.fmt(f),
-            What::CutOff(items, line) => write!(f, "{items}: line {line} isn't a `wq` line"),
+            What::CutOff(items, line) => {
+                write!(f, "{items}: line {line} isn't a `wq` or `norescuer` line")
+            }
             What::PlacedAlready(name) => say(f, "", name, " is on a workqueue already"),
             What::Split(name, other) => split(f, name, other),
             What::TooLow(item, target, whole) => too_low(f, item, target, whole),

@@ -12,7 +12,7 @@ use Rattle.clap.proofs.WalkLemmas.{first_value-rows}
 use Rattle.clap.specs.Lexer.{long_of, short_of, without_minus}
 use Rattle.clap.proofs.OnLiterals.{clap_on_literals}
 use Rattle.wqplan.specs.CommandLine.{wqplan, is_no_option, Asked, Asks, AsksFor, Calls, CallsRun, GivesArguments, HasFewHelpers, IsHelpers, command_name, digit, helpers_in}
-use Rattle.wqplan.specs.CommandLine.Asked.{plans, checks, judges, replays, finds, draws, runs, explains}
+use Rattle.wqplan.specs.CommandLine.Asked.{plans, checks, judges, hangs, replays, finds, draws, runs, explains}
 
 -- if a negated part is one of those that hold, the part itself doesn't
 pub third_is_not : (x y z w : Bool) → x && (y && (not z && w)) ≡ true → z ≡ false
@@ -96,6 +96,21 @@ pub asks_deadlock : (program declaration assignment : Text) → is_no_option dec
     → Asks (program ∷ codes "deadlock" ∷ declaration ∷ assignment ∷ []) (judges declaration assignment)
 unfolding clap_on_literals
 asks_deadlock program declaration assignment p q =
+    rw (bytes_eq-no_option declaration p, long_of-no_option declaration p, short_of-no_option declaration p)
+    (rw (bytes_eq-no_option assignment q, long_of-no_option assignment q, short_of-no_option assignment q) (_, refl, (refl, refl)))
+
+-- `wqplan hang DECL ASSIGN` is taken, and gives both
+pub takes_hang : (program declaration assignment : Text) → is_no_option declaration ≡ true → is_no_option assignment ≡ true
+    → takes wqplan (program ∷ codes "hang" ∷ declaration ∷ assignment ∷ []) ≡ true
+unfolding clap_on_literals
+takes_hang program declaration assignment p q =
+    rw (bytes_eq-no_option declaration p, long_of-no_option declaration p, short_of-no_option declaration p)
+    (rw (bytes_eq-no_option assignment q, long_of-no_option assignment q, short_of-no_option assignment q) refl)
+
+pub asks_hang : (program declaration assignment : Text) → is_no_option declaration ≡ true → is_no_option assignment ≡ true
+    → Asks (program ∷ codes "hang" ∷ declaration ∷ assignment ∷ []) (hangs declaration assignment)
+unfolding clap_on_literals
+asks_hang program declaration assignment p q =
     rw (bytes_eq-no_option declaration p, long_of-no_option declaration p, short_of-no_option declaration p)
     (rw (bytes_eq-no_option assignment q, long_of-no_option assignment q, short_of-no_option assignment q) (_, refl, (refl, refl)))
 
@@ -269,6 +284,7 @@ takes_Calls words (plans None) (program, are) = ap (takes wqplan) are ∙ takes_
 takes_Calls words (plans (Some file)) (program, are, p) = ap (takes wqplan) are ∙ takes_file program file p
 takes_Calls words (checks declaration certificate) (program, are, p, q) = ap (takes wqplan) are ∙ takes_check program declaration certificate p q
 takes_Calls words (judges declaration assignment) (program, are, p, q) = ap (takes wqplan) are ∙ takes_deadlock program declaration assignment p q
+takes_Calls words (hangs declaration assignment) (program, are, p, q) = ap (takes wqplan) are ∙ takes_hang program declaration assignment p q
 takes_Calls words (replays declaration assignment run) (program, are, p, q, r) = ap (takes wqplan) are ∙ takes_replay program declaration assignment run p q r
 takes_Calls words (finds declaration None) (program, are, p) = ap (takes wqplan) are ∙ takes_own_circles program declaration p
 takes_Calls words (finds declaration (Some assignment)) (program, are, p, q) = ap (takes wqplan) are ∙ takes_circles program declaration assignment p q
@@ -283,6 +299,7 @@ Asks_Calls words (plans None) (program, are) = subst (λ ws. Asks ws (plans None
 Asks_Calls words (plans (Some file)) (program, are, p) = subst (λ ws. Asks ws (plans (Some file))) (sym are) (asks_file program file p)
 Asks_Calls words (checks declaration certificate) (program, are, p, q) = subst (λ ws. Asks ws (checks declaration certificate)) (sym are) (asks_check program declaration certificate p q)
 Asks_Calls words (judges declaration assignment) (program, are, p, q) = subst (λ ws. Asks ws (judges declaration assignment)) (sym are) (asks_deadlock program declaration assignment p q)
+Asks_Calls words (hangs declaration assignment) (program, are, p, q) = subst (λ ws. Asks ws (hangs declaration assignment)) (sym are) (asks_hang program declaration assignment p q)
 Asks_Calls words (replays declaration assignment run) (program, are, p, q, r) = subst (λ ws. Asks ws (replays declaration assignment run)) (sym are) (asks_replay program declaration assignment run p q r)
 Asks_Calls words (finds declaration None) (program, are, p) = subst (λ ws. Asks ws (finds declaration None)) (sym are) (asks_own_circles program declaration p)
 Asks_Calls words (finds declaration (Some assignment)) (program, are, p, q) = subst (λ ws. Asks ws (finds declaration (Some assignment))) (sym are) (asks_circles program declaration assignment p q)
@@ -329,10 +346,11 @@ asked_by name rows =
     cond (bytes_eq name (codes "plan")) (plans (first_of (codes "FILE") rows))
     (cond (bytes_eq name (codes "check")) (checks (file_of rows (codes "DECL")) (file_of rows (codes "CERT")))
     (cond (bytes_eq name (codes "deadlock")) (judges (file_of rows (codes "DECL")) (file_of rows (codes "ASSIGN")))
+    (cond (bytes_eq name (codes "hang")) (hangs (file_of rows (codes "DECL")) (file_of rows (codes "ASSIGN")))
     (cond (bytes_eq name (codes "replay")) (replays (file_of rows (codes "DECL")) (file_of rows (codes "ASSIGN")) (file_of rows (codes "RUN")))
     (cond (bytes_eq name (codes "circles")) (finds (file_of rows (codes "DECL")) (first_of (codes "ASSIGN") rows))
     (cond (bytes_eq name (codes "dot")) (draws (file_of rows (codes "DECL")) (first_of (codes "ASSIGN") rows))
-    (cond (bytes_eq name (codes "run")) (runs (file_of rows (codes "DECL")) (helpers_in (one_of (codes "HELPERS") rows))) (explains (first_of (codes "CODE") rows))))))))
+    (cond (bytes_eq name (codes "run")) (runs (file_of rows (codes "DECL")) (helpers_in (one_of (codes "HELPERS") rows))) (explains (first_of (codes "CODE") rows)))))))))
 
 file_of-is : (rows : List Row) (name file : Text) → first_of name rows ≡ Some file → file_of rows name ≡ file
 file_of-is rows name file is = ap (λ (o : Option Text). unwrap_or o []) is
@@ -342,6 +360,7 @@ asked_by-is : (rows : List Row) (a : Asked) → GivesArguments rows a → asked_
 asked_by-is rows (plans f) g = ap plans g
 asked_by-is rows (checks d c) (gd, gc) = ap₂ checks (file_of-is rows (codes "DECL") d gd) (file_of-is rows (codes "CERT") c gc)
 asked_by-is rows (judges d a) (gd, ga) = ap₂ judges (file_of-is rows (codes "DECL") d gd) (file_of-is rows (codes "ASSIGN") a ga)
+asked_by-is rows (hangs d a) (gd, ga) = ap₂ hangs (file_of-is rows (codes "DECL") d gd) (file_of-is rows (codes "ASSIGN") a ga)
 asked_by-is rows (replays d a r) (gd, ga, gr) =
     rw (file_of-is rows (codes "DECL") d gd, file_of-is rows (codes "ASSIGN") a ga, file_of-is rows (codes "RUN") r gr) refl
 asked_by-is rows (finds d a) (gd, ga) = ap₂ finds (file_of-is rows (codes "DECL") d gd) ga
@@ -366,6 +385,7 @@ pub few_helpers : (rows : List Row) (a : Asked) → GivesArguments rows a → Ha
 few_helpers rows (plans f) g = tt
 few_helpers rows (checks d c) g = tt
 few_helpers rows (judges d a) g = tt
+few_helpers rows (hangs d a) g = tt
 few_helpers rows (replays d a r) g = tt
 few_helpers rows (finds d a) g = tt
 few_helpers rows (draws d a) g = tt

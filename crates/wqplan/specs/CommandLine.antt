@@ -4,7 +4,7 @@ use Rattle.std.specs.Str.Parse.{digits_value, without_leading_plus}
 use Rattle.clap.specs.Words.{App, IsUnsignedIn, Row, Rule, Text, first_of, new_app, new_rule, one_of, subcommand_of, with_rule, with_subcommand}
 use Rattle.clap.specs.declared.builder.value_parser.ValueParser.TheVariants.{Signed}
 use Rattle.wqplan.specs.declared.command_line.Request.{Request}
-use Rattle.wqplan.specs.declared.command_line.Request.TheVariants.{Plan, Check, Deadlock, Replay, Circles, Dot, Run, Explain}
+use Rattle.wqplan.specs.declared.command_line.Request.TheVariants.{Plan, Check, Deadlock, Hang, Replay, Circles, Dot, Run, Explain}
 
 -- a positional argument that must be given
 abbrev pub needed : Text → Rule
@@ -21,6 +21,10 @@ check = with_rule (with_rule (new_app (codes "check")) (needed (codes "DECL"))) 
 -- `deadlock DECL ASSIGN`
 abbrev pub deadlock : App
 deadlock = with_rule (with_rule (new_app (codes "deadlock")) (needed (codes "DECL"))) (needed (codes "ASSIGN"))
+
+-- `hang DECL ASSIGN`
+abbrev pub hang : App
+hang = with_rule (with_rule (new_app (codes "hang")) (needed (codes "DECL"))) (needed (codes "ASSIGN"))
 
 -- `replay DECL ASSIGN RUN`
 abbrev pub replay : App
@@ -55,14 +59,15 @@ bare =
 -- the program
 abbrev pub wqplan : App
 wqplan =
-    with_subcommand (with_subcommand (with_subcommand (with_subcommand (with_subcommand (with_subcommand (with_subcommand (with_subcommand bare plan.top) check.top) deadlock.top)
-    replay.top) circles.top) dot.top) run.top) explain.top
+    with_subcommand (with_subcommand (with_subcommand (with_subcommand (with_subcommand (with_subcommand (with_subcommand (with_subcommand (with_subcommand bare plan.top) check.top)
+    deadlock.top) hang.top) replay.top) circles.top) dot.top) run.top) explain.top
 
 -- a command and the paths of its files and, for `run`, how many helpers there are, or the word that it explains
 pub data Asked : Type 0 where
   plans : Option Text → Asked
   checks : Text → Text → Asked
   judges : Text → Text → Asked
+  hangs : Text → Text → Asked
   replays : Text → Text → Text → Asked
   finds : Text → Option Text → Asked
   draws : Text → Option Text → Asked
@@ -74,6 +79,7 @@ abbrev pub spelled : Request → Asked
 spelled (Plan file) = plans (option_map (λ s. s.now) file)
 spelled (Check declaration certificate) = checks declaration.now certificate.now
 spelled (Deadlock declaration assignment) = judges declaration.now assignment.now
+spelled (Hang declaration assignment) = hangs declaration.now assignment.now
 spelled (Replay declaration assignment steps) = replays declaration.now assignment.now steps.now
 spelled (Circles declaration assignment) = finds declaration.now (option_map (λ s. s.now) assignment)
 spelled (Dot declaration assignment) = draws declaration.now (option_map (λ s. s.now) assignment)
@@ -85,6 +91,7 @@ abbrev pub command_name : Asked → Text
 command_name (plans file) = codes "plan"
 command_name (checks declaration certificate) = codes "check"
 command_name (judges declaration assignment) = codes "deadlock"
+command_name (hangs declaration assignment) = codes "hang"
 command_name (replays declaration assignment steps) = codes "replay"
 command_name (finds declaration assignment) = codes "circles"
 command_name (draws declaration assignment) = codes "dot"
@@ -96,6 +103,7 @@ abbrev pub files_of : Asked → List Text
 files_of (plans file) = option_to_list file
 files_of (checks declaration certificate) = declaration ∷ certificate ∷ []
 files_of (judges declaration assignment) = declaration ∷ assignment ∷ []
+files_of (hangs declaration assignment) = declaration ∷ assignment ∷ []
 files_of (replays declaration assignment run) = declaration ∷ assignment ∷ run ∷ []
 files_of (finds declaration assignment) = declaration ∷ option_to_list assignment
 files_of (draws declaration assignment) = declaration ∷ option_to_list assignment
@@ -123,6 +131,7 @@ abbrev pub GivesArguments : List Row → Asked → Type 0
 GivesArguments rows (plans file) = first_of (codes "FILE") rows ≡ file
 GivesArguments rows (checks declaration certificate) = (first_of (codes "DECL") rows ≡ Some declaration) × (first_of (codes "CERT") rows ≡ Some certificate)
 GivesArguments rows (judges declaration assignment) = (first_of (codes "DECL") rows ≡ Some declaration) × (first_of (codes "ASSIGN") rows ≡ Some assignment)
+GivesArguments rows (hangs declaration assignment) = (first_of (codes "DECL") rows ≡ Some declaration) × (first_of (codes "ASSIGN") rows ≡ Some assignment)
 GivesArguments rows (replays declaration assignment steps) =
     (first_of (codes "DECL") rows ≡ Some declaration) × (first_of (codes "ASSIGN") rows ≡ Some assignment) × (first_of (codes "RUN") rows ≡ Some steps)
 GivesArguments rows (finds declaration assignment) = (first_of (codes "DECL") rows ≡ Some declaration) × (first_of (codes "ASSIGN") rows ≡ assignment)
@@ -165,6 +174,8 @@ Calls words (plans (Some file)) = (program : Text) × (words ≡ program ∷ cod
 Calls words (checks declaration certificate) = (program : Text) × (words ≡ program ∷ codes "check" ∷ declaration ∷ certificate ∷ [])
     × (is_no_option declaration ≡ true) × (is_no_option certificate ≡ true)
 Calls words (judges declaration assignment) = (program : Text) × (words ≡ program ∷ codes "deadlock" ∷ declaration ∷ assignment ∷ [])
+    × (is_no_option declaration ≡ true) × (is_no_option assignment ≡ true)
+Calls words (hangs declaration assignment) = (program : Text) × (words ≡ program ∷ codes "hang" ∷ declaration ∷ assignment ∷ [])
     × (is_no_option declaration ≡ true) × (is_no_option assignment ≡ true)
 Calls words (replays declaration assignment steps) = (program : Text) × (words ≡ program ∷ codes "replay" ∷ declaration ∷ assignment ∷ steps ∷ [])
     × (is_no_option declaration ≡ true) × (is_no_option assignment ≡ true) × (is_no_option steps ≡ true)

@@ -5,7 +5,7 @@
 ghost use Rattle.std.specs.Prelude.{◌≡◌, ◌≤◌, ℕ, List, Option, Some, codes, false, IfOk, IfSome, IsSome, MatchResult, map};
 ghost use Rattle.clap.specs.Words.{app_of, found_of, kind_of, one_of, rows_of, rule_of, subcommand_rows_of};
 ghost use Rattle.clap.specs.declared.error.kind.ErrorKind.TheVariants.{OutOfMemory};
-ghost use Rattle.wqplan.specs.CommandLine.{bare, check, circles, number_rule, deadlock, dot, explain, needed, plan, replay, run, spelled, wqplan, Asked, Asks, AsksFor, Calls, GivesArguments, HasFewHelpers, IsHelpers, few_read, helpers_in, checks, draws, finds, judges, replays, runs};
+ghost use Rattle.wqplan.specs.CommandLine.{bare, check, circles, number_rule, deadlock, hang, dot, explain, needed, plan, replay, run, spelled, wqplan, Asked, Asks, AsksFor, Calls, GivesArguments, HasFewHelpers, IsHelpers, few_read, helpers_in, checks, draws, finds, hangs, judges, replays, runs};
 
 use crate::world::INPUT;
 use crate::{help, statuses};
@@ -31,6 +31,11 @@ pub(crate) enum Request<'a> {
     },
     /// The verdict on the assignment in the second file, for the declaration in the first.
     Deadlock {
+        declaration: &'a str,
+        assignment: &'a str,
+    },
+    /// The shortest run that ends stuck under the assignment in the second file, for the declaration in the first.
+    Hang {
         declaration: &'a str,
         assignment: &'a str,
     },
@@ -71,6 +76,10 @@ impl Request<'_> {
                 certificate,
             } => (declaration, certificate, ""),
             Request::Deadlock {
+                declaration,
+                assignment,
+            }
+            | Request::Hang {
                 declaration,
                 assignment,
             } => (declaration, assignment, ""),
@@ -141,6 +150,19 @@ fn deadlock<'a>(alloc: Global) -> Result<Command<'a>, AllocError>
     Command::new(alloc, "deadlock")
         .about(help::DEADLOCK)
         .after_long_help(statuses::DEADLOCK)
+        .arg(declaration)?
+        .arg(assignment)
+}
+
+/// The command `hang`.
+fn hang<'a>(alloc: Global) -> Result<Command<'a>, AllocError>
+    ensures { IfOk result (λ command. app_of command ≡ hang) }
+{
+    let declaration = file(alloc, "DECL", help::DECL);
+    let assignment = file(alloc, "ASSIGN", help::ASSIGN);
+    Command::new(alloc, "hang")
+        .about(help::HANG)
+        .after_long_help(statuses::HANG)
         .arg(declaration)?
         .arg(assignment)
 }
@@ -239,6 +261,7 @@ fn program<'a>(alloc: Global) -> Result<Command<'a>, AllocError>
         .subcommand(plan(alloc)?)?
         .subcommand(check(alloc)?)?
         .subcommand(deadlock(alloc)?)?
+        .subcommand(hang(alloc)?)?
         .subcommand(replay(alloc)?)?
         .subcommand(circles(alloc)?)?
         .subcommand(dot(alloc)?)?
@@ -267,6 +290,19 @@ fn deadlock_request<'a>(given: &ArgMatches<'a>) -> Option<Request<'a>>
     let declaration = given.get_str("DECL")?;
     let assignment = given.get_str("ASSIGN")?;
     Some(Request::Deadlock {
+        declaration,
+        assignment,
+    })
+}
+
+/// The request for `hang`. Its two files are in all matches that a parse gives.
+fn hang_request<'a>(given: &ArgMatches<'a>) -> Option<Request<'a>>
+    ensures asked { IfSome result (λ request. AsksFor (Some (codes "hang", rows_of (found_of given.now))) (spelled request)) }
+    ensures all { (declaration assignment : List ℕ) → GivesArguments (rows_of (found_of given.now)) (hangs declaration assignment) → IsSome result }
+{
+    let declaration = given.get_str("DECL")?;
+    let assignment = given.get_str("ASSIGN")?;
+    Some(Request::Hang {
         declaration,
         assignment,
     })
@@ -366,6 +402,9 @@ fn entered<'a>(matches: &ArgMatches<'a>) -> Option<Request<'a>>
     }
     if let Some(given) = matches.subcommand_matches("deadlock") {
         return deadlock_request(given);
+    }
+    if let Some(given) = matches.subcommand_matches("hang") {
+        return hang_request(given);
     }
     if let Some(given) = matches.subcommand_matches("replay") {
         return replay_request(given);

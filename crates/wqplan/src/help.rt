@@ -17,6 +17,10 @@ pub(crate) const CHECK: &str = "Reads a declaration and an answer, prints whethe
 pub(crate) const DEADLOCK: &str =
     "Reads a declaration and an assignment, prints `safe` or a deadlock";
 
+/// What `hang` does.
+pub(crate) const HANG: &str =
+    "Reads a declaration and an assignment, prints `safe` or the shortest hang";
+
 /// What `replay` does.
 pub(crate) const REPLAY: &str = "Reads a declaration, an assignment and a run, prints how it ends";
 
@@ -43,7 +47,8 @@ pub(crate) const DECL: &str = "The declaration";
 pub(crate) const CERT: &str = "A plan or a circle, in the form in which `plan` prints it";
 
 /// What ASSIGN is.
-pub(crate) const ASSIGN: &str = "Which item is on which workqueue: `wq` lines alone, or a plan";
+pub(crate) const ASSIGN: &str =
+    "Which item is on which workqueue: lines `wq`, `norescuer`, or a plan";
 
 /// What ASSIGN is for a command that works without it too.
 pub(crate) const ANY_ASSIGN: &str =

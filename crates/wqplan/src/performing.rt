@@ -14,7 +14,7 @@ ghost use Rattle.wq_run.specs.Running.{RunsTexts};
 ghost use Rattle.wqplan.specs.CommandLine.{HasFewHelpers, plans, spelled};
 ghost use Rattle.wqplan.specs.Cause.{EndsAlone, EndsReady, IsCaused, IsReady, IsUnready, ReadsInput};
 ghost use Rattle.wqplan.specs.Status.{end_or_common, explained_or_common, unheld};
-ghost use Rattle.wqplan.specs.Ended.{EndedBy, EndsAsAsked, EndsCheck, EndsCircles, EndsDeadlock, EndsDot, EndsExplain, EndsPlan, EndsReplay, EndsRun, Has, IsInputIf};
+ghost use Rattle.wqplan.specs.Ended.{EndedBy, EndsAsAsked, EndsCheck, EndsCircles, EndsDeadlock, EndsDot, EndsExplain, EndsHang, EndsPlan, EndsReplay, EndsRun, Has, IsInputIf};
 
 use crate::command_line::Request;
 use crate::world::{STDIN, World, shown_name};
@@ -27,9 +27,10 @@ use wq_commands::{
     CheckCommand, Command, DeadlockCommand, End, Fault, Metered, Outcome, PlanCommand,
     ReplayCommand, Stopped, Voice, carry_out,
 };
-use wq_diagnosis::{CertificateKind, Diagnosing};
+use wq_diagnosis::{CertificateKind, Diagnosing, Unrescued};
 use wq_dot::DotCommand;
 use wq_explain::{Explained, explain_cmd};
+use wq_hang_command::HangCommand;
 use wq_meter::write_text;
 use wq_run::{CommandFault, RunStop, carry_out_run, end_of_run};
 
@@ -284,11 +285,46 @@ fn deadlock<'a, O: World<'a>, W: Write, E: Write>(
     let ended = carry_out_on(
         alloc,
         &DeadlockCommand { seed },
-        &Diagnosing::two(
+        &Diagnosing::assigned(
             seed,
             shown_name(declaration),
-            CertificateKind::Assignment,
             shown_name(assignment),
+            Unrescued::Explained,
+        ),
+        declared,
+        assigned,
+        io::empty(),
+        writer,
+        teller,
+    );
+    end_of(ended)
+}
+
+/// Prints the shortest run that ends stuck under the assignment in the second file, for the declaration in the first.
+fn hang<'a, O: World<'a>, W: Write, E: Write>(
+    world: &O,
+    alloc: Global,
+    declaration: &'a str,
+    assignment: &'a str,
+    writer: &mut Metered<W>,
+    teller: &mut Metered<E>,
+) -> Result<End, CommandFault>
+    ensures ended { EndedBy W.contents writer.old writer.new (EndsHang (Has (O.opens world.now) O.File.Read.remaining)
+        declaration.now assignment.now) result }
+    ensures caused { EndsReady (O.seeds world.now) (O.opens world.now) (declaration.now ∷ assignment.now ∷ []) (Unit {0}) ⊥ result }
+    ensures unsaid { OnErr result (teller.new ≡ teller.old) }
+{
+    let Some((seed, declared, assigned)) = two_files(world, declaration, assignment) else {
+        return Err(CommandFault::Common(Fault::Read));
+    };
+    let ended = carry_out_on(
+        alloc,
+        &HangCommand { seed },
+        &Diagnosing::assigned(
+            seed,
+            shown_name(declaration),
+            shown_name(assignment),
+            Unrescued::Explained,
         ),
         declared,
         assigned,
@@ -328,6 +364,7 @@ fn replay<'a, O: World<'a>, W: Write, E: Write>(
             kind: CertificateKind::Assignment,
             certificate: shown_name(assignment),
             run: shown_name(run),
+            unrescued: Unrescued::Unsaid,
         },
         declared,
         assigned,
@@ -361,11 +398,11 @@ fn assigned_circles<'a, O: World<'a>, W: Write, E: Write>(
             seed,
             assigned: true,
         },
-        &Diagnosing::two(
+        &Diagnosing::assigned(
             seed,
             shown_name(declaration),
-            CertificateKind::Assignment,
             shown_name(assignment),
+            Unrescued::Noted,
         ),
         declared,
         assigned,
@@ -610,6 +647,10 @@ pub(crate) fn perform<'a, O: World<'a>, R: Threads + Wait + Sync, I: Read, W: Wr
             declaration,
             assignment,
         } => deadlock(world, alloc, declaration, assignment, writer, teller),
+        Request::Hang {
+            declaration,
+            assignment,
+        } => hang(world, alloc, declaration, assignment, writer, teller),
         Request::Replay {
             declaration,
             assignment,

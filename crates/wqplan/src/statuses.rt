@@ -7,8 +7,8 @@ pub(crate) const PROGRAM: &str = "\
   0    the answer is a plan, `yes ..`, `safe`, `open`, a drawing,
        `workqueues ..`, an explanation or the titles of all; or help or the
        version was printed
-  1    the answer is a circle, `no ..`, a run that deadlocks, `deadlock`,
-       `stuck`, `not lawful N` or `components ..`
+  1    the answer is a circle, `no ..`, a run that deadlocks, a run that ends
+       stuck, `deadlock`, `stuck`, `not lawful N` or `components ..`
   2    the answer is `refused CODE line N`: a text isn't of its form, or a plan
        has too many workqueues to run; or the word to explain is none that has
        an explanation; or the command line is wrong, and standard error says how
@@ -52,6 +52,20 @@ pub(crate) const DEADLOCK: &str = "\
 Exit status:
   0    the answer is `safe`
   1    the answer is a run that deadlocks
+  2    the answer is `refused CODE line N`: a text isn't of its form; or the
+       command line is wrong, and standard error says how
+  3    a fault: the last line of standard error is `fault memory`, `fault read`
+       or `fault write`
+  141  nobody reads standard output any more
+
+docs/FORMAT.md describes the texts and the answers, `wqplan explain CODE` each
+number and word.";
+
+/// Of `hang`.
+pub(crate) const HANG: &str = "\
+Exit status:
+  0    the answer is `safe`
+  1    the answer is a run that ends stuck
   2    the answer is `refused CODE line N`: a text isn't of its form; or the
        command line is wrong, and standard error says how
   3    a fault: the last line of standard error is `fault memory`, `fault read`

@@ -54,7 +54,7 @@ WORDS = [
         "            ^ the line should be a step",
     ]),
     ({"d": AB, "a": "overwq 0 b"}, "deadlock d a", "refused 41 line 0", 2, [
-        "a: `a`, `b` are on no workqueue: line 1 isn't a `wq` line [refused 41, `wqplan explain 41`]",
+        "a: `a`, `b` are on no workqueue: line 1 isn't a `wq` or `norescuer` line [refused 41, `wqplan explain 41`]",
         "    overwq 0 b",
         "    ^^^^^^ this looks like a run: are the files in the right order?",
     ]),
@@ -355,49 +355,49 @@ FORMS = [
 # should end there (40).
 STRAYS = [
     ({"d": AB, "a": b"\xef\xbb\xbfwq 0 a b\r\n"}, "deadlock d a", "refused 41 line 0", 2, [
-        "a: `a`, `b` are on no workqueue: line 1 isn't a `wq` line [refused 41, `wqplan explain 41`]",
+        "a: `a`, `b` are on no workqueue: line 1 isn't a `wq` or `norescuer` line [refused 41, `wqplan explain 41`]",
         "    ???wq 0 a b",
         "    ^^^^^ a byte order mark: save the file without it",
     ]),
     # Also where the word isn't `plan` for that reason, and only at the beginning of a line.
     ({"d": AB, "a": b"# a plan\n\xef\xbb\xbfplan 1\nwq 0 a b\nchain 1\n"}, "dot d a", "refused 41 line 0", 2, [
-        "a: `a`, `b` are on no workqueue: line 2 isn't a `wq` line [refused 41, `wqplan explain 41`]",
+        "a: `a`, `b` are on no workqueue: line 2 isn't a `wq` or `norescuer` line [refused 41, `wqplan explain 41`]",
         "    ???plan 1",
         "    ^^^^^^^ a byte order mark: save the file without it",
     ]),
     ({"d": AB, "a": b" \xef\xbb\xbfwq 0 a b"}, "deadlock d a", "refused 41 line 0", 2, [
-        "a: `a`, `b` are on no workqueue: line 1 isn't a `wq` line [refused 41, `wqplan explain 41`]",
+        "a: `a`, `b` are on no workqueue: line 1 isn't a `wq` or `norescuer` line [refused 41, `wqplan explain 41`]",
         "     ???wq 0 a b",
         "     ^^^^^",
     ]),
     ({"d": AB, "a": b"\xff\xfew\0q\0 \0000\0 \0a\0"}, "deadlock d a", "refused 41 line 0", 2, [
-        "a: `a`, `b` are on no workqueue: line 1 isn't a `wq` line [refused 41, `wqplan explain 41`]",
+        "a: `a`, `b` are on no workqueue: line 1 isn't a `wq` or `norescuer` line [refused 41, `wqplan explain 41`]",
         "    ??w?q? ?0? ?a?",
         "    ^^^^^^ this is UTF-16: save the file as ASCII",
     ]),
     ({"d": AB, "a": b"\xfe\xff\0w\0q\0 \0000\0 \0a"}, "deadlock d a", "refused 41 line 0", 2, [
-        "a: `a`, `b` are on no workqueue: line 1 isn't a `wq` line [refused 41, `wqplan explain 41`]",
+        "a: `a`, `b` are on no workqueue: line 1 isn't a `wq` or `norescuer` line [refused 41, `wqplan explain 41`]",
         "    ???w?q? ?0? ?a",
         "    ^^^^^^^ this is UTF-16: save the file as ASCII",
     ]),
     ({"d": AB, "a": b"w\0q\0 \0000\0 \0a\0"}, "deadlock d a", "refused 41 line 0", 2, [
-        "a: `a`, `b` are on no workqueue: line 1 isn't a `wq` line [refused 41, `wqplan explain 41`]",
+        "a: `a`, `b` are on no workqueue: line 1 isn't a `wq` or `norescuer` line [refused 41, `wqplan explain 41`]",
         "    w?q? ?0? ?a?",
         "    ^^^^ a zero byte: is this a text, and not UTF-16?",
     ]),
     # Words that are like `wq`, on the first line and on another one.
     ({"d": AB, "a": "WQ 0 a / WQ 1 b"}, "deadlock d a", "refused 41 line 0", 2, [
-        "a: `a`, `b` are on no workqueue: line 1 isn't a `wq` line [refused 41, `wqplan explain 41`]",
+        "a: `a`, `b` are on no workqueue: line 1 isn't a `wq` or `norescuer` line [refused 41, `wqplan explain 41`]",
         "    WQ 0 a",
         "    ^^ did you mean `wq`?",
     ]),
     ({"d": AB, "a": "# md / wq 0 a / \twp 1 b # raid"}, "circles d a", "refused 41 line 0", 2, [
-        "a: `b` is on no workqueue: line 3 isn't a `wq` line [refused 41, `wqplan explain 41`]",
+        "a: `b` is on no workqueue: line 3 isn't a `wq` or `norescuer` line [refused 41, `wqplan explain 41`]",
         "     wp 1 b # raid",
         "     ^^ did you mean `wq`?",
     ]),
     ({"d": AB, "a": "wq: 0 a b"}, "deadlock d a", "refused 41 line 0", 2, [
-        "a: `a`, `b` are on no workqueue: line 1 isn't a `wq` line [refused 41, `wqplan explain 41`]",
+        "a: `a`, `b` are on no workqueue: line 1 isn't a `wq` or `norescuer` line [refused 41, `wqplan explain 41`]",
         "    wq: 0 a b",
         "    ^^^ did you mean `wq`?",
     ]),
@@ -408,44 +408,44 @@ STRAYS = [
     ]),
     # Words that are like `plan`, on the first line alone.
     ({"d": AB, "a": " / Plan 1 / wq 0 a b / chain 1"}, "deadlock d a", "refused 41 line 0", 2, [
-        "a: `a`, `b` are on no workqueue: line 2 isn't a `wq` line [refused 41, `wqplan explain 41`]",
+        "a: `a`, `b` are on no workqueue: line 2 isn't a `wq` or `norescuer` line [refused 41, `wqplan explain 41`]",
         "    Plan 1",
         "    ^^^^ did you mean `plan`?",
     ]),
     ({"d": AB, "a": "wq 0 a / Plan 1"}, "deadlock d a", "refused 41 line 0", 2, [
-        "a: `b` is on no workqueue: line 2 isn't a `wq` line [refused 41, `wqplan explain 41`]",
+        "a: `b` is on no workqueue: line 2 isn't a `wq` or `norescuer` line [refused 41, `wqplan explain 41`]",
         "    Plan 1",
         "    ^^^^",
     ]),
     # Lines of a plan whose first one is missing.
     ({"d": AB, "a": "chain 2 / arc a b"}, "deadlock d a", "refused 41 line 0", 2, [
-        "a: `a`, `b` are on no workqueue: line 1 isn't a `wq` line [refused 41, `wqplan explain 41`]",
+        "a: `a`, `b` are on no workqueue: line 1 isn't a `wq` or `norescuer` line [refused 41, `wqplan explain 41`]",
         "    chain 2",
         "    ^^^^^ in a plan the line `plan K` comes first",
     ]),
     ({"d": AB, "a": "wq 0 b / arc a b"}, "deadlock d a", "refused 41 line 0", 2, [
-        "a: `a` is on no workqueue: line 2 isn't a `wq` line [refused 41, `wqplan explain 41`]",
+        "a: `a` is on no workqueue: line 2 isn't a `wq` or `norescuer` line [refused 41, `wqplan explain 41`]",
         "    arc a b",
         "    ^^^ in a plan the line `plan K` comes first",
     ]),
     ({"d": AB, "a": "wq 0 b / plan 2"}, "deadlock d a", "refused 41 line 0", 2, [
-        "a: `a` is on no workqueue: line 2 isn't a `wq` line [refused 41, `wqplan explain 41`]",
+        "a: `a` is on no workqueue: line 2 isn't a `wq` or `norescuer` line [refused 41, `wqplan explain 41`]",
         "    plan 2",
         "    ^^^^ in a plan the line `plan K` comes first",
     ]),
     # Texts of another kind.
     ({"d": AB, "c": "circle 1 / arc a b"}, "deadlock d c", "refused 41 line 0", 2, [
-        "c: `a`, `b` are on no workqueue: line 1 isn't a `wq` line [refused 41, `wqplan explain 41`]",
+        "c: `a`, `b` are on no workqueue: line 1 isn't a `wq` or `norescuer` line [refused 41, `wqplan explain 41`]",
         "    circle 1",
         "    ^^^^^^ this looks like a circle: are the files in the right order?",
     ]),
     ({"d": AB, "a": "refused 8 line 2"}, "deadlock d a", "refused 41 line 0", 2, [
-        "a: `a`, `b` are on no workqueue: line 1 isn't a `wq` line [refused 41, `wqplan explain 41`]",
+        "a: `a`, `b` are on no workqueue: line 1 isn't a `wq` or `norescuer` line [refused 41, `wqplan explain 41`]",
         "    refused 8 line 2",
         "    ^^^^^^^ this looks like a refusal, written here in place of an answer: are the files in the right order?",
     ]),
     ({"d": AB, "e": AB}, "circles d e", "refused 41 line 0", 2, [
-        "e: `a`, `b` are on no workqueue: line 1 isn't a `wq` line [refused 41, `wqplan explain 41`]",
+        "e: `a`, `b` are on no workqueue: line 1 isn't a `wq` or `norescuer` line [refused 41, `wqplan explain 41`]",
         "    item a",
         "    ^^^^ this looks like a declaration: are the files in the right order?",
     ]),
@@ -456,12 +456,12 @@ STRAYS = [
     ]),
     # Comments of other languages, and words of which nothing is known.
     ({"d": AB, "a": "// md / wq 0 a b"}, "deadlock d a", "refused 41 line 0", 2, [
-        "a: `a`, `b` are on no workqueue: line 1 isn't a `wq` line [refused 41, `wqplan explain 41`]",
+        "a: `a`, `b` are on no workqueue: line 1 isn't a `wq` or `norescuer` line [refused 41, `wqplan explain 41`]",
         "    // md",
         "    ^^ a comment begins with `#`",
     ]),
     ({"d": AB, "a": "wq 0 b / 1 a"}, "deadlock d a", "refused 41 line 0", 2, [
-        "a: `a` is on no workqueue: line 2 isn't a `wq` line [refused 41, `wqplan explain 41`]",
+        "a: `a` is on no workqueue: line 2 isn't a `wq` or `norescuer` line [refused 41, `wqplan explain 41`]",
         "    1 a",
         "    ^",
     ]),
@@ -557,18 +557,18 @@ OTHERS = [
         "p: `a`, `c`, `e` are on no workqueue [refused 41, `wqplan explain 41`]",
     ]),
     ({"d": LETTERS, "a": "wq 0 c / qw 1 a b d e"}, "deadlock d a", "refused 41 line 0", 2, [
-        "a: `a`, `b`, `d` and 1 more are on no workqueue: line 2 isn't a `wq` line [refused 41, `wqplan explain 41`]",
+        "a: `a`, `b`, `d` and 1 more are on no workqueue: line 2 isn't a `wq` or `norescuer` line [refused 41, `wqplan explain 41`]",
         "    qw 1 a b d e",
         "    ^^ did you mean `wq`?",
     ]),
     ({"d": LETTERS, "e": LETTERS}, "deadlock d e", "refused 41 line 0", 2, [
-        "e: `a`, `b`, `c` and 2 more are on no workqueue: line 1 isn't a `wq` line [refused 41, `wqplan explain 41`]",
+        "e: `a`, `b`, `c` and 2 more are on no workqueue: line 1 isn't a `wq` or `norescuer` line [refused 41, `wqplan explain 41`]",
         "    item a",
         "    ^^^^ this looks like a declaration: are the files in the right order?",
     ]),
     # The assignment and the run in each other's place: the assignment is judged first.
     ({"d": AB, "a": "wq 0 a b", "r": "run 1 / queue a"}, "replay d r a", "refused 41 line 0", 2, [
-        "r: `a`, `b` are on no workqueue: line 1 isn't a `wq` line [refused 41, `wqplan explain 41`]",
+        "r: `a`, `b` are on no workqueue: line 1 isn't a `wq` or `norescuer` line [refused 41, `wqplan explain 41`]",
         "    run 1",
         "    ^^^ this looks like a run: are the files in the right order?",
     ]),

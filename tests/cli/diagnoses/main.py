@@ -23,6 +23,7 @@ import diagnoses  # noqa: E402  (in tests/model)
 import further  # noqa: E402
 import places  # noqa: E402
 import unlawful_runs  # noqa: E402
+import unrescued  # noqa: E402
 import usual  # noqa: E402
 from command_line import seed_and_counts  # noqa: E402
 from programs import counts_of, is_there  # noqa: E402  (in tests/lib)
@@ -40,7 +41,7 @@ TABLES = [
     ("first words of certificates", certificates.WORDS),
     ("ends of certificates", certificates.ENDS),
     ("forms of certificates", certificates.FORMS),
-    ("lines that aren't `wq` lines", certificates.STRAYS),
+    ("lines that aren't of workqueues", certificates.STRAYS),
     ("numbers and workqueues", certificates.OTHERS),
     ("names of files", places.FILES),
     ("long lines", places.CUTS),
@@ -49,10 +50,14 @@ TABLES = [
     ("accepted texts", places.ACCEPTED),
     ("steps that may not be made", unlawful_runs.STEPS),
     ("places of steps", unlawful_runs.PLACES),
+    ("mistakes with `norescuer`", unrescued.MISTAKES),
+    ("names of workqueues", unrescued.NAMES),
+    ("what `safe` doesn't say", unrescued.NOTES),
+    ("by which flush a run hangs", unrescued.REASONS),
 ]
 
 # Of each of these tables the rows whose standard error is closed or full: of each command some.
-STREAMS = [places.FILES, places.LIMITS, places.NOES, places.ACCEPTED, unlawful_runs.PLACES]
+STREAMS = [places.FILES, places.LIMITS, places.NOES, places.ACCEPTED, unlawful_runs.PLACES, unrescued.NOTES, unrescued.REASONS]
 
 
 class Row:

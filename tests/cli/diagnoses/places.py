@@ -54,7 +54,7 @@ FILES = [
         "    ^^^^",
     ]),
     ({"d": AB}, "deadlock d d", "refused 41 line 0", 2, [
-        "d: `a`, `b` are on no workqueue: line 1 isn't a `wq` line [refused 41, `wqplan explain 41`]",
+        "d: `a`, `b` are on no workqueue: line 1 isn't a `wq` or `norescuer` line [refused 41, `wqplan explain 41`]",
         "    item a",
         "    ^^^^ this looks like a declaration: are the files in the right order?",
     ]),
@@ -286,7 +286,7 @@ NOES = [
     ({"d": AB, "p": "plan 2 / wq 0 a / wq 1 b # below / chain 2 / arc a b"}, "check d p", "no 50 a b", 1, [
         "p:2:6: `a` flushes `b`, so it should be on a higher workqueue [no 50, `wqplan explain 50`]",
         "    wq 0 a",
-        "         ^ `b` is on workqueue 1",
+        "         ^ `b` is on workqueue 1 (below)",
     ]),
     # By the kind of the wait. Of several waits for the same target the one of least place is meant.
     ({"d": "item a / item b / flushwq a b", "p": "plan 1 / wq 0 a b / chain 1"}, "check d p", "no 50 a b", 1, [

@@ -85,7 +85,7 @@ ASSIGNMENTS = [
      ]),
     ({"rdisk.wq": RDISK, "capitals.assign": "wq 0 send reconnect receive / WQ 1 log"}, "deadlock rdisk.wq capitals.assign",
      "refused 41 line 0", 2, [
-         "capitals.assign: `log` is on no workqueue: line 2 isn't a `wq` line [refused 41, `wqplan explain 41`]",
+         "capitals.assign: `log` is on no workqueue: line 2 isn't a `wq` or `norescuer` line [refused 41, `wqplan explain 41`]",
          "    WQ 1 log",
          "    ^^ did you mean `wq`?",
      ]),

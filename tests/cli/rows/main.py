@@ -9,11 +9,13 @@
 # then given to `check`, and a run to `replay`. It takes a few seconds.
 
 import pathlib
+import re
 import sys
 
 sys.dont_write_bytecode = True
 sys.path.append(str(pathlib.Path(__file__).resolve().parents[2] / "lib"))
 import every  # noqa: E402  (beside this file)
+import hangs  # noqa: E402
 import prefixes  # noqa: E402
 import replays  # noqa: E402
 import runs  # noqa: E402
@@ -41,6 +43,11 @@ def table_cases():
             yield case(table, command, texts, answer)
     for text, assignment, answer, steps in replays.STEPS:
         yield from step_cases([text, assignment], answer, steps.split(" / "))
+    for text, rows in hangs.HANGS:
+        for assignment, ends in rows:
+            yield from hang_cases([text, assignment], ends)
+    for *texts, answer in hangs.LONG:
+        yield Case("the longest hangs", ["hang", 0, 1], [text_of(text) for text in texts], text_of(answer), 1, first_line=True)
     for text, answer in runs.RUNS + runs.OTHERS:
         for helpers in runs.HELPERS:
             yield case("plans that are run with helpers", "run", [text], answer, helpers)
@@ -62,6 +69,16 @@ def step_cases(texts, answer, steps):
         else:
             made = run
     yield case("steps", "replay", texts + [run_of(made)], answer)
+
+
+def hang_cases(texts, ends):
+    """A case for the texts, to which any of these runs is an answer, and for each run how it ends, whole and without its last step."""
+    allowed = b"|".join(re.escape(text_of(run)) for run in ends)
+    yield Case("hangs", ["hang", 0, 1], [text_of(text) for text in texts], rb"(?:%s)\Z" % allowed, 1, diagnoses=True, is_pattern=True)
+    for run, end in ends.items():
+        steps = run.split(" / ")[1:]
+        yield case("hangs that are replayed", "replay", [*texts, run], end)
+        yield case("hangs without their last step", "replay", [*texts, run_of(steps[:-1])], "open")
 
 
 def run_of(steps):
@@ -95,7 +112,7 @@ def follow_ups(cases):
     """What must be said of the plans, the circles and the runs that are printed."""
     for given in cases:
         texts, answer = given.texts, given.answer
-        if not answer:
+        if not answer or given.is_pattern or given.first_line:
             continue
         word, *rest = answer.split(maxsplit=2)
         if word == b"plan":

@@ -12,12 +12,12 @@ returns-in-Some-clause-asked c =
     met_is met (codes "plan") (rows_of found) (option_map_twice _ (λ (p : Text × List Row). p.0) _ ∙ c.in-Some.ensures.found.0 refl) c.in-Some.ensures.rows in
     (rows_of found, is, sym (c.get_str.ensures ∙ first_value-rows found (codes "FILE")))
 
-pub returns-in-Some-subcommand_matches-3-clause-all : goal.returns-in-Some-subcommand_matches-3-clause-all
-returns-in-Some-subcommand_matches-3-clause-all c = λ wanted asked.
-    let found = found_of c.in-Some-subcommand_matches-3.given.now in
+pub returns-in-Some-subcommand_matches-4-clause-all : goal.returns-in-Some-subcommand_matches-4-clause-all
+returns-in-Some-subcommand_matches-4-clause-all c = λ wanted asked.
+    let found = found_of c.in-Some-subcommand_matches-4.given.now in
     let met = subcommand_rows_of c.args.matches.now in
     let is : met ≡ Some (codes "replay", rows_of found) =
-    met_is met (codes "replay") (rows_of found) (option_map_twice _ (λ (p : Text × List Row). p.0) _ ∙ c.in-Some-subcommand_matches-3.ensures.found.0 refl) c.in-Some-subcommand_matches-3.ensures.rows in
+    met_is met (codes "replay") (rows_of found) (option_map_twice _ (λ (p : Text × List Row). p.0) _ ∙ c.in-Some-subcommand_matches-4.ensures.found.0 refl) c.in-Some-subcommand_matches-4.ensures.rows in
     let files = replays_of met (rows_of found) wanted is asked in
     c.replay_request.ensures.all files.0 files.1 files.2 files.3
 

@@ -14,6 +14,11 @@ returns-in-Deadlock-clause-ended g c =
     subst (λ r. EndedBy g.W.Write.contents c.args.writer.now c.deadlock.new.writer (EndsAsAsked (Has (g.O.World.opens c.args.world.now) g.O.File.Read.remaining) (IsInput (g.I.Read.remaining c.args.input.now.device)) (spelled r)) c.deadlock.result)
     (sym c.in-Deadlock.is) c.deadlock.ensures.ended
 
+pub returns-in-Hang-clause-ended : goal.returns-in-Hang-clause-ended
+returns-in-Hang-clause-ended g c =
+    subst (λ r. EndedBy g.W.Write.contents c.args.writer.now c.hang.new.writer (EndsAsAsked (Has (g.O.World.opens c.args.world.now) g.O.File.Read.remaining) (IsInput (g.I.Read.remaining c.args.input.now.device)) (spelled r)) c.hang.result)
+    (sym c.in-Hang.is) c.hang.ensures.ended
+
 pub returns-in-Replay-clause-ended : goal.returns-in-Replay-clause-ended
 returns-in-Replay-clause-ended g c =
     subst (λ r. EndedBy g.W.Write.contents c.args.writer.now c.replay.new.writer (EndsAsAsked (Has (g.O.World.opens c.args.world.now) g.O.File.Read.remaining) (IsInput (g.I.Read.remaining c.args.input.now.device)) (spelled r)) c.replay.result)

@@ -1,0 +1,6 @@
+pub use Rattle.wq_groups.specs.Declaration
+pub use Rattle.wq_groups.specs.Assignment
+pub use Rattle.wq_core.specs.Deadlock
+pub mod Shortest
+pub mod Walk
+pub mod Answer

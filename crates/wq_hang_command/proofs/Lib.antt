@@ -1,0 +1,2 @@
+pub mod HangLemmas
+pub mod Taking
