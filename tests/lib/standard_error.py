@@ -8,8 +8,9 @@ standard error. Where OUT is a refusal, or a `no` of `check`, ERR must be its di
 shows the line and its marks where a line is meant; where that is of a declaration, up to nine further ones of the same form may follow.
 Where OUT is the answer to a declaration without an item, ERR must be the note
 that says so, with FILE; where it may be one, as `safe`, this note or nothing. Where OUT is `not lawful N` of `replay`, ERR must say so of FILE, too,
-and show the step. Where OUT is any other answer, ERR must be empty. The words and the hints of a diagnosis may be any: they aren't
-compared here. `belongs`, `meant` and `fits` do this for other scripts.
+and show the step. Where OUT is `safe` or a run, what ERR says of workqueues without a rescuer may be there, of an assignment. Where
+OUT is any other answer, ERR must be empty. The words and the hints of a diagnosis may be any: they aren't compared here. `belongs`,
+`meant` and `fits` do this for other scripts.
 """
 
 import functools
@@ -31,6 +32,18 @@ NO_ITEM = re.compile(rb"plan 0\nchain 0\n|yes 0\n|workqueues 0\nfaults 0\n")
 MAY_BE_NO_ITEM = re.compile(rb"safe\n|open\n|digraph [^\0]*")
 # The line that is meant, and below it the marks, with the hint if there is one.
 MARKED = rb"    [ -~]+\n {4,}\^+(?: [ -~]+)?\n"
+
+# Workqueues without a rescuer: what is said beside `safe` and beside a run, by the first word of the answer. <DECL> and
+# <ASSIGN> stand for the files.
+WORKQUEUE = rb"workqueue (?:0|[1-9][0-9]*)(?: \([ -~]{1,63}\))?"
+ON_ONE = rb"`[^`\n]+` on " + WORKQUEUE
+UNRESCUED = {
+    b"safe": rb"<ASSIGN>: note: nothing guarantees that these run while memory is short: " + ON_ONE + rb"(?:, " + ON_ONE + rb")*\n"
+             rb"<ASSIGN>: note: where reclaim waits for one of them, declare who waits: an item of its own, on a `wq` line, that flushes it\n",
+    b"run": rb"<DECL>:[1-9][0-9]*:[1-9][0-9]*: `[^`\n]+`, on " + WORKQUEUE + rb", waits for (?:the workqueue of )?`[^`\n]+`,"
+            rb" which nothing guarantees to run: (" + WORKQUEUE + rb") has no rescuer\n" + MARKED.replace(rb"(?: [ -~]+)?", b"")
+            + rb"<ASSIGN>:[1-9][0-9]*:[1-9][0-9]*: \1 has no rescuer\n" + MARKED.replace(rb"(?: [ -~]+)?", b""),
+}
 
 
 # The further mistakes of a declaration: each is a diagnosis of a line, of which a byte is meant.
@@ -58,6 +71,22 @@ def diagnosis(word, code, line):
 def note(file):
     """What is said beside the answer to a declaration without an item."""
     return shown(file) + b": note: no item is declared: is this the right file?\n"
+
+
+def unrescued(printed, errors, files):
+    """Whether this is said of workqueues without a rescuer beside the answer."""
+    form = UNRESCUED.get(printed.split(None, 1)[0] if printed.strip() else None)
+    if form is None or len(files) != 2:
+        return False
+    file = {b"<DECL>": files[0], b"<ASSIGN>": files[1]}
+    form = re.sub(b"<DECL>|<ASSIGN>", lambda found: re.escape(shown(file[found[0]])), form)
+    return re.fullmatch(form, errors) is not None
+
+
+def is_unrescued(errors):
+    """Whether this, which belongs beside an answer, is said of workqueues without a rescuer."""
+    first = errors.split(b"\n", 1)[0]
+    return b": note: nothing guarantees" in first or first.endswith(b" has no rescuer")
 
 
 def answer(printed):
@@ -103,6 +132,8 @@ def belongs(printed, errors, files):
     if NO_ITEM.fullmatch(printed):
         return errors == note(files[0])
     if not found:
+        if unrescued(printed, errors, files):
+            return True
         return errors == b"" or (MAY_BE_NO_ITEM.fullmatch(printed) is not None and errors == note(files[0]))
     return any(is_of(file, diagnosis(*found), errors) for file in files)
 

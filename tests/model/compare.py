@@ -1,6 +1,6 @@
 # Compares the program with the model of it, which has a file for each command, as plan.py (models.py):
 #
-#     compare.py PROGRAM [SEED] [CASES] [RUNS] [--only COMMAND,..]
+#     compare.py PROGRAM [SEED] [CASES] [RUNS] [--only COMMAND,..] [--with WORD]
 #
 # It makes up declarations, answers, assignments and runs, gives them to `PROGRAM plan` on standard
 # input, and to the other commands as files, and compares the bytes that are printed and the exit status
@@ -9,6 +9,9 @@
 # each, and then CASES random ones; of `run`, which makes threads, RUNS, or a fifth as many. The same SEED makes the
 # same cases. It fails where an answer differs, and where some kind of answer never came, as may be with
 # few CASES. Before all this the model must answer the worked examples (examples.py).
+#
+# With --with WORD the cases are only those of which an assignment has a line with this first word: with `--with norescuer`
+# those of workqueues without a rescuer. Commands that read no assignment then have none.
 #
 # What the program prints is then given back to it: the plans and circles to `PROGRAM check`, the
 # plans as assignments to `PROGRAM deadlock`, and the runs, those behind circles too, to `PROGRAM
@@ -22,6 +25,8 @@
 import collections
 import concurrent.futures
 import dataclasses
+import functools
+import itertools
 import os
 import pathlib
 import re
@@ -42,7 +47,8 @@ from commands import TEXTS_OF  # noqa: E402  (in tests/lib)
 from declaration import read_declaration  # noqa: E402
 from models import ANSWERS  # noqa: E402
 from records import records  # noqa: E402  (in tests/lib)
-from standard_error import fits  # noqa: E402  (there, too)
+from standard_error import fits, is_unrescued  # noqa: E402  (there, too)
+from unrescued import beside  # noqa: E402
 
 DEFAULT_SEED = "1"
 DEFAULT_CASES = 2_000
@@ -66,23 +72,35 @@ DRAWING = (
     r'digraph wqplan \{\n  graph \[label="(TITLE)", labelloc=t, labeljust=l, rankdir=LR,'
     r' nodesep=0\.15, ranksep=1, fontname="sans-serif"\];\n  node \[shape=box, style=filled,'
     r' fillcolor=white, height=0\.3, fontname="sans-serif", fontsize=12\];\n  edge \[arrowsize=0\.7\];\n'
-    r'(  subgraph "cluster wq N" \{\n    graph \[label="", style=filled, color=gray92\];'
-    r' "wq N" \[shape=plaintext, style="", fontsize=14\];\n(    "Z";\n|    subgraph "cluster ordered Z" \{\n'
+    r'(  subgraph "cluster wq N" \{\n'
+    r'    graph \[label="", (style=filled, color=gray92\]; "wq N" \[(label="NAMED", )?'
+    r'|style="filled,dashed", fillcolor=gray92, color=black\]; "wq N" \[label="(NAMED|wq N) \(no rescuer\)", )'
+    r'shape=plaintext, style="", fontsize=14\];\n(    "Z";\n|    subgraph "cluster ordered Z" \{\n'
     r'      graph \[label="", style=dashed, color=black\]; "ordered Z" \[label="ordered", shape=plaintext, style=""\];\n'
     r'(      "Z";\n)+    \}\n)*  \}\n)*'
     r'(  "Z" -> "Z"( \[LOOK\])?( \[(arrowhead=odiamond|dir=back(, arrowtail=odiamond)?)\])?'
-    r'( \[edgetooltip="([ !#-%\'-\[\]-~]|\\"|\\\\|&amp;)+"\])?;\n)*\}\n'
+    r'( \[edgetooltip="NAMED"\])?;\n)*\}\n'
 )
 PLANNED = (r"plan of (1 workqueue|N workqueues)"
            r"(, (1 wait|N waits) in bold\\lBold: the chain that needs so many workqueues\.\\l)?")
-HANGING = (r"(every assignment )?can hang, (1 wait|N waits) in red\\lRed: while memory is short, a worker may wait for work"
-           r"\\lthat only it, or one that waits for it, can do\.\\l")
+DASHED = r"\\lDashed: no rescuer\. While memory is short, nothing\\lguarantees that work there runs\."
+HANGING = (r"(every assignment )?can hang, (1 wait|N waits) in redLEADING\\lRed: while memory is short, a worker may wait for work"
+           rf"\\lthat WORK\.({DASHED})?\\l")
+ON_CIRCLES = r"only it, or one that waits for it, can do"
+ON_NONE = r"no rescuer does"
+LEADING = r", N to no rescuer"
+ESCAPE = r"([ !#-%\'-\[\]-~]|\\\"|\\\\|&amp;)"
 NO_LOOK = "(?!)"
 
 
 def drawing(title, look):
     """The form of a drawing with this title, and with arrows that look so or as most do."""
-    return DRAWING.replace("TITLE", title).replace("LOOK", look)
+    return DRAWING.replace("TITLE", title).replace("LOOK", look).replace("NAMED", ESCAPE + "+")
+
+
+def hanging(leading, work):
+    """The form of a drawing with red arrows, of which those that lead to no rescuer are told so, and what no one does."""
+    return drawing(HANGING.replace("LEADING", leading).replace("WORK", work), "color=red, style=bold")
 
 
 # Of a command, where `like_others` isn't enough: the cases at the limits, the random cases, and the kinds
@@ -120,14 +138,18 @@ COMMANDS = {
         make_circles.limit_circles_cases,
         make_circles.random_circles_case,
         [("safe", 0, r"safe\n"), ("one component", 1, r"components 1\ncomponent N\nA+"),
-         ("components", 1, r"components N\n(component N\nA+)+")]
+         ("components", 1, r"components N\n(component N\nA+)+"),
+         ("no rescuer", 1, r"components 0\nnorescuer N\nA+"),
+         ("components and no rescuer", 1, r"components N\n(component N\nA+)+norescuer N\nA+")]
         + DECLARATION_REFUSALS + CERTIFICATE_REFUSALS[1:],
     ),
     "dot": (
         make_circles.limit_dot_cases,
         lambda seed, number: make_circles.random_circles_case(f"{seed} dot", number),
         [("plans", 0, drawing(PLANNED, "style=bold")), ("safe", 0, drawing("safe", NO_LOOK)),
-         ("components", 0, drawing(HANGING, "color=red, style=bold"))]
+         ("safe, dashed", 0, drawing(rf"safe{DASHED}\\l", NO_LOOK)),
+         ("components", 0, hanging("", ON_CIRCLES)), ("no rescuer", 0, hanging(LEADING, ON_NONE)),
+         ("components and no rescuer", 0, hanging(LEADING, rf"{ON_CIRCLES},\\lor that {ON_NONE}"))]
         + DECLARATION_REFUSALS + CERTIFICATE_REFUSALS[1:],
     ),
     "run": (
@@ -191,7 +213,7 @@ def words_behind(command, number):
 
 
 def ask(program, command, texts, folder, number):
-    """The program's answer, what it prints to standard error, and whether that belongs to the answer."""
+    """The program's answer, what it prints to standard error, and whether that belongs to the answer and to the texts."""
     named, given = {}, None
     if command == "plan":
         given = texts[0]
@@ -200,6 +222,9 @@ def ask(program, command, texts, folder, number):
     with programs.files(folder, named) as places:
         found = programs.ask([program, command, *places, *words_behind(command, number)], input=given)
     is_right = not found.is_late() and fits(found.printed, found.errors, places)
+    said = beside(command, [os.fsencode(place) for place in places], texts, found.printed)
+    if said or is_unrescued(found.errors):
+        is_right = is_right and found.errors == said
     return (found.printed, found.status), found.errors, is_right
 
 
@@ -294,13 +319,27 @@ def show_difference(seed, number, difference, folder):
     print(f"    standard error: {errors[-2_000:]}")
 
 
-def compare_all(program, asked, command, seed, random_count, folder):
+def cases_with(command, seed, count, word):
+    """The cases of which an assignment has a line with this first word: at the limits, and so many random ones."""
+    limit_cases, random_case, _ = COMMANDS[command]
+    pattern = re.compile(rb"^[ \t]*" + re.escape(word.encode()) + rb"(?![^ \t\r\n#])", re.M)
+    limits = [(what, texts) for what, texts in limit_cases() if pattern.search(b"\n".join(texts[1:2]))]
+    random_cases = (random_case(seed, number) for number in itertools.count())
+    found = itertools.islice((texts for texts in random_cases if pattern.search(b"\n".join(texts[1:2]))), count)
+    return limits, list(found).__getitem__
+
+
+def compare_all(program, asked, command, seed, random_count, word, folder):
     """Counts the kinds of answer, and how often the program stood by its own.
 
     Returns None where answers differ.
     """
-    limit_cases, random_case, _ = COMMANDS[command]
-    limits = limit_cases()
+    if word is None:
+        limit_cases, random_case, _ = COMMANDS[command]
+        limits = limit_cases()
+        random_texts = functools.partial(random_case, seed)
+    else:
+        limits, random_texts = cases_with(command, seed, random_count, word)
     numbers = range(len(limits) + random_count)
 
     def compare_case(number):
@@ -308,7 +347,7 @@ def compare_all(program, asked, command, seed, random_count, folder):
             what, texts = limits[number]
             what = f"case {number}: {what}"
         else:
-            what, texts = f"case {number}", random_case(seed, number - len(limits))
+            what, texts = f"case {number}", random_texts(number - len(limits))
         return compare(program, asked, command, what, texts, scratch, number)
 
     kinds = collections.Counter()
@@ -341,24 +380,29 @@ def show_counts(command, kinds, stood):
 
 
 def options(arguments):
-    """The program, the seed, how many random cases, how many of `run`, and what the program is asked for."""
+    """The program, the seed, how many random cases, how many of `run`, what the program is asked for, and the word of --with."""
     arguments = list(arguments)
     asked = list(COMMANDS)
+    word = None
+    while "--with" in arguments[:-1]:
+        at = arguments.index("--with")
+        word = arguments[at + 1]
+        del arguments[at:at + 2]
     while "--only" in arguments[:-1]:
         at = arguments.index("--only")
         asked = [] if arguments[at + 1] == "none" else arguments[at + 1].split(",")
         del arguments[at:at + 2]
     found = seed_and_counts(arguments[1:], DEFAULT_SEED, DEFAULT_CASES, None)
     right = arguments and found and not any(word.startswith("--") for word in arguments)
-    return [arguments[0], *found, asked] if right and set(asked) <= set(COMMANDS) else None
+    return [arguments[0], *found, asked, word] if right and set(asked) <= set(COMMANDS) else None
 
 
 def main(arguments):
     found = options(arguments)
     if not found:
-        print("usage: compare.py PROGRAM [SEED] [CASES] [RUNS] [--only COMMAND,..]", file=sys.stderr)
+        print("usage: compare.py PROGRAM [SEED] [CASES] [RUNS] [--only COMMAND,..] [--with WORD]", file=sys.stderr)
         return 2
-    program, seed, random_count, run_count, asked = found
+    program, seed, random_count, run_count, asked, word = found
     if run_count is None:
         run_count = random_count // CASES_FOR_A_RUN
     program = os.path.realpath(program)
@@ -388,14 +432,17 @@ def main(arguments):
     different = False
     for command in COMMANDS:
         cases = run_count if command == "run" else random_count
-        compared = compare_all(program, asked, command, seed, cases, folder)
+        if word is not None and "assignment" not in TEXTS_OF[command]:
+            continue
+        compared = compare_all(program, asked, command, seed, cases, word, folder)
         if compared is None:
             different = True
             continue
         kinds, stood = compared
         show_counts(command, kinds, stood)
         agreed += sum(kinds.values()) if command in asked else 0
-        never += [f"{command}: {kind}" for kind, _, _ in KINDS[command] if kinds[kind] == 0]
+        if word is None:
+            never += [f"{command}: {kind}" for kind, _, _ in KINDS[command] if kinds[kind] == 0]
     if different:
         print("model: FAILED")
         return 1

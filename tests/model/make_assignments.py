@@ -11,8 +11,8 @@ from certificate import TEXT_LIMIT
 from deadlock import circle_of
 from declaration import FLUSH_LIMIT, ITEM_LIMIT, read_declaration
 from make_certificates import (
-    GROUPED, SEVERAL_FAULTS, add_text_limits, any_assignment, assignment_of, change_wq_empty,
-    faults_everywhere, make_assignment_lines, make_declaration, own_assignment, spelled, wq_lines,
+    BARE_FAULTS, GROUPED, SEVERAL_FAULTS, add_text_limits, any_assignment, assignment_of, change_wq_empty,
+    faults_everywhere, make_assignment_lines, make_declaration, own_assignment, some_bare, spelled, with_bare, wq_lines,
 )
 from make_declarations import (
     circle_beside_chains, flush_lines, join, long_names, longest_run, numbered_items,
@@ -40,6 +40,17 @@ def safe_assignment(choose, declared):
     return wqs
 
 
+def bare_above(choose, declared, wqs):
+    """Workqueues without a rescuer, to which no flush leads from another one: some, and all that flush what is on these."""
+    workqueue_of = assignment_of(wqs).workqueue_of
+    bare = some_bare(choose, wqs)
+    while True:
+        above = {workqueue_of.get(item) for item, target in declared.flushes if workqueue_of.get(target) in bare} - {None}
+        if above <= bare:
+            return bare
+        bare |= above
+
+
 def random_deadlock_case(seed, number):
     """The declaration and the assignment of this number."""
     choose = random.Random(f"{seed} deadlock {number}")
@@ -55,8 +66,9 @@ def random_deadlock_case(seed, number):
         wqs = any_assignment(choose, declared)
     for _ in range(choose.choice([0, 0, 0, 1, 3])):
         change_wq_empty(choose, declared, wqs, [])
-    assignment = make_assignment_lines(choose, declared, wqs)
-    return [text, spelled(choose, declared, assignment, 0.25)]
+    bare = choose.choice([bare_above(choose, declared, wqs), some_bare(choose, wqs)])
+    assignment = make_assignment_lines(choose, declared, wqs, bare)
+    return [text, spelled(choose, declared, assignment, 0.25, called=True)]
 
 
 def all_assignments(declared):
@@ -75,6 +87,14 @@ def all_assignments(declared):
 
     return [join(*[b" ".join(words) for words in wq_lines(wqs)])
             for wqs in parted(declared.groups)]
+
+
+def sets_in_turn(texts):
+    """The assignments, in each of which some workqueues have no rescuer: one set after the other."""
+    for number, text in enumerate(texts):
+        count = text.count(b"\n")
+        at = number % (2 ** count - 1) + 1
+        yield with_bare(text, [place for place in range(count) if at >> place & 1])
 
 
 def large_case(workqueue_count, back):
@@ -150,9 +170,25 @@ def limit_deadlock_cases():
         add(f"{text.decode()!r} as an assignment", GROUPED, text)
         for count in 1, 2, 3, 4_097:
             add(f"{text.decode()!r} in a plan of {count}", GROUPED, b"plan %d\n" % count + text)
+    for text in BARE_FAULTS:
+        add(f"{text.decode()!r} as an assignment", GROUPED, text)
+    for text in BARE_FAULTS[::7]:
+        add(f"{text.decode()!r} in a plan of 2", GROUPED, b"plan 2\n" + text)
+    for what, text in [
+        ("all without a rescuer", b"norescuer 0 a"), ("empty ones without a rescuer", b"norescuer 0\nwq 1 a\nnorescuer 2"),
+        ("a plan behind `norescuer`", b"norescuer 0\nplan 1\nwq 0 a\nchain 1"), ("`norescuer` behind a plan",
+         b"plan 1\nwq 0 a\nchain 1\nnorescuer 1"), ("a number twice", b"wq 0 a\nnorescuer 0"), ("upper case", b"NoRescuer 0 a"),
+        ("a `wq` line that isn't one", b"wq norescuer 0 a"), ("a comment behind the word", b"norescuer# 0 a\n"),
+        ("a name with no blank", b"norescuer 0 a#x,y\nwq 1# x"), ("a bad byte in the word", b"norescuer\x80 0 a"),
+        ("a CR behind the word", b"norescuer\r0 a"), ("an item of this name", b"norescuer 0 norescuer"),
+    ]:
+        add(what, looped, text)
+    add("items with the names of keywords", join(b"item norescuer", b"item wq", b"flush wq norescuer"),
+        b"norescuer 0 norescuer # wq\nwq 1 wq # norescuer")
 
     plan_of_two = b"plan 2\nwq 0 a\nwq 1 b\nchain 2\narc b a\n"
-    for assignment in b"wq 0 a\nwq 1 b\n", b"wq 0 a b\n", b"wq 0\nwq 1 b a\n", plan_of_two:
+    for assignment in (b"wq 0 a\nwq 1 b\n", b"wq 0 a b\n", b"wq 0\nwq 1 b a\n", plan_of_two,
+                       b"norescuer 0 a\nwq 1 b\n", b"wq 0 a\nnorescuer 1 b\n"):
         for fault, text in faults_everywhere(assignment):
             add(f"{assignment.decode()!r}, {fault}", two, text)
 
@@ -172,7 +208,8 @@ def limit_deadlock_cases():
         [b"ordered a d", b"ordered b c", b"flushwq a b", b"flush c d"],
     ]:
         declaration = join(*items, *flushes)
-        for text in all_assignments(read_declaration(declaration)):
+        texts = all_assignments(read_declaration(declaration))
+        for text in [*texts, *sets_in_turn(texts)]:
             add(f"{b', '.join(flushes).decode()} by {text.decode()!r}", declaration, text)
 
     # Workqueues.
@@ -181,6 +218,8 @@ def limit_deadlock_cases():
         for what, declaration in ("safe", one), ("unsafe", looped):
             text = join(*lines)[:-1] + b" a\n"
             add(f"{count} workqueues, none used, {what}", declaration, join(*lines))
+            for bare in range(count), range(0, count, 2), [count - 1]:
+                add(f"{count} workqueues, the item last, {len(bare)} without a rescuer, {what}", declaration, with_bare(text, bare))
             add(f"{count} workqueues, the item last, {what}", declaration, text)
             unknown = text[:-2] + b"b\n"
             add(f"{count} workqueues, then an unknown item, {what}", declaration, unknown)
@@ -195,8 +234,8 @@ def limit_deadlock_cases():
     # Items and flushes.
     names = [line[5:] for line in numbered_items(ITEM_LIMIT)]
 
-    def add_wqs(what, declaration, wqs):
-        text = join(*[b" ".join(words) for words in wq_lines(wqs)])
+    def add_wqs(what, declaration, wqs, bare=()):
+        text = join(*[b" ".join(words) for words in wq_lines(wqs, bare)])
         add(what, declaration, text)
 
     alone = [[name] for name in names]
@@ -226,6 +265,15 @@ def limit_deadlock_cases():
             join(*items, *to_last, b"flush i4095 i4094 i0 i4095"), [names[:-1], names[-1:]])
     others = flush_lines(b"i0", names[1:]) * 4
     add_wqs("4,095 that the first waits for", join(*items, *others), alone)
+    add_wqs("a run of 45,054 steps, but for a workqueue without a rescuer", longest, [names[:1], names[1:]], {1})
+    add_wqs("the same, the other way", longest, [names[:1], names[1:]], {0})
+    add_wqs("a chain of 4,096, the last one without a rescuer", chain, alone, {4_095})
+    add_wqs("a chain of 4,096, the first ones without a rescuer", chain, alone, range(3_000))
+    add_wqs("a chain of 4,096, every other one without a rescuer", chain, alone, range(0, 4_096, 2))
+    add_wqs("a circle of 4,096, one without a rescuer", chain + join(b"flush i4095 i0"), alone, {2_048})
+    add_wqs("a circle of 4,096, all without a rescuer", chain + join(b"flush i4095 i0"), alone, range(4_096))
+    add_wqs("a circle beside 4,095 without a rescuer", join(*items, *to_last, b"flush i4095 i4095"), alone, range(4_095))
+    add_wqs("16,380 flushes that lead to no rescuer", join(*items, *others), [names[:1], names[1:]], {1})
     for turned in False, True:
         add(f"2,046 that wait for the whole workqueue of 2,046 items, turned: {turned}", *whole_case(2_046, turned))
     for count, back in [(2, 0), (2, 1), (4, 2), (64, 1), (64, 2), (1_024, 1), (2_048, 2),

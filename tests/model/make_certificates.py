@@ -4,6 +4,7 @@
 # assignments for `deadlock` are in make_assignments.py.
 
 import random
+import re
 
 import plan
 from certificate import LINE_LIMIT, TEXT_LIMIT, Assignment
@@ -14,11 +15,16 @@ from make_declarations import (
 )
 from steps import RESCUER, State
 
-KEYWORDS = [b"plan", b"wq", b"chain", b"circle", b"arc", b"run", b"queue", b"cancel", b"start",
+KEYWORDS = [b"plan", b"wq", b"norescuer", b"chain", b"circle", b"arc", b"run", b"queue", b"cancel", b"start",
             b"wait", b"waitwq", b"over", b"overwq", b"finish"]
-STEP_WORDS = KEYWORDS[6:]
+STEP_WORDS = KEYWORDS[7:]
 OTHER_NUMBERS = [b"007", b"+1", b"-1", b"1.", b"0x1", b"00", b"01", b"4294967295", b"4294967296",
                  b"42949672950", b"99999999999999999999", b"4095", b"4096", b"4097", b"0", b"1"]
+# Comments of the lines of an assignment: what begins them, names of workqueues and what is none, and what is behind.
+LEADS = [b"# ", b"# ", b"#", b"## ", b"# # ", b"#\t"]
+CALLED = [b"xfs-sync", b"xfs-sync", b"kblockd", b"x", b"x", b"a b", b"wq 0", b'"a" & \\N', b"~<b>", b"n" * 63, b"n" * 64, b"",
+          b"a\tb", b"\xc3\xa4", b"a\x7f"]
+BEHIND = [b"", b"", b"", b"", b", core.c:5529", b",", b" ", b" \t , x", b"#", b"\r", b" " * 70 + b",x"]
 
 
 def numbered(word, number):
@@ -83,10 +89,23 @@ def own_assignment(declared):
     return [list(members) for members in declared.groups]
 
 
-def assignment_of(wqs):
-    """The assignment as the model has it."""
+def assignment_of(wqs, bare=frozenset()):
+    """The assignment as the model has it, where the workqueues with these numbers have no rescuer."""
     workqueue_of = {name: number for number, names in enumerate(wqs) for name in names}
-    return Assignment(workqueue_of, len(wqs))
+    return Assignment(workqueue_of, len(wqs), frozenset(bare))
+
+
+def some_bare(choose, wqs):
+    """The numbers of workqueues that have no rescuer: none, all, those without items, or some."""
+    way = choose.random()
+    if way < 0.5:
+        return frozenset()
+    if way < 0.55:
+        return frozenset(range(len(wqs)))
+    if way < 0.6:
+        return frozenset(number for number, names in enumerate(wqs) if not names)
+    share = choose.choice([0.1, 0.3, 0.3, 0.5, 0.8])
+    return frozenset(number for number in range(len(wqs)) if choose.random() < share)
 
 
 def parts_of(choose, declared, names):
@@ -237,19 +256,19 @@ ARC_CHANGES = [change_arc_dropped, change_arc_added, change_arc, change_arc, cha
                change_arc_alike, change_arc_member, change_arcs_swapped]
 
 
-def wq_lines(wqs):
-    return [numbered(b"wq", number) + names for number, names in enumerate(wqs)]
+def wq_lines(wqs, bare=frozenset()):
+    return [numbered(b"norescuer" if number in bare else b"wq", number) + names for number, names in enumerate(wqs)]
 
 
 def arc_lines(arcs):
     return [[b"arc", item, target] for item, target in arcs]
 
 
-def plan_lines(choose, declared, wqs, arcs):
+def plan_lines(choose, declared, wqs, arcs, bare=frozenset()):
     chain = len(arcs) + 1
     if not arcs:
         chain = choose.choice([min(len(wqs), 1)] * 6 + [0, 1])
-    return ([numbered(b"plan", len(wqs))] + wq_lines(wqs) + [numbered(b"chain", chain)]
+    return ([numbered(b"plan", len(wqs))] + wq_lines(wqs, bare) + [numbered(b"chain", chain)]
             + arc_lines(arcs))
 
 
@@ -270,16 +289,16 @@ def make_plan_lines(choose, declared, answer):
     return plan_lines(choose, declared, wqs, arcs)
 
 
-def make_assignment_lines(choose, declared, wqs):
-    """`wq` lines alone or a whole plan text, with changes or without."""
+def make_assignment_lines(choose, declared, wqs, bare=frozenset()):
+    """`wq` and `norescuer` lines alone or a whole plan text, with changes or without."""
     wqs = [list(names) for names in wqs]
     if choose.random() < 0.2:
         choose.choice(WQ_CHANGES)(choose, declared, wqs, [])
-    if choose.random() < 0.6:
-        return wq_lines(wqs)
+    if choose.random() < (0.95 if bare else 0.6):
+        return wq_lines(wqs, bare)
     count = choose.choice([len(wqs), len(wqs), 0, 1, 3]) if declared.items else 0
     arcs = [any_arc(choose, declared) for _ in range(max(count - 1, 0))]
-    return plan_lines(choose, declared, wqs, arcs)
+    return plan_lines(choose, declared, wqs, arcs, bare)
 
 
 # Runs --------------------------------------------------------------------------------------------
@@ -325,9 +344,10 @@ def near_step(choose, declared, wqs, state):
     return word, workqueue, any_item(choose, declared)
 
 
-def play(choose, declared, wqs, first):
+def play(choose, declared, wqs, bare, first):
     """The steps of a random player, who queues the items in `first` before others."""
-    state = State(declared, assignment_of(wqs))
+    state = State(declared, assignment_of(wqs, bare))
+    starts_all = choose.random() < 0.4  # also on workqueues without a rescuer
     others = [item for item in declared.items if item not in first]
     choose.shuffle(others)
     left = first + others
@@ -346,7 +366,7 @@ def play(choose, declared, wqs, first):
             word = choose.choice([b"queue", b"cancel"])
             may = [(word, None, item) for item in declared.items if state.may((word, None, item))]
         else:
-            may = list(state.rescuer_steps())
+            may = list(state.rescuer_steps() if starts_all else (step for step, _ in state.forced_steps()))
             if faithful:
                 may = [step for step in may if is_faithful(state, step)]
             if lazy:
@@ -408,11 +428,11 @@ def change_steps(choose, declared, wqs, steps):
         steps[:] = [step for step in steps if step[2] != item]
 
 
-def make_run_lines(choose, declared, wqs, first):
+def make_run_lines(choose, declared, wqs, bare, first):
     """A run: the deadlocking one, or that of a random player, with changes or without."""
-    steps = deadlocking_run(declared, assignment_of(wqs)) if choose.random() < 0.3 else []
+    steps = deadlocking_run(declared, assignment_of(wqs, bare)) if choose.random() < 0.3 else []
     if not steps:
-        steps = play(choose, declared, wqs, first)
+        steps = play(choose, declared, wqs, bare, first)
     if declared.items and choose.random() < 0.25:
         change_steps(choose, declared, wqs, steps)
     return [numbered(b"run", len(steps))] + [spelled_step(step) for step in steps]
@@ -433,7 +453,7 @@ def make_circle_lines(choose, declared, answer):
         first = []
     run = []
     if choose.random() < 0.6:
-        run = make_run_lines(choose, declared, own_assignment(declared), first)
+        run = make_run_lines(choose, declared, own_assignment(declared), frozenset(), first)
     if declared.items:
         for _ in range(choose.choice([0, 0, 0, 1, 1, 2])):
             choose.choice(ARC_CHANGES + [change_arcs_turned] * 2)(choose, declared, [], arcs)
@@ -530,7 +550,7 @@ def fault_keyword(choose, declared, lines):
     if known:
         words = choose.choice(known)
         words[0] = choose.choice(KEYWORDS + [words[0].swapcase(), words[0] + b"s", words[0][:-1]
-                                             or b"x"])
+                                             or b"x", b"no_rescuer", b"norescue"])
 
 
 def fault_name(choose, declared, lines):
@@ -577,14 +597,23 @@ def fault_of_bytes(choose, text):
     return text
 
 
-def spelled(choose, declared, lines, fault_share):
-    """The bytes of the lines, with faults put in or without."""
+def comment_of_workqueue(choose):
+    """A comment that may name a workqueue."""
+    return choose.choice(LEADS) + choose.choice(CALLED) + choose.choice(BEHIND)
+
+
+def spelled(choose, declared, lines, fault_share, called=False):
+    """The bytes of the lines, with faults put in or without. If `called`, their comments may name workqueues."""
     faulty = choose.random() < fault_share
     way = choose.random()
     if faulty and way < 0.8:
         for _ in range(choose.choice([1, 1, 1, 2, 3])):
             choose.choice(FAULTS)(choose, declared, lines)
     lines = [Line(words) for words in lines]
+    share = choose.choice([0, 0, 0.4, 1]) if called else 0
+    for line in lines:
+        if choose.random() < share:
+            line.comment = comment_of_workqueue(choose)
     if lines and choose.random() < 0.004:
         choose.choice(lines).length = LINE_LIMIT + choose.choice([0, 0, 1, 1, 2])
     text = spell_mostly(choose, lines, choose.random() < 0.4)
@@ -620,9 +649,10 @@ def random_replay_case(seed, number):
     first = []
     if answer[0][0] == b"circle" and choose.random() < 0.5:
         first = list(dict.fromkeys(words[1] for words in answer if words[0] == b"arc"))
-    run = make_run_lines(choose, declared, wqs, first)
-    assignment = make_assignment_lines(choose, declared, wqs)
-    return [text, spelled(choose, declared, assignment, 0.15), spelled(choose, declared, run, 0.15)]
+    bare = some_bare(choose, wqs)
+    run = make_run_lines(choose, declared, wqs, bare, first)
+    assignment = make_assignment_lines(choose, declared, wqs, bare)
+    return [text, spelled(choose, declared, assignment, 0.15, called=True), spelled(choose, declared, run, 0.15)]
 
 
 OTHER_WORDS = [b"0", b"1", b"007", b"+1", b"4095", b"4096", b"4097", b"4294967295", b"4294967296",
@@ -665,6 +695,15 @@ SEVERAL_FAULTS = [front + text + b"\n" for text in [
 ] for front in (b"wq 0 a\n", b"wq 0 a d\n")]
 
 
+def with_bare(text, bare):
+    """The text, in which the workqueues with these places among the `wq` lines have no rescuer."""
+    parts = re.split(rb"^wq", text, flags=re.M)
+    return parts[0] + b"".join((b"norescuer" if at in bare else b"wq") + part for at, part in enumerate(parts[1:]))
+
+
+BARE_FAULTS = [with_bare(text, bare) for text in SEVERAL_FAULTS for bare in ([0, 1, 2], [0], [1])]
+
+
 def arcs_alone(printed):
     """A circle text without its run."""
     return printed[:printed.index(b"\nrun ") + 1]
@@ -695,6 +734,9 @@ def limit_check_cases():
     for text in SEVERAL_FAULTS:
         for count in 1, 2, 3, 4_097:
             add(f"{text.decode()!r} in a plan of {count}", GROUPED, b"plan %d\n" % count + text)
+    for text in BARE_FAULTS[::7]:
+        add(f"{text.decode()!r} in a plan", GROUPED, b"plan 2\n" + text)
+        add(f"{text.decode()!r} in place of an answer", GROUPED, text)
     add("a circle with a run of no step", round_two, arcs_alone(plan.answer(round_two)[0])
         + b"run 0\n")
 
@@ -824,8 +866,10 @@ def limit_replay_cases():
         for fault, text in faults_everywhere(assignment):
             add(f"an assignment, {fault}", two, text, join(b"run 10", *run))
 
-    for text in SEVERAL_FAULTS:
+    for text in SEVERAL_FAULTS + BARE_FAULTS:
         add(f"{text.decode()!r} as an assignment", GROUPED, text, no_steps)
+    for fault, text in faults_everywhere(b"wq 0 a\nnorescuer 1 b\n"):
+        add(f"an assignment with a workqueue without a rescuer, {fault}", two, text, join(b"run 10", *run))
 
     # Workqueues.
     for count in 4_095, 4_096, 4_097:
@@ -841,6 +885,9 @@ def limit_replay_cases():
             join(b"plan %d" % count) + text + b"chain 1\n", run)
         add(f"a plan of 4096 and {count} workqueues", one,
             join(b"plan 4096") + text + b"chain 1\n", run)
+        text = with_bare(text, range(1, count, 3))
+        add(f"{count} workqueues, of which some have no rescuer", one, text, run)
+        add(f"{count} workqueues, of which some have no rescuer, then another word", one, text + b"norescuers 0\n", run)
         add(f"a step on workqueue {count}", one, join(b"wq 0 a"),
             join(b"run 1", b"start %d a" % count))
         add(f"a step on workqueue {count}, a line too long", one, join(b"wq 0 a"),
@@ -895,6 +942,10 @@ def limit_replay_cases():
           b"overwq 1 b", b"wait 1 c", b"over 1 c", b"finish 1 a"]),
         (both, b"wq 0 a b c\n",
          [b"queue b", b"start 0 b", b"queue c", b"waitwq 0 a", b"cancel c"]),
+        (three, b"wq 0 a\nnorescuer 1 b c\n",
+         [b"queue b", b"queue a", b"start 0 a", b"wait 0 b", b"start 1 b", b"queue c", b"wait 1 c"]),
+        (both, b"norescuer 0 b c\nwq 1 a\n",
+         [b"queue c", b"queue a", b"start 1 a", b"waitwq 1 b", b"start 0 c", b"waitwq 0 b"]),
     ]:
         names = sorted(read_declaration(declaration).items)
         others = [b"%s %s" % (word, name) for word in STEP_WORDS[:2] for name in names]
@@ -1001,6 +1052,27 @@ def limit_replay_cases():
         ("the waits of both kinds, in order", whole + join(b"flush a a"), b"wq 0 b c\nwq 1 a",
          [b"queue b", b"queue c", b"start 0 b", b"finish 0 b", b"start 0 c", b"finish 0 c"] + wait_all
          + [b"overwq 1 b", b"wait 1 a"]),
+        ("a deadlock, nobody is sure to start what it waits for", two, b"wq 0 a\nnorescuer 1 b",
+         [b"queue a", b"queue b", b"start 0 a", b"wait 0 b", b"start 1 b", b"finish 1 b", b"over 0 b", b"finish 0 a"]),
+        ("a wait for what runs on a workqueue without a rescuer", two, b"wq 0 a\nnorescuer 1 b",
+         [b"queue b", b"start 1 b", b"queue a", b"start 0 a", b"wait 0 b", b"finish 1 b", b"over 0 b", b"finish 0 a"]),
+        ("a wait for what isn't queued there", two, b"wq 0 a\nnorescuer 1 b",
+         [b"queue a", b"start 0 a", b"wait 0 b", b"queue b", b"over 0 b", b"finish 0 a", b"start 1 b"]),
+        ("a wait for itself without a rescuer", join(b"item a", b"flush a a"), b"norescuer 0 a",
+         [b"queue a", b"start 0 a", b"wait 0 a"]),
+        ("a workqueue without a rescuer, which runs what waits for one with", two, b"norescuer 0 a\nwq 1 b",
+         [b"queue a", b"queue b", b"start 0 a", b"wait 0 b", b"start 1 b", b"finish 1 b", b"over 0 b"]),
+        ("one that waits behind what runs without a rescuer", two + b"flush b a", b"wq 0 a\nnorescuer 1 b",
+         [b"queue b", b"start 1 b", b"queue a", b"start 0 a", b"wait 0 b", b"wait 1 a"]),
+        ("a second one on a workqueue without a rescuer", join(two, b"item c"), b"wq 0 a\nnorescuer 1 c b",
+         [b"queue c", b"queue b", b"queue a", b"start 0 a", b"wait 0 b", b"start 1 c", b"finish 1 c", b"start 1 b"]),
+        ("a workqueue without a rescuer, one of whose items is waited for", whole, b"norescuer 0 b c\nwq 1 a",
+         [b"queue c"] + wait_all + [b"start 0 c", b"finish 0 c", b"overwq 1 b", b"finish 1 a"]),
+        ("only those without a rescuer", two, b"norescuer 0 a\nnorescuer 1 b", [b"queue a", b"queue b", b"start 1 b"]),
+        ("stuck, one of them wasn't queued", join(two, b"item c"), b"wq 0 a\nnorescuer 1 b c",
+         [b"queue a", b"queue b", b"start 0 a", b"wait 0 b", b"queue c"]),
+        ("one that is cancelled where nobody starts it", two, b"wq 0 a\nnorescuer 1 b",
+         [b"queue a", b"queue b", b"start 0 a", b"wait 0 b", b"cancel b", b"over 0 b"]),
     ]:
         for length in range(len(steps) + 1):
             add(f"{what}, {length} steps", declaration, assignment,

@@ -8,9 +8,9 @@ import random
 
 import make_assignments
 import make_declarations
-from make_assignments import merged, random_deadlock_case
+from make_assignments import bare_above, merged, random_deadlock_case
 from make_certificates import (
-    change_wq_empty, make_assignment_lines, make_declaration, own_assignment, spelled, wq_lines,
+    change_wq_empty, make_assignment_lines, make_declaration, own_assignment, some_bare, spelled, wq_lines,
 )
 from make_declarations import join, numbered_items, random_case, shape_components
 
@@ -32,7 +32,8 @@ def random_circles_case(seed, number):
         wqs = merged(choose, wqs)
     for _ in range(choose.choice([0, 0, 0, 1, 3])):
         change_wq_empty(choose, declared, wqs, [])
-    return [text, spelled(choose, declared, make_assignment_lines(choose, declared, wqs), 0.1)]
+    bare = choose.choice([bare_above(choose, declared, wqs), some_bare(choose, wqs)])
+    return [text, spelled(choose, declared, make_assignment_lines(choose, declared, wqs, bare), 0.1, called=True)]
 
 
 def names_of(count):
@@ -64,6 +65,8 @@ def size_cases():
     cases.append(("128 circles of 2, the last one first", [pairs, turned]))
     joined = join(*[b" ".join(words) for words in wq_lines([names_of(256)[at::4] for at in range(4)])])
     cases.append(("128 circles of 2 on four workqueues", [pairs, joined]))
+    some = join(*[b" ".join(words) for words in wq_lines([[name] for name in names_of(256)], set(range(0, 256, 6)))])
+    cases.append(("128 circles of 2, some of them by way of workqueues without a rescuer", [pairs, some]))
     cases.append(("2 circles of 2 with `flushwq` lines", [make_declarations.whole(many_components(2, 2))]))
     cases.append(("257 circles of 1 with `flushwq` lines", [make_declarations.whole(many_components(1, 257))]))
     cases.append(("16,384 flushes, each of them many times", [many_duplicates()]))

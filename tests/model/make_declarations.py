@@ -29,6 +29,7 @@ class Line:
     words: list
     bad_byte: bytes = b""
     length: int = 0  # where it isn't 0, the line is filled up to this many bytes
+    comment: bytes = b""  # where it isn't empty, this comment is behind the words
 
 
 # Items and groups --------------------------------------------------------------------------------
@@ -408,7 +409,7 @@ def spell_line(choose, line, odd):
     if line.bad_byte:
         at = choose.choice([0, len(before), choose.randint(0, len(before))])
         before = before[:at] + line.bad_byte + before[at:]
-    comment = make_comment(choose) if odd and choose.random() < 0.4 else b""
+    comment = line.comment or (make_comment(choose) if odd and choose.random() < 0.4 else b"")
     missing = line.length - len(before) - len(comment)
     if missing > 0:
         way = choose.random()

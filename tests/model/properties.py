@@ -45,9 +45,10 @@ ARCS = rb"((?:arc" + W + W + rb"\n)*)"
 RUN = (rb"run " + N + rb"\n((?:(?:queue|cancel)" + W + rb"\n|(?:start|wait|waitwq|over|overwq|finish) "
        + rb"[0-9]+" + W + rb"\n)*)")
 WQS = rb"((?:wq [0-9]+(?:" + W + rb")*\n)*)"
+LANES = WQS.replace(b"wq", b"(?:wq|norescuer)")
 PLAN = re.compile(rb"plan " + N + rb"\n" + WQS + rb"chain " + N + rb"\n" + ARCS)
 CIRCLE = re.compile(rb"circle " + N + rb"\n" + ARCS + rb"(?:" + RUN + rb")?")
-ASSIGNMENT = re.compile(WQS)
+ASSIGNMENT = re.compile(LANES)
 STEPS = re.compile(RUN)
 
 
@@ -139,7 +140,7 @@ class Past:
 
     def __init__(self, declared, assignment, steps):
         self.declared, self.steps = declared, steps
-        self.workqueue_of = assignment.workqueue_of
+        self.workqueue_of, self.bare = assignment.workqueue_of, assignment.bare
 
     def last(self, holds, end=None):
         """The number of the last step, before `end`, for which `holds` is true, or None."""
@@ -213,13 +214,14 @@ class Past:
         return self.steps[mark] == (wait, workqueue, name) and all(n > mark for n in before)
 
     def is_stuck(self):
-        if not any(self.unfinished(item) for item in self.declared.items):
+        if not any(self.unfinished(item) for item in self.declared.items if self.workqueue_of[item] not in self.bare):
             return False
         return not any(
             self.may(word, workqueue, name)
             for word in EXECUTIONS
             for workqueue in set(self.workqueue_of.values())
             for name in self.declared.items
+            if word != b"start" or workqueue not in self.bare
         )
 
     def is_as_declared(self):
@@ -255,10 +257,19 @@ def second_end(declared, assignment, steps):
 # A second reading of deadlocking runs ------------------------------------------------------------
 
 
+def arcs_of_rescuers(declared, assignment):
+    """The flushes of items on workqueues with a rescuer, each with the workqueues of its item and of its target."""
+    arcs = [(assignment.workqueue_of[item], assignment.workqueue_of[target], (item, target)) for item, target in declared.flushes]
+    return [arc for arc in arcs if arc[0] not in assignment.bare]
+
+
 def is_safe(declared, assignment):
-    """Whether the workqueues wait in no circle. Those for which none waits are taken off first."""
-    arcs = {(assignment.workqueue_of[item], assignment.workqueue_of[target])
-            for item, target in declared.flushes}
+    """Whether no flush leads to no rescuer, and the workqueues with one wait in no circle. Those for which none waits are taken
+    off first.
+    """
+    arcs = {(begin, end) for begin, end, _ in arcs_of_rescuers(declared, assignment)}
+    if any(end in assignment.bare for _, end in arcs):
+        return False
     while arcs:
         waited_for = {to for _, to in arcs}
         left = {(number, to) for number, to in arcs if number in waited_for}
@@ -269,11 +280,12 @@ def is_safe(declared, assignment):
 
 
 def second_circle(declared, assignment):
-    """The arcs of the circle, with their workqueues. There is one."""
+    """The arcs of the circle, with their workqueues. There is one, and each flush of an item with a rescuer leads to one."""
 
     workqueue_of = assignment.workqueue_of
+    with_rescuer = [number for number in workqueue_of.values() if number not in assignment.bare]
     reached = {number: {workqueue_of[target] for item, target in declared.flushes
-                        if workqueue_of[item] == number} for number in workqueue_of.values()}
+                        if workqueue_of[item] == number} for number in with_rescuer}
     for _ in reached:
         for number in reached:
             reached[number] = reached[number].union(*(reached[to] for to in reached[number]))
@@ -292,8 +304,9 @@ def second_circle(declared, assignment):
 
 
 def second_run(declared, assignment):
-    """The deadlocking run. All workqueues are looked at before each step. There is a circle."""
-    first = [item for item, _ in second_circle(declared, assignment)]
+    """The deadlocking run. All workqueues are looked at before each step. It isn't safe."""
+    first = [flush[0] for _, end, flush in arcs_of_rescuers(declared, assignment) if end in assignment.bare][:1]
+    first = first or [item for item, _ in second_circle(declared, assignment)]
     steps = [(b"queue", None, item) for item in first]
     steps += [(b"queue", None, item) for item in declared.items if item not in first]
     state = State(declared, assignment)
@@ -302,7 +315,7 @@ def second_run(declared, assignment):
         state.make(step)
     while True:
         may = [step for step in state.rescuer_steps()
-               if make_certificates.is_faithful(state, step)]
+               if make_certificates.is_faithful(state, step) and (step[0] != b"start" or step[1] not in assignment.bare)]
         if not may:
             return steps
         steps.append(min(may, key=lambda step: step[1]))
@@ -321,9 +334,10 @@ def demand(holds, law):
         raise AssertionError(law)
 
 
-def wqs_text(wqs):
-    """The text of an assignment: the names on each workqueue."""
-    return joined(b" ".join([b"wq %d" % number, *names]) for number, names in enumerate(wqs))
+def wqs_text(wqs, bare=(), called=None):
+    """The text of an assignment: the names on each workqueue, those without a rescuer, and by number what they are called."""
+    lines = [b" ".join([(b"norescuer %d" if number in bare else b"wq %d") % number, *names]) for number, names in enumerate(wqs)]
+    return joined(line + b"#" + called[number] if called and number in called else line for number, line in enumerate(lines))
 
 
 def look_at_plan(text):
@@ -418,12 +432,12 @@ def look_at_check(declaration_text, text):
         demand(tuple(words[2:]) in declared.flushes, "the flush of 50 is declared")
     elif words[1] == b"54":
         steps = tidy(text)[tidy(text).index(b"\nrun ") + 1:]
-        look_at_run(declared, declared.group_of, steps, not_deadlock=True)
+        own = certificate.Assignment(declared.group_of, len(declared.groups))
+        look_at_run(declared, own, steps, not_deadlock=True)
 
 
-def look_at_run(declared, workqueue_of, run, not_deadlock=False):
+def look_at_run(declared, assignment, run, not_deadlock=False):
     """What the model and the second reading say of a run is the same."""
-    assignment = certificate.Assignment(workqueue_of, 4_096)
     steps = certificate.read_run(run, declared)
     if len(steps) > 60 or len(declared.items) > 15:
         return None
@@ -452,15 +466,15 @@ def look_at_replay(declaration_text, assignment_text, run_text):
             look_at_refusal(
                 lambda other: replay.answer(declaration_text, other, b"run 0\n"), assignment_text,
                 printed)
+            look_at_rescued(lambda other: replay.answer(declaration_text, other, run_text), assignment_text, printed)
         return
 
     assignment = certificate.read_assignment(assignment_text, declared)
-    second = look_at_run(declared, assignment.workqueue_of, run_text)
+    second = look_at_run(declared, assignment, run_text)
     demand(second in (None, printed), "both readings of the steps are the same")
-    falls = all(assignment.workqueue_of[item] > assignment.workqueue_of[target]
-                for item, target in declared.flushes)
+    falls = all(begin > end and end not in assignment.bare for begin, end, _ in arcs_of_rescuers(declared, assignment))
     stuck = printed in (b"stuck\n", b"deadlock\n")
-    demand(not (falls and stuck), "where the numbers fall no run ends stuck")
+    demand(not (falls and stuck), "where the numbers fall, and none leads to no rescuer, no run ends stuck")
     demand(not (stuck and is_safe(declared, assignment)), "no run of a safe assignment ends stuck")
 
     # The prefixes of the run.
@@ -475,11 +489,11 @@ def look_at_replay(declaration_text, assignment_text, run_text):
             demand(end == printed, "an unlawful step stays so")
         else:
             demand(not end.startswith(b"not"), "the steps before an unlawful one may be made")
-            later = lines[count].split()[0] if count < bad - 1 else None
-            demand(not (later in EXECUTIONS and end != b"open\n"),
-                   "what ends stuck goes on with queue or cancel alone")
-            demand(not (end == b"deadlock\n" and later is not None and count < len(lines)
-                        and printed == b"deadlock\n"), "no front of a deadlock is one")
+            later = lines[count].split() if count < bad - 1 else [None]
+            demand(not (later[0] in EXECUTIONS and end != b"open\n") or later[0] == b"start" and int(later[1]) in assignment.bare,
+                   "what ends stuck goes on with queue or cancel alone, or where there is no rescuer")
+            demand(not (end == b"deadlock\n" and later[0] is not None and count < len(lines)
+                        and printed == b"deadlock\n") or assignment.bare, "no front of a deadlock is one")
 
 
 def look_at_deadlock(declaration_text, assignment_text):
@@ -494,6 +508,7 @@ def look_at_deadlock(declaration_text, assignment_text):
     if status == 2:
         look_at_refusal(lambda other: deadlock.answer(declaration_text, other), assignment_text,
                         printed)
+        look_at_rescued(lambda other: deadlock.answer(declaration_text, other), assignment_text, printed)
         return
 
     assignment = certificate.read_assignment(assignment_text, declared)
@@ -501,31 +516,68 @@ def look_at_deadlock(declaration_text, assignment_text):
     wqs = [[] for _ in range(assignment.count)]
     for item in declared.items:
         wqs[assignment.workqueue_of[item]].append(item)
-    look_at_changed_wqs(declaration_text, wqs, (printed, status))
+    look_at_changed_wqs(declaration_text, wqs, assignment.bare, (printed, status))
+    look_at_bare(declared, wqs, assignment, (printed, status))
     if status == 1:
         look_at_deadlocking_run(declaration_text, assignment_text, printed)
 
 
-def look_at_changed_wqs(text, wqs, answer):
+def look_at_rescued(answer, text, printed):
+    """An assignment is refused where it is with `wq` in place of each first word `norescuer`."""
+    if len(text) < certificate.LINE_LIMIT and certificate.Lines(text).first_word() != b"plan":
+        with_wq = re.sub(rb"^([ \t]*)norescuer(?![^ \t\r\n#])", rb"\1wq", text, flags=re.M)
+        demand(answer(with_wq)[0] == printed, "`norescuer` lines are refused as `wq` lines are")
+
+
+def shifted(bare):
+    """These workqueues where there is one more before all of them."""
+    return {number + 1 for number in bare}
+
+
+def look_at_changed_wqs(text, wqs, bare, answer):
     """What becomes of the answer where the workqueues are changed. Names on each are in order."""
-    plain = wqs_text(wqs)
+    plain = wqs_text(wqs, bare)
     demand(deadlock.answer(text, plain) == answer, "the order of names means nothing")
     whole = joined([b"plan %d" % len(wqs)]) + plain + joined([b"chain 0"])
-    demand(deadlock.answer(text, whole) == answer, "a plan text is the assignment of its lines")
+    if bare:
+        refused = b"refused 40 line %d\n" % (min(bare) + 2), 2
+        demand(deadlock.answer(text, whole) == refused, "no plan text has a `norescuer` line")
+        demand(deadlock.answer(text, wqs_text(wqs))[1] != 2, "`wq` lines in their place are an assignment, too")
+    else:
+        demand(deadlock.answer(text, whole) == answer, "a plan text is the assignment of its lines")
     if len(wqs) < 4_096:
-        demand(deadlock.answer(text, wqs_text(wqs + [[]])) == answer,
-               "an empty workqueue behind all others means nothing")
-        printed, status = deadlock.answer(text, wqs_text([[]] + wqs))
+        for more in set(), {len(wqs)}:
+            demand(deadlock.answer(text, wqs_text(wqs + [[]], bare | more)) == answer,
+                   "an empty workqueue behind all others means nothing")
+        printed, status = deadlock.answer(text, wqs_text([[]] + wqs, shifted(bare)))
         lines = [re.sub(rb"(?<= )[0-9]+(?= )", lambda word: b"%d" % (int(word[0]) - 1), line)
                  for line in printed.splitlines()]
         demand((joined(lines), status) == answer, "one before them moves their numbers alone")
-    demand(deadlock.answer(text, wqs_text(wqs[::-1]))[1] == answer[1],
+    turned = {len(wqs) - 1 - number for number in bare}
+    demand(deadlock.answer(text, wqs_text(wqs[::-1], turned))[1] == answer[1],
            "how workqueues are numbered doesn't change what is safe")
     if answer[1] == 1 and len(wqs) > 1:
         for at in range(min(len(wqs) - 1, 5)):
-            fewer = wqs[:at] + [wqs[at] + wqs[at + 1]] + wqs[at + 2:]
-            demand(deadlock.answer(text, wqs_text(fewer))[1] == 1,
-                   "two workqueues made one don't make an assignment safe")
+            if (at in bare) == (at + 1 in bare):
+                fewer = wqs[:at] + [wqs[at] + wqs[at + 1]] + wqs[at + 2:]
+                left = {number - (number > at) for number in bare}
+                demand(deadlock.answer(text, wqs_text(fewer, left))[1] == 1,
+                       "two workqueues made one don't make an assignment safe")
+
+
+def look_at_bare(declared, wqs, assignment, answer):
+    """What becomes of the answer where other workqueues have no rescuer, and where flushes on them are taken out."""
+    bare = assignment.bare
+    every = range(len(declared.flushes))
+    whole = text_declaring(declared, every)
+    demand(deadlock.answer(whole, wqs_text(wqs, range(len(wqs)))) == (b"safe\n", 0), "without any rescuer it is safe")
+    empty = {number for number, names in enumerate(wqs) if not names}
+    for other in bare | empty, bare - empty:
+        demand(deadlock.answer(whole, wqs_text(wqs, other)) == answer, "whether an empty workqueue has a rescuer means nothing")
+    of_rescuers = [place for place in every if assignment.workqueue_of[declared.flushes[place][0]] not in bare]
+    if bare:
+        demand(deadlock.answer(text_declaring(declared, of_rescuers), wqs_text(wqs, bare)) == answer,
+               "what a workqueue without a rescuer waits for doesn't matter")
 
 
 def look_at_deadlocking_run(declaration_text, assignment_text, printed):
@@ -549,7 +601,7 @@ def look_at_deadlocking_run(declaration_text, assignment_text, printed):
         demand(end == (b"open\n", 0), "no front of the run ends stuck")
     if len(declared.items) <= 200:
         demand(steps == second_run(declared, assignment), "both readings of the run are the same")
-        end = look_at_run(declared, assignment.workqueue_of, printed)
+        end = look_at_run(declared, assignment, printed)
         demand(end in (None, b"deadlock\n"), "both readings of the steps say that it deadlocks")
 
 
@@ -575,21 +627,26 @@ def leads(arcs, count):
 
 def second_circles(declared, assignment):
     """The lines that `circles` prints: arc by arc, without any component."""
-    arcs = [(assignment.workqueue_of[item], assignment.workqueue_of[target])
-            for item, target in declared.flushes]
-    reached = leads(arcs, assignment.count)
+    arcs = arcs_of_rescuers(declared, assignment)
+    reached = leads([(begin, end) for begin, end, _ in arcs if end not in assignment.bare], assignment.count)
     found = collections.defaultdict(list)  # by the lowest workqueue that leads there and back
-    for (begin, end), flush in zip(arcs, declared.flushes):
-        if reached[end] >> begin & 1:
+    to_none = []
+    for begin, end, flush in arcs:
+        if end in assignment.bare:
+            to_none.append(flush)
+        elif reached[end] >> begin & 1:
             lowest = min(other for other in range(assignment.count)
                          if reached[begin] >> other & 1 and reached[other] >> begin & 1)
             found[lowest].append(flush)
-    if not found:
+    if not found and not to_none:
         return [b"safe"]
     lines = [b"components %d" % len(found)]
     for lowest in sorted(found):
         lines.append(b"component %d" % len(found[lowest]))
         lines += [b"arc %s %s" % flush for flush in found[lowest]]
+    if to_none:
+        lines.append(b"norescuer %d" % len(to_none))
+        lines += [b"arc %s %s" % flush for flush in to_none]
     return lines
 
 
@@ -614,6 +671,12 @@ def wqs_of(declared, assignment):
     return wqs
 
 
+def parts_of(printed):
+    """The parts of an answer, those of the components in any order."""
+    found, _, to_none = printed.partition(b"\nnorescuer ")
+    return sorted(found.rstrip(b"\n").split(b"\ncomponent ")), to_none
+
+
 def look_at_circles(*texts):
     """The arcs on circles, by a second reading, and what becomes of them where flushes are taken out."""
     printed, status = circles.answer(*texts)
@@ -629,10 +692,13 @@ def look_at_circles(*texts):
     arcs = printed_arcs(printed)
     others = printed_arcs(other) if len(texts) == 1 else deadlock.circle_of(declared, assignment)
     demand(status == 0 or set(others) <= set(arcs), "one circle is among all circles")
+    if len(texts) == 2 and status == 1:
+        first = other.split(b"\n")[1].split(b" ")[1]
+        demand(first in [item for item, _ in arcs], "the item that is queued first makes one of these flushes")
     demand(collections.Counter(arcs) <= collections.Counter(declared.flushes), "each arc is a flush")
 
     wqs = wqs_of(declared, assignment)
-    plain = wqs_text(wqs)
+    plain = wqs_text(wqs, assignment.bare)
     demand(circles.answer(texts[0], plain) == (printed, status),
            "each group alone is the assignment where none is named")
     on_a_circle = set(arcs)
@@ -644,11 +710,12 @@ def look_at_circles(*texts):
     demand(circles.answer(text_declaring(declared, rest), plain) == (b"safe\n", 0),
            "without those that are printed it is safe")
     if assignment.count < 4_096:
-        demand(circles.answer(texts[0], wqs_text([[], *wqs])) == (printed, status),
-               "an empty workqueue means nothing")
-    turned = circles.answer(texts[0], wqs_text(wqs[::-1]))[0]
-    demand(sorted(turned.split(b"component ")) == sorted(printed.split(b"component ")),
-           "the numbers of workqueues matter for the order alone")
+        for more in set(), {0}:
+            demand(circles.answer(texts[0], wqs_text([[], *wqs], shifted(assignment.bare) | more)) == (printed, status),
+                   "an empty workqueue means nothing")
+    turned = {assignment.count - 1 - number for number in assignment.bare}
+    turned = circles.answer(texts[0], wqs_text(wqs[::-1], turned))[0]
+    demand(parts_of(turned) == parts_of(printed), "the numbers of workqueues matter for the order alone")
 
 
 def load_reader():
@@ -662,6 +729,13 @@ def load_reader():
 
 
 READER = load_reader()
+
+
+def labels(assignment):
+    """By number what the reader has as labels that aren't just the number."""
+    names = [name.decode() for name in assignment.called.values()]
+    return {number: name.decode() if names.count(name.decode()) == 1 else f"wq {number} {name.decode()}"
+            for number, name in assignment.called.items()}
 
 
 def names_of(drawn):
@@ -685,6 +759,11 @@ def look_at_dot(*texts):
         assignment = certificate.read_assignment(planned, declared)
         word, bold = "plan", printed_arcs(planned)
     demand(drawing.title.split(" ")[0] == word, "TITLE says what plan or circles prints")
+    to_none = printed_arcs(circled.partition(b"\nnorescuer ")[2])
+    told = re.search(", ([0-9]+) to no rescuer", drawing.title)
+    demand(len(to_none) == (int(told[1]) if told else 0), "TITLE says how many lead to no rescuer")
+    demand(drawing.bare == set(assignment.bare), "the frames of those without a rescuer are dashed")
+    demand(drawing.labels == labels(assignment), "labels are names, with the number where that is needed")
     groups = [[] for _ in range(assignment.count)]
     for members in declared.groups:
         groups[assignment.workqueue_of[members[0]]].append(members)
@@ -700,11 +779,11 @@ def look_at_dot(*texts):
         demand(colour != "bold" or (item, target) not in first, "the flush of least place is bold")
         first.setdefault((item, target), at)
     again = text_declaring(declared, range(len(declared.flushes)))
-    bare = re.sub(rb' \[edgetooltip="(?:[^"\\]|\\.)*"\];', b";", printed)
-    demand(dot.answer(again, *texts[1:]) == (bare, 0), "how a declaration is spelled means nothing, but for comments")
+    silent = re.sub(rb' \[edgetooltip="(?:[^"\\]|\\.)*"\];', b";", printed)
+    demand(dot.answer(again, *texts[1:]) == (silent, 0), "how a declaration is spelled means nothing, but for comments")
     if len(texts) == 2:
-        plain = wqs_text(wqs_of(declared, assignment))
-        demand(dot.answer(texts[0], plain) == (printed, 0), "how an assignment is spelled means nothing")
+        plain = wqs_text(wqs_of(declared, assignment), assignment.bare, assignment.called)
+        demand(dot.answer(texts[0], plain) == (printed, 0), "how an assignment is spelled means nothing, but for names")
 
 
 def look_at_search(choose):
@@ -715,7 +794,8 @@ def look_at_search(choose):
     workqueue_of = {name: parts[group] for name, group in declared.group_of.items()}
     helpers = choose.choice([0, 0, 1, 2, 8])
     ordered = {workqueue_of[group[0]] for group in declared.groups if len(group) > 1}
-    state = State(declared, certificate.Assignment(workqueue_of, count), helpers)
+    bare = frozenset(number for number in range(count) if choose.random() < 0.3)
+    state = State(declared, certificate.Assignment(workqueue_of, count, bare), helpers)
     steps = search.Steps(search.waits_of(declared), workqueue_of, ordered, helpers)
     found = steps.begin(count)
     all_steps = [(word, None, name) for word in (b"queue", b"cancel") for name in declared.items]
@@ -725,8 +805,7 @@ def look_at_search(choose):
         behind = dict(steps.all_steps(found))
         may = [step for step in all_steps if state.may(step[:3], *step[3:])]
         demand(sorted(map(repr, may)) == sorted(map(repr, behind)), "both allow the same steps")
-        demand(state.is_stuck() == (not list(steps.executions(found))
-                                    and found != steps.begin(count)), "both are stuck")
+        demand(state.is_stuck() == search.is_stuck(found, list(steps.executions(found)), bare), "both are stuck")
         starts = {search.named(*step, helper) for step, helper in state.helper_starts()}
         demand(starts == {step for step, _ in steps.helper_starts(found)}, "both have the same starts of helpers")
         step = choose.choice(may)
@@ -740,7 +819,7 @@ def look_at_searches(seed, walks, declarations):
         look_at_search(random.Random(f"{seed} walk {number}"))
     for number in range(declarations):
         text = search.make_declaration(random.Random(f"{seed} model {number}"))
-        *_, wrong = search.look_at_declaration(search.ask_model, text)
+        *_, wrong = search.look_at_declaration(search.ask_model, text, number < declarations // 10)
         demand(not wrong, f"the search finds what the model answers: {text!r}: {wrong}")
 
 

@@ -1,6 +1,6 @@
 # Looks for runs that end stuck among all runs, and compares the program with what it finds:
 #
-#     search.py PROGRAM [SEED] [DECLARATIONS]
+#     search.py PROGRAM [SEED] [DECLARATIONS] [WITHOUT]
 #
 # It makes up small declarations, and for each one all assignments, up to the numbers of the
 # workqueues. Of each assignment it goes through all states that steps lead to, by the rules of
@@ -9,6 +9,9 @@
 # workqueues as the smallest assignment by which no run ends stuck, and a circle where there is
 # none. Where PROGRAM is `-`, the model is asked in its place. Of the smaller declarations all runs with one and
 # with two helpers are gone through, too: some run ends stuck exactly where one without helpers does.
+#
+# All this is so whichever workqueues have no rescuer. Of the first WITHOUT declarations each assignment is looked at with each
+# set of such workqueues, and else with none.
 
 import functools
 import itertools
@@ -26,6 +29,7 @@ from make_declarations import join  # noqa: E402
 
 DEFAULT_SEED = "1"
 DEFAULT_DECLARATIONS = 600
+DEFAULT_WITHOUT = 40
 
 # With so many helpers a run ends stuck where one does without them. That is looked at where there are no more items and flushes than
 # these.
@@ -207,7 +211,8 @@ def named(word, workqueue, name, context):
 
 
 def numbered(waits, workqueue_of, ordered):
-    """The workqueue of each item, whether that is ordered, and the waits, where items and workqueues are numbers in place of names.
+    """The workqueue of each item, whether that is ordered, and the waits, where items and workqueues are numbers in place of names;
+    and the numbers of the workqueues there.
 
     Of all orders of the items it is the one that makes these the least. So it is the same for all assignments that differ in names,
     in the order of the items and in the numbers of the workqueues alone: their runs are the same but for these.
@@ -217,9 +222,9 @@ def numbered(waits, workqueue_of, ordered):
         number = {item: at for at, item in enumerate(items)}
         workqueues = {}  # their numbers, in the order of their first items
         return tuple((workqueues.setdefault(workqueue_of[item], len(workqueues)), workqueue_of[item] in ordered,
-                      tuple((word, number[target]) for word, target in waits[item])) for item in items)
+                      tuple((word, number[target]) for word, target in waits[item])) for item in items), workqueues
 
-    return min(map(in_order, itertools.permutations(waits)))
+    return min(map(in_order, itertools.permutations(waits)), key=lambda found: found[0])
 
 
 def steps_of_rows(rows, helpers):
@@ -230,29 +235,40 @@ def steps_of_rows(rows, helpers):
     return Steps(waits, workqueue_of, ordered, helpers), 1 + max(workqueue_of.values(), default=-1)
 
 
+# Which workqueues have no rescuer matters for no step, but for where a run ends stuck. So one search finds for several sets of
+# such workqueues whether some run ends stuck.
+
+
 @functools.cache
-def ends(rows):
-    """Whether some run without helpers ends stuck, and whether some run deadlocks."""
+def ends(rows, sets):
+    """For which of these sets some run without helpers ends stuck, and for which some run deadlocks."""
     steps, count = steps_of_rows(rows, 0)
-    return has_stuck_run(steps, count), has_deadlock(steps, count)
+    return sets_of_stuck_runs(steps, count, sets), sets_of_deadlocks(steps, count, sets)
 
 
 @functools.cache
-def ends_stuck(rows, helpers):
-    """Whether some run with so many helpers ends stuck."""
-    return has_stuck_run(*steps_of_rows(rows, helpers))
+def ends_with(rows, sets, helpers):
+    """For which of these sets some run with so many helpers ends stuck."""
+    return sets_of_stuck_runs(*steps_of_rows(rows, helpers), sets)
 
 
-def has_stuck_run(steps, count):
-    """Whether some run ends stuck. Items are queued and cancelled at any time, however often."""
+def is_stuck(state, executions, bare):
+    """Whether a run that ends in this state, in which these steps may be made, ends stuck where these workqueues have no rescuer."""
+    unfinished = any((pending or any(contexts)) and number not in bare for number, (pending, contexts) in enumerate(state))
+    return unfinished and all(step[0] == b"start" and step[1] in bare for step, _ in executions)
+
+
+def sets_of_stuck_runs(steps, count, sets):
+    """For which of these sets some run ends stuck. Items are queued and cancelled at any time, however often."""
     first = steps.begin(count)
     seen = {first}
     left = [first]
-    while left:
+    others = set(sets)
+    while left and others:
         state = left.pop()
-        new = {behind for _, behind in steps.executions(state)}
-        if not new and state != first:
-            return True  # an entry is unfinished, since the state isn't the empty one
+        executions = list(steps.executions(state))
+        others -= {bare for bare in others if is_stuck(state, executions, bare)}
+        new = {behind for _, behind in executions}
         new.update(behind for _, behind in steps.helper_starts(state))
         new.update(behind for _, behind in steps.queueings(state))
         new.update(behind for _, behind in steps.cancellations(state))
@@ -260,7 +276,7 @@ def has_stuck_run(steps, count):
         new -= seen
         seen |= new
         left += new
-    return False
+    return sets - others
 
 
 def is_as_declared(steps, state, step):
@@ -275,16 +291,17 @@ def is_as_declared(steps, state, step):
     return (word, name) == waits[made]
 
 
-def has_deadlock(steps, count):
-    """Whether some run deadlocks: each item is queued once, and none is cancelled."""
+def sets_of_deadlocks(steps, count, sets):
+    """For which of these sets some run deadlocks: each item is queued once, and none is cancelled."""
     first = steps.begin(count), frozenset(steps.waits)
     seen = {first}
     left = [first]
-    while left:
+    others = set(sets)
+    while left and others:
         state, not_queued = left.pop()
         executions = list(steps.executions(state))
-        if not executions and not not_queued and state != steps.begin(count):
-            return True
+        if not not_queued:
+            others -= {bare for bare in others if is_stuck(state, executions, bare)}
         new = {(behind, not_queued) for step, behind in executions
                if is_as_declared(steps, state, step)}
         new |= {(behind, not_queued - {step[2]}) for step, behind in steps.queueings(state)
@@ -292,11 +309,11 @@ def has_deadlock(steps, count):
         new -= seen
         seen |= new
         left += new
-    return False
+    return sets - others
 
 
-def is_deadlock(steps, count, run):
-    """Whether this run deadlocks: whether it is one of those that has_deadlock looks for."""
+def is_deadlock(steps, count, bare, run):
+    """Whether this run deadlocks, where these workqueues have no rescuer: whether it is one of those that sets_of_deadlocks looks for."""
     state = steps.begin(count)
     for step in run:
         behind = dict(steps.all_steps(state))
@@ -305,7 +322,7 @@ def is_deadlock(steps, count, run):
         state = behind[step]
     queued = [name for word, _, name in run if word == b"queue"]
     once = sorted(queued) == sorted(steps.waits) and all(word != b"cancel" for word, _, _ in run)
-    return once and state != steps.begin(count) and not list(steps.executions(state))
+    return once and is_stuck(state, list(steps.executions(state)), bare)
 
 
 # Declarations and assignments --------------------------------------------------------------------
@@ -348,9 +365,14 @@ def partitions(count):
             yield parts + [part]
 
 
-def assignment_text(declared, parts):
+def all_sets(count):
+    """All sets of so many workqueues: those that may have no rescuer."""
+    return [frozenset(found) for size in range(count + 1) for found in itertools.combinations(range(count), size)]
+
+
+def assignment_text(declared, parts, bare):
     """The text of the assignment by which each group is on the workqueue of its part."""
-    lines = [b"wq %d" % number for number in range(max(parts, default=-1) + 1)]
+    lines = [(b"norescuer %d" if number in bare else b"wq %d") % number for number in range(max(parts, default=-1) + 1)]
     for members, part in zip(declared.groups, parts):
         lines[part] += b"".join(b" " + name for name in members)
     return join(*lines)
@@ -359,9 +381,9 @@ def assignment_text(declared, parts):
 # The comparison ----------------------------------------------------------------------------------
 
 
-def printed_run_deadlocks(declared, steps, count, printed):
+def printed_run_deadlocks(declared, steps, count, bare, printed):
     try:
-        return is_deadlock(steps, count, read_run(printed, declared))
+        return is_deadlock(steps, count, bare, read_run(printed, declared))
     except Refused:
         return False
 
@@ -371,44 +393,52 @@ def is_helped(declared):
     return len(declared.items) <= HELPED_ITEMS and len(declared.flushes) <= HELPED_FLUSHES
 
 
-def look_at_assignment(ask, text, declared, parts):
-    """Whether no run ends stuck, and what is wrong with the answer of `deadlock`, or None."""
+def look_at_assignment(ask, text, declared, parts, sets):
+    """Of each set of workqueues without a rescuer whether no run ends stuck, and what is wrong with the answer of `deadlock`, or None."""
     count = max(parts, default=-1) + 1
     workqueue_of = {name: parts[group] for name, group in declared.group_of.items()}
     waits = waits_of(declared)
     ordered = {workqueue_of[group[0]] for group in declared.groups if len(group) > 1}
     steps = Steps(waits, workqueue_of)
-    rows = numbered(waits, workqueue_of, ordered)
-    stuck, deadlocks = ends(rows)
-    assignment = assignment_text(declared, parts)
-    printed, status = ask("deadlock", [text, assignment])
-    is_safe = (printed, status) == (b"safe\n", 0)
-    is_run = status == 1 and printed_run_deadlocks(declared, steps, count, printed)
-    if is_safe != (not stuck) or is_run != deadlocks:
-        return not stuck, (
-            f"deadlock, {assignment!r}: some run ends stuck: {stuck}, some run deadlocks: "
-            f"{deadlocks}, the answer: {printed!r}, status {status}"
-        )
-    if is_helped(declared):
-        for helpers in HELPERS:
-            if ends_stuck(rows, helpers) != stuck:
-                return not stuck, f"{assignment!r}: some run ends stuck: {stuck}; with {helpers} helpers: {not stuck}"
-    return not stuck, None
+    rows, numbers = numbered(waits, workqueue_of, ordered)
+    set_of = {bare: frozenset(numbers[number] for number in bare) for bare in sets}
+    all_of = frozenset(set_of.values())
+    all_stuck, all_deadlocks = ends(rows, all_of)
+    for bare in sets:
+        stuck, deadlocks = set_of[bare] in all_stuck, set_of[bare] in all_deadlocks
+        assignment = assignment_text(declared, parts, bare)
+        printed, status = ask("deadlock", [text, assignment])
+        is_safe = (printed, status) == (b"safe\n", 0)
+        is_run = status == 1 and printed_run_deadlocks(declared, steps, count, bare, printed)
+        difference = None
+        if is_safe != (not stuck) or is_run != deadlocks:
+            difference = (f"deadlock, {assignment!r}: some run ends stuck: {stuck}, some run deadlocks: "
+                          f"{deadlocks}, the answer: {printed!r}, status {status}")
+        elif is_helped(declared):
+            for helpers in HELPERS:
+                if (set_of[bare] in ends_with(rows, all_of, helpers)) != stuck:
+                    difference = f"{assignment!r}: some run ends stuck: {stuck}; with {helpers} helpers: {not stuck}"
+        yield not stuck, difference
 
 
-def look_at_declaration(ask, text):
-    """How many assignments were looked at, and how many of them with helpers, too; and what is wrong with the answers."""
+def look_at_declaration(ask, text, without):
+    """How many assignments were looked at, and how many of them with helpers, too; and what is wrong with the answers.
+
+    If `without`, each assignment is looked at with each set of workqueues without a rescuer.
+    """
     declared = read_declaration(text)
     wrong = []
     counts = []
     looked = 0
     for parts in partitions(len(declared.groups)):
-        looked += 1
-        is_safe, difference = look_at_assignment(ask, text, declared, parts)
-        if is_safe:
-            counts.append(max(parts, default=-1) + 1)
-        if difference:
-            wrong.append(difference)
+        count = max(parts, default=-1) + 1
+        sets = all_sets(count) if without else [frozenset()]
+        for bare, (is_safe, difference) in zip(sets, look_at_assignment(ask, text, declared, parts, sets)):
+            looked += 1
+            if is_safe and not bare:
+                counts.append(count)
+            if difference:
+                wrong.append(difference)
     printed, status = ask("plan", [text])
     head = b"plan %d\n" % min(counts) if counts else b"circle "
     if not printed.startswith(head) or status != (0 if counts else 1):
@@ -421,11 +451,11 @@ def ask_model(command, texts):
 
 
 def main(arguments):
-    found = seed_and_counts(arguments[1:], DEFAULT_SEED, DEFAULT_DECLARATIONS)
+    found = seed_and_counts(arguments[1:], DEFAULT_SEED, DEFAULT_DECLARATIONS, DEFAULT_WITHOUT)
     if not arguments or not found:
-        print("usage: search.py PROGRAM [SEED] [DECLARATIONS]", file=sys.stderr)
+        print("usage: search.py PROGRAM [SEED] [DECLARATIONS] [WITHOUT]", file=sys.stderr)
         return 2
-    seed, count = found
+    seed, count, without = found
     program = os.path.realpath(arguments[0])
     if arguments[0] != "-" and not compare.programs.is_there("search", program):
         return 1
@@ -440,7 +470,7 @@ def main(arguments):
 
         for number in range(count):
             text = make_declaration(random.Random(f"{seed} search {number}"))
-            assignments, with_helpers, wrong = look_at_declaration(ask, text)
+            assignments, with_helpers, wrong = look_at_declaration(ask, text, number < without)
             looked, helped = looked + assignments, helped + with_helpers
             if wrong:
                 print(f"FAILED  search, declaration {number} (seed {seed}): {text!r}")

@@ -27,6 +27,8 @@ CHECKS = [
         ("run 0", "refused 40 line 1"),
         ("plan 2 / wq 0 b / chain 2", "refused 40 line 3"),
         ("plan 2 / wq 0 b / wq 1 a / wq 2", "refused 40 line 4"),
+        ("plan 2 / wq 0 b / norescuer 1 a / chain 2 / arc a b", "refused 40 line 3"),
+        ("norescuer 0 a b", "refused 40 line 1"),
         ("plan 2 / wq 0 b / wq 1 a / arc a b", "refused 40 line 4"),
         ("plan 2 / wq 0 b / wq 1 a / chain 2 / flush a b", "refused 40 line 5"),
         # Too few words, and too many.

@@ -11,6 +11,8 @@ GROUPED = ITEMS + " / ordered a d / ordered b c / flush a b / flush c d"
 OUTSIDE = "item z / item a / item b / flush a z b / flush b a"
 TWO_CIRCLES = ITEMS + " / flush d c / flush a b / flush c d / flush b a / flush b c"
 
+OF_SEVEN = "item x / item a / item b / item c / flush a b / flush b a x / flush c x x / flush x c / flushwq a x"
+
 ONE_LOOP = "components 1 / component 1 / arc a a"
 JOINED = "components 1 / component 2 / arc a b / arc b c"
 CROSSED = "components 1 / component 2 / arc a b / arc c d"
@@ -75,7 +77,23 @@ ASSIGNED = [
         ("wq 0 a / wq 1 b c", "components 1 / component 2 / arc a b / arc c a"),
         ("wq 0 a b / wq 1 c", "components 1 / component 1 / arc a b"),
     ]),
-    (LOOP, [("wq 0 / wq 1 a # x\r / ", ONE_LOOP)]),
+    (LOOP, [("wq 0 / wq 1 a # x\r / ", ONE_LOOP), ("norescuer 0 a", "safe"), ("norescuer 0 / wq 1 a", ONE_LOOP)]),
+    # Flushes from workqueues without a rescuer don't matter. Those that lead to one come last, and are in no component.
+    (OF_SEVEN, [
+        ("norescuer 0 x / wq 1 a / wq 2 b / wq 3 c",
+         "components 1 / component 2 / arc a b / arc b a / norescuer 4 / arc b x / arc c x / arc c x / arc a x"),
+        ("wq 0 x / norescuer 1 a b / wq 2 c", "components 1 / component 3 / arc c x / arc c x / arc x c"),
+        ("wq 0 x / wq 1 a / norescuer 2 b / norescuer 3 c", "components 0 / norescuer 2 / arc a b / arc x c"),
+        ("norescuer 0 a b c x", "safe"),
+        ("norescuer 0 a b c / wq 1 x", "components 0 / norescuer 1 / arc x c"),
+        # Two components, and none that leads to no rescuer.
+        ("norescuer 0 / wq 1 c x / wq 2 a b", "components 2 / component 3 / arc c x / arc c x / arc x c / component 2 / arc a b / arc b a"),
+    ]),
+    # A circle by way of one without a rescuer is none.
+    (CHAIN + " / flush c a", [
+        ("wq 0 a / norescuer 1 b / wq 2 c", "components 0 / norescuer 1 / arc a b"),
+        ("wq 0 a b / norescuer 1 c", "components 1 / component 1 / arc a b / norescuer 1 / arc b c"),
+    ]),
     ("", [("", "safe"), ("wq 0 / wq 1", "safe")]),
     (RING, [(RING_WQS, RING_ANSWER)]),
 ]
@@ -89,6 +107,8 @@ REFUSALS = [
     (GROUPED, "wq 0 a d / wq 1 b", "refused 41 line 0"),
     (GROUPED, "wq 1 a d", "refused 43 line 1"),
     ("item a", "wq 01 a", "refused 40 line 1"),
+    ("item a", "norescuer 0 / wq 2 a", "refused 43 line 2"),
+    ("item a", "plan 1 / norescuer 0 a / chain 1", "refused 40 line 2"),
     # The declaration before the assignment.
     ("item a / flush a b", "wq 1", "refused 8 line 2"),
 ]

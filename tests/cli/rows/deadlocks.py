@@ -133,6 +133,44 @@ DEADLOCKS = [
         ("wq 0 a b", "safe"),
         ("wq 0 b / wq 1 a", "safe"),
     ]),
+    # Nobody is sure to start x. Only who waits for it on a workqueue with a rescuer hangs, and only x isn't started.
+    ("item a / item x / flush a x", [
+        ("wq 0 a / norescuer 1 x", "run 4 / queue a / queue x / start 0 a / wait 0 x"),
+        ("\tnorescuer  0 x#xfsdiscard, x\r / # norescuer 0 a /  / wq 1 a# norescuer", "run 4 / queue a / queue x / start 1 a / wait 1 x"),
+        ("norescuer 0 a / wq 1 x", "safe"),
+        ("norescuer 0 a / norescuer 1 x", "safe"),
+        ("norescuer 0 x a", "safe"),
+        ("norescuer 0 / wq 1 x / norescuer 2 / norescuer 3 a", "safe"),
+        ("wq 0 a x / norescuer 1", "run 4 / queue a / queue x / start 0 a / wait 0 x"),
+    ]),
+    # c makes the flush of least place that leads to no rescuer. That of a, which is a circle, has a lower one.
+    ("item a / item b / item c / item x / flush a a / flush c x / flush b x", [
+        ("wq 0 a / wq 1 b / wq 2 c / norescuer 3 x",
+         "run 10 / queue c / queue a / queue b / queue x / start 0 a / wait 0 a / start 1 b / wait 1 x / start 2 c / wait 2 x"),
+        # That of c doesn't matter, nor that of a.
+        ("norescuer 0 a c x / wq 1 b", "run 6 / queue b / queue a / queue c / queue x / start 1 b / wait 1 x"),
+        # The circle of workqueue 0. On workqueue 1 b waits for what is behind it.
+        ("wq 0 a / wq 1 b x / norescuer 2 c",
+         "run 8 / queue a / queue b / queue c / queue x / start 0 a / wait 0 a / start 1 b / wait 1 x"),
+        ("wq 0 b / wq 1 x / norescuer 2 a c", "safe"),
+    ]),
+    # Two items that wait for each other: a circle of two rescuers, or one that waits for none.
+    ("item x / item a / item b / flush x a / flush a b / flush b a", [
+        ("norescuer 0 x / wq 1 a / wq 2 b", "run 7 / queue a / queue b / queue x / start 1 a / wait 1 b / start 2 b / wait 2 a"),
+        ("norescuer 0 x a / wq 1 b", "run 5 / queue b / queue x / queue a / start 1 b / wait 1 a"),
+        ("norescuer 0 x / norescuer 1 a / norescuer 2 b", "safe"),
+        ("wq 0 x / norescuer 1 a b", "run 5 / queue x / queue a / queue b / start 0 x / wait 0 a"),
+    ]),
+    # a comes to the flush that leads to no rescuer once c has finished.
+    ("item a / item x / item c / flush a c x", [
+        ("wq 0 c / wq 1 a / norescuer 2 x",
+         "run 9 / queue a / queue x / queue c / start 0 c / finish 0 c / start 1 a / wait 1 c / over 1 c / wait 1 x"),
+    ]),
+    # b is behind a, on one workqueue or in one group. The whole workqueue of x is y's, too.
+    ("item b / item a / item x / item y / ordered x y / flushwq a x", [
+        ("wq 0 b a / norescuer 1 y x", "run 6 / queue a / queue b / queue x / queue y / start 0 a / waitwq 0 x"),
+        ("norescuer 0 b a / wq 1 y x", "safe"),
+    ]),
     ("", [
         ("", "safe"),
         ("wq 0 / wq 1", "safe"),
@@ -177,6 +215,22 @@ REFUSALS = [
     ("item a", "plan 2 / wq 0 a / chain 0", "refused 40 line 3"),
     ("item a", "plan 0 / chain 0", "refused 41 line 0"),
     ("item a / item b", "plan 1 / wq 0 a / wq 1 b / chain 0", "refused 41 line 0"),
+    # Lines of both forms are numbered together, and refused alike.
+    ("item a", "wq 0 / norescuer 0 a", "refused 43 line 2"),
+    ("item a", "norescuer 1 b", "refused 40 line 1"),
+    ("item a", "norescuer 1 a a", "refused 43 line 1"),
+    ("item a", "norescuer 0 a / wq 1 a", "refused 41 line 2"),
+    ("item a / item b", "norescuer 0 a / wq 1", "refused 41 line 0"),
+    (GROUPED, "wq 0 a d / norescuer 1 b / wq 2 c", "refused 42 line 3"),
+    ("item a", "wq 0 a / norescuer", "refused 40 line 2"),
+    ("item a", "norescuer a", "refused 40 line 1"),
+    ("item a", "wq norescuer 0 a", "refused 40 line 1"),
+    ("item a", "wq 0 a / NoRescuer 1", "refused 40 line 2"),
+    ("item a", "norescuers 0 a", "refused 41 line 0"),
+    # No plan text has a `norescuer` line, and no plan text is behind one.
+    ("item a", "plan 1 / norescuer 0 a / chain 1", "refused 40 line 2"),
+    ("item a", "norescuer 0 / plan 1 / wq 0 a / chain 1", "refused 41 line 0"),
+    ("item a", "norescuer 0 a / chain 1", "refused 40 line 2"),
 ]
 
 # The tables of this file: of each its name, the command, and the rows, which are the texts and the answer.

@@ -284,6 +284,7 @@ REFUSALS = [
     ("item a b", "refused 12 line 1"),
     ("Item a", "refused 4 line 1"),
     ("ordereds a", "refused 4 line 1"),
+    ("item a / norescuer 0 a", "refused 4 line 2"),
     ("item a / order a", "refused 4 line 2"),
     # A `flushwq` line has two names.
     ("item a / item b / flushwq a b b", "refused 12 line 3"),

@@ -24,6 +24,9 @@ REFUSALS = [
     # Another first word ends the lines of an assignment.
     ("item a / item b", "wq 0 a / nope", "run 0", "refused 41 line 0"),
     ("item a / item b", "", "run 0", "refused 41 line 0"),
+    ("item a", "norescuer 1 a", "nope", "refused 43 line 1"),
+    ("item a", "plan 1 / norescuer 0 a / chain 1", "nope", "refused 40 line 2"),
+    (GROUPED, "norescuer 0 a d / wq 1 b / norescuer 2 c", "nope", "refused 42 line 3"),
     ("item a / item b", "circle 1", "run 0", "refused 41 line 0"),
     ("", "circle 1", "run 0", "refused 40 line 1"),
     ("item a", "wq 0 a / wq 1 a", "run 0", "refused 41 line 2"),
@@ -170,6 +173,41 @@ REPLAYS = [
          "deadlock"),
         # The other workqueues can go on.
         ("run 5 / queue a / queue b / queue c / start 0 a / wait 0 a", "open"),
+    ]),
+    # Nobody is sure to start what is on workqueue 1. It may start all the same, and what runs there goes on.
+    ("item a / item x / flush a x", "wq 0 a / norescuer 1 x", [
+        ("run 4 / queue a / queue x / start 0 a / wait 0 x", "deadlock"),
+        ("run 5 / queue a / queue x / start 0 a / wait 0 x / start 1 x", "open"),
+        ("run 8 / queue a / queue x / start 0 a / wait 0 x / start 1 x / finish 1 x / over 0 x / finish 0 a", "open"),
+        ("run 5 / queue x / start 1 x / queue a / start 0 a / wait 0 x", "open"),
+        # What is queued again behind it is waited for, too, and isn't sure to start.
+        ("run 7 / queue x / start 1 x / queue x / queue a / start 0 a / wait 0 x / finish 1 x", "stuck"),
+        ("run 8 / queue x / start 1 x / queue x / queue a / start 0 a / wait 0 x / finish 1 x / start 1 x", "open"),
+        # What was queued later isn't, nor what is pending no longer.
+        ("run 4 / queue a / start 0 a / wait 0 x / queue x", "open"),
+        ("run 5 / queue a / queue x / start 0 a / wait 0 x / cancel x", "open"),
+        ("run 6 / queue x / queue a / start 0 a / wait 0 x / cancel x / queue x", "open"),
+        # Nothing hangs where nothing is unfinished on workqueue 0.
+        ("run 1 / queue x", "open"),
+        ("run 5 / queue a / queue x / start 0 a / wait 0 x / over 0 x", "not lawful 5"),
+        ("run 3 / queue x / start 1 x / start 1 x", "not lawful 3"),
+        ("run 2 / queue x / start 0 x", "not lawful 2"),
+    ]),
+    ("item a / flush a a", "norescuer 0 a", [
+        ("run 3 / queue a / start 0 a / wait 0 a", "open"),
+        ("run 4 / queue a / start 0 a / wait 0 a / over 0 a", "not lawful 4"),
+    ]),
+    # Each waits for the other one, which runs: so the one on workqueue 0 never goes on.
+    ("item a / item x / flush a x / flush x a", "wq 0 a / norescuer 1 x", [
+        ("run 6 / queue a / queue x / start 0 a / start 1 x / wait 0 x / wait 1 a", "deadlock"),
+        ("run 5 / queue a / queue x / start 0 a / start 1 x / wait 0 x", "open"),
+        ("run 3 / queue x / start 1 x / wait 1 a", "open"),
+    ]),
+    # The whole workqueue of x, on which only y is unfinished.
+    ("item x / item y / item a / flushwq a x", "norescuer 0 x y / wq 1 a", [
+        ("run 4 / queue y / queue a / start 1 a / waitwq 1 x", "stuck"),
+        ("run 5 / queue y / queue a / queue x / start 1 a / waitwq 1 x", "deadlock"),
+        ("run 5 / queue y / start 0 y / queue a / start 1 a / waitwq 1 x", "open"),
     ]),
     ("", "", [
         ("run 0", "open"),

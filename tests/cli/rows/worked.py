@@ -181,6 +181,9 @@ REPLAYS = [
     (W, "wq 0 a / wq 1 b c", "run 5 / queue a / start 0 a / waitwq 0 b / queue c / overwq 0 b", "open"),
     (W, "wq 0 a / wq 1 b c", "run 3 / queue a / start 0 a / wait 0 b", "not lawful 3"),
     (W, "wq 0 a / wq 1 b c", "run 3 / queue a / start 0 a / waitwq 0 c", "not lawful 3"),
+    (P, "wq 0 a / norescuer 1 b", "run 4 / queue a / queue b / start 0 a / wait 0 b", "deadlock"),
+    (P, "wq 0 a / norescuer 1 b", "run 5 / queue a / queue b / start 0 a / wait 0 b / start 1 b", "open"),
+    (S, "norescuer 0 a", "run 3 / queue a / start 0 a / wait 0 a", "open"),
     (T, "wq 0 a d / wq 1 b / wq 2 c", "run 0", "refused 42 line 3"),
     (T, "wq 0 a d / wq 1 b", "", "refused 41 line 0"),
     (T, "wq 1 a d", "run", "refused 43 line 1"),
@@ -204,9 +207,14 @@ DEADLOCKS = [
      " / finish 3 z / over 2 z / wait 2 b"),
     (W, "wq 0 a / wq 1 b c", W_HANGS),
     (W, "wq 0 a / wq 1 b / wq 2 c", "safe"),
+    # A workqueue without a rescuer: nobody promises that `a` ever runs, and in the second row `a` waits for `b`, which nobody starts.
+    (S, "norescuer 0 a", "safe"),
+    (P, "wq 0 a / norescuer 1 b", "run 4 / queue a / queue b / start 0 a / wait 0 b"),
+    (P, "norescuer 0 a / wq 1 b", "safe"),
     (T, "wq 0 a d / wq 1 b / wq 2 c", "refused 42 line 3"),
     (T, "wq 0 a d / wq 1 b", "refused 41 line 0"),
     (T, "wq 1 a d", "refused 43 line 1"),
+    (S, "norescuer 0 a / plan 1", "refused 40 line 2"),
 ]
 
 # `run`: the declaration as bytes, and the answer, which is the same with any number of helpers.
@@ -292,6 +300,9 @@ CIRCLES = [
      "components 2 / component 2 / arc d c / arc c d / component 2 / arc a b / arc b a"),
     (D, "wq 0 a b c d",
      "components 1 / component 5 / arc d c / arc a b / arc c d / arc b a / arc b c"),
+    # The flush of `c` by `b` leads to no rescuer. It is in no component.
+    (D, "norescuer 0 c d / wq 1 a b", "components 1 / component 2 / arc a b / arc b a / norescuer 1 / arc b c"),
+    (R, "wq 0 a / norescuer 1 b c", "components 0 / norescuer 1 / arc a b"),
     (D, "plan 1 / wq 0 a b c d / chain 0",
      "components 1 / component 5 / arc d c / arc a b / arc c d / arc b a / arc b c"),
     (T, "wq 0 a d / wq 1 b / wq 2 c", "refused 42 line 3"),
