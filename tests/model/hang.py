@@ -230,9 +230,7 @@ def wrong_with(declared, assignment, fewest, printed):
 
 
 def is_right(texts, wanted, found):
-    """Whether an answer, with its status, is one to these texts, where the model's is `wanted`: it is the same, or a run that is as good."""
-    if wanted == found:
-        return True
+    """Whether an answer that isn't the model's, which is `wanted`, is right, too: a run that is as good."""
     if wanted[1] != 1 or found[1] != 1:
         return False
     declared = declaration.read_declaration(texts[0])
