@@ -12,6 +12,7 @@
 import collections
 import dataclasses
 import importlib.util
+import itertools
 import pathlib
 import random
 import re
@@ -683,7 +684,7 @@ def look_at_hang(declaration_text, assignment_text):
         for run in runs:
             text = joined([b"run %d" % len(run), *run])
             is_as_short = len(run) == fewest
-            demand((hang.wrong_with(declared, assignment, fewest, text) is None) == is_as_short, "each that has so few steps may be printed")
+            demand((hang.wrong_with(declared, assignment, fewest, text) is None) == is_as_short, "each as short may be printed")
             changed = joined([b"run %d" % len(run), *run[:-2], *run[:-3:-1]])
             demand(hang.wrong_with(declared, assignment, fewest, changed) is not None, "the last steps have their order")
 
@@ -902,7 +903,7 @@ def look_at_searches(seed, walks, declarations):
         look_at_search(random.Random(f"{seed} walk {number}"))
     for number in range(declarations):
         text = search.make_declaration(random.Random(f"{seed} model {number}"))
-        *_, wrong = search.look_at_declaration(search.ask_model, text, number < declarations // 10)
+        *_, wrong = search.look_at_declaration(search.ask_model, itertools.repeat(1), text, number < declarations // 10)
         demand(not wrong, f"the search finds what the model answers: {text!r}: {wrong}")
 
 

@@ -1,6 +1,6 @@
 # Looks for runs that end stuck among all runs, and compares the program with what it finds:
 #
-#     search.py PROGRAM [SEED] [DECLARATIONS] [WITHOUT]
+#     search.py PROGRAM [SEED] [DECLARATIONS] [WITHOUT] [ONE_OF]
 #
 # It makes up small declarations, and for each one all assignments, up to the numbers of the
 # workqueues. Of each assignment it goes through all states that steps lead to, by the rules of
@@ -11,8 +11,8 @@
 # with two helpers are gone through, too: some run ends stuck exactly where one without helpers does.
 #
 # The states are gone through by the number of steps that lead to them. So the first one in which a run ends stuck says how many
-# steps the shortest of these runs has: `PROGRAM hang` must answer `safe`, or such a run of that many steps. With helpers no run that
-# ends stuck has fewer.
+# steps the shortest of these runs has: `hang` must answer `safe`, or such a run of that many steps. With helpers no run that ends stuck
+# has fewer. PROGRAM is asked for one of so many assignments, and the model for all of them.
 #
 # All this is so whichever workqueues have no rescuer. Of the first WITHOUT declarations each assignment is looked at with each
 # set of such workqueues, and else with none.
@@ -34,6 +34,7 @@ from make_declarations import join  # noqa: E402
 DEFAULT_SEED = "1"
 DEFAULT_DECLARATIONS = 600
 DEFAULT_WITHOUT = 40
+DEFAULT_ONE_OF = 8
 
 # With so many helpers a run ends stuck where one does without them. That is looked at where there are no more items and flushes than
 # these.
@@ -428,9 +429,9 @@ def is_helped(declared):
     return len(declared.items) <= HELPED_ITEMS and len(declared.flushes) <= HELPED_FLUSHES
 
 
-def look_at_assignment(ask, text, declared, parts, sets):
+def look_at_assignment(ask, turn, text, declared, parts, sets):
     """Of each set of workqueues without a rescuer whether no run ends stuck, and what is wrong with the answers of `deadlock` and `hang`,
-    or None.
+    or None. Whenever it is the turn of 0, not the model alone is asked for `hang`.
     """
     count = max(parts, default=-1) + 1
     workqueue_of = {name: parts[group] for name, group in declared.group_of.items()}
@@ -458,14 +459,15 @@ def look_at_assignment(ask, text, declared, parts, sets):
                 helped = ends_with(rows, all_of, helpers).get(set_of[bare])
                 if helped != fewest:
                     difference = f"{assignment!r}: the fewest steps that end stuck: {fewest}; with {helpers} helpers: {helped}"
-        printed, status = ask("hang", [text, assignment])
-        right = status == 1 and printed_run_hangs(declared, with_helpers, count, bare, fewest, printed)
-        if not (right if stuck else (printed, status) == (b"safe\n", 0)):
-            difference = f"hang, {assignment!r}: the fewest steps that end stuck: {fewest}, the answer: {printed!r}, status {status}"
+        for whom in (ask_model, ask) if next(turn) == 0 else (ask_model,):
+            printed, status = whom("hang", [text, assignment])
+            right = status == 1 and printed_run_hangs(declared, with_helpers, count, bare, fewest, printed)
+            if not (right if stuck else (printed, status) == (b"safe\n", 0)):
+                difference = f"hang, {assignment!r}: the fewest steps that end stuck: {fewest}, the answer: {printed!r}, status {status}"
         yield not stuck, difference
 
 
-def look_at_declaration(ask, text, without):
+def look_at_declaration(ask, turn, text, without):
     """How many assignments were looked at, and how many of them with helpers, too; and what is wrong with the answers.
 
     If `without`, each assignment is looked at with each set of workqueues without a rescuer.
@@ -477,7 +479,7 @@ def look_at_declaration(ask, text, without):
     for parts in partitions(len(declared.groups)):
         count = max(parts, default=-1) + 1
         sets = all_sets(count) if without else [frozenset()]
-        for bare, (is_safe, difference) in zip(sets, look_at_assignment(ask, text, declared, parts, sets)):
+        for bare, (is_safe, difference) in zip(sets, look_at_assignment(ask, turn, text, declared, parts, sets)):
             looked += 1
             if is_safe and not bare:
                 counts.append(count)
@@ -495,11 +497,12 @@ def ask_model(command, texts):
 
 
 def main(arguments):
-    found = seed_and_counts(arguments[1:], DEFAULT_SEED, DEFAULT_DECLARATIONS, DEFAULT_WITHOUT)
-    if not arguments or not found:
-        print("usage: search.py PROGRAM [SEED] [DECLARATIONS] [WITHOUT]", file=sys.stderr)
+    found = seed_and_counts(arguments[1:], DEFAULT_SEED, DEFAULT_DECLARATIONS, DEFAULT_WITHOUT, DEFAULT_ONE_OF)
+    if not arguments or not found or found[3] == 0:
+        print("usage: search.py PROGRAM [SEED] [DECLARATIONS] [WITHOUT] [ONE_OF]", file=sys.stderr)
         return 2
-    seed, count, without = found
+    seed, count, without, one_of = found
+    turn = itertools.cycle(range(one_of))
     program = os.path.realpath(arguments[0])
     if arguments[0] != "-" and not compare.programs.is_there("search", program):
         return 1
@@ -514,7 +517,7 @@ def main(arguments):
 
         for number in range(count):
             text = make_declaration(random.Random(f"{seed} search {number}"))
-            assignments, with_helpers, wrong = look_at_declaration(ask, text, number < without)
+            assignments, with_helpers, wrong = look_at_declaration(ask, turn, text, number < without)
             looked, helped = looked + assignments, helped + with_helpers
             if wrong:
                 print(f"FAILED  search, declaration {number} (seed {seed}): {text!r}")
