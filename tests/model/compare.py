@@ -6,8 +6,8 @@
 # input, and to the other commands as files, and compares the bytes that are printed and the exit status
 # with the model's. Standard error must have what belongs to the answer (tests/lib/standard_error.py). Of
 # each command there are the cases at the limits of docs/FORMAT.md and at each place of small texts, once
-# each, and then CASES random ones; of `run`, which makes threads, RUNS, or a fifth as many. The same SEED makes the
-# same cases. It fails where an answer differs, and where some kind of answer never came, as may be with
+# each, and then CASES random ones; of `run`, which makes threads, and of `hang`, RUNS, or a fifth as many. The same SEED
+# makes the same cases. It fails where an answer differs, and where some kind of answer never came, as may be with
 # few CASES. Before all this the model must answer the worked examples (examples.py).
 #
 # With --with WORD the cases are only those of which an assignment has a line with this first word: with
@@ -15,8 +15,9 @@
 #
 # What the program prints is then given back to it: the plans and circles to `PROGRAM check`, the
 # plans as assignments to `PROGRAM deadlock`, and the runs, those behind circles too, to `PROGRAM
-# replay`. It must stand by its answers: `yes`, `safe` and `deadlock`. Where it prints `safe` by
-# `circles`, it must print it by `deadlock` too.
+# replay`. It must stand by its answers: `yes`, `safe` and `deadlock`; of what `hang` prints the model says
+# which of `deadlock` and `stuck`. Where it prints `safe` by `circles`, it must print it by `deadlock` too.
+# What `hang` prints may be another run than the model's, if it is as good (hang.py).
 #
 # With --only the program is asked for these commands alone; with `--only none` it isn't run at all.
 # The cases of the other commands are made all the same, and the model's answers must have one of
@@ -41,11 +42,12 @@ import make_assignments  # noqa: E402
 import make_certificates  # noqa: E402
 import make_circles  # noqa: E402
 import make_declarations  # noqa: E402
+import make_hangs  # noqa: E402
 import programs  # noqa: E402  (in tests/lib)
 from command_line import seed_and_counts  # noqa: E402
 from commands import TEXTS_OF  # noqa: E402  (in tests/lib)
 from declaration import read_declaration  # noqa: E402
-from models import ANSWERS  # noqa: E402
+from models import ANSWERS, agrees  # noqa: E402
 from records import records  # noqa: E402  (in tests/lib)
 from standard_error import fits, is_unrescued  # noqa: E402  (there, too)
 from unrescued import beside  # noqa: E402
@@ -106,7 +108,7 @@ def hanging(leading, work):
 
 # Of a command, where `like_others` isn't enough: the cases at the limits, the random cases, and the kinds
 # of answer, each with its exit status and its form. In a form N is a number, Z one or more names, A is an `arc` line, and S is a
-# step of a run that is printed.
+# step of a run that is printed, and W one of those that `hang` prints.
 COMMANDS = {
     "plan": (
         lambda: [(what, [text]) for what, text in make_declarations.limit_cases()],
@@ -134,6 +136,12 @@ COMMANDS = {
         make_assignments.limit_deadlock_cases,
         make_assignments.random_deadlock_case,
         [("safe", 0, r"safe\n"), ("runs", 1, r"run N\nS+")] + CERTIFICATE_REFUSALS,
+    ),
+    "hang": (
+        make_hangs.limit_hang_cases,
+        make_hangs.random_hang_case,
+        [("safe", 0, r"safe\n")] + [(f"runs of {steps}", 1, rf"run {steps}\nW+") for steps in (3, 4, 6, 7, 8)]
+        + [("longer runs", 1, r"run N\nW+")] + CERTIFICATE_REFUSALS,
     ),
     "circles": (
         make_circles.limit_circles_cases,
@@ -183,11 +191,14 @@ COMMANDS |= {command: like_others(command) for command in ANSWERS if command not
 # The words behind DECL of the cases of `run`, in turn. They change no answer.
 HELPERS = [[], ["2"], ["8"], ["0"], ["1"], ["5"]]
 
-# Each random case of `run` makes threads, so there is one for so many of the other commands.
+# Each random case of `run` makes threads, and what `hang` prints is judged by other means than looking whether it is the same. So
+# there is one case of them for so many of the other commands.
 CASES_FOR_A_RUN = 5
+FEWER = ("run", "hang")
 
 
 def form(pattern):
+    pattern = pattern.replace("W", r"(queue Z\n|(start|wait|waitwq) N Z\n)")
     pattern = pattern.replace("S", r"(queue Z\n|(start|wait|waitwq|over|overwq|finish) N Z\n)")
     pattern = pattern.replace("A", r"(arc Z\n)").replace("N", r"(0|[1-9][0-9]*)")
     return re.compile(pattern.replace("Z", r"[A-Za-z0-9_.-]+( [A-Za-z0-9_.-]+)*").encode())
@@ -246,6 +257,8 @@ def questions(command, texts, printed):
         yield "replay", [texts[0], b"".join(own), steps], (b"deadlock\n", 1)
     if command == "deadlock" and head.startswith(b"run "):
         yield "replay", [*texts, printed], (b"deadlock\n", 1)
+    if command == "hang" and head.startswith(b"run "):
+        yield "replay", [*texts, printed], ANSWERS["replay"](*texts, printed)
     if command == "circles" and head == b"safe" and len(texts) == 2:
         yield "deadlock", texts, (b"safe\n", 0)
 
@@ -279,7 +292,7 @@ def compare(program, asked, command, what, texts, folder, number):
     if command not in asked:
         return kind, 0, None
     found, errors, is_right = ask(program, command, texts, folder, number)
-    if found != wanted or not is_right:
+    if not is_right or not agrees(command, texts, wanted, found):
         return kind, 0, Difference(what, command, texts, wanted, found, errors)
 
     stood = 0
@@ -432,7 +445,7 @@ def main(arguments):
     never = []
     different = False
     for command in COMMANDS:
-        cases = run_count if command == "run" else random_count
+        cases = run_count if command in FEWER else random_count
         if word is not None and "assignment" not in TEXTS_OF[command]:
             continue
         compared = compare_all(program, asked, command, seed, cases, word, folder)

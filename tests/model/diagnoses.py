@@ -641,14 +641,14 @@ def note(file):
 
 def of_no_rescuer(command, files, texts, status):
     """What is said of workqueues without a rescuer, beside `safe` and beside a run."""
-    if command not in ("deadlock", "circles") or len(texts) < 2:
+    if command not in ("deadlock", "hang", "circles") or len(texts) < 2:
         return b""
     declared = read_declaration(texts[0])
     assignment = certificate.read_assignment(texts[1], declared)
     if status == 0:
         return note_of_items(files[1], declared, assignment)
     places = deadlock.led_to_no_rescuer(declared, assignment)
-    return reason_of_run(files, texts, declared, assignment, places[0]) if places and command == "deadlock" else b""
+    return reason_of_run(files, texts, declared, assignment, places[0]) if places and command != "circles" else b""
 
 
 def note_of_items(file, declared, assignment):

@@ -12,6 +12,7 @@
 import collections
 import dataclasses
 import importlib.util
+import itertools
 import pathlib
 import random
 import re
@@ -24,6 +25,7 @@ import circles  # noqa: E402
 import compare  # noqa: E402
 import deadlock  # noqa: E402
 import dot  # noqa: E402
+import hang  # noqa: E402
 import make_certificates  # noqa: E402
 import plan  # noqa: E402
 import replay  # noqa: E402
@@ -613,6 +615,88 @@ def look_at_deadlocking_run(declaration_text, assignment_text, printed):
         demand(end in (None, b"deadlock\n"), "both readings of the steps say that it deadlocks")
 
 
+# The shortest runs -------------------------------------------------------------------------------
+
+# Of declarations of at most so many items and flushes all lists of flushes are looked at that are a circular wait.
+LISTED_ITEMS = 9
+LISTED_FLUSHES = 12
+
+
+def second_runs(declared, assignment):
+    """All runs of a circular wait in which no item waits twice, and all of a flush that leads to no rescuer, as the lines of run texts."""
+    flushes = [(*declared.flush_line(place).split(b" "), place) for place in range(len(declared.flushes))]
+    of, bare = assignment.workqueue_of, assignment.bare
+    runs = []
+
+    def add(listed, beside):
+        run = [b"queue %s" % item for _, item, _, _ in listed] + [b"queue %s" % name for name in beside]
+        for word, item, target, _ in listed:
+            run += [b"start %d %s" % (of[item], item), b"wait%s %d %s" % (word[len(b"flush"):], of[item], target)]
+        runs.append(run)
+
+    def go_on(listed):
+        if of[listed[-1][2]] == of[listed[0][1]]:
+            following = [flush[1] for flush in listed[1:] + listed[:1]]
+            add(listed, [flush[2] for flush, item in zip(listed, following) if flush[0] == b"flush" and flush[2] != item])
+        for flush in flushes:
+            here = of[flush[1]]
+            if here == of[listed[-1][2]] and here not in bare and flush[1] not in [other[1] for other in listed]:
+                go_on([*listed, flush])
+
+    for flush in flushes:
+        if of[flush[1]] not in bare:
+            if of[flush[2]] in bare:
+                add([flush], [flush[2]])
+            else:
+                go_on([flush])
+    return runs
+
+
+def look_at_hang(declaration_text, assignment_text):
+    """It is safe where `deadlock` says so, and else a run that ends stuck, never longer than that of `deadlock`."""
+    printed, status = hang.answer(declaration_text, assignment_text)
+    other, of_other = deadlock.answer(declaration_text, assignment_text)
+    demand(status == of_other, "hang and deadlock have the same status")
+    if status != 1:
+        demand(printed == other, "and the same line where that isn't 1")
+        return
+    declared = read_declaration(declaration_text)
+    assignment = certificate.read_assignment(assignment_text, declared)
+    demand(good("run", printed, declared), "what is printed is a run text")
+    lines = printed.splitlines()
+    fewest = len(lines) - 1
+    demand(lines[0] == b"run %d" % fewest, "the head says how many steps there are")
+    demand(3 <= fewest <= 4 * len(declared.items) and fewest != 5, "from 3 steps on, and never 5")
+    demand(fewest < len(other.splitlines()), "it has no more steps than the run of `deadlock`")
+    demand(hang.wrong_with(declared, assignment, fewest, printed) is None, "the model's own run may be printed")
+    end, _ = replay.answer(declaration_text, assignment_text, printed)
+    demand(end in (b"stuck\n", b"deadlock\n"), "it ends stuck")
+    demand(look_at_run(declared, assignment, printed) in (None, end), "both readings of the steps say how it ends")
+    for count in [0, 1, *range(2, fewest, fewest // 5 + 1), fewest - 1]:
+        front = joined([b"run %d" % count] + lines[1:count + 1])
+        demand(replay.answer(declaration_text, assignment_text, front) == (b"open\n", 0), "no front of the run ends stuck")
+    queued = [line for line in lines if line.startswith(b"queue ")]
+    on = [line.split(b" ")[1] for line in lines if line.startswith(b"start ")]
+    demand(len(set(queued)) == len(queued) and len(set(on)) == len(on), "no item is queued twice, and no two wait on one workqueue")
+    demand(fewest == len(queued) + 2 * len(on), "a start and a wait of each item that waits, and a queueing of each item")
+
+    wqs = wqs_of(declared, assignment)
+    turned = {assignment.count - 1 - number for number in assignment.bare}
+    again = text_declaring(declared, list(range(len(declared.flushes)))[::-1])
+    head = hang.answer(again, wqs_text(wqs[::-1], turned))[0].splitlines()[0]
+    demand(head == lines[0], "how flushes and workqueues are numbered doesn't change the number of steps")
+    if len(declared.items) <= LISTED_ITEMS and len(declared.flushes) <= LISTED_FLUSHES:
+        runs = second_runs(declared, assignment)
+        demand(min(map(len, runs)) == fewest, "of all circular waits none has fewer steps")
+        demand(lines[1:] in runs, "the run is one of all of these")
+        for run in runs:
+            text = joined([b"run %d" % len(run), *run])
+            is_as_short = len(run) == fewest
+            demand((hang.wrong_with(declared, assignment, fewest, text) is None) == is_as_short, "each as short may be printed")
+            changed = joined([b"run %d" % len(run), *run[:-2], *run[:-3:-1]])
+            demand(hang.wrong_with(declared, assignment, fewest, changed) is not None, "the last steps have their order")
+
+
 # Circles and drawings ----------------------------------------------------------------------------
 
 
@@ -827,14 +911,14 @@ def look_at_searches(seed, walks, declarations):
         look_at_search(random.Random(f"{seed} walk {number}"))
     for number in range(declarations):
         text = search.make_declaration(random.Random(f"{seed} model {number}"))
-        *_, wrong = search.look_at_declaration(search.ask_model, text, number < declarations // 10)
+        *_, wrong = search.look_at_declaration(search.ask_model, itertools.repeat(1), text, number < declarations // 10)
         demand(not wrong, f"the search finds what the model answers: {text!r}: {wrong}")
 
 
 # Of each command what looks at the model's answer to the cases of compare.py.
 LAWS = {
     "plan": look_at_plan, "check": look_at_check, "replay": look_at_replay, "deadlock": look_at_deadlock,
-    "run": look_at_running, "circles": look_at_circles, "dot": look_at_dot,
+    "hang": look_at_hang, "run": look_at_running, "circles": look_at_circles, "dot": look_at_dot,
 }
 
 

@@ -1,6 +1,6 @@
 # Looks for runs that end stuck among all runs, and compares the program with what it finds:
 #
-#     search.py PROGRAM [SEED] [DECLARATIONS] [WITHOUT]
+#     search.py PROGRAM [SEED] [DECLARATIONS] [WITHOUT] [ONE_OF]
 #
 # It makes up small declarations, and for each one all assignments, up to the numbers of the
 # workqueues. Of each assignment it goes through all states that steps lead to, by the rules of
@@ -10,8 +10,12 @@
 # none. Where PROGRAM is `-`, the model is asked in its place. Of the smaller declarations all runs with one and
 # with two helpers are gone through, too: some run ends stuck exactly where one without helpers does.
 #
-# All this is so whichever workqueues have no rescuer. Of the first WITHOUT declarations each assignment is looked at
-# with each set of such workqueues, and else with none.
+# The states are gone through by the number of steps that lead to them. So the first one in which a run ends stuck says how many
+# steps the shortest of these runs has: `hang` must answer `safe`, or such a run of that many steps. With helpers no run that ends stuck
+# has fewer. PROGRAM is asked for one of so many assignments, and the model for all of them.
+#
+# All this is so whichever workqueues have no rescuer. Of the first WITHOUT declarations each assignment is looked at with each
+# set of such workqueues, and else with none.
 
 import functools
 import itertools
@@ -30,6 +34,7 @@ from make_declarations import join  # noqa: E402
 DEFAULT_SEED = "1"
 DEFAULT_DECLARATIONS = 600
 DEFAULT_WITHOUT = 40
+DEFAULT_ONE_OF = 8
 
 # With so many helpers a run ends stuck where one does without them. That is looked at where there are no more items and flushes than
 # these.
@@ -241,15 +246,15 @@ def steps_of_rows(rows, helpers):
 
 @functools.cache
 def ends(rows, sets):
-    """For which of these sets some run without helpers ends stuck, and for which some run deadlocks."""
+    """For which of these sets some run without helpers ends stuck, each with the fewest steps of one, and for which some run deadlocks."""
     steps, count = steps_of_rows(rows, 0)
-    return sets_of_stuck_runs(steps, count, sets), sets_of_deadlocks(steps, count, sets)
+    return fewest_steps(steps, count, sets), sets_of_deadlocks(steps, count, sets)
 
 
 @functools.cache
 def ends_with(rows, sets, helpers):
-    """For which of these sets some run with so many helpers ends stuck."""
-    return sets_of_stuck_runs(*steps_of_rows(rows, helpers), sets)
+    """For which of these sets some run with so many helpers ends stuck, each with the fewest steps of one."""
+    return fewest_steps(*steps_of_rows(rows, helpers), sets)
 
 
 def is_stuck(state, executions, bare):
@@ -261,25 +266,32 @@ def is_stuck(state, executions, bare):
     return not unfinished <= bare and all(step[0] == b"start" and step[1] in bare for step, _ in executions)
 
 
-def sets_of_stuck_runs(steps, count, sets):
-    """For which of these sets some run ends stuck. Items are queued and cancelled at any time, however often."""
+def fewest_steps(steps, count, sets):
+    """For which of these sets some run ends stuck: by set, how few steps such a run has. Items are queued and cancelled at any time,
+    however often.
+    """
     first = steps.begin(count)
     seen = {first}
-    left = [first]
+    left = [first]  # the states to which so many steps lead, and no fewer ones
     others = set(sets)
-    while left and others:
-        state = left.pop()
-        executions = list(steps.executions(state))
-        others -= {bare for bare in others if is_stuck(state, executions, bare)}
-        new = {behind for _, behind in executions}
-        new.update(behind for _, behind in steps.helper_starts(state))
-        new.update(behind for _, behind in steps.queueings(state))
-        new.update(behind for _, behind in steps.cancellations(state))
-        new = set(map(in_one_order, new)) if steps.helpers > 1 else new
-        new -= seen
-        seen |= new
-        left += new
-    return sets - others
+    found = {}
+    for length in itertools.count():
+        if not left or not others:
+            return found
+        behind_all = set()
+        for state in left:
+            executions = list(steps.executions(state))
+            found |= {bare: length for bare in others if is_stuck(state, executions, bare)}
+            behind_all.update(behind for _, behind in executions)
+            behind_all.update(behind for _, behind in steps.helper_starts(state))
+            behind_all.update(behind for _, behind in steps.queueings(state))
+            behind_all.update(behind for _, behind in steps.cancellations(state))
+            others -= found.keys()
+            if not others:
+                break
+        behind_all = set(map(in_one_order, behind_all)) if steps.helpers > 1 else behind_all
+        left = behind_all - seen
+        seen |= left
 
 
 def is_as_declared(steps, state, step):
@@ -326,6 +338,22 @@ def is_deadlock(steps, count, bare, run):
     queued = [name for word, _, name in run if word == b"queue"]
     once = sorted(queued) == sorted(steps.waits) and all(word != b"cancel" for word, _, _ in run)
     return once and is_stuck(state, list(steps.executions(state)), bare)
+
+
+def is_hang(all_steps, count, bare, run):
+    """Whether this is a run that ends stuck, where these workqueues have no rescuer, by each of these tables of the steps, which differ
+    in the helpers alone.
+    """
+    for steps in all_steps:
+        state = steps.begin(count)
+        for step in run:
+            behind = dict(steps.all_steps(state))
+            if step not in behind or step[0] == b"start" and step[1] in bare:
+                return False
+            state = behind[step]
+        if not is_stuck(state, list(steps.executions(state)), bare):
+            return False
+    return True
 
 
 # Declarations and assignments --------------------------------------------------------------------
@@ -391,13 +419,23 @@ def printed_run_deadlocks(declared, steps, count, bare, printed):
         return False
 
 
+def printed_run_hangs(declared, all_steps, count, bare, fewest, printed):
+    try:
+        run = read_run(printed, declared)
+    except Refused:
+        return False
+    return len(run) == fewest and is_hang(all_steps, count, bare, run)
+
+
 def is_helped(declared):
     """Whether the runs with helpers are gone through, too."""
     return len(declared.items) <= HELPED_ITEMS and len(declared.flushes) <= HELPED_FLUSHES
 
 
-def look_at_assignment(ask, text, declared, parts, sets):
-    """Of each set of workqueues without a rescuer whether no run ends stuck, and what is wrong, or None."""
+def look_at_assignment(ask, turn, text, declared, parts, sets):
+    """Of each set of workqueues without a rescuer whether no run ends stuck, and what is wrong with the answers of `deadlock` and `hang`,
+    or None. Whenever it is the turn of 0, not the model alone is asked for `hang`.
+    """
     count = max(parts, default=-1) + 1
     workqueue_of = {name: parts[group] for name, group in declared.group_of.items()}
     waits = waits_of(declared)
@@ -407,8 +445,10 @@ def look_at_assignment(ask, text, declared, parts, sets):
     set_of = {bare: frozenset(numbers[number] for number in bare) for bare in sets}
     all_of = frozenset(set_of.values())
     all_stuck, all_deadlocks = ends(rows, all_of)
+    with_helpers = [Steps(waits, workqueue_of, ordered, helpers) for helpers in (0, *HELPERS)]
     for bare in sets:
-        stuck, deadlocks = set_of[bare] in all_stuck, set_of[bare] in all_deadlocks
+        fewest = all_stuck.get(set_of[bare])
+        stuck, deadlocks = fewest is not None, set_of[bare] in all_deadlocks
         assignment = assignment_text(declared, parts, bare)
         printed, status = ask("deadlock", [text, assignment])
         is_safe = (printed, status) == (b"safe\n", 0)
@@ -419,12 +459,18 @@ def look_at_assignment(ask, text, declared, parts, sets):
                           f"{deadlocks}, the answer: {printed!r}, status {status}")
         elif is_helped(declared):
             for helpers in HELPERS:
-                if (set_of[bare] in ends_with(rows, all_of, helpers)) != stuck:
-                    difference = f"{assignment!r}: some run ends stuck: {stuck}; with {helpers} helpers: {not stuck}"
+                helped = ends_with(rows, all_of, helpers).get(set_of[bare])
+                if helped != fewest:
+                    difference = f"{assignment!r}: the fewest steps that end stuck: {fewest}; with {helpers} helpers: {helped}"
+        for whom in (ask_model, ask) if next(turn) == 0 else (ask_model,):
+            printed, status = whom("hang", [text, assignment])
+            right = status == 1 and printed_run_hangs(declared, with_helpers, count, bare, fewest, printed)
+            if not (right if stuck else (printed, status) == (b"safe\n", 0)):
+                difference = f"hang, {assignment!r}: the fewest steps that end stuck: {fewest}, the answer: {printed!r}, status {status}"
         yield not stuck, difference
 
 
-def look_at_declaration(ask, text, without):
+def look_at_declaration(ask, turn, text, without):
     """How many assignments were looked at, and how many of them with helpers, too; and what is wrong with the answers.
 
     If `without`, each assignment is looked at with each set of workqueues without a rescuer.
@@ -436,7 +482,7 @@ def look_at_declaration(ask, text, without):
     for parts in partitions(len(declared.groups)):
         count = max(parts, default=-1) + 1
         sets = all_sets(count) if without else [frozenset()]
-        for bare, (is_safe, difference) in zip(sets, look_at_assignment(ask, text, declared, parts, sets)):
+        for bare, (is_safe, difference) in zip(sets, look_at_assignment(ask, turn, text, declared, parts, sets)):
             looked += 1
             if is_safe and not bare:
                 counts.append(count)
@@ -454,11 +500,12 @@ def ask_model(command, texts):
 
 
 def main(arguments):
-    found = seed_and_counts(arguments[1:], DEFAULT_SEED, DEFAULT_DECLARATIONS, DEFAULT_WITHOUT)
-    if not arguments or not found:
-        print("usage: search.py PROGRAM [SEED] [DECLARATIONS] [WITHOUT]", file=sys.stderr)
+    found = seed_and_counts(arguments[1:], DEFAULT_SEED, DEFAULT_DECLARATIONS, DEFAULT_WITHOUT, DEFAULT_ONE_OF)
+    if not arguments or not found or found[3] == 0:
+        print("usage: search.py PROGRAM [SEED] [DECLARATIONS] [WITHOUT] [ONE_OF]", file=sys.stderr)
         return 2
-    seed, count, without = found
+    seed, count, without, one_of = found
+    turn = itertools.cycle(range(one_of))
     program = os.path.realpath(arguments[0])
     if arguments[0] != "-" and not compare.programs.is_there("search", program):
         return 1
@@ -473,7 +520,7 @@ def main(arguments):
 
         for number in range(count):
             text = make_declaration(random.Random(f"{seed} search {number}"))
-            assignments, with_helpers, wrong = look_at_declaration(ask, text, number < without)
+            assignments, with_helpers, wrong = look_at_declaration(ask, turn, text, number < without)
             looked, helped = looked + assignments, helped + with_helpers
             if wrong:
                 print(f"FAILED  search, declaration {number} (seed {seed}): {text!r}")

@@ -67,8 +67,8 @@ def of_run(files, texts, declared, assignment):
 
 
 def beside(command, files, texts, printed):
-    """The bytes on standard error that are of workqueues without a rescuer, beside this answer."""
-    if command not in ("deadlock", "circles") or len(texts) < 2:
+    """The bytes that belong on standard error beside this answer, as far as they are of workqueues without a rescuer."""
+    if command not in ("deadlock", "hang", "circles") or len(texts) < 2:
         return b""
     try:
         declared = read_declaration(texts[0])
@@ -78,6 +78,6 @@ def beside(command, files, texts, printed):
     lines = []
     if printed == b"safe\n":
         lines = of_safe(files[1], declared, assignment)
-    elif command == "deadlock":
+    elif command != "circles":
         lines = of_run(files, texts, declared, assignment)
     return b"".join(shown(line) + b"\n" for line in lines)

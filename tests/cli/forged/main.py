@@ -24,7 +24,7 @@ sys.path[1:1] = [str(TESTS / "model"), str(TESTS / "lib")]
 import commands  # noqa: E402  (in tests/lib)
 import extremes  # noqa: E402  (beside this file)
 from changes import cuts, forgeries  # noqa: E402
-from models import ANSWERS  # noqa: E402  (in tests/model)
+from models import ANSWERS, agrees  # noqa: E402  (in tests/model)
 from programs import ask, counts_of, files, is_there  # noqa: E402  (in tests/lib)
 from standard_error import fits  # noqa: E402  (there, too)
 from subjects import GROUPS, SUBJECTS, TWO  # noqa: E402
@@ -75,7 +75,7 @@ def judged(program, command, texts, folder):
     if found.is_late():
         return None, "it took too long"
     wanted = ANSWERS[command](*texts)
-    if (found.printed, found.status) != wanted:
+    if not agrees(command, texts, wanted, (found.printed, found.status)):
         printed, status = wanted
         return found.status, f"status {found.status}, {short(found.printed)}; the model has status {status}, {short(printed)}"
     if found.status not in (0, 1, 2):
