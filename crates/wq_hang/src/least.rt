@@ -120,10 +120,6 @@ fn better_round<A: Allocator + Copy>(
     ensures some { IfOk result (λ found. IfSome found (λ better. IsBetter core.now.wiring first least better.0 better.1.items)) }
     ensures none { IfOk result (λ found. IfNone found (IsNoBetter core.now.wiring marks.now first least)) }
 {
-    // Each hop costs 3.
-    if least <= 3 {
-        return Ok(None);
-    }
     let lane = core.lane_of(first);
     if !core.has_rescuer(lane) {
         return Ok(None);

@@ -264,10 +264,6 @@ pub(crate) fn search_from<A: Allocator + Copy>(
     search.expand(core, on, first, 0)?;
     while let Some(item) = search.take() {
         let cost = search.cost(item);
-        // Each hop from here leads to what costs as much as the limit.
-        if limit.saturating_sub(cost) <= 3 {
-            continue;
-        }
         search.expand(core, on, item, cost)?;
     }
     Ok(search)
