@@ -61,6 +61,11 @@ module _ (w : Wiring) (marks : List Bool) (limit n least : ℕ) (found : Option 
 pub IsNoBetter-bare : (w : Wiring) (marks : List Bool) (first least : ℕ) → (¬ HasRescuer w (lane_of w first)) → IsNoBetter w marks first least
 IsNoBetter-bare w marks first least bare marked hops some path = absurd (bare (path_rescuer w first first hops some path).1)
 
+-- no round costs less than 3
+pub IsNoBetter-low : (w : Wiring) (marks : List Bool) (first least : ℕ) → least ≤ 3 → IsNoBetter w marks first least
+IsNoBetter-low w marks first least low marked [] some path = absurd (omega arith)
+IsNoBetter-low w marks first least low marked (h ∷ hops) some path = omega arith
+
 pub IsNoBetter-unmarked : (w : Wiring) (marks : List Bool) (first least : ℕ) → slice_index_or marks (lane_of w first) false ≡ false → IsNoBetter w marks first least
 IsNoBetter-unmarked w marks first least unmarked marked hops some path = absurd (false≢true (sym unmarked ∙ marked))
 

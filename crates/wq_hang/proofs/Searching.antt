@@ -3,6 +3,7 @@ use Rattle.std.proofs.Common.{◌≡◌, ◌≢◌, ℕ, zero, suc, ◌+◌, ◌
 use Rattle.std.specs.Prelude.{Contains, slice_index, slice_index_or, if◌then◌else◌, ◌||◌, replicate}
 use Rattle.std.proofs.lemmas.Bool.{cases_eq, cases_lt, eqb-true}
 use Rattle.std.proofs.lemmas.List.{get_or-replicate, get_or_past, length-replicate}
+use Rattle.wq_items.specs.declared.target.Target.{Target}
 use Rattle.wq_core.specs.Wiring.{Wiring, IsWiring, HasRescuer, items, lane_of}
 use Rattle.wq_core.proofs.Wirings.{lane_of-within}
 use Rattle.wq_hang.specs.declared.hop.Hop.{Hop}
@@ -51,6 +52,14 @@ IsReach-new w first limit s wiring new = record {
 
     lane_at_limit : (i : ℕ) → i < items w → slice_index s.lane_costs (lane_of w i) ≡ limit
     lane_at_limit i below = ap (λ (l : List ℕ). get_or l (lane_of w i) 0) new.lane_costs ∙ get_or-replicate w.lanes (lane_of w i) limit 0 (lane_of-within w wiring i below)
+
+-- a hop costs 3 or more
+lane_step-least : (t : Target) → 3 ≤ lane_step t
+lane_step-least t = by t.whole
+  where
+    by : (whole : Bool) → 3 ≤ (if whole then 3 else 4)
+    by true = omega arith
+    by false = omega arith
 
 IsFollowed-later : (w : Wiring) (s r : Reach) (i cost : ℕ) → Later s r → IsFollowed w s i cost → IsFollowed w r i cost
 IsFollowed-later w s r i cost later is t there rescuer =
@@ -137,25 +146,25 @@ module _ (w : Wiring) (first limit : ℕ) (wiring : IsWiring w) (on : List (List
         from_other = λ e. omega (arith, by_it.from_other e, same j, same (slice_index_or s.by j d).item);
       })
 
+  -- what was followed before the item was taken
+  followed_taken : (s r : Reach) (i : ℕ) → IsTaken s i r → (j c : ℕ) → IsFollowed w s j c → IsFollowed w r j c
+  followed_taken s r i taken j c led t there rescuer =
+      let before = led t there rescuer in
+      (omega (arith, before.0, ap (λ (l : List ℕ). slice_index l t.item) taken.costs), omega (arith, before.1, ap (λ (l : List ℕ). slice_index l (lane_of w t.item)) taken.lane_costs))
+
+  same_cost : (s r : Reach) (i : ℕ) → IsTaken s i r → (j : ℕ) → slice_index r.costs j ≡ slice_index s.costs j
+  same_cost s r i taken j = ap (λ (l : List ℕ). slice_index l j) taken.costs
+
   pub IsGoing-next : (s r end : Reach) (i cost : ℕ) → IsGoing w first limit s → IsTaken s i r → cost ≡ slice_index r.costs i → end ≡ expand w on i cost r → IsGoing w first limit end
   IsGoing-next s r end i cost going taken costs is =
       let todo = going.reach.todo i (taken_was s r i taken) in
       let grown = Grown-expand w first limit wiring on are i cost r (IsReach-taken s r i taken going.reach) todo.1 (λ other. omega (arith, costs)) in
       subst (IsGoing w first limit) (sym is) (record {
         reach = grown.0.reach;
-        begun = IsFollowed-later w r (expand w on i cost r) first 0 grown.0.later (was first 0 going.begun);
+        begun = IsFollowed-later w r (expand w on i cost r) first 0 grown.0.later (followed_taken s r i taken first 0 going.begun);
         followed = λ j below. followed grown.0.later grown.1 j below (cases_eq j i) (going.followed j below) (grown.0.later.noted j);
       })
     where
-      -- what was followed before the item was taken
-      was : (j c : ℕ) → IsFollowed w s j c → IsFollowed w r j c
-      was j c led t there rescuer =
-          let before = led t there rescuer in
-          (omega (arith, before.0, ap (λ (l : List ℕ). slice_index l t.item) taken.costs), omega (arith, before.1, ap (λ (l : List ℕ). slice_index l (lane_of w t.item)) taken.lane_costs))
-
-      same : (j : ℕ) → slice_index r.costs j ≡ slice_index s.costs j
-      same j = ap (λ (l : List ℕ). slice_index l j) taken.costs
-
       followed : Later r (expand w on i cost r) → IsFollowed w (expand w on i cost r) i cost → (j : ℕ) → j < items w → (j ≡ i) ⊎ (j ≢ i) → IsTodo s j ⊎ IsFollowed w s j (slice_index s.costs j)
           → (slice_index (expand w on i cost r).costs j ≡ slice_index r.costs j) ⊎ IsTodo (expand w on i cost r) j
           → IsTodo (expand w on i cost r) j ⊎ IsFollowed w (expand w on i cost r) j (slice_index (expand w on i cost r).costs j)
@@ -168,19 +177,44 @@ module _ (w : Wiring) (first limit : ℕ) (wiring : IsWiring w) (on : List (List
         | inr stays ↦ inl (later.kept j stays)
       ]
       followed later led j below (inr other) (inr done) (inl kept) =
-          let now : slice_index (expand w on i cost r).costs j ≡ slice_index s.costs j = kept ∙ same j in
-          inr (subst (λ (c : ℕ). IsFollowed w (expand w on i cost r) j c) (sym now) (IsFollowed-later w r (expand w on i cost r) j (slice_index s.costs j) later (was j (slice_index s.costs j) done)))
+          let now : slice_index (expand w on i cost r).costs j ≡ slice_index s.costs j = kept ∙ same_cost s r i taken j in
+          inr (subst (λ (c : ℕ). IsFollowed w (expand w on i cost r) j c) (sym now) (IsFollowed-later w r (expand w on i cost r) j (slice_index s.costs j) later (followed_taken s r i taken j (slice_index s.costs j) done)))
+
+  -- an item that costs so much that no hop from it is of use
+  pub IsGoing-skipped : (s r : Reach) (i : ℕ) → IsGoing w first limit s → IsTaken s i r → limit ≤ slice_index r.costs i + 3 → IsGoing w first limit r
+  IsGoing-skipped s r i going taken enough = record {
+    reach = reach;
+    begun = followed_taken s r i taken first 0 going.begun;
+    followed = λ j below. followed j (cases_eq j i) (going.followed j below);
+  }
+    where
+      reach : IsReach w first limit r
+      reach = IsReach-taken s r i taken going.reach
+
+      followed : (j : ℕ) → (j ≡ i) ⊎ (j ≢ i) → IsTodo s j ⊎ IsFollowed w s j (slice_index s.costs j) → IsTodo r j ⊎ IsFollowed w r j (slice_index r.costs j)
+      followed j (inl it) before = inr (λ t there rescuer.
+          let cost : slice_index r.costs j ≡ slice_index r.costs i = ap (slice_index r.costs) it in
+          (omega (arith, enough, cost, reach.capped t.item), omega (arith, enough, cost, reach.lanes_capped (lane_of w t.item), lane_step-least t))
+          )
+      followed j (inr other) (inl todo) = elim (taken_todo s r i taken j todo) [ inl it ↦ absurd (other it) | inr stays ↦ inl stays ]
+      followed j (inr other) (inr done) = inr (subst (λ (c : ℕ). IsFollowed w r j c) (sym (same_cost s r i taken j)) (followed_taken s r i taken j (slice_index s.costs j) done))
 
   -- less is left to do
+  work-taken : (s r : Reach) (i : ℕ) → IsTaken s i r → work r + 1 ≡ work s
+  work-taken s r i taken = by taken.queues
+    where
+      by : ((s.near ≡ i ∷ r.near) × (s.far ≡ r.far)) ⊎ ((s.far ≡ i ∷ r.far) × (s.near ≡ r.near)) → work r + 1 ≡ work s
+      by (inl (near, far)) = omega (arith, ap total taken.costs, ap (λ (l : List ℕ). length l) near, ap (λ (l : List ℕ). length l) far)
+      by (inr (far, near)) = omega (arith, ap total taken.costs, ap (λ (l : List ℕ). length l) near, ap (λ (l : List ℕ). length l) far)
+
+  pub work-skipped : (s r : Reach) (i : ℕ) → IsTaken s i r → work r < work s
+  work-skipped s r i taken = omega (arith, work-taken s r i taken)
+
   pub work-less : (s r end : Reach) (i cost : ℕ) → IsGoing w first limit s → IsTaken s i r → cost ≡ slice_index r.costs i → end ≡ expand w on i cost r → work end < work s
   work-less s r end i cost going taken costs is =
       let todo = going.reach.todo i (taken_was s r i taken) in
       let grown = Grown-expand w first limit wiring on are i cost r (IsReach-taken s r i taken going.reach) todo.1 (λ other. omega (arith, costs)) in
-      omega (arith, grown.0.later.work, fewer taken.queues, ap work is)
-    where
-      fewer : ((s.near ≡ i ∷ r.near) × (s.far ≡ r.far)) ⊎ ((s.far ≡ i ∷ r.far) × (s.near ≡ r.near)) → work r + 1 ≡ work s
-      fewer (inl (near, far)) = omega (arith, ap total taken.costs, ap (λ (l : List ℕ). length l) near, ap (λ (l : List ℕ). length l) far)
-      fewer (inr (far, near)) = omega (arith, ap total taken.costs, ap (λ (l : List ℕ). length l) near, ap (λ (l : List ℕ). length l) far)
+      omega (arith, grown.0.later.work, work-taken s r i taken, ap work is)
 
   -- ---- the end
 

@@ -1,7 +1,8 @@
 //! A least walk: waits that hold one another up, at the least cost.
 //!
-//! A flush that leads to a bare lane makes a walk that costs 4. A round is searched for from each item in turn, for less than the best
-//! walk so far costs. It takes the time of a search for each item, and memory in the number of items and lanes.
+//! A flush that leads to a bare lane makes a walk that costs 4. A round is searched for from each item in turn that is
+//! on a marked lane, for less than the best walk so far costs. It takes the time of a search for each item, and memory
+//! in the number of items and lanes.
 
 ghost use Rattle.std.specs.Prelude.{◌≡◌, ◌<◌, ◌≤◌, List, length, map, slice_index, IfOk, IfSome, IfNone, Contains};
 ghost use Rattle.std.specs.List.{range_with_len};
@@ -103,8 +104,8 @@ fn round<A: Allocator + Copy>(
     Ok(hops)
 }
 
-/// A round from an item that costs less than the least so far, and what it costs at most, if there is one. The item's lane is marked, or
-/// there is no need to look.
+/// A round from an item that costs less than the least so far, and what it costs at most, if there is one. The item's
+/// lane is marked, or there is no need to look.
 fn better_round<A: Allocator + Copy>(
     alloc: A,
     core: &Core<A>,
@@ -120,6 +121,10 @@ fn better_round<A: Allocator + Copy>(
     ensures some { IfOk result (λ found. IfSome found (λ better. IsBetter core.now.wiring first least better.0 better.1.items)) }
     ensures none { IfOk result (λ found. IfNone found (IsNoBetter core.now.wiring marks.now first least)) }
 {
+    // Each hop costs 3.
+    if least <= 3 {
+        return Ok(None);
+    }
     let lane = core.lane_of(first);
     if !core.has_rescuer(lane) {
         return Ok(None);
@@ -136,8 +141,8 @@ fn better_round<A: Allocator + Copy>(
     Ok(Some((cost, hops)))
 }
 
-/// A round that costs less than the limit and no more than any other, if there is one that costs less. Of any numbers of the lanes: rounds
-/// are searched for from the lanes that are marked by them.
+/// A round that costs less than the limit and no more than any other, if there is one that costs less. Of any numbers
+/// of the lanes: rounds are searched for from the lanes that are marked by them.
 pub(crate) fn least_round<A: Allocator + Copy>(
     alloc: A,
     core: &Core<A>,

@@ -3,8 +3,11 @@ use Rattle.std.specs.Prelude.{slice_index}
 use Rattle.std.proofs.lemmas.Bool.{false≢true}
 use Rattle.wq_core.specs.Wiring.{HasRescuer}
 use Rattle.wq_hang.specs.Search.{IsBetter}
-use Rattle.wq_hang.proofs.LeastFound.{IsNoBetter-bare, IsNoBetter-unmarked, IsNoBetter-searched, IsBetter-searched}
+use Rattle.wq_hang.proofs.LeastFound.{IsNoBetter-low, IsNoBetter-bare, IsNoBetter-unmarked, IsNoBetter-searched, IsBetter-searched}
 use Rattle.wq_hang.proofs.least.better_round.Goals as goal
+
+pub returns-then-least-le3 : goal.returns-then-least-le3
+returns-then-least-le3 g c = record { some = tt; none = IsNoBetter-low c.args.core.now.wiring c.args.marks.now c.args.first c.args.least c.if-least-le3.true }
 
 pub returns-then-not-has_rescuer : goal.returns-then-not-has_rescuer
 returns-then-not-has_rescuer g c =

@@ -1,6 +1,6 @@
 use Rattle.std.proofs.Common.{ℕ, List, length, replicate, sym, ap, subst, ◌∙◌, arith}
 use Rattle.wq_hang.specs.Search.{IsSearched}
-use Rattle.wq_hang.proofs.Searching.{IsNew, IsGoing-first, IsGoing-next, work-less, taken_was, IsSearched-all}
+use Rattle.wq_hang.proofs.Searching.{IsNew, IsGoing-first, IsGoing-next, IsGoing-skipped, work-less, work-skipped, taken_was, IsSearched-all}
 use Rattle.wq_hang.proofs.search.search_from.Goals as goal
 
 pub loop-item-init : goal.loop-item-init
@@ -49,3 +49,12 @@ returns g c =
     let w = c.args.core.now.wiring in
     let all = IsSearched-all w c.args.first c.args.limit c.items.ensures.machine.wiring c.args.on.now c.requires.on c.loop-item.search c.loop-item.invariant c.in_default.ensures.near c.in_default.ensures.far c.requires.first c.requires.rescuer in
     subst (IsSearched w c.args.first c.args.limit) (sym c.in_default.ensures.none) all
+
+pub loop-item-preserved-then-saturating_sub-le3 : goal.loop-item-preserved-then-saturating_sub-le3
+loop-item-preserved-then-saturating_sub-le3 g c =
+    IsGoing-skipped c.args.core.now.wiring c.args.first c.args.limit c.items.ensures.machine.wiring c.args.on.now c.requires.on c.loop-item.search c.take.new.self c.in-Some.item c.loop-item.invariant c.in-Some.ensures.some
+    (omega (arith, c.cost-cost.ensures, c.saturating_sub.ensures, c.if-saturating_sub-le3.true))
+
+pub loop-item-smaller-then-saturating_sub-le3 : goal.loop-item-smaller-then-saturating_sub-le3
+loop-item-smaller-then-saturating_sub-le3 g c =
+    work-skipped c.args.core.now.wiring c.args.first c.args.limit c.items.ensures.machine.wiring c.args.on.now c.requires.on c.loop-item.search c.take.new.self c.in-Some.item c.in-Some.ensures.some
