@@ -903,7 +903,8 @@ def look_at_searches(seed, walks, declarations):
         look_at_search(random.Random(f"{seed} walk {number}"))
     for number in range(declarations):
         text = search.make_declaration(random.Random(f"{seed} model {number}"))
-        *_, wrong = search.look_at_declaration(search.ask_model, itertools.repeat(1), text, number < declarations // 10, number < declarations // 2)
+        of = number < declarations // 10, number < declarations // 2
+        *_, wrong = search.look_at_declaration(search.ask_model, itertools.repeat(1), text, *of)
         demand(not wrong, f"the search finds what the model answers: {text!r}: {wrong}")
 
 
