@@ -140,7 +140,7 @@ COMMANDS = {
     "hang": (
         make_hangs.limit_hang_cases,
         make_hangs.random_hang_case,
-        [("safe", 0, r"safe\n")] + [(f"runs of {steps}", 1, rf"run {steps}\nW+") for steps in (3, 4, 6, 7, 8)]
+        [("safe", 0, r"safe\n")] + [(f"runs of {steps}", 1, rf"run {steps}\nW+") for steps in (3, 4, 6)]
         + [("longer runs", 1, r"run N\nW+")] + CERTIFICATE_REFUSALS,
     ),
     "circles": (

@@ -13,7 +13,7 @@ from make_certificates import (
 from make_declarations import join, numbered_items, path
 
 # Of the cases of `deadlock` at the limits every so many, since reading is the same, and all with texts as long as this.
-ONE_OF = 9
+ONE_OF = 18
 LONG = 100_000
 
 

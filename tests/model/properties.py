@@ -618,8 +618,8 @@ def look_at_deadlocking_run(declaration_text, assignment_text, printed):
 # The shortest runs -------------------------------------------------------------------------------
 
 # Of declarations of at most so many items and flushes all lists of flushes are looked at that are a circular wait.
-LISTED_ITEMS = 9
-LISTED_FLUSHES = 12
+LISTED_ITEMS = 6
+LISTED_FLUSHES = 7
 
 
 def second_runs(declared, assignment):
@@ -911,7 +911,8 @@ def look_at_searches(seed, walks, declarations):
         look_at_search(random.Random(f"{seed} walk {number}"))
     for number in range(declarations):
         text = search.make_declaration(random.Random(f"{seed} model {number}"))
-        *_, wrong = search.look_at_declaration(search.ask_model, itertools.repeat(1), text, number < declarations // 10)
+        of = number < declarations // 10, number < declarations // 2
+        *_, wrong = search.look_at_declaration(search.ask_model, itertools.repeat(1), text, *of)
         demand(not wrong, f"the search finds what the model answers: {text!r}: {wrong}")
 
 

@@ -1,6 +1,6 @@
 # Looks for runs that end stuck among all runs, and compares the program with what it finds:
 #
-#     search.py PROGRAM [SEED] [DECLARATIONS] [WITHOUT] [ONE_OF]
+#     search.py PROGRAM [SEED] [DECLARATIONS] [WITHOUT] [HANGS]
 #
 # It makes up small declarations, and for each one all assignments, up to the numbers of the
 # workqueues. Of each assignment it goes through all states that steps lead to, by the rules of
@@ -10,9 +10,9 @@
 # none. Where PROGRAM is `-`, the model is asked in its place. Of the smaller declarations all runs with one and
 # with two helpers are gone through, too: some run ends stuck exactly where one without helpers does.
 #
-# The states are gone through by the number of steps that lead to them. So the first one in which a run ends stuck says how many
-# steps the shortest of these runs has: `hang` must answer `safe`, or such a run of that many steps. With helpers no run that ends stuck
-# has fewer. PROGRAM is asked for one of so many assignments, and the model for all of them.
+# Of the first HANGS declarations the states are gone through by the number of steps that lead to them. So the first one in which a run
+# ends stuck says how many steps the shortest of these runs has: `hang` must answer `safe`, or such a run of that many steps. With helpers
+# no run that ends stuck has fewer. PROGRAM is asked for one of eight assignments, and the model for all of them.
 #
 # All this is so whichever workqueues have no rescuer. Of the first WITHOUT declarations each assignment is looked at with each
 # set of such workqueues, and else with none.
@@ -34,7 +34,8 @@ from make_declarations import join  # noqa: E402
 DEFAULT_SEED = "1"
 DEFAULT_DECLARATIONS = 600
 DEFAULT_WITHOUT = 40
-DEFAULT_ONE_OF = 8
+DEFAULT_HANGS = 100
+ONE_OF = 8
 
 # With so many helpers a run ends stuck where one does without them. That is looked at where there are no more items and flushes than
 # these.
@@ -245,16 +246,16 @@ def steps_of_rows(rows, helpers):
 
 
 @functools.cache
-def ends(rows, sets):
+def ends(rows, sets, by_length):
     """For which of these sets some run without helpers ends stuck, each with the fewest steps of one, and for which some run deadlocks."""
     steps, count = steps_of_rows(rows, 0)
-    return fewest_steps(steps, count, sets), sets_of_deadlocks(steps, count, sets)
+    return stuck_runs(steps, count, sets, by_length), sets_of_deadlocks(steps, count, sets)
 
 
 @functools.cache
-def ends_with(rows, sets, helpers):
+def ends_with(rows, sets, helpers, by_length):
     """For which of these sets some run with so many helpers ends stuck, each with the fewest steps of one."""
-    return fewest_steps(*steps_of_rows(rows, helpers), sets)
+    return stuck_runs(*steps_of_rows(rows, helpers), sets, by_length)
 
 
 def is_stuck(state, executions, bare):
@@ -266,32 +267,34 @@ def is_stuck(state, executions, bare):
     return not unfinished <= bare and all(step[0] == b"start" and step[1] in bare for step, _ in executions)
 
 
-def fewest_steps(steps, count, sets):
-    """For which of these sets some run ends stuck: by set, how few steps such a run has. Items are queued and cancelled at any time,
-    however often.
+def stuck_runs(steps, count, sets, by_length):
+    """For which of these sets some run ends stuck: by set, how few steps such a run has, if the states are gone through by length, which
+    takes longer; else 0. Items are queued and cancelled at any time, however often.
     """
     first = steps.begin(count)
     seen = {first}
-    left = [first]  # the states to which so many steps lead, and no fewer ones
+    left = [first]
     others = set(sets)
     found = {}
-    for length in itertools.count():
-        if not left or not others:
-            return found
-        behind_all = set()
-        for state in left:
+    length = 0
+    while left and others:
+        level, left = (left, []) if by_length else ([left.pop()], left)
+        for state in level:
             executions = list(steps.executions(state))
             found |= {bare: length for bare in others if is_stuck(state, executions, bare)}
-            behind_all.update(behind for _, behind in executions)
-            behind_all.update(behind for _, behind in steps.helper_starts(state))
-            behind_all.update(behind for _, behind in steps.queueings(state))
-            behind_all.update(behind for _, behind in steps.cancellations(state))
             others -= found.keys()
+            new = {behind for _, behind in executions}
+            new.update(behind for _, behind in steps.helper_starts(state))
+            new.update(behind for _, behind in steps.queueings(state))
+            new.update(behind for _, behind in steps.cancellations(state))
+            new = set(map(in_one_order, new)) if steps.helpers > 1 else new
+            new -= seen
+            seen |= new
+            left += new
             if not others:
                 break
-        behind_all = set(map(in_one_order, behind_all)) if steps.helpers > 1 else behind_all
-        left = behind_all - seen
-        seen |= left
+        length += 1 if by_length else 0
+    return found
 
 
 def is_as_declared(steps, state, step):
@@ -432,9 +435,9 @@ def is_helped(declared):
     return len(declared.items) <= HELPED_ITEMS and len(declared.flushes) <= HELPED_FLUSHES
 
 
-def look_at_assignment(ask, turn, text, declared, parts, sets):
+def look_at_assignment(ask, turn, text, declared, parts, sets, by_length):
     """Of each set of workqueues without a rescuer whether no run ends stuck, and what is wrong with the answers of `deadlock` and `hang`,
-    or None. Whenever it is the turn of 0, not the model alone is asked for `hang`.
+    or None. `hang` is asked for if `by_length`; whenever it is the turn of 0, not the model alone.
     """
     count = max(parts, default=-1) + 1
     workqueue_of = {name: parts[group] for name, group in declared.group_of.items()}
@@ -444,7 +447,7 @@ def look_at_assignment(ask, turn, text, declared, parts, sets):
     rows, numbers = numbered(waits, workqueue_of, ordered)
     set_of = {bare: frozenset(numbers[number] for number in bare) for bare in sets}
     all_of = frozenset(set_of.values())
-    all_stuck, all_deadlocks = ends(rows, all_of)
+    all_stuck, all_deadlocks = ends(rows, all_of, by_length)
     with_helpers = [Steps(waits, workqueue_of, ordered, helpers) for helpers in (0, *HELPERS)]
     for bare in sets:
         fewest = all_stuck.get(set_of[bare])
@@ -459,10 +462,11 @@ def look_at_assignment(ask, turn, text, declared, parts, sets):
                           f"{deadlocks}, the answer: {printed!r}, status {status}")
         elif is_helped(declared):
             for helpers in HELPERS:
-                helped = ends_with(rows, all_of, helpers).get(set_of[bare])
+                helped = ends_with(rows, all_of, helpers, by_length).get(set_of[bare])
                 if helped != fewest:
                     difference = f"{assignment!r}: the fewest steps that end stuck: {fewest}; with {helpers} helpers: {helped}"
-        for whom in (ask_model, ask) if next(turn) == 0 else (ask_model,):
+        whoms = (ask_model, ask) if by_length and next(turn) == 0 else (ask_model,) if by_length else ()
+        for whom in whoms:
             printed, status = whom("hang", [text, assignment])
             right = status == 1 and printed_run_hangs(declared, with_helpers, count, bare, fewest, printed)
             if not (right if stuck else (printed, status) == (b"safe\n", 0)):
@@ -470,7 +474,7 @@ def look_at_assignment(ask, turn, text, declared, parts, sets):
         yield not stuck, difference
 
 
-def look_at_declaration(ask, turn, text, without):
+def look_at_declaration(ask, turn, text, without, by_length):
     """How many assignments were looked at, and how many of them with helpers, too; and what is wrong with the answers.
 
     If `without`, each assignment is looked at with each set of workqueues without a rescuer.
@@ -482,7 +486,7 @@ def look_at_declaration(ask, turn, text, without):
     for parts in partitions(len(declared.groups)):
         count = max(parts, default=-1) + 1
         sets = all_sets(count) if without else [frozenset()]
-        for bare, (is_safe, difference) in zip(sets, look_at_assignment(ask, turn, text, declared, parts, sets)):
+        for bare, (is_safe, difference) in zip(sets, look_at_assignment(ask, turn, text, declared, parts, sets, by_length)):
             looked += 1
             if is_safe and not bare:
                 counts.append(count)
@@ -500,12 +504,12 @@ def ask_model(command, texts):
 
 
 def main(arguments):
-    found = seed_and_counts(arguments[1:], DEFAULT_SEED, DEFAULT_DECLARATIONS, DEFAULT_WITHOUT, DEFAULT_ONE_OF)
-    if not arguments or not found or found[3] == 0:
-        print("usage: search.py PROGRAM [SEED] [DECLARATIONS] [WITHOUT] [ONE_OF]", file=sys.stderr)
+    found = seed_and_counts(arguments[1:], DEFAULT_SEED, DEFAULT_DECLARATIONS, DEFAULT_WITHOUT, DEFAULT_HANGS)
+    if not arguments or not found:
+        print("usage: search.py PROGRAM [SEED] [DECLARATIONS] [WITHOUT] [HANGS]", file=sys.stderr)
         return 2
-    seed, count, without, one_of = found
-    turn = itertools.cycle(range(one_of))
+    seed, count, without, hangs = found
+    turn = itertools.cycle(range(ONE_OF))
     program = os.path.realpath(arguments[0])
     if arguments[0] != "-" and not compare.programs.is_there("search", program):
         return 1
@@ -520,7 +524,7 @@ def main(arguments):
 
         for number in range(count):
             text = make_declaration(random.Random(f"{seed} search {number}"))
-            assignments, with_helpers, wrong = look_at_declaration(ask, turn, text, number < without)
+            assignments, with_helpers, wrong = look_at_declaration(ask, turn, text, number < without, number < hangs)
             looked, helped = looked + assignments, helped + with_helpers
             if wrong:
                 print(f"FAILED  search, declaration {number} (seed {seed}): {text!r}")
