@@ -56,8 +56,6 @@ CASES = {
     ("deadlock", "only the last of 16,384 flushes leads to no rescuer, 2,048 workqueues without a rescuer"),
     ("replay", "16,384 flushes of workqueues lead to no rescuer, one workqueue without a rescuer"),
     ("circles", "16,384 flushes lead to no rescuer, 2,048 workqueues without a rescuer"),
-    ("dot", "16,384 flushes lead to no rescuer, 2,048 named workqueues without a rescuer"),
-    ("dot", "16,384 flushes lead to no rescuer, names that differ at the end"),
 } | REFUSED
 
 

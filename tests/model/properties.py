@@ -826,8 +826,10 @@ READER = load_reader()
 def labels(assignment):
     """By number what the reader has as labels that aren't just the number."""
     names = [name.decode() for name in assignment.called.values()]
-    return {number: name.decode() if names.count(name.decode()) == 1 else f"wq {number} {name.decode()}"
-            for number, name in assignment.called.items()}
+    called = {number: name.decode() if names.count(name.decode()) == 1 else f"wq {number} {name.decode()}"
+              for number, name in assignment.called.items()}
+    # (Workqueue 0 may be called `wq 0`.)
+    return {number: label for number, label in called.items() if label != f"wq {number}"}
 
 
 def names_of(drawn):
