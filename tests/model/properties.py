@@ -828,8 +828,8 @@ def labels(assignment):
     names = [name.decode() for name in assignment.called.values()]
     called = {number: name.decode() if names.count(name.decode()) == 1 else f"wq {number} {name.decode()}"
               for number, name in assignment.called.items()}
-    # (Workqueue 0 may be called `wq 0`.)
-    return {number: label for number, label in called.items() if label != f"wq {number}"}
+    # (Nobody can tell a workqueue without a rescuer that is called `wq 0` from one that has this number.)
+    return {number: label for number, label in called.items() if number not in assignment.bare or label != f"wq {number}"}
 
 
 def names_of(drawn):
