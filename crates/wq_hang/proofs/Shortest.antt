@@ -112,21 +112,17 @@ items_apart : (w : Wiring) (hops : List Hop) → Apart (lanes_from w hops) → A
 items_apart w [] apart = tt
 items_apart w (h ∷ hops) apart = (items_avoid w h.item hops apart.0, items_apart w hops apart.1)
 
+-- an item whose lane none of the hops leaves isn't one of theirs
+lane_apart : (w : Wiring) (hops : List Hop) (i j : ℕ) → Avoids (lane_of w i) (lanes_from w hops) → In j (items_of hops) → lane_of w i ≢ lane_of w j
+lane_apart w hops i j avoids there is =
+    let found = In_item hops j there in
+    not_in (lane_of w i) (lanes_from w hops) avoids (subst (λ (q : ℕ). In q (lanes_from w hops)) (ap (lane_of w) found.2 ∙ sym is) (lane_In w hops found.0 found.1))
+
 one_on_lane : (w : Wiring) (hops : List Hop) → Apart (lanes_from w hops) → (i j : ℕ) → In i (items_of hops) → In j (items_of hops) → lane_of w i ≡ lane_of w j → i ≡ j
 one_on_lane w [] apart i j one other same = absurd one
 one_on_lane w (h ∷ hops) apart i j (inl one) (inl other) same = one ∙ sym other
-one_on_lane w (h ∷ hops) apart i j (inl one) (inr other) same = absurd (not_in_lanes w hops h.item j apart.0 other (ap (lane_of w) (sym one) ∙ same))
-  where
-    not_in_lanes : (v : Wiring) (hs : List Hop) (a b : ℕ) → Avoids (lane_of v a) (lanes_from v hs) → In b (items_of hs) → lane_of v a ≢ lane_of v b
-    not_in_lanes v hs a b avoids there is =
-        let found = In_item hs b there in
-        not_in (lane_of v a) (lanes_from v hs) avoids (subst (λ (q : ℕ). In q (lanes_from v hs)) (ap (lane_of v) found.2 ∙ sym is) (lane_In v hs found.0 found.1))
-one_on_lane w (h ∷ hops) apart i j (inr one) (inl other) same = absurd (not_in_lanes w hops h.item i apart.0 one (ap (lane_of w) (sym other) ∙ sym same))
-  where
-    not_in_lanes : (v : Wiring) (hs : List Hop) (a b : ℕ) → Avoids (lane_of v a) (lanes_from v hs) → In b (items_of hs) → lane_of v a ≢ lane_of v b
-    not_in_lanes v hs a b avoids there is =
-        let found = In_item hs b there in
-        not_in (lane_of v a) (lanes_from v hs) avoids (subst (λ (q : ℕ). In q (lanes_from v hs)) (ap (lane_of v) found.2 ∙ sym is) (lane_In v hs found.0 found.1))
+one_on_lane w (h ∷ hops) apart i j (inl one) (inr other) same = absurd (lane_apart w hops h.item j apart.0 other (ap (lane_of w) (sym one) ∙ same))
+one_on_lane w (h ∷ hops) apart i j (inr one) (inl other) same = absurd (lane_apart w hops h.item i apart.0 one (ap (lane_of w) (sym other) ∙ sym same))
 one_on_lane w (h ∷ hops) apart i j (inr one) (inr other) same = one_on_lane w hops apart.1 i j one other same
 
 -- ---- a walk holds up
