@@ -2,7 +2,8 @@
 use Rattle.std.specs.Prelude.{◌≡◌, ℕ, ◌<◌, List, length}
 use Rattle.std.specs.List.{All}
 
--- the number of each vertex; how many arcs lead to each from vertices that have no number; and vertices to which none does
+-- the number of each vertex; how many arcs lead to each from vertices that have no number; and vertices to which none
+-- does
 pub record Given : Type 0 where
   pub numbers : List ℕ
   pub next : ℕ

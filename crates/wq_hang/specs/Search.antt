@@ -14,8 +14,8 @@ abbrev pub hops_cost : List Hop → ℕ
 hops_cost [] = 0
 hops_cost (h ∷ hops) = hop_cost h + hops_cost hops
 
--- what it costs so far to come to each item, and at most to an item of each lane; the hop by which each item is reached; and the
--- items that are to be gone on from, those that were reached at a cost of 3 more, and those at 4 more
+-- what it costs so far to come to each item, and at most to an item of each lane; the hop by which each item is
+-- reached; and the items that are to be gone on from, those that were reached at a cost of 3 more, and those at 4 more
 pub record Reach : Type 0 where
   pub costs : List ℕ
   pub lane_costs : List ℕ
@@ -61,7 +61,8 @@ reach_lane near cost i t q on s = if nat_lt cost (slice_index s.lane_costs q) th
 abbrev pub lane_step : Target → ℕ
 lane_step t = if t.whole then 3 else 4
 
--- the flush of item i, which costs so much, leads on to its target and to all items on the lane of its target, if that has a rescuer
+-- the flush of item i, which costs so much, leads on to its target and to all items on the lane of its target, if that
+-- has a rescuer
 abbrev pub follow : Wiring → List (List ℕ) → ℕ → ℕ → Reach → Target → Reach
 follow w on i cost s t =
     if slice_index_or w.bare (lane_of w t.item) false then s
@@ -87,8 +88,8 @@ pub record IsReachedBy (w : Wiring) (first : ℕ) (s : Reach) (i : ℕ) (h : Hop
   pub from_first : h.item ≡ first → hop_cost h ≤ slice_index s.costs i
   pub from_other : h.item ≢ first → slice_index s.costs h.item + hop_cost h ≤ slice_index s.costs i
 
--- what holds at each time: no cost is above the limit; to come to an item costs no more than to any item of its lane; and each
--- item that costs less than the limit is reached by its hop
+-- what holds at each time: no cost is above the limit; to come to an item costs no more than to any item of its lane;
+-- and each item that costs less than the limit is reached by its hop
 pub record IsReach (w : Wiring) (first limit : ℕ) (s : Reach) : Type 0 where
   pub one_each : length s.costs ≡ items w
   pub by_each : length s.by ≡ items w
@@ -104,15 +105,15 @@ abbrev pub IsFollowed : Wiring → Reach → ℕ → ℕ → Type 0
 IsFollowed w s i cost = (t : Target) → Contains (declared_by w i) t → HasRescuer w (lane_of w t.item)
     → (slice_index s.costs t.item ≤ cost + 3) × (slice_index s.lane_costs (lane_of w t.item) ≤ cost + lane_step t)
 
--- while the search goes on: the first item's flushes are followed from nothing, and those of each other item that is reached, or it
--- is to be gone on from
+-- while the search goes on: the first item's flushes are followed from nothing, and those of each other item that is
+-- reached, or it is to be gone on from
 pub record IsGoing (w : Wiring) (first limit : ℕ) (s : Reach) : Type 0 where
   pub reach : IsReach w first limit s
   pub begun : IsFollowed w s first 0
   pub followed : (i : ℕ) → i < items w → IsTodo s i ⊎ IsFollowed w s i (slice_index s.costs i)
 
--- the search is over: its cost for the first item is no more than that of any round from it; and the hops lead round, if it is less
--- than the limit
+-- the search is over: its cost for the first item is no more than that of any round from it; and the hops lead round,
+-- if it is less than the limit
 pub record IsSearched (w : Wiring) (first limit : ℕ) (s : Reach) : Type 0 where
   pub reach : IsReach w first limit s
   pub least : (hops : List Hop) → 0 < length hops → IsPath w first hops first → slice_index s.costs first ≤ hops_cost hops
@@ -130,7 +131,8 @@ pub record IsLeastRound (w : Wiring) (limit : ℕ) (hops : List Hop) : Type 0 wh
   pub less : hops_cost hops < limit
   pub least : (others : List Hop) → IsRound w others → hops_cost hops ≤ hops_cost others
 
--- by these numbers of lanes, each lane is marked to which a flush leads from a lane that has a rescuer and whose number isn't lower
+-- by these numbers of lanes, each lane is marked to which a flush leads from a lane that has a rescuer and whose number
+-- isn't lower
 abbrev pub AreMarked : Wiring → List ℕ → List Bool → Type 0
 AreMarked w numbers marks = (h : Hop) → IsHop w h → slice_index numbers (lane_of w h.flush.item) ≤ slice_index numbers (lane_of w h.item)
     → slice_index_or marks (lane_of w h.flush.item) false ≡ true

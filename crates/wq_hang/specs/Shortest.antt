@@ -17,8 +17,8 @@ NeedsWorker w (Start q i) = ¬ HasRescuer w q
 NeedsWorker w (Help q h deed) = ⊤
 NeedsWorker w _ = ⊥
 
--- with 0 to 8 helpers alike the steps are a run that ends stuck; none of them needs a worker that nobody can rely on; and no run
--- that ends stuck, with 0 to 8 helpers, has fewer steps
+-- with 0 to 8 helpers alike the steps are a run that ends stuck; none of them needs a worker that nobody can rely on;
+-- and no run that ends stuck, with 0 to 8 helpers, has fewer steps
 pub record IsShortestHang (w : Wiring) (steps : List Step) : Type 0 where
   pub hangs : (n : ℕ) → n ≤ max_helpers → EndsStuck w n steps
   pub alone : All (λ (step : Step). ¬ NeedsWorker w step) steps

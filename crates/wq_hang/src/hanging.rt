@@ -1,7 +1,7 @@
 //! Whether workqueues are safe, and else a shortest run that ends stuck.
 //!
-//! Where lanes and flushes end and runs begin: a least walk is found, and the run is that of the walk. It takes the time of the search
-//! for a least walk.
+//! Where lanes and flushes end and runs begin: a least walk is found, and the run is that of the walk. It takes the
+//! time of the search for a least walk.
 
 ghost use Rattle.std.specs.Prelude.{◌≡◌, ◌<◌, length, IfOk, OnErr, IfSome, IfNone, MatchOption};
 ghost use Rattle.wq_core.specs.Deadlock.{IsSafe};
@@ -56,10 +56,12 @@ fn least_walk<A: Allocator + Copy>(
     }
 }
 
-/// The shortest hang of workqueues of a table's items, if they can hang. The groups are those of this table, and each has a workqueue.
+/// The shortest hang of workqueues of a table's items, if they can hang. The groups are those of this table, and each
+/// has a workqueue.
 ///
-/// `Hang` has a run that ends stuck, such that no run that ends stuck has fewer steps, with 0 to 8 helpers of each workqueue; and the
-/// waits in it that hold one another up. The only error is out of memory (20), which can't occur where there is no workqueue.
+/// `Hang` has a run that ends stuck, such that no run that ends stuck has fewer steps, with 0 to 8 helpers of each
+/// workqueue; and the waits in it that hold one another up. The only error is out of memory (20), which can't occur
+/// where there is no workqueue.
 pub fn hang<A: Allocator + Copy>(
     alloc: A,
     table: &ItemTable<'_, A>,

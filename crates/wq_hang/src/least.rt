@@ -1,7 +1,8 @@
 //! A least walk: waits that hold one another up, at the least cost.
 //!
-//! A flush that leads to a bare lane makes a walk that costs 4. A round is searched for from each item in turn, for less than the best
-//! walk so far costs. It takes the time of a search for each item, and memory in the number of items and lanes.
+//! A flush that leads to a bare lane makes a walk that costs 4. A round is searched for from each item in turn that is
+//! on a marked lane, for less than the best walk so far costs. It takes the time of a search for each item, and memory
+//! in the number of items and lanes.
 
 ghost use Rattle.std.specs.Prelude.{◌≡◌, ◌<◌, ◌≤◌, List, length, map, slice_index, IfOk, IfSome, IfNone, Contains};
 ghost use Rattle.std.specs.List.{range_with_len};
@@ -103,8 +104,8 @@ fn round<A: Allocator + Copy>(
     Ok(hops)
 }
 
-/// A round from an item that costs less than the least so far, and what it costs at most, if there is one. The item's lane is marked, or
-/// there is no need to look.
+/// A round from an item that costs less than the least so far, and what it costs at most, if there is one. The item's
+/// lane is marked, or there is no need to look.
 fn better_round<A: Allocator + Copy>(
     alloc: A,
     core: &Core<A>,
@@ -140,8 +141,8 @@ fn better_round<A: Allocator + Copy>(
     Ok(Some((cost, hops)))
 }
 
-/// A round that costs less than the limit and no more than any other, if there is one that costs less. Of any numbers of the lanes: rounds
-/// are searched for from the lanes that are marked by them.
+/// A round that costs less than the limit and no more than any other, if there is one that costs less. Of any numbers
+/// of the lanes: rounds are searched for from the lanes that are marked by them.
 pub(crate) fn least_round<A: Allocator + Copy>(
     alloc: A,
     core: &Core<A>,

@@ -1,7 +1,7 @@
 //! The lanes from which rounds are searched for.
 //!
-//! Numbers of lanes can't rise all the way round, whatever they are. So each round comes to a lane from one whose number isn't lower.
-//! Those lanes are marked. It takes time and memory in the number of items, lanes and flushes.
+//! Numbers of lanes can't rise all the way round, whatever they are. So each round comes to a lane from one whose
+//! number isn't lower. Those lanes are marked. It takes time and memory in the number of items, lanes and flushes.
 
 ghost use Rattle.std.specs.Prelude.{◌≡◌, ◌<◌, ◌≤◌, ℕ, length, slice_index, slice_index_or, false, true, IfOk, Contains};
 ghost use Rattle.wq_items.specs.declared.target.Target.{Target};

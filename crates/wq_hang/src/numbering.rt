@@ -1,9 +1,9 @@
 //! Numbers of the vertices of a wait graph, such that few arcs lead to a vertex whose number isn't higher.
 //!
-//! A vertex gets the next number once all vertices from which arcs lead to it have theirs (A. B. Kahn, "Topological sorting of large
-//! networks", Communications of the ACM 5, 1962). Where there is none, the next one gets it in the order in which a search by breadth
-//! comes to them. Which numbers these are is promised nowhere: only the time of the search for a round depends on them. It takes time and
-//! memory in the number of vertices and arcs.
+//! A vertex gets the next number once all vertices from which arcs lead to it have theirs (A. B. Kahn, "Topological
+//! sorting of large networks", Communications of the ACM 5, 1962). Where there is none, the next one gets it in the
+//! order in which a search by breadth comes to them. Which numbers these are is promised nowhere: only the time of the
+//! search for a round depends on them. It takes time and memory in the number of vertices and arcs.
 
 ghost use Rattle.std.specs.Prelude.{◌≡◌, ◌<◌, ◌≤◌, length, IfOk, OnOk};
 ghost use Rattle.std.specs.List.{All};

@@ -1,7 +1,7 @@
 //! The run of a walk.
 //!
-//! All that waits is queued, and then what is waited for beside; then each item is started and begins its wait. It takes time and
-//! memory in the number of steps.
+//! All that waits is queued, and then what is waited for beside; then each item is started and begins its wait. It
+//! takes time and memory in the number of steps.
 
 ghost use Rattle.std.specs.Prelude.{◌≡◌, ◌<◌, ◌++◌, map, flat_map, IfOk};
 ghost use Rattle.std.specs.List.{All};

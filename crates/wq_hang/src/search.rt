@@ -1,10 +1,11 @@
 //! A search from one item: what it costs to come from it to each other item, and back to itself.
 //!
-//! A flush of an item leads on to its target, and for one more to any other item on the lane of its target; a flush of the whole lane
-//! leads to all its items alike. What costs less than before is gone on from, the cheapest first: hops cost 3 or 4, so two queues, one
-//! for each, are in order by themselves (E. W. Dijkstra, "A note on two problems in connexion with graphs", Numerische Mathematik 1,
-//! 1959). The first item costs nothing to begin with and is then left out, so what it costs in the end is the cheapest way round. What
-//! costs as much as the limit isn't gone on from. It takes time in the number of items, lanes and flushes.
+//! A flush of an item leads on to its target, and for one more to any other item on the lane of its target; a flush of
+//! the whole lane leads to all its items alike. What costs less than before is gone on from, the cheapest first: hops
+//! cost 3 or 4, so two queues, one for each, are in order by themselves (E. W. Dijkstra, "A note on two problems in
+//! connexion with graphs", Numerische Mathematik 1, 1959). The first item costs nothing to begin with and is then left
+//! out, so what it costs in the end is the cheapest way round. What costs as much as the limit isn't gone on from. It
+//! takes time in the number of items, lanes and flushes.
 
 ghost use Rattle.std.specs.Prelude.{◌≡◌, ◌<◌, ◌≤◌, ◌⊎◌, [], false, length, replicate, slice_index, slice_index_or, IfOk, IfSome, IfNone, IsTrue};
 ghost use Rattle.std.specs.List.{All};
