@@ -51,9 +51,11 @@ hop_to i t j = record { item = i; flush = t; next = j }
 abbrev pub reach_all : Bool → ℕ → ℕ → Target → List ℕ → Reach → Reach
 reach_all near cost i t on s = fold (λ (r : Reach) (j : ℕ). reach near cost r (hop_to i t j)) s on
 
+-- what it costs at most to come to an item of lane q is this
 abbrev pub with_lane_cost : ℕ → ℕ → Reach → Reach
 with_lane_cost q cost s = record { costs = s.costs; lane_costs = slice_set s.lane_costs q cost; by = s.by; near = s.near; far = s.far }
 
+-- the same, unless it costs no more already to come to any item of lane q
 abbrev pub reach_lane : Bool → ℕ → ℕ → Target → ℕ → List ℕ → Reach → Reach
 reach_lane near cost i t q on s = if nat_lt cost (slice_index s.lane_costs q) then with_lane_cost q cost (reach_all near cost i t on s) else s
 
