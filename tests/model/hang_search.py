@@ -9,7 +9,6 @@
 # shortest run is that ends stuck, and it knows nothing of walks. Beside it stands what `hang`
 # looks for, which knows nothing of runs: a walk of waits of least cost.
 
-import itertools
 import random
 import sys
 
