@@ -140,8 +140,8 @@ COMMANDS = {
     "hang": (
         make_hangs.limit_hang_cases,
         make_hangs.random_hang_case,
-        [("safe", 0, r"safe\n")] + [(f"runs of {steps}", 1, rf"run {steps}\nW+") for steps in (3, 4, 6)]
-        + [("longer runs", 1, r"run N\nW+")] + CERTIFICATE_REFUSALS,
+        [("safe", 0, r"safe\n")] + [(f"runs of {steps}", 1, rf"run {steps}\nY+") for steps in (3, 4, 6)]
+        + [("longer runs", 1, r"run N\nY+")] + CERTIFICATE_REFUSALS,
     ),
     "circles": (
         make_circles.limit_circles_cases,
@@ -198,7 +198,7 @@ FEWER = ("run", "hang")
 
 
 def form(pattern):
-    pattern = pattern.replace("W", r"(queue Z\n|(start|wait|waitwq) N Z\n)")
+    pattern = pattern.replace("Y", r"(queue Z\n|(start|wait|waitwq) N Z\n)")
     pattern = pattern.replace("S", r"(queue Z\n|(start|wait|waitwq|over|overwq|finish) N Z\n)")
     pattern = pattern.replace("A", r"(arc Z\n)").replace("N", r"(0|[1-9][0-9]*)")
     return re.compile(pattern.replace("Z", r"[A-Za-z0-9_.-]+( [A-Za-z0-9_.-]+)*").encode())
