@@ -140,7 +140,7 @@ c:1:1: expected `plan K`, found `wq` [refused 40, `wqplan explain 40`]
         declaration: TWO,
         certificate: "\u{FEFF}wq 0 b\nwq 1 a\n",
         said: "\
-c: `a`, `b` are on no workqueue: line 1 isn't a `wq` line [refused 41, `wqplan explain 41`]
+c: `a`, `b` are on no workqueue: line 1 isn't a `wq` or `norescuer` line [refused 41, `wqplan explain 41`]
     ???wq 0 b
     ^^^^^ a byte order mark: save the file without it
 ",
@@ -151,7 +151,7 @@ c: `a`, `b` are on no workqueue: line 1 isn't a `wq` line [refused 41, `wqplan e
         declaration: TWO,
         certificate: "wq 0 b\nwp 1 a\n",
         said: "\
-c: `a` is on no workqueue: line 2 isn't a `wq` line [refused 41, `wqplan explain 41`]
+c: `a` is on no workqueue: line 2 isn't a `wq` or `norescuer` line [refused 41, `wqplan explain 41`]
     wp 1 a
     ^^ did you mean `wq`?
 ",
@@ -162,7 +162,7 @@ c: `a` is on no workqueue: line 2 isn't a `wq` line [refused 41, `wqplan explain
         declaration: TWO,
         certificate: TWO,
         said: "\
-c: `a`, `b` are on no workqueue: line 1 isn't a `wq` line [refused 41, `wqplan explain 41`]
+c: `a`, `b` are on no workqueue: line 1 isn't a `wq` or `norescuer` line [refused 41, `wqplan explain 41`]
     item a
     ^^^^ this looks like a declaration: are the files in the right order?
 ",
