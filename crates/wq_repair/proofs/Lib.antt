@@ -1,0 +1,5 @@
+pub mod Identified
+pub mod Rescuers
+pub mod Starts
+pub mod Minimal
+pub mod Falling
