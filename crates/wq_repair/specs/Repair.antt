@@ -1,5 +1,6 @@
 -- Repairs: workqueues made safe, with no change that could be left out.
 use Rattle.std.specs.Prelude.{◌≡◌, ℕ, ◌<◌, ◌≤◌, max, Bool, List}
+use Rattle.wq_items.specs.Chain.{Circle}
 use Rattle.wq_groups.specs.Declaration.{Declaration}
 use Rattle.wq_groups.specs.Assignment.{IsAssignment}
 use Rattle.wq_graph.specs.declared.arc.WaitArc.{WaitArc}
@@ -13,6 +14,7 @@ use Rattle.wq_repair.specs.declared.answer.Answer.{Answer}
 use Rattle.wq_repair.specs.declared.answer.Answer.TheVariants as answer
 use Rattle.wq_repair.specs.Changes.{IsNamed, IsToBeCompared, HasFewerChanges}
 use Rattle.wq_repair.specs.Needed.{AreUnneeded}
+use Rattle.wq_repair.specs.Joined.{NeededWaits}
 
 -- the old workqueues deadlock and the new ones are safe; and whatever has only some of the changes deadlocks. No more lanes are made
 -- than there are groups
@@ -23,9 +25,10 @@ pub record IsRepair (d : Declaration) (old : Workqueues) (names : List ℕ) (new
   pub minimal : (fewer : Workqueues) → IsToBeCompared d old names fewer → HasFewerChanges d old fewer new → Deadlocks (wiring_of d fewer)
   pub few : new.assignment.lanes ≤ max old.assignment.lanes d.groups
 
--- a group may not move, and whatever may be compared deadlocks. Of this `start`, in which each group that may move and needs a rescuer
+-- no groups that need a rescuer wait in a circle; but a group may not move, and whatever may be compared deadlocks. Of this `start`, in which each group that may move and needs a rescuer
 -- is alone, the steps are the run that shows it
 pub record AreNamesTooFew (d : Declaration) (old : Workqueues) (names : List ℕ) (start : Workqueues) (steps : List Step) : Type 0 where
+  pub no_circle : ¬ Circle (NeededWaits d old)
   pub some_stay : (g : ℕ) × (g < d.groups) × (¬ IsNamed d names g)
   pub compared : IsToBeCompared d old names start
   pub hang : IsHang d start steps
