@@ -7,3 +7,4 @@ pub mod Changes
 pub mod Needed
 pub mod Repair
 pub mod Joined
+pub mod Marks

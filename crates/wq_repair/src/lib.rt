@@ -7,6 +7,15 @@
 #![tactic(auto)]
 
 mod answer;
+mod joined;
+mod lanes;
 pub mod laws;
+mod named;
+mod needed;
+mod order;
+mod placing;
+mod repairing;
+mod start;
 
 pub use answer::Answer;
+pub use repairing::repair;

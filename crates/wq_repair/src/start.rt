@@ -3,6 +3,7 @@
 //! Whatever is compared with a repair comes from the start when lanes are put together. So where the start deadlocks, everything does.
 //! It takes time and memory in the number of groups and lanes.
 
+use crate::lanes::Lanes;
 use std::alloc::{AllocError, Allocator};
 use wq_core::Workqueues;
 use wq_groups::{Assignment, GroupId, LaneId};
@@ -62,27 +63,6 @@ fn free_lanes<A: Allocator + Copy>(
     Ok(free)
 }
 
-/// Lanes that are taken in turn: these, then new ones.
-#[derive(Drop)]
-struct Lanes<A: Allocator> {
-    free: Vec<u16, A>,
-    taken: usize,
-    count: u16,
-}
-
-impl<A: Allocator> Lanes<A> {
-    /// The next one.
-    fn take(&mut self) -> u16 {
-        if let Some(lane) = self.free.get(self.taken) {
-            self.taken += 1;
-            return *lane;
-        }
-        let lane = self.count;
-        self.count += 1;
-        lane
-    }
-}
-
 /// Each movable group on a lane of its own, by number, upwards through the lanes that hold no other groups than these, and then on new
 /// ones; all others on theirs. The lanes of the former have a rescuer, and of the latter those that are given one.
 pub(crate) fn start<A: Allocator + Copy>(
@@ -92,11 +72,8 @@ pub(crate) fn start<A: Allocator + Copy>(
     given: &[bool],
 ) -> Result<Workqueues<A>, AllocError> {
     let assignment = workqueues.assignment();
-    let mut lanes = Lanes {
-        free: free_lanes(alloc, workqueues, movable)?,
-        taken: 0,
-        count: assignment.lanes(),
-    };
+    let free = free_lanes(alloc, workqueues, movable)?;
+    let mut lanes = Lanes::new(free, assignment.lanes());
     let mut bare = Vec::new(alloc);
     bare.extend_from_slice(workqueues.bare())?;
     let mut of_group = Vec::with_capacity(alloc, movable.len())?;
@@ -110,6 +87,6 @@ pub(crate) fn start<A: Allocator + Copy>(
         }
         of_group.push(LaneId::new(lane))?;
     }
-    let assignment = Assignment::new(lanes.count, of_group).unwrap();
+    let assignment = Assignment::new(lanes.count(), of_group).unwrap();
     Ok(Workqueues::new(assignment, bare))
 }
