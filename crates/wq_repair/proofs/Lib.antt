@@ -3,3 +3,4 @@ pub mod Rescuers
 pub mod Starts
 pub mod Minimal
 pub mod Falling
+pub mod Joining

@@ -8,3 +8,4 @@ pub mod Needed
 pub mod Repair
 pub mod Joined
 pub mod Marks
+pub mod Steps
