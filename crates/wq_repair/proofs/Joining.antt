@@ -1,7 +1,7 @@
 -- Two vertices become one. This makes a circle exactly where one of them leads to the other. Belongs where chains and circles stand.
-use Rattle.std.proofs.Common.{◌≡◌, ◌≢◌, ℕ, ◌+◌, ◌<◌, ◌≤◌, ◌⊎◌, inl, inr, Bool, true, false, List, [], ◌∷◌, refl, sym, ap, subst, ◌∙◌, arith}
+use Rattle.std.proofs.Common.{◌≡◌, ℕ, ◌+◌, ◌<◌, ◌≤◌, ◌⊎◌, inl, inr, Bool, true, false, List, [], ◌∷◌, refl, sym, ap, subst, ◌∙◌, arith}
 use Rattle.std.specs.Prelude.{if◌then◌else◌, ◌==◌}
-use Rattle.std.proofs.lemmas.Bool.{cases_Bool, cases_eq, false≢true, eqb-true, eq-eqb}
+use Rattle.std.proofs.lemmas.Bool.{cases_Bool, false≢true, eqb-true, eq-eqb}
 use Rattle.wq_items.specs.Chain.{IsChain, last_of, Circle}
 use Rattle.wq_core.proofs.LaneCircles.{Circle-map}
 
@@ -24,7 +24,7 @@ number_joined beyond number bound v p = if beyond p then number p else if p == v
 
 -- `beyond` says to what u and v lead; neither leads to the other
 module _ (R : ℕ → ℕ → Type 0) (number : ℕ → ℕ) (bound : ℕ) (falls : (x y : ℕ) → R x y → number y < number x) (below : (x : ℕ) → number x < bound)
-    (beyond : ℕ → Bool) (u v : ℕ) (apart : u ≢ v) (not_u : beyond u ≡ false) (not_v : beyond v ≡ false)
+    (beyond : ℕ → Bool) (u v : ℕ) (not_u : beyond u ≡ false) (not_v : beyond v ≡ false)
     (from_u : (y : ℕ) → R u y → beyond y ≡ true) (from_v : (y : ℕ) → R v y → beyond y ≡ true) (on : (x y : ℕ) → beyond x ≡ true → R x y → beyond y ≡ true) where
   abbrev new : ℕ → ℕ
   new p = number_joined beyond number bound v p

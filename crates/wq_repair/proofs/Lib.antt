@@ -4,3 +4,4 @@ pub mod Starts
 pub mod Minimal
 pub mod Falling
 pub mod Joining
+pub mod StartsBy

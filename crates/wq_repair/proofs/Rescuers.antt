@@ -55,6 +55,9 @@ IsLedTo-next d old R g h led step =
     let more = chain-more R led.first h led.others led.chain (subst (λ (x : ℕ). R x h) (sym led.ends) step) in
     record { first = led.first; others = led.others ++ (h ∷ []); is_group = led.is_group; rescued = led.rescued; chain = more.0; ends = more.1 }
 
+pub IsLedTo-first : (d : Declaration) (old : Workqueues) (R : ℕ → ℕ → Type 0) (g : ℕ) → g < d.groups → IsRescued old (lane_in old g) → IsLedTo d old R g
+IsLedTo-first d old R g is rescued = record { first = g; others = []; is_group = is; rescued = rescued; chain = tt; ends = refl }
+
 chain-some : (R S : ℕ → ℕ → Type 0) → ((v w : ℕ) → R v w → S v w) → (vs : List ℕ) → IsChain R vs → IsChain S vs
 chain-some R S some [] chain = tt
 chain-some R S some (v ∷ []) chain = tt
