@@ -6,12 +6,12 @@ use Rattle.wq_items.specs.Chain.{IsChain, last_of, Circle}
 -- unless there is a way out
 module _ (R S : ℕ → ℕ → Type 0) (Becomes : ℕ → ℕ → Type 0) (Out : Type 0)
     (one : (v x y : ℕ) → Becomes v x → Becomes v y → x ≡ y)
-    (keeps : (v w : ℕ) → R v w → ((x y : ℕ) × Becomes v x × Becomes w y × S x y) ⊎ Out) where
+    (keeps : (v w : ℕ) → R v w → ((x : ℕ) × (y : ℕ) × Becomes v x × Becomes w y × S x y) ⊎ Out) where
   -- a chain from v whose last vertex becomes z
   abbrev ChainTo : ℕ → ℕ → Type 0
-  ChainTo v z = (x : ℕ) (others : List ℕ) × Becomes v x × IsChain S (x ∷ others) × (last_of x others ≡ z)
+  ChainTo v z = (x : ℕ) × (others : List ℕ) × Becomes v x × IsChain S (x ∷ others) × (last_of x others ≡ z)
 
-  longer : (v w z : ℕ) → ((x y : ℕ) × Becomes v x × Becomes w y × S x y) → ChainTo w z → ChainTo v z
+  longer : (v w z : ℕ) → ((x : ℕ) × (y : ℕ) × Becomes v x × Becomes w y × S x y) → ChainTo w z → ChainTo v z
   longer v w z step rest =
       let same : step.1 ≡ rest.0 = one w step.1 rest.0 step.3 rest.2 in
       (step.0, rest.0 ∷ rest.1, step.2, (subst (λ (y : ℕ). S step.0 y) same step.4, rest.3), rest.4)

@@ -37,10 +37,10 @@ module _ (d : Declaration) (old new fewer : Workqueues) (names : List ℕ) (decl
   has_to_leave g below stays leaves = elim (rescued-needed d old fewer names declaration before compared g leaves.needed) [
     | inr dead ↦ dead
     | inl rescued ↦ absurd (
-      let own : IsRescued fewer (lane_in old g) = subst (IsRescued fewer) stays rescued in
-      let given : IsGiven d old fewer (lane_in old g) = record { bare = leaves.bare; rescued = own; group = g; is_group = below; was = refl; stays = stays } in
-      false≢true (sym (less.given (lane_in old g) given).rescued ∙ leaves.still_bare)
-    )
+        let own : IsRescued fewer (lane_in old g) = subst (IsRescued fewer) stays rescued in
+        let given : IsGiven d old fewer (lane_in old g) = record { bare = leaves.bare; rescued = own; group = g; is_group = below; was = refl; stays = stays } in
+        false≢true (sym (less.given (lane_in old g) given).rescued ∙ leaves.still_bare)
+        )
   ]
 
   one_moved : (g : ℕ) → g < d.groups → HasMoved old new g → (¬ HasMoved old fewer g) → D

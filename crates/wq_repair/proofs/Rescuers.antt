@@ -24,14 +24,14 @@ use Rattle.wq_repair.proofs.Identified.{Circle-identified}
 
 -- a lane has a rescuer, or has none
 pub cases_rescued : (ws : Workqueues) (q : ℕ) → IsRescued ws q ⊎ IsBare ws q
-cases_rescued ws q = elim (cases_Bool (get_or ws.bare q false)) [ | inl bare ↦ inr bare | inr rescued ↦ inl rescued ]
+cases_rescued ws q = elim (cases_Bool (get_or ws.bare q false)) [ inl bare ↦ inr bare | inr rescued ↦ inl rescued ]
 
 -- a group stays, or has moved
 pub cases_moved : (old new : Workqueues) (g : ℕ) → (lane_in new g ≡ lane_in old g) ⊎ HasMoved old new g
 cases_moved old new g = cases_eq (lane_in new g) (lane_in old g)
 
 pub stays-not_moved : (old new : Workqueues) (g : ℕ) → (¬ HasMoved old new g) → lane_in new g ≡ lane_in old g
-stays-not_moved old new g not = elim (cases_moved old new g) [ | inl stays ↦ stays | inr moved ↦ absurd (not moved) ]
+stays-not_moved old new g not = elim (cases_moved old new g) [ inl stays ↦ stays | inr moved ↦ absurd (not moved) ]
 
 -- the lane of an item is that of its group
 pub lane_of-group : (d : Declaration) (ws : Workqueues) (i g : ℕ) → slice_get d.group_of i ≡ Some g → lane_of (wiring_of d ws) i ≡ lane_in ws g
@@ -88,8 +88,8 @@ module _ (d : Declaration) (ws : Workqueues) (declaration : IsDeclaration d) (as
       elim (cases_rescuer (wiring_of d ws) (lane_in ws h)) [
         | inl also ↦ inl also
         | inr bare ↦ inr (Deadlocks-bare (wiring_of d ws) waits.item waits.target wiring waits.declares
-        (subst (HasRescuer (wiring_of d ws)) (sym from) rescued)
-        (subst (λ (q : ℕ). ¬ HasRescuer (wiring_of d ws) q) (sym to) bare))
+            (subst (HasRescuer (wiring_of d ws)) (sym from) rescued)
+            (subst (λ (q : ℕ). ¬ HasRescuer (wiring_of d ws) q) (sym to) bare))
       ]
 
   pub Deadlocks-round : HangsRound d ws → Deadlocks (wiring_of d ws)
@@ -143,7 +143,7 @@ module _ (d : Declaration) (old new : Workqueues) (names : List ℕ) (declaratio
   ]
 
   -- groups that need a rescuer, and wait in a circle
-  needed_waits : (g h : ℕ) → NeededWaits d old g h → ((x y : ℕ) × (x ≡ lane_in new g) × (y ≡ lane_in new h) × RescuedWaits (wiring_of d new) x y) ⊎ D
+  needed_waits : (g h : ℕ) → NeededWaits d old g h → ((x : ℕ) × (y : ℕ) × (x ≡ lane_in new g) × (y ≡ lane_in new h) × RescuedWaits (wiring_of d new) x y) ⊎ D
   needed_waits g h waits = elim (rescued-needed g (NeedsRescuerOf-any d old names g waits.0)) [
     | inr dead ↦ inr dead
     | inl rescued ↦ elim (rescued-awaited d new declaration compared.assignment g h waits.1 rescued) [
@@ -173,7 +173,7 @@ module _ (d : Declaration) (old new : Workqueues) (names : List ℕ) (declaratio
     one_lane p x y b c = sym b.here ∙ together b.group c.group b.is_group c.is_group (subst (IsRescued other) (sym b.there) b.rescued) (b.there ∙ sym c.there) ∙ c.here
 
     step : (p q : ℕ) (g h : ℕ) → lane_in other g ≡ p → lane_in other h ≡ q → IsRescued other p → IsRescued other q → GroupWaits d g h
-        → ((x y : ℕ) × Becomes p x × Becomes q y × RescuedWaits (wiring_of d new) x y) ⊎ D
+        → ((x : ℕ) × (y : ℕ) × Becomes p x × Becomes q y × RescuedWaits (wiring_of d new) x y) ⊎ D
     step p q g h at_p at_q has_p has_q waits =
         let g_below = waiting-below d declaration g h waits in
         let h_below = awaited-below d declaration g h waits in
@@ -182,7 +182,8 @@ module _ (d : Declaration) (old new : Workqueues) (names : List ℕ) (declaratio
           | inl rescued ↦ elim (rescued-awaited d new declaration compared.assignment g h waits rescued) [
             | inr dead ↦ inr dead
             | inl also ↦ inl (
-              lane_in new g, lane_in new h,
+              lane_in new g,
+              lane_in new h,
               record { group = g; is_group = g_below; rescued = has_p; there = at_p; here = refl },
               record { group = h; is_group = h_below; rescued = has_q; there = at_q; here = refl },
               (rescued, also, LaneWaits-group_waits d new declaration compared.assignment g h waits),
@@ -193,7 +194,7 @@ module _ (d : Declaration) (old new : Workqueues) (names : List ℕ) (declaratio
     lane-at : (i q : ℕ) → slice_get (item_lanes other.assignment d.group_of) i ≡ Some q → i < length d.group_of → lane_in other (slice_index d.group_of i) ≡ q
     lane-at i q at within = sym (item_lanes-at other.assignment d.group_of i within) ∙ get_or_from_slice_get (item_lanes other.assignment d.group_of) i q 0 at
 
-    other_waits : (p q : ℕ) → RescuedWaits (wiring_of d other) p q → ((x y : ℕ) × Becomes p x × Becomes q y × RescuedWaits (wiring_of d new) x y) ⊎ D
+    other_waits : (p q : ℕ) → RescuedWaits (wiring_of d other) p q → ((x : ℕ) × (y : ℕ) × Becomes p x × Becomes q y × RescuedWaits (wiring_of d new) x y) ⊎ D
     other_waits p q (has_p, has_q, waits) =
         let src = lane-at waits.item p waits.of_item (waiting-item d declaration waits.item waits.target waits.declares) in
         let dst = lane-at waits.target q waits.of_target (awaited-item d declaration waits.item waits.target waits.declares) in

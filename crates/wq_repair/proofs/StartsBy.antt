@@ -14,7 +14,7 @@ use Rattle.wq_repair.proofs.Rescuers.{cases_rescued, IsLedTo-first, IsLedTo-next
 
 -- a list says so, or doesn't
 pub cases_marked : (marks : List Bool) (k : ℕ) → IsMarked marks k ⊎ (¬ IsMarked marks k)
-cases_marked marks k = elim (cases_Bool (get_or marks k false)) [ | inl is ↦ inl is | inr not ↦ inr (λ is. false≢true (sym not ∙ is)) ]
+cases_marked marks k = elim (cases_Bool (get_or marks k false)) [ inl is ↦ inl is | inr not ↦ inr (λ is. false≢true (sym not ∙ is)) ]
 
 module _ (d : Declaration) (old start : Workqueues) (names : List ℕ) (named named_lanes needed movable given : List Bool) (before : IsAssignment d.groups old.assignment)
     (are_named : Marks (IsNamed d names) d.groups named)
@@ -51,7 +51,7 @@ module _ (d : Declaration) (old start : Workqueues) (names : List ℕ) (named na
   ]
 
   moved_movable : (g : ℕ) → g < d.groups → HasMoved old start g → IsMarked movable g
-  moved_movable g is moved = elim (cases_marked movable g) [ | inl marked ↦ marked | inr not ↦ absurd (moved (by.stay g (below g is) not)) ]
+  moved_movable g is moved = elim (cases_marked movable g) [ inl marked ↦ marked | inr not ↦ absurd (moved (by.stay g (below g is) not)) ]
 
   given_named : (q : ℕ) → IsGiven d old start q → IsNamedLane d old names q
   given_named q is = elim (cases_marked movable is.group) [
@@ -60,7 +60,7 @@ module _ (d : Declaration) (old start : Workqueues) (names : List ℕ) (named na
       | inl had ↦ absurd (false≢true (sym had ∙ subst (IsBare old) (sym is.was) is.bare))
       | inr marked ↦
           let lane : IsNamedLane d old names (lane_in old is.group) =
-              (are_lanes.exactly (lane_in old is.group) (lane_below is.group is.is_group)).1 ((are_given.exactly (lane_in old is.group) (lane_below is.group is.is_group)).1 marked).named in
+          (are_lanes.exactly (lane_in old is.group) (lane_below is.group is.is_group)).1 ((are_given.exactly (lane_in old is.group) (lane_below is.group is.is_group)).1 marked).named in
           subst (IsNamedLane d old names) is.was lane
     ]
   ]
@@ -86,18 +86,18 @@ module _ (d : Declaration) (old start : Workqueues) (names : List ℕ) (named na
   given_stays g is unnamed needed_g lane = elim (cases_rescued old (lane_in old g)) [
     | inl had ↦ by.kept (lane_in old g) had
     | inr bare ↦ by.given (lane_in old g)
-    ((are_given.exactly (lane_in old g) (lane_below g is)).2 (record {
-      bare = bare;
-      named = (are_lanes.exactly (lane_in old g) (lane_below g is)).2 lane;
-      all = λ h lt on. (are_needed.exactly h (omega (arith, lt, are_needed.one_each))).2 (IsLedTo-next d old (BringsAlong d old names) g h needed_g (inr (record {
-        unnamed = unnamed;
-        bare = bare;
-        named_lane = lane;
-        is_group = omega (arith, lt, are_needed.one_each);
-        beside = on;
-      })));
-    }))
-    (record { group = g; is_group = below g is; other = λ marked. unnamed (movable_named g is marked); on = refl })
+        ((are_given.exactly (lane_in old g) (lane_below g is)).2 (record {
+          bare = bare;
+          named = (are_lanes.exactly (lane_in old g) (lane_below g is)).2 lane;
+          all = λ h lt on. (are_needed.exactly h (omega (arith, lt, are_needed.one_each))).2 (IsLedTo-next d old (BringsAlong d old names) g h needed_g (inr (record {
+            unnamed = unnamed;
+            bare = bare;
+            named_lane = lane;
+            is_group = omega (arith, lt, are_needed.one_each);
+            beside = on;
+          })));
+        }))
+        (record { group = g; is_group = below g is; other = λ marked. unnamed (movable_named g is marked); on = refl })
   ]
 
   pub IsStart-by : IsStart d old names start

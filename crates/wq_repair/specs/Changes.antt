@@ -17,9 +17,13 @@ IsBare ws q = slice_index_or ws.bare q false ≡ true
 abbrev pub lane_in : Workqueues → ℕ → ℕ
 lane_in ws g = group_lane ws.assignment g
 
+-- one of the named items is in group g, where items have these groups
+abbrev pub HasName : List ℕ → List ℕ → ℕ → Type 0
+HasName group_of names g = Any (λ i. slice_index group_of i ≡ g) names
+
 -- group g may move: one of the named items is in it
 abbrev pub IsNamed : Declaration → List ℕ → ℕ → Type 0
-IsNamed d names g = Any (λ i. slice_index d.group_of i ≡ g) names
+IsNamed d names g = HasName d.group_of names g
 
 -- lane q may be given a rescuer: a group that may move is on it
 pub record IsNamedLane (d : Declaration) (old : Workqueues) (names : List ℕ) (q : ℕ) : Type 0 where
@@ -34,8 +38,8 @@ pub record IsNamedLane (d : Declaration) (old : Workqueues) (names : List ℕ) (
 abbrev pub HasMoved : Workqueues → Workqueues → ℕ → Type 0
 HasMoved old new g = lane_in new g ≢ lane_in old g
 
--- lane q is given a rescuer: it had none and has one now, and a group is on it that was on it before. A lane on which no group
--- stays is as good as a new one, so a rescuer for it is no change
+-- lane q is given a rescuer: it had none and has one now, and a group is on it that was on it before. A lane on which
+-- no group stays is as good as a new one, so a rescuer for it is no change
 pub record IsGiven (d : Declaration) (old new : Workqueues) (q : ℕ) : Type 0 where
   pub bare : IsBare old q
   pub rescued : IsRescued new q
@@ -48,12 +52,13 @@ pub record IsGiven (d : Declaration) (old new : Workqueues) (q : ℕ) : Type 0 w
 pub record HasFewerChanges (d : Declaration) (old one other : Workqueues) : Type 0 where
   pub moved : (g : ℕ) → g < d.groups → HasMoved old one g → HasMoved old other g
   pub given : (q : ℕ) → IsGiven d old one q → IsGiven d old other q
-  pub more : ((g : ℕ) × (g < d.groups) × HasMoved old other g × (¬ HasMoved old one g)) ⊎ ((q : ℕ) × IsGiven d old other q × (¬ IsGiven d old one q))
+  pub more : ((g : ℕ) × (g < d.groups) × HasMoved old other g × (¬ HasMoved old one g))
+      ⊎ ((q : ℕ) × IsGiven d old other q × (¬ IsGiven d old one q))
 
 -- ---- what a repair is compared with
 
--- all lanes are still there, perhaps with more behind them, and none has lost its rescuer; every group that moved is on a lane that has
--- a rescuer; only groups that may move did, and only lanes that may be given a rescuer were
+-- all lanes are still there, perhaps with more behind them, and none has lost its rescuer; every group that moved is on
+-- a lane that has a rescuer; only groups that may move did, and only lanes that may be given a rescuer were
 pub record IsToBeCompared (d : Declaration) (old : Workqueues) (names : List ℕ) (new : Workqueues) : Type 0 where
   pub assignment : IsAssignment d.groups new.assignment
   pub lanes : old.assignment.lanes ≤ new.assignment.lanes

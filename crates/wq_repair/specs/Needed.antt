@@ -19,7 +19,8 @@ pub record IsLedTo (d : Declaration) (old : Workqueues) (R : ℕ → ℕ → Typ
 abbrev pub NeedsRescuer : Declaration → Workqueues → ℕ → Type 0
 NeedsRescuer d old g = IsLedTo d old (GroupWaits d) g
 
--- if g needs a rescuer, so does h: g may not move, so their lane, which has none and may be given one, has to be given one
+-- if g needs a rescuer, so does h: g may not move, so their lane, which has none and may be given one, has to be given
+-- one
 pub record StaysBeside (d : Declaration) (old : Workqueues) (names : List ℕ) (g h : ℕ) : Type 0 where
   pub unnamed : ¬ IsNamed d names g
   pub bare : IsBare old (lane_in old g)

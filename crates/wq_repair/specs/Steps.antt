@@ -6,6 +6,13 @@ use Rattle.wq_repair.specs.Changes.{IsRescued, IsBare, lane_in}
 use Rattle.wq_repair.specs.Joined.{HangsRound}
 use Rattle.wq_repair.specs.Marks.{IsMarked}
 
+-- one of the marked groups is on lane q
+pub record HoldsMarked (ws : Workqueues) (marks : List Bool) (q : ℕ) : Type 0 where
+  pub group : ℕ
+  pub is_group : group < length marks
+  pub marked : IsMarked marks group
+  pub on : lane_in ws group ≡ q
+
 -- lane q is given a rescuer: it has none and may be given one, and all groups on it need one
 pub record IsToBeGiven (old : Workqueues) (named_lanes needed : List Bool) (q : ℕ) : Type 0 where
   pub bare : IsBare old q
@@ -23,19 +30,21 @@ pub record HoldsOther (ws : Workqueues) (movable : List Bool) (q : ℕ) : Type 0
   pub other : ¬ IsMarked movable group
   pub on : lane_in ws group ≡ q
 
--- each movable group is alone on a lane that has a rescuer, and all others are where they were. The lanes that have a rescuer are those
--- that had one, those of movable groups, and those that are given one and hold another group
+-- each movable group is alone on a lane that has a rescuer, and all others are where they were. The lanes that have a
+-- rescuer are those that had one, those of movable groups, and those that are given one and hold another group
 pub record IsStartBy (old : Workqueues) (movable given : List Bool) (start : Workqueues) : Type 0 where
   pub one_each : length start.assignment.lane_of_group ≡ length movable
   pub within : (g : ℕ) → g < length movable → lane_in start g < start.assignment.lanes
   pub more : old.assignment.lanes ≤ start.assignment.lanes
   pub few : start.assignment.lanes ≤ max old.assignment.lanes (length movable)
   pub stay : (g : ℕ) → g < length movable → (¬ IsMarked movable g) → lane_in start g ≡ lane_in old g
-  pub alone : (g h : ℕ) → g < length movable → h < length movable → IsMarked movable g → lane_in start g ≡ lane_in start h → g ≡ h
+  pub alone : (g h : ℕ) → g < length movable → h < length movable → IsMarked movable g
+      → lane_in start g ≡ lane_in start h → g ≡ h
   pub rescued : (g : ℕ) → g < length movable → IsMarked movable g → IsRescued start (lane_in start g)
   pub kept : (q : ℕ) → IsRescued old q → IsRescued start q
   pub given : (q : ℕ) → IsMarked given q → HoldsOther old movable q → IsRescued start q
-  pub only : (g : ℕ) → g < length movable → (¬ IsMarked movable g) → IsRescued start (lane_in old g) → IsRescued old (lane_in old g) ⊎ IsMarked given (lane_in old g)
+  pub only : (g : ℕ) → g < length movable → (¬ IsMarked movable g) → IsRescued start (lane_in old g)
+      → IsRescued old (lane_in old g) ⊎ IsMarked given (lane_in old g)
 
 -- ---- putting together
 
@@ -44,13 +53,15 @@ abbrev pub placed_at : Workqueues → List ℕ → Workqueues
 placed_at ws at = record { assignment = record { lanes = ws.assignment.lanes; lane_of_group = at }; bare = ws.bare }
 
 -- group g came to vertex v, and there is still no circle; or it would make one, and nothing was changed
-pub record IsJoined (d : Declaration) (start : Workqueues) (g v : ℕ) (at : List ℕ) (joined : Bool) (new : List ℕ) : Type 0 where
+pub record IsJoined (d : Declaration) (start : Workqueues) (g v : ℕ) (at : List ℕ) (joined : Bool) (new : List ℕ)
+    : Type 0 where
   pub yes : IsTrue joined → (new ≡ slice_set at g v) × (¬ HangsRound d (placed_at start new))
   pub no : (¬ IsTrue joined) → (new ≡ at) × HangsRound d (placed_at start (slice_set at g v))
 
--- where groups go: those that leave go to lanes that have a rescuer, all others stay; who shares a lane and needs a rescuer has the same
--- rank
-pub record ArePlacedBy (old : Workqueues) (given stays leaves : List Bool) (ranks : List ℕ) (new : Workqueues) : Type 0 where
+-- where groups go: those that leave go to lanes that have a rescuer, all others stay; who shares a lane and needs a
+-- rescuer has the same rank
+pub record ArePlacedBy (old : Workqueues) (given stays leaves : List Bool) (ranks : List ℕ) (new : Workqueues)
+    : Type 0 where
   pub one_each : length new.assignment.lane_of_group ≡ length leaves
   pub more : old.assignment.lanes ≤ new.assignment.lanes
   pub few : new.assignment.lanes ≤ max old.assignment.lanes (length leaves)
@@ -58,6 +69,8 @@ pub record ArePlacedBy (old : Workqueues) (given stays leaves : List Bool) (rank
   pub rescued : (g : ℕ) → g < length leaves → IsMarked leaves g → IsRescued new (lane_in new g)
   pub kept : (q : ℕ) → IsRescued old q → IsRescued new q
   pub given : (q : ℕ) → IsMarked given q → IsRescued new q
-  pub only : (g : ℕ) → g < length leaves → IsRescued new (lane_in old g) → IsRescued old (lane_in old g) ⊎ IsMarked given (lane_in old g)
-  pub ranked : (g h : ℕ) → g < length leaves → h < length leaves → IsMarked stays g ⊎ IsMarked leaves g → IsMarked stays h ⊎ IsMarked leaves h
+  pub only : (g : ℕ) → g < length leaves → IsRescued new (lane_in old g)
+      → IsRescued old (lane_in old g) ⊎ IsMarked given (lane_in old g)
+  pub ranked : (g h : ℕ) → g < length leaves → h < length leaves → IsMarked stays g ⊎ IsMarked leaves g
+      → IsMarked stays h ⊎ IsMarked leaves h
       → lane_in new g ≡ lane_in new h → slice_index ranks g ≡ slice_index ranks h

@@ -13,8 +13,8 @@ pub enum Answer<A: Allocator> {
     Safe,
     /// They deadlock, and these are safe. Without any of the changes they would deadlock.
     Repaired(Workqueues<A>),
-    /// They deadlock, and so they do whatever is changed, if no other item may move. In these each group that may move and needs a
-    /// rescuer is alone; the run is the one by which they deadlock.
+    /// They deadlock, and so they do whatever is changed, if no other item may move. In these each group that may move
+    /// and needs a rescuer is alone; the run is the one by which they deadlock.
     TooFewNames(Workqueues<A>, Vec<Step, A>),
     /// Groups that need a rescuer wait in this circle. So they deadlock whatever is changed.
     Circle(Vec<WaitArc, A>),

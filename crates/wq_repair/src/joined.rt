@@ -1,8 +1,8 @@
 //! Groups that are put together, as far as that makes no circle.
 //!
-//! At first each group is at the vertex that is its lane in the start. A group that is alone comes to a vertex if neither leads to the
-//! other: that is where their becoming one makes a circle. Each question takes time in the number of groups and flushes at most, and
-//! memory in the number of vertices.
+//! At first each group is at the vertex that is its lane in the start. A group that is alone comes to a vertex if
+//! neither leads to the other: that is where their becoming one makes a circle. Each question takes time in the number
+//! of groups and flushes at most, and memory in the number of vertices.
 
 use std::alloc::{AllocError, Allocator};
 use wq_graph::WaitGraph;
@@ -56,7 +56,13 @@ impl<A: Allocator + Copy> Joined<A> {
     }
 
     /// Whether one vertex leads to another.
-    fn leads(&self, alloc: A, graph: &WaitGraph<A>, from: u16, to: u16) -> Result<bool, AllocError> {
+    fn leads(
+        &self,
+        alloc: A,
+        graph: &WaitGraph<A>,
+        from: u16,
+        to: u16,
+    ) -> Result<bool, AllocError> {
         let mut is_known = vec![in alloc; false; self.vertices()]?;
         let mut todo = Vec::new(alloc);
         todo.push(from)?;
@@ -96,9 +102,9 @@ impl<A: Allocator + Copy> Joined<A> {
     }
 }
 
-/// Puts these groups together, in this order, with those that come from the same lane of the old workqueues: at the vertex that `homes`
-/// has for the lane. The first that comes where there is none makes its own the home. The answer says of each group whether it is at
-/// the home of its lane.
+/// Puts these groups together, in this order, with those that come from the same lane of the old workqueues: at the
+/// vertex that `homes` has for the lane. The first that comes where there is none makes its own the home. The answer
+/// says of each group whether it is at the home of its lane.
 pub(crate) fn put_together<A: Allocator + Copy>(
     alloc: A,
     joined: &mut Joined<A>,

@@ -2,7 +2,7 @@
 
 ghost use Rattle.std.specs.Prelude.{◌≡◌, ℕ, ◌<◌, ◌⊎◌, List};
 ghost use Rattle.wq_items.specs.Chain.{Circle};
-ghost use Rattle.wq_groups.specs.Declaration.{Declaration, IsDeclaration};
+ghost use Rattle.wq_groups.specs.Declaration.{Declaration, IsDeclaration, GroupWaits};
 ghost use Rattle.wq_groups.specs.Assignment.{IsAssignment};
 ghost use Rattle.wq_core.specs.Workqueues.{Workqueues, wiring_of};
 ghost use Rattle.wq_core.specs.Deadlock.{IsSafe, Deadlocks};
@@ -24,19 +24,20 @@ pub fn a_circle_of_needed_groups_cannot_be_repaired()
         Deadlocks (wiring_of d new) }
 {}
 
-/// Where the start deadlocks, whatever may be compared does: an item on a lane that has a rescuer waits for one on a lane that has
-/// none, or the lanes wait in a circle.
+/// Where the start deadlocks, whatever may be compared does: an item on a lane that has a rescuer waits for one on a
+/// lane that has none, or the lanes wait in a circle.
 pub fn names_are_too_few_where_the_start_deadlocks()
-    ensures leads_to_bare { (d : Declaration) (old start new : Workqueues) (names : List ℕ) (g h : ℕ) → IsDeclaration d →
-        IsAssignment d.groups old.assignment → IsStart d old names start → IsToBeCompared d old names new →
-        GroupWaits d g h → IsRescued start (lane_in start g) → (¬ IsRescued start (lane_in start h)) → Deadlocks (wiring_of d new) }
+    ensures leads_to_bare { (d : Declaration) (old start new : Workqueues) (names : List ℕ) (g h : ℕ) →
+        IsDeclaration d → IsAssignment d.groups old.assignment → IsStart d old names start → IsToBeCompared d old names new →
+        GroupWaits d g h → IsRescued start (lane_in start g) → (¬ IsRescued start (lane_in start h)) →
+        Deadlocks (wiring_of d new) }
     ensures circle { (d : Declaration) (old start new : Workqueues) (names : List ℕ) → IsDeclaration d →
         IsAssignment d.groups old.assignment → IsStart d old names start → IsToBeCompared d old names new →
         HangsRound d start → Deadlocks (wiring_of d new) }
 {}
 
-/// Where each group that moved has to leave or was tried in vain, and each lane that is given a rescuer needs it, what has fewer
-/// changes deadlocks.
+/// Where each group that moved has to leave or was tried in vain, and each lane that is given a rescuer needs it, what
+/// has fewer changes deadlocks.
 pub fn no_change_can_be_left_out()
     ensures { (d : Declaration) (old new fewer : Workqueues) (names : List ℕ) → IsDeclaration d →
         IsAssignment d.groups old.assignment → AreChangesNeeded d old names new → IsToBeCompared d old names fewer →

@@ -4,9 +4,9 @@
 
 ghost use Rattle.std.specs.Prelude.{◌≡◌, ◌<◌, length, IfOk};
 ghost use Rattle.std.specs.List.{All};
-ghost use Rattle.wq_groups.specs.Declaration.{Declaration};
-ghost use Rattle.wq_repair.specs.Changes.{IsNamed, IsNamedLane};
+ghost use Rattle.wq_repair.specs.Changes.{HasName};
 ghost use Rattle.wq_repair.specs.Marks.{Marks};
+ghost use Rattle.wq_repair.specs.Steps.{HoldsMarked};
 
 use std::alloc::{AllocError, Allocator};
 use wq_core::Workqueues;
@@ -20,8 +20,7 @@ pub(crate) fn named_groups<A: Allocator + Copy>(
     names: &[ItemId],
 ) -> Result<Vec<bool, A>, AllocError>
     requires { All (λ i. i < length groups.now.group_of) names.now }
-    ensures { (d : Declaration) → d.group_of ≡ groups.now.group_of →
-        IfOk result (λ named. Marks (IsNamed d names.now) groups.now.groups named.items) }
+    ensures { IfOk result (λ named. Marks (HasName groups.now.group_of names.now) groups.now.groups named.items) }
 {
     let mut named = vec![in alloc; false; usize::from(groups.len())]?;
     for item in names {
@@ -37,8 +36,7 @@ pub(crate) fn named_lanes<A: Allocator + Copy>(
     named: &[bool],
 ) -> Result<Vec<bool, A>, AllocError>
     requires { length named.now ≡ length workqueues.now.assignment.lane_of_group }
-    ensures { (d : Declaration) (names : List ℕ) → Marks (IsNamed d names) d.groups named.now →
-        IfOk result (λ lanes. Marks (IsNamedLane d workqueues.now names) workqueues.now.assignment.lanes lanes.items) }
+    ensures { IfOk result (λ lanes. Marks (HoldsMarked workqueues.now named.now) workqueues.now.assignment.lanes lanes.items) }
 {
     let mut lanes = vec![in alloc; false; usize::from(workqueues.assignment().lanes())]?;
     for (group, is_named) in named.iter().enumerate() {

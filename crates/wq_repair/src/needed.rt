@@ -1,21 +1,22 @@
 //! The groups that need a rescuer.
 //!
-//! Those on lanes that have one do, and whom such a group waits for does. If one of them may not move and its lane has none, the lane
-//! has to be given one, if it may; so who else is on it needs one too. What is found is followed once, so it takes time and memory in
-//! the number of groups, lanes and flushes.
+//! Those on lanes that have one do, and whom such a group waits for does. If one of them may not move and its lane has
+//! none, the lane has to be given one, if it may; so who else is on it needs one too. What is found is followed once,
+//! so it takes time and memory in the number of groups, lanes and flushes.
 
 ghost use Rattle.std.specs.Prelude.{◌≡◌, ◌<◌, length, IfOk};
-ghost use Rattle.wq_groups.specs.Declaration.{Declaration};
-ghost use Rattle.wq_graph.specs.Graph.{group_graph};
-ghost use Rattle.wq_repair.specs.Changes.{IsNamed, IsNamedLane};
+ghost use Rattle.std.specs.List.{All};
+ghost use Rattle.wq_groups.specs.Declaration.{declaration_of};
 ghost use Rattle.wq_repair.specs.Needed.{NeedsRescuerOf};
 ghost use Rattle.wq_repair.specs.Marks.{Marks};
 
+use crate::named::{named_groups, named_lanes};
 use std::alloc::{AllocError, Allocator};
 use wq_buckets::Buckets;
 use wq_core::Workqueues;
 use wq_graph::WaitGraph;
-use wq_groups::{GroupId, LaneId};
+use wq_groups::{Assignment, GroupId, Groups};
+use wq_items::{ItemId, ItemTable};
 
 /// What is known so far.
 #[derive(Drop)]
@@ -73,30 +74,44 @@ fn on_rescuers<A: Allocator + Copy>(
     Ok(needed)
 }
 
-/// For each group whether it needs a rescuer, if only named groups may move, and only named lanes may be given one. `on` has the groups
-/// on each lane.
+/// The groups on each lane.
+fn groups_on_lanes<A: Allocator + Copy>(
+    alloc: A,
+    assignment: &Assignment<A>,
+) -> Result<Buckets<A>, AllocError> {
+    let mut lanes = Vec::with_capacity(alloc, assignment.groups())?;
+    for group in 0..assignment.groups() as u16 {
+        lanes.push(assignment.lane(GroupId::new(group)).get())?;
+    }
+    Buckets::new(alloc, lanes.as_slice(), assignment.lanes())
+}
+
+/// For each group whether it needs a rescuer, if only the groups of these items may move.
 pub(crate) fn needed_groups<A: Allocator + Copy>(
     alloc: A,
-    graph: &WaitGraph<A>,
+    table: &ItemTable<'_, A>,
+    groups: &Groups<A>,
     workqueues: &Workqueues<A>,
-    on: &Buckets<A>,
-    named: &[bool],
-    named_lanes: &[bool],
+    names: &[ItemId],
 ) -> Result<Vec<bool, A>, AllocError>
-    requires graph { length graph.now ≡ length workqueues.now.assignment.lane_of_group }
-    requires on { length on.now ≡ workqueues.now.assignment.lanes }
-    requires named { length named.now ≡ length workqueues.now.assignment.lane_of_group }
-    requires named_lanes { length named_lanes.now ≡ workqueues.now.assignment.lanes }
-    ensures { (d : Declaration) (names : List ℕ) → graph.now ≡ group_graph d → Marks (IsNamed d names) d.groups named.now →
-        Marks (IsNamedLane d workqueues.now names) workqueues.now.assignment.lanes named_lanes.now →
-        IfOk result (λ needed. Marks (NeedsRescuerOf d workqueues.now names) d.groups needed.items) }
+    requires grouped { length groups.now.group_of ≡ length table.now.names }
+    requires assigned { length workqueues.now.assignment.lane_of_group ≡ groups.now.groups }
+    requires names { All (λ i. i < length groups.now.group_of) names.now }
+    ensures { IfOk result (λ needed.
+        Marks (NeedsRescuerOf (declaration_of table.now groups.now) workqueues.now names.now) groups.now.groups needed.items) }
 {
+    let graph = WaitGraph::of_groups(alloc, table, groups)?;
+    let on = groups_on_lanes(alloc, workqueues.assignment())?;
+    let named = named_groups(alloc, groups, names)?;
+    let lanes = named_lanes(alloc, workqueues, named.as_slice())?;
     let mut needed = on_rescuers(alloc, workqueues)?;
     while let Some(group) = needed.todo.pop() {
-        needed.add_awaited(graph, group)?;
-        let lane: LaneId = workqueues.assignment().lane(GroupId::new(group));
-        let at = usize::from(lane.get());
-        if !named[usize::from(group)] && workqueues.is_bare(lane) && named_lanes[at] {
+        needed.add_awaited(&graph, group)?;
+        let lane = workqueues.assignment().lane(GroupId::new(group));
+        if !named[usize::from(group)]
+            && workqueues.is_bare(lane)
+            && lanes[usize::from(lane.get())]
+        {
             needed.add_lane(on.places(lane.get()))?;
         }
     }

@@ -1,8 +1,8 @@
 //! Where the groups go that aren't put back: to lanes of their rank.
 //!
-//! Ranks fall along every wait, and lanes that hold groups of the same rank can be put together. So a group goes to a lane on which a
-//! group of its rank stays, and else all of that rank go to an empty lane, or to a new one. It takes time and memory in the number of
-//! groups and lanes.
+//! Ranks fall along every wait, and lanes that hold groups of the same rank can be put together. So a group goes to a
+//! lane on which a group of its rank stays, and else all of that rank go to an empty lane, or to a new one. It takes
+//! time and memory in the number of groups and lanes.
 
 use crate::lanes::Lanes;
 use std::alloc::{AllocError, Allocator};
@@ -69,8 +69,8 @@ fn empty_lanes<A: Allocator + Copy>(
     Ok(empty)
 }
 
-/// The workqueues on which each group that leaves is on a lane of its rank, and all others stay. Lanes to which groups go have a rescuer,
-/// and so have those that are given one. `most` is above all ranks.
+/// The workqueues on which each group that leaves is on a lane of its rank, and all others stay. Lanes to which groups
+/// go have a rescuer, and so have those that are given one. `most` is above all ranks.
 pub(crate) fn place<A: Allocator + Copy>(
     alloc: A,
     old: &Workqueues<A>,

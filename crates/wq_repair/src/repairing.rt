@@ -1,12 +1,15 @@
 //! Repairs: the steps from workqueues that deadlock to such that don't.
 //!
-//! The groups that need a rescuer are found, and wait in no circle, or nothing helps. If each of them that may move has a lane for
-//! itself and there is still a deadlock, too few may move. Otherwise they are put back one by one where that makes no circle; those
-//! that can't be put back are kept together as far as possible, and go to lanes of their rank.
+//! The groups that need a rescuer are found, and wait in no circle, or nothing helps. If each of them that may move has
+//! a lane for itself and there is still a deadlock, too few may move. Otherwise they are put back one by one where that
+//! makes no circle; those that can't be put back are kept together as far as possible, and go to lanes of their rank.
 
-ghost use Rattle.std.specs.Prelude.{◌≡◌, ◌<◌, length, IfOk, OnErr};
+ghost use Rattle.std.specs.Prelude.{◌≡◌, ◌<◌, ℕ, Bool, false, true, not, List, length, slice_index_or, IfOk, OnErr};
 ghost use Rattle.std.specs.List.{All};
 ghost use Rattle.wq_groups.specs.Declaration.{declaration_of};
+ghost use Rattle.wq_items.specs.Chain.{HasCircle};
+ghost use Rattle.wq_graph.specs.Graph.{HasArc, group_graph, without};
+ghost use Rattle.wq_levels.specs.Ranks.{AreRanks};
 ghost use Rattle.wq_repair.specs.Repair.{IsAnswer};
 
 use crate::answer::Answer;
@@ -17,7 +20,6 @@ use crate::order::order_of_trial;
 use crate::placing::place;
 use crate::start::{given_lanes, movable_groups, start};
 use std::alloc::{AllocError, Allocator};
-use wq_buckets::Buckets;
 use wq_core::Workqueues;
 use wq_deadlock::{Judged, judge, rescued_graph};
 use wq_graph::WaitGraph;
@@ -25,28 +27,38 @@ use wq_groups::{Assignment, GroupId, Groups, LaneId};
 use wq_items::{ItemId, ItemTable};
 use wq_levels::{Ranked, rank};
 
-/// The groups on each lane.
-fn groups_on_lanes<A: Allocator + Copy>(
+/// All items of a table.
+fn all_items<A: Allocator + Copy>(
     alloc: A,
-    assignment: &Assignment<A>,
-) -> Result<Buckets<A>, AllocError> {
-    let mut lanes = Vec::with_capacity(alloc, assignment.groups())?;
-    for group in 0..assignment.groups() as u16 {
-        lanes.push(assignment.lane(GroupId::new(group)).get())?;
+    table: &ItemTable<'_, A>,
+) -> Result<Vec<ItemId, A>, AllocError> {
+    let mut items = Vec::with_capacity(alloc, usize::from(table.len()))?;
+    for item in 0..table.len() {
+        items.push(ItemId::new(item))?;
     }
-    Buckets::new(alloc, lanes.as_slice(), assignment.lanes())
+    Ok(items)
 }
 
-/// For each group the opposite.
-fn others<A: Allocator + Copy>(alloc: A, marks: &[bool]) -> Result<Vec<bool, A>, AllocError> {
-    let mut others = Vec::with_capacity(alloc, marks.len())?;
-    for mark in marks {
-        others.push(!*mark)?;
+/// The wait graph of the groups that need a rescuer. All groups are vertices, and the others have no arcs.
+fn graph_of_needed<A: Allocator + Copy>(
+    alloc: A,
+    table: &ItemTable<'_, A>,
+    groups: &Groups<A>,
+    needed: &[bool],
+) -> Result<WaitGraph<A>, AllocError>
+    requires { length groups.now.group_of ≡ length table.now.names }
+    ensures { IfOk result (λ graph. (out : List Bool) × ((g : ℕ) → slice_index_or out g false ≡ not (slice_index_or needed.now g true))
+        × (graph ≡ without out (group_graph (declaration_of table.now groups.now)))) }
+{
+    let mut out = Vec::with_capacity(alloc, needed.len())?;
+    for is_needed in needed {
+        out.push(!*is_needed)?;
     }
-    Ok(others)
+    WaitGraph::of_groups(alloc, table, groups)?.without(alloc, out.as_slice())
 }
 
-/// The groups that are put to trial, lane by lane: those that may move and need a rescuer, but not those that have to leave.
+/// The groups that are put to trial, lane by lane: those that may move and need a rescuer, but not those that have to
+/// leave.
 fn tried_groups<A: Allocator + Copy>(
     alloc: A,
     old: &Workqueues<A>,
@@ -135,13 +147,23 @@ fn ranks_of_groups<A: Allocator + Copy>(
     Ok(of_group)
 }
 
+/// The ranks of a graph that has no circle.
+fn ranks_of<A: Allocator + Copy>(alloc: A, graph: &WaitGraph<A>) -> Result<Vec<u16, A>, AllocError>
+    requires { ¬ HasCircle (HasArc graph.now) (length graph.now) }
+    ensures { IfOk result (λ ranks. AreRanks graph.now ranks.items) }
+{
+    match rank(alloc, graph)? {
+        Ranked::Ranks(ranks) => Ok(ranks),
+        Ranked::Circle(_) => unreachable!(),
+    }
+}
+
 /// Of workqueues that can be repaired: the repair.
 fn repaired<A: Allocator + Copy>(
     alloc: A,
     table: &ItemTable<'_, A>,
     groups: &Groups<A>,
     graph: &WaitGraph<A>,
-    ranks: &[u16],
     old: &Workqueues<A>,
     start: &Workqueues<A>,
     needed: &[bool],
@@ -151,9 +173,18 @@ fn repaired<A: Allocator + Copy>(
     let assignment = old.assignment();
     let mut joined = Joined::new(alloc, start.assignment(), needed)?;
     let tried = tried_groups(alloc, old, movable, given)?;
-    let order = order_of_trial(alloc, graph, by_rank(alloc, ranks, needed)?.as_slice(), tried.as_slice())?;
+    let ranks = ranks_of(alloc, graph)?;
+    let by_rank = by_rank(alloc, ranks.as_slice(), needed)?;
+    let order = order_of_trial(alloc, graph, by_rank.as_slice(), tried.as_slice())?;
     let mut homes = homes(alloc, assignment, &joined, needed, movable)?;
-    let back = put_together(alloc, &mut joined, graph, assignment, homes.as_mut_slice(), order.as_slice())?;
+    let back = put_together(
+        alloc,
+        &mut joined,
+        graph,
+        assignment,
+        homes.as_mut_slice(),
+        order.as_slice(),
+    )?;
     let mut leaves = Vec::with_capacity(alloc, movable.len())?;
     let mut stays = Vec::with_capacity(alloc, movable.len())?;
     let mut out = Vec::new(alloc);
@@ -166,12 +197,17 @@ fn repaired<A: Allocator + Copy>(
         }
     }
     let mut none: Vec<Option<u16>, A> = vec![in alloc; None; usize::from(assignment.lanes())]?;
-    put_together(alloc, &mut joined, graph, assignment, none.as_mut_slice(), out.as_slice())?;
+    put_together(
+        alloc,
+        &mut joined,
+        graph,
+        assignment,
+        none.as_mut_slice(),
+        out.as_slice(),
+    )?;
     let merged = vertices_as_lanes(alloc, start, &joined)?;
-    let merged_ranks = match rank(alloc, &rescued_graph(alloc, table, groups, &merged)?)? {
-        Ranked::Ranks(ranks) => ranks,
-        Ranked::Circle(_) => unreachable!(),
-    };
+    let merged_graph = rescued_graph(alloc, table, groups, &merged)?;
+    let merged_ranks = ranks_of(alloc, &merged_graph)?;
     let of_group = ranks_of_groups(alloc, &joined, merged_ranks.as_slice(), groups.len())?;
     place(
         alloc,
@@ -184,13 +220,13 @@ fn repaired<A: Allocator + Copy>(
     )
 }
 
-/// Repairs workqueues of a table's items, of which only these may move, each with its group. The groups are those of this table, and
-/// each has a workqueue.
+/// Repairs workqueues of a table's items, of which only these may move, each with its group. The groups are those of
+/// this table, and each has a workqueue.
 ///
-/// `Safe` says that nothing has to be done. `Repaired` has workqueues that are safe: what has only some of their changes deadlocks. A
-/// change is a group on another workqueue, or a rescuer for a workqueue that had none and on which a group stays. `TooFewNames` and
-/// `Circle` say that whatever is changed deadlocks, if only these may move, and whatever may move. The only error is out of memory
-/// (20), which can't occur where there is no workqueue.
+/// `Safe` says that nothing has to be done. `Repaired` has workqueues that are safe: what has only some of their
+/// changes deadlocks. A change is a group on another workqueue, or a rescuer for a workqueue that had none and on which
+/// a group stays. `TooFewNames` and `Circle` say that whatever is changed deadlocks, if only these may move, and
+/// whatever may move. The only error is out of memory (20), which can't occur where there is no workqueue.
 pub fn repair<A: Allocator + Copy>(
     alloc: A,
     table: &ItemTable<'_, A>,
@@ -207,39 +243,27 @@ pub fn repair<A: Allocator + Copy>(
     if let Judged::Safe = judge(alloc, table, groups, workqueues)? {
         return Ok(Answer::Safe);
     }
-    let on = groups_on_lanes(alloc, workqueues.assignment())?;
-    let graph = WaitGraph::of_groups(alloc, table, groups)?;
-    let named = named_groups(alloc, groups, names)?;
-    let lanes = named_lanes(alloc, workqueues, named.as_slice())?;
-
-    let all = vec![in alloc; true; named.len()]?;
-    let needed = needed_groups(alloc, &graph, workqueues, &on, all.as_slice(), lanes.as_slice())?;
-    let out = others(alloc, needed.as_slice())?;
-    let needed_graph = WaitGraph::of_groups(alloc, table, groups)?.without(alloc, out.as_slice())?;
-    if let Ranked::Circle(arcs) = rank(alloc, &needed_graph)? {
+    let all = all_items(alloc, table)?;
+    let always = needed_groups(alloc, table, groups, workqueues, all.as_slice())?;
+    let graph = graph_of_needed(alloc, table, groups, always.as_slice())?;
+    if let Ranked::Circle(arcs) = rank(alloc, &graph)? {
         return Ok(Answer::Circle(arcs));
     }
-
-    let needed = needed_groups(alloc, &graph, workqueues, &on, named.as_slice(), lanes.as_slice())?;
+    let needed = needed_groups(alloc, table, groups, workqueues, names)?;
+    let named = named_groups(alloc, groups, names)?;
+    let lanes = named_lanes(alloc, workqueues, named.as_slice())?;
     let given = given_lanes(alloc, workqueues, lanes.as_slice(), needed.as_slice())?;
     let movable = movable_groups(alloc, named.as_slice(), needed.as_slice())?;
     let begin = start(alloc, workqueues, movable.as_slice(), given.as_slice())?;
     if let Judged::Deadlock(steps) = judge(alloc, table, groups, &begin)? {
         return Ok(Answer::TooFewNames(begin, steps));
     }
-
-    let out = others(alloc, needed.as_slice())?;
-    let needed_graph = WaitGraph::of_groups(alloc, table, groups)?.without(alloc, out.as_slice())?;
-    let ranks = match rank(alloc, &needed_graph)? {
-        Ranked::Ranks(ranks) => ranks,
-        Ranked::Circle(_) => unreachable!(),
-    };
+    let graph = graph_of_needed(alloc, table, groups, needed.as_slice())?;
     let new = repaired(
         alloc,
         table,
         groups,
-        &needed_graph,
-        ranks.as_slice(),
+        &graph,
         workqueues,
         &begin,
         needed.as_slice(),

@@ -1,7 +1,7 @@
 //! The start: each group that may move and needs a rescuer has one for itself, and all others stay where they are.
 //!
-//! Whatever is compared with a repair comes from the start when lanes are put together. So where the start deadlocks, everything does.
-//! It takes time and memory in the number of groups and lanes.
+//! Whatever is compared with a repair comes from the start when lanes are put together. So where the start deadlocks,
+//! everything does. It takes time and memory in the number of groups and lanes.
 
 use crate::lanes::Lanes;
 use std::alloc::{AllocError, Allocator};
@@ -63,8 +63,9 @@ fn free_lanes<A: Allocator + Copy>(
     Ok(free)
 }
 
-/// Each movable group on a lane of its own, by number, upwards through the lanes that hold no other groups than these, and then on new
-/// ones; all others on theirs. The lanes of the former have a rescuer, and of the latter those that are given one.
+/// Each movable group on a lane of its own, by number, upwards through the lanes that hold no other groups than these,
+/// and then on new ones; all others on theirs. The lanes of the former have a rescuer, and of the latter those that are
+/// given one.
 pub(crate) fn start<A: Allocator + Copy>(
     alloc: A,
     workqueues: &Workqueues<A>,
