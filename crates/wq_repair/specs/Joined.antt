@@ -1,6 +1,6 @@
 -- Lanes that are put together, and what is known of workqueues when they are found: from this alone follows what is
 -- promised.
-use Rattle.std.specs.Prelude.{◌≡◌, ◌≢◌, ℕ, ◌<◌, ◌⊎◌}
+use Rattle.std.specs.Prelude.{◌≡◌, ℕ, ◌<◌, ◌⊎◌, List}
 use Rattle.wq_items.specs.Chain.{Circle}
 use Rattle.wq_groups.specs.Declaration.{Declaration, GroupWaits}
 use Rattle.wq_core.specs.Wiring.{RescuedWaits}

@@ -1,6 +1,5 @@
 -- Which groups need a rescuer, whatever is changed.
-use Rattle.std.specs.Prelude.{◌≡◌, ◌↔◌, ℕ, ◌<◌, ◌⊎◌, false, List, ◌∷◌, length, slice_index}
-use Rattle.std.specs.Prelude.{Bool}
+use Rattle.std.specs.Prelude.{◌≡◌, ◌↔◌, ℕ, ◌<◌, ◌⊎◌, false, true, Bool, List, ◌∷◌, length, slice_index_or}
 use Rattle.wq_items.specs.Chain.{IsChain, last_of}
 use Rattle.wq_groups.specs.Declaration.{Declaration, GroupWaits}
 use Rattle.wq_core.specs.Workqueues.{Workqueues}
@@ -39,4 +38,4 @@ NeedsRescuerOf d old names g = IsLedTo d old (BringsAlong d old names) g
 -- these say of each group in turn whether it needs no rescuer
 pub record AreUnneeded (d : Declaration) (old : Workqueues) (out : List Bool) : Type 0 where
   pub one_each : length out ≡ d.groups
-  pub exactly : (g : ℕ) → g < d.groups → (slice_index out g ≡ false) ↔ NeedsRescuer d old g
+  pub exactly : (g : ℕ) → g < d.groups → (slice_index_or out g true ≡ false) ↔ NeedsRescuer d old g

@@ -28,7 +28,8 @@ pub fn a_circle_of_needed_groups_cannot_be_repaired()
 /// lane that has none, or the lanes wait in a circle.
 pub fn names_are_too_few_where_the_start_deadlocks()
     ensures leads_to_bare { (d : Declaration) (old start new : Workqueues) (names : List ℕ) (g h : ℕ) →
-        IsDeclaration d → IsAssignment d.groups old.assignment → IsStart d old names start → IsToBeCompared d old names new →
+        IsDeclaration d → IsAssignment d.groups old.assignment →
+        IsStart d old names start → IsToBeCompared d old names new →
         GroupWaits d g h → IsRescued start (lane_in start g) → (¬ IsRescued start (lane_in start h)) →
         Deadlocks (wiring_of d new) }
     ensures circle { (d : Declaration) (old start new : Workqueues) (names : List ℕ) → IsDeclaration d →

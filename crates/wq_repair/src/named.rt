@@ -36,7 +36,8 @@ pub(crate) fn named_lanes<A: Allocator + Copy>(
     named: &[bool],
 ) -> Result<Vec<bool, A>, AllocError>
     requires { length named.now ≡ length workqueues.now.assignment.lane_of_group }
-    ensures { IfOk result (λ lanes. Marks (HoldsMarked workqueues.now named.now) workqueues.now.assignment.lanes lanes.items) }
+    ensures { IfOk result (λ lanes.
+        Marks (HoldsMarked workqueues.now named.now) workqueues.now.assignment.lanes lanes.items) }
 {
     let mut lanes = vec![in alloc; false; usize::from(workqueues.assignment().lanes())]?;
     for (group, is_named) in named.iter().enumerate() {

@@ -98,7 +98,8 @@ pub(crate) fn needed_groups<A: Allocator + Copy>(
     requires assigned { length workqueues.now.assignment.lane_of_group ≡ groups.now.groups }
     requires names { All (λ i. i < length groups.now.group_of) names.now }
     ensures { IfOk result (λ needed.
-        Marks (NeedsRescuerOf (declaration_of table.now groups.now) workqueues.now names.now) groups.now.groups needed.items) }
+        Marks (NeedsRescuerOf (declaration_of table.now groups.now) workqueues.now names.now)
+        groups.now.groups needed.items) }
 {
     let graph = WaitGraph::of_groups(alloc, table, groups)?;
     let on = groups_on_lanes(alloc, workqueues.assignment())?;

@@ -47,7 +47,8 @@ fn graph_of_needed<A: Allocator + Copy>(
     needed: &[bool],
 ) -> Result<WaitGraph<A>, AllocError>
     requires { length groups.now.group_of ≡ length table.now.names }
-    ensures { IfOk result (λ graph. (out : List Bool) × ((g : ℕ) → slice_index_or out g false ≡ not (slice_index_or needed.now g true))
+    ensures { IfOk result (λ graph. (out : List Bool)
+        × ((g : ℕ) → slice_index_or out g false ≡ not (slice_index_or needed.now g true))
         × (graph ≡ without out (group_graph (declaration_of table.now groups.now)))) }
 {
     let mut out = Vec::with_capacity(alloc, needed.len())?;
