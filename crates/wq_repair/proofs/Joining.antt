@@ -4,6 +4,7 @@ use Rattle.std.specs.Prelude.{if◌then◌else◌, ◌==◌}
 use Rattle.std.proofs.lemmas.Bool.{cases_Bool, false≢true, eqb-true, eq-eqb}
 use Rattle.wq_items.specs.Chain.{IsChain, last_of, Circle}
 use Rattle.wq_core.proofs.LaneCircles.{Circle-map}
+use Rattle.wq_repair.specs.Joined.{become}
 
 -- numbers that fall along each arc rule out circles
 module _ (R : ℕ → ℕ → Type 0) (number : ℕ → ℕ) (falls : (v w : ℕ) → R v w → number w < number v) where
@@ -13,10 +14,6 @@ module _ (R : ℕ → ℕ → Type 0) (number : ℕ → ℕ) (falls : (v w : ℕ
 
   pub no_circle-falls : ¬ Circle R
   no_circle-falls c = omega (arith, chain_falls c.first c.others c.chain, falls (last_of c.first c.others) c.first c.closes)
-
--- vertex u becomes vertex v
-abbrev pub become : ℕ → ℕ → ℕ → ℕ
-become u v x = if x == u then v else x
 
 -- numbers as before for what is beyond u and v, then one for the two, and then numbers for all others
 abbrev pub number_joined : (ℕ → Bool) → (ℕ → ℕ) → ℕ → ℕ → ℕ → ℕ

@@ -1,12 +1,16 @@
 -- Lanes that are put together, and what is known of workqueues when they are found: from this alone follows what is
 -- promised.
-use Rattle.std.specs.Prelude.{◌≡◌, ℕ, ◌<◌, ◌⊎◌, List}
+use Rattle.std.specs.Prelude.{◌≡◌, ℕ, ◌<◌, ◌⊎◌, ◌==◌, if◌then◌else◌, List}
 use Rattle.wq_items.specs.Chain.{Circle}
 use Rattle.wq_groups.specs.Declaration.{Declaration, GroupWaits}
 use Rattle.wq_core.specs.Wiring.{RescuedWaits}
 use Rattle.wq_core.specs.Workqueues.{Workqueues, wiring_of}
 use Rattle.wq_repair.specs.Changes.{IsRescued, IsBare, IsNamed, IsNamedLane, HasMoved, IsGiven, IsToBeCompared, lane_in}
 use Rattle.wq_repair.specs.Needed.{NeedsRescuer, NeedsRescuerOf}
+
+-- vertex u becomes vertex v
+abbrev pub become : ℕ → ℕ → ℕ → ℕ
+become u v x = if x == u then v else x
 
 -- one group waits for another, and both need a rescuer
 abbrev pub NeededWaits : Declaration → Workqueues → ℕ → ℕ → Type 0

@@ -1,6 +1,6 @@
 //! Laws about repairs, as contracts of functions with empty bodies. No code runs here: the clauses are the laws.
 
-ghost use Rattle.std.specs.Prelude.{◌≡◌, ℕ, ◌<◌, ◌⊎◌, List};
+ghost use Rattle.std.specs.Prelude.{◌≡◌, ℕ, ◌<◌, ◌⊎◌, true, false, Bool, List};
 ghost use Rattle.wq_items.specs.Chain.{Circle};
 ghost use Rattle.wq_groups.specs.Declaration.{Declaration, IsDeclaration, GroupWaits};
 ghost use Rattle.wq_groups.specs.Assignment.{IsAssignment};
@@ -8,7 +8,12 @@ ghost use Rattle.wq_core.specs.Workqueues.{Workqueues, wiring_of};
 ghost use Rattle.wq_core.specs.Deadlock.{IsSafe, Deadlocks};
 ghost use Rattle.wq_repair.specs.Changes.{IsRescued, IsToBeCompared, HasFewerChanges, lane_in};
 ghost use Rattle.wq_repair.specs.Needed.{NeedsRescuerOf};
-ghost use Rattle.wq_repair.specs.Joined.{NeededWaits, HangsRound, IsStart, AreChangesNeeded, FallsAlongWaits};
+ghost use Rattle.wq_repair.specs.Joined.{become, NeededWaits, HangsRound, IsStart, AreChangesNeeded, FallsAlongWaits};
+ghost use Rattle.wq_repair.specs.Changes.{IsNamed, IsNamedLane};
+ghost use Rattle.wq_repair.specs.Marks.{Marks};
+ghost use Rattle.wq_repair.specs.Steps.{IsToBeGiven, IsMovable, IsStartBy};
+
+use wq_items::chain_laws::Relation;
 
 /// A group that needs a rescuer has one in whatever may be compared, or that deadlocks.
 pub fn who_needs_a_rescuer_has_one()
@@ -49,4 +54,32 @@ pub fn no_change_can_be_left_out()
 pub fn falling_numbers_of_needed_groups_are_safe()
     ensures { (d : Declaration) (old new : Workqueues) (names : List ℕ) (number : ℕ → ℕ) → IsDeclaration d →
         IsAssignment d.groups new.assignment → FallsAlongWaits d old names new number → IsSafe (wiring_of d new) }
+{}
+
+/// Where numbers fall along each arc, two vertices become one, and neither leads to the other, there are numbers that
+/// fall along each arc again. `beyond` says to which vertices the two lead. It holds for any relation.
+pub fn joining_vertices_that_lead_to_neither_makes_no_circle<R: Relation>()
+    ensures { (number : ℕ → ℕ) (bound u v : ℕ) (beyond : ℕ → Bool) →
+        ((x y : ℕ) → R.waits x y → number y < number x) → ((x : ℕ) → number x < bound) →
+        beyond u ≡ false → beyond v ≡ false →
+        ((y : ℕ) → R.waits u y → beyond y ≡ true) → ((y : ℕ) → R.waits v y → beyond y ≡ true) →
+        ((x y : ℕ) → beyond x ≡ true → R.waits x y → beyond y ≡ true) →
+        (new : ℕ → ℕ) × ((x y : ℕ) → R.waits x y → new (become u v y) < new (become u v x)) }
+{}
+
+/// Numbers that fall along each arc rule out circles. It holds for any relation.
+pub fn falling_numbers_rule_out_circles<R: Relation>()
+    ensures { (number : ℕ → ℕ) → ((x y : ℕ) → R.waits x y → number y < number x) → ¬ Circle R.waits }
+{}
+
+/// What `start` makes of lists is the start, if the lists say which groups and lanes are named, and which groups need a
+/// rescuer.
+pub fn a_start_made_of_lists_is_the_start()
+    ensures { (d : Declaration) (old start : Workqueues) (names : List ℕ)
+        (named named_lanes needed movable given : List Bool) →
+        IsAssignment d.groups old.assignment → Marks (IsNamed d names) d.groups named →
+        Marks (IsNamedLane d old names) old.assignment.lanes named_lanes →
+        Marks (NeedsRescuerOf d old names) d.groups needed → Marks (IsMovable named needed) d.groups movable →
+        Marks (IsToBeGiven old named_lanes needed) old.assignment.lanes given →
+        IsStartBy old movable given start → IsStart d old names start }
 {}

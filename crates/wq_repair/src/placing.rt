@@ -4,6 +4,10 @@
 //! lane on which a group of its rank stays, and else all of that rank go to an empty lane, or to a new one. It takes
 //! time and memory in the number of groups and lanes.
 
+ghost use Rattle.std.specs.Prelude.{◌≡◌, ◌<◌, ℕ, length, slice_index, IfOk};
+ghost use Rattle.wq_repair.specs.Marks.{IsMarked};
+ghost use Rattle.wq_repair.specs.Steps.{ArePlacedBy};
+
 use crate::lanes::Lanes;
 use std::alloc::{AllocError, Allocator};
 use wq_core::Workqueues;
@@ -79,7 +83,15 @@ pub(crate) fn place<A: Allocator + Copy>(
     leaves: &[bool],
     ranks: &[u16],
     most: usize,
-) -> Result<Workqueues<A>, AllocError> {
+) -> Result<Workqueues<A>, AllocError>
+    requires given { length given.now ≡ old.now.assignment.lanes }
+    requires stays { length stays.now ≡ length old.now.assignment.lane_of_group }
+    requires leaves { length leaves.now ≡ length old.now.assignment.lane_of_group }
+    requires one_each { length ranks.now ≡ length old.now.assignment.lane_of_group }
+    requires below { (g : ℕ) → g < length ranks.now → slice_index ranks.now g < most }
+    requires apart { (g : ℕ) → IsMarked stays.now g → ¬ IsMarked leaves.now g }
+    ensures { IfOk result (ArePlacedBy old.now given.now stays.now leaves.now ranks.now) }
+{
     let mut of_rank = lanes_by_rank(alloc, old.assignment(), stays, ranks, most)?;
     let leave = ranks_that_leave(alloc, leaves, ranks, most)?;
     let mut lanes = Lanes::new(empty_lanes(alloc, old)?, old.assignment().lanes());

@@ -3,6 +3,10 @@
 //! Whatever is compared with a repair comes from the start when lanes are put together. So where the start deadlocks,
 //! everything does. It takes time and memory in the number of groups and lanes.
 
+ghost use Rattle.std.specs.Prelude.{◌≡◌, length, IfOk};
+ghost use Rattle.wq_repair.specs.Marks.{Marks};
+ghost use Rattle.wq_repair.specs.Steps.{IsToBeGiven, IsMovable, IsStartBy};
+
 use crate::lanes::Lanes;
 use std::alloc::{AllocError, Allocator};
 use wq_core::Workqueues;
@@ -14,7 +18,12 @@ pub(crate) fn given_lanes<A: Allocator + Copy>(
     workqueues: &Workqueues<A>,
     named_lanes: &[bool],
     needed: &[bool],
-) -> Result<Vec<bool, A>, AllocError> {
+) -> Result<Vec<bool, A>, AllocError>
+    requires lanes { length named_lanes.now ≡ workqueues.now.assignment.lanes }
+    requires groups { length needed.now ≡ length workqueues.now.assignment.lane_of_group }
+    ensures { IfOk result (λ given.
+        Marks (IsToBeGiven workqueues.now named_lanes.now needed.now) workqueues.now.assignment.lanes given.items) }
+{
     let mut given = Vec::with_capacity(alloc, named_lanes.len())?;
     for (lane, is_named) in named_lanes.iter().enumerate() {
         given.push(*is_named && workqueues.is_bare(LaneId::new(lane as u16)))?;
@@ -33,7 +42,10 @@ pub(crate) fn movable_groups<A: Allocator + Copy>(
     alloc: A,
     named: &[bool],
     needed: &[bool],
-) -> Result<Vec<bool, A>, AllocError> {
+) -> Result<Vec<bool, A>, AllocError>
+    requires { length needed.now ≡ length named.now }
+    ensures { IfOk result (λ movable. Marks (IsMovable named.now needed.now) (length named.now) movable.items) }
+{
     let mut movable = Vec::with_capacity(alloc, named.len())?;
     for (group, is_named) in named.iter().enumerate() {
         movable.push(*is_named && needed[group])?;
@@ -71,7 +83,11 @@ pub(crate) fn start<A: Allocator + Copy>(
     workqueues: &Workqueues<A>,
     movable: &[bool],
     given: &[bool],
-) -> Result<Workqueues<A>, AllocError> {
+) -> Result<Workqueues<A>, AllocError>
+    requires groups { length movable.now ≡ length workqueues.now.assignment.lane_of_group }
+    requires lanes { length given.now ≡ workqueues.now.assignment.lanes }
+    ensures { IfOk result (IsStartBy workqueues.now movable.now given.now) }
+{
     let assignment = workqueues.assignment();
     let free = free_lanes(alloc, workqueues, movable)?;
     let mut lanes = Lanes::new(free, assignment.lanes());
