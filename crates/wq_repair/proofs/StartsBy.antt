@@ -85,7 +85,7 @@ module _ (d : Declaration) (old start : Workqueues) (names : List ℕ) (named na
   given_stays : (g : ℕ) → g < d.groups → (¬ IsNamed d names g) → NeedsRescuerOf d old names g → IsNamedLane d old names (lane_in old g) → IsRescued start (lane_in old g)
   given_stays g is unnamed needed_g lane = elim (cases_rescued old (lane_in old g)) [
     | inl had ↦ by.kept (lane_in old g) had
-    | inr bare ↦ by.given (lane_in old g)
+    | inr bare ↦ by.given_one (lane_in old g)
         ((are_given.exactly (lane_in old g) (lane_below g is)).2 (record {
           bare = bare;
           named = (are_lanes.exactly (lane_in old g) (lane_below g is)).2 lane;

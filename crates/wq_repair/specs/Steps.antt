@@ -42,7 +42,7 @@ pub record IsStartBy (old : Workqueues) (movable given : List Bool) (start : Wor
       → lane_in start g ≡ lane_in start h → g ≡ h
   pub rescued : (g : ℕ) → g < length movable → IsMarked movable g → IsRescued start (lane_in start g)
   pub kept : (q : ℕ) → IsRescued old q → IsRescued start q
-  pub given : (q : ℕ) → IsMarked given q → HoldsOther old movable q → IsRescued start q
+  pub given_one : (q : ℕ) → IsMarked given q → HoldsOther old movable q → IsRescued start q
   pub only : (g : ℕ) → g < length movable → (¬ IsMarked movable g) → IsRescued start (lane_in old g)
       → IsRescued old (lane_in old g) ⊎ IsMarked given (lane_in old g)
 
@@ -68,7 +68,7 @@ pub record ArePlacedBy (old : Workqueues) (given stays leaves : List Bool) (rank
   pub stay : (g : ℕ) → g < length leaves → (¬ IsMarked leaves g) → lane_in new g ≡ lane_in old g
   pub rescued : (g : ℕ) → g < length leaves → IsMarked leaves g → IsRescued new (lane_in new g)
   pub kept : (q : ℕ) → IsRescued old q → IsRescued new q
-  pub given : (q : ℕ) → IsMarked given q → IsRescued new q
+  pub given_one : (q : ℕ) → IsMarked given q → IsRescued new q
   pub only : (g : ℕ) → g < length leaves → IsRescued new (lane_in old g)
       → IsRescued old (lane_in old g) ⊎ IsMarked given (lane_in old g)
   pub ranked : (g h : ℕ) → g < length leaves → h < length leaves → IsMarked stays g ⊎ IsMarked leaves g
