@@ -30,16 +30,16 @@ module _ (d : Declaration) (old start : Workqueues) (names : List ℕ) (named na
   lane_below g is = before.within g 0 (omega (arith, is, before.one_each))
 
   movable_named : (g : ℕ) → g < d.groups → IsMarked movable g → IsNamed d names g
-  movable_named g is marked = ((are_named.exactly g is).1 ((are_movable.exactly g is).1 marked).0)
+  movable_named g is marked = ((are_named.exactly g is).0 ((are_movable.exactly g is).0 marked).0)
 
   movable_needed : (g : ℕ) → g < d.groups → IsMarked movable g → NeedsRescuerOf d old names g
-  movable_needed g is marked = ((are_needed.exactly g is).1 ((are_movable.exactly g is).1 marked).1)
+  movable_needed g is marked = ((are_needed.exactly g is).0 ((are_movable.exactly g is).0 marked).1)
 
   is_movable : (g : ℕ) → g < d.groups → IsNamed d names g → NeedsRescuerOf d old names g → IsMarked movable g
-  is_movable g is named_g needed_g = (are_movable.exactly g is).2 ((are_named.exactly g is).2 named_g, (are_needed.exactly g is).2 needed_g)
+  is_movable g is named_g needed_g = (are_movable.exactly g is).1 ((are_named.exactly g is).1 named_g, (are_needed.exactly g is).1 needed_g)
 
   given_needed : (g : ℕ) → g < d.groups → IsMarked given (lane_in old g) → NeedsRescuerOf d old names g
-  given_needed g is marked = (are_needed.exactly g is).1 (((are_given.exactly (lane_in old g) (lane_below g is)).1 marked).all g (omega (arith, is, are_needed.one_each)) refl)
+  given_needed g is marked = (are_needed.exactly g is).0 (((are_given.exactly (lane_in old g) (lane_below g is)).0 marked).all g (omega (arith, is, are_needed.one_each)) refl)
 
   needed_only : (g : ℕ) → g < d.groups → IsRescued start (lane_in start g) → NeedsRescuerOf d old names g
   needed_only g is rescued = elim (cases_marked movable g) [
@@ -60,7 +60,7 @@ module _ (d : Declaration) (old start : Workqueues) (names : List ℕ) (named na
       | inl had ↦ absurd (false≢true (sym had ∙ subst (IsBare old) (sym is.was) is.bare))
       | inr marked ↦
           let lane : IsNamedLane d old names (lane_in old is.group) =
-          (are_lanes.exactly (lane_in old is.group) (lane_below is.group is.is_group)).1 ((are_given.exactly (lane_in old is.group) (lane_below is.group is.is_group)).1 marked).named in
+          (are_lanes.exactly (lane_in old is.group) (lane_below is.group is.is_group)).0 ((are_given.exactly (lane_in old is.group) (lane_below is.group is.is_group)).0 marked).named in
           subst (IsNamedLane d old names) is.was lane
     ]
   ]
@@ -86,10 +86,10 @@ module _ (d : Declaration) (old start : Workqueues) (names : List ℕ) (named na
   given_stays g is unnamed needed_g lane = elim (cases_rescued old (lane_in old g)) [
     | inl had ↦ by.kept (lane_in old g) had
     | inr bare ↦ by.given_one (lane_in old g)
-        ((are_given.exactly (lane_in old g) (lane_below g is)).2 (record {
+        ((are_given.exactly (lane_in old g) (lane_below g is)).1 (record {
           bare = bare;
-          named = (are_lanes.exactly (lane_in old g) (lane_below g is)).2 lane;
-          all = λ h lt on. (are_needed.exactly h (omega (arith, lt, are_needed.one_each))).2 (IsLedTo-next d old (BringsAlong d old names) g h needed_g (inr (record {
+          named = (are_lanes.exactly (lane_in old g) (lane_below g is)).1 lane;
+          all = λ h lt on. (are_needed.exactly h (omega (arith, lt, are_needed.one_each))).1 (IsLedTo-next d old (BringsAlong d old names) g h needed_g (inr (record {
             unnamed = unnamed;
             bare = bare;
             named_lane = lane;
