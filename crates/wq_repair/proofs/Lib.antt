@@ -5,3 +5,4 @@ pub mod Minimal
 pub mod Falling
 pub mod Joining
 pub mod StartsBy
+pub mod Placed

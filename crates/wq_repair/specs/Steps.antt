@@ -1,9 +1,10 @@
 -- What the steps of a repair leave. Which groups may move and which need a rescuer is known here by lists.
 use Rattle.std.specs.Prelude.{◌≡◌, ℕ, ◌<◌, ◌≤◌, ◌⊎◌, List, Bool, IsTrue, length, slice_index, slice_set, max}
-use Rattle.wq_groups.specs.Declaration.{Declaration}
+use Rattle.wq_groups.specs.Declaration.{Declaration, GroupWaits}
 use Rattle.wq_core.specs.Workqueues.{Workqueues}
-use Rattle.wq_repair.specs.Changes.{IsRescued, IsBare, lane_in}
-use Rattle.wq_repair.specs.Joined.{HangsRound}
+use Rattle.wq_repair.specs.Changes.{IsRescued, IsBare, IsNamed, lane_in}
+use Rattle.wq_repair.specs.Needed.{NeedsRescuerOf}
+use Rattle.wq_repair.specs.Joined.{HangsRound, IsTriedInVain}
 use Rattle.wq_repair.specs.Marks.{IsMarked}
 
 -- one of the marked groups is on lane q
@@ -63,6 +64,7 @@ pub record IsJoined (d : Declaration) (start : Workqueues) (g v : ℕ) (at : Lis
 pub record ArePlacedBy (old : Workqueues) (given stays leaves : List Bool) (ranks : List ℕ) (new : Workqueues)
     : Type 0 where
   pub one_each : length new.assignment.lane_of_group ≡ length leaves
+  pub within : (g : ℕ) → g < length leaves → lane_in new g < new.assignment.lanes
   pub more : old.assignment.lanes ≤ new.assignment.lanes
   pub few : new.assignment.lanes ≤ max old.assignment.lanes (length leaves)
   pub stay : (g : ℕ) → g < length leaves → (¬ IsMarked leaves g) → lane_in new g ≡ lane_in old g
@@ -74,3 +76,16 @@ pub record ArePlacedBy (old : Workqueues) (given stays leaves : List Bool) (rank
   pub ranked : (g h : ℕ) → g < length leaves → h < length leaves → IsMarked stays g ⊎ IsMarked leaves g
       → IsMarked stays h ⊎ IsMarked leaves h
       → lane_in new g ≡ lane_in new h → slice_index ranks g ≡ slice_index ranks h
+
+-- what is known of those that leave when groups are placed: each may move and needs a rescuer, and either its lane has
+-- none and gets none, or it was tried in vain. Who needs a rescuer and doesn't leave has one on its lane. Ranks fall
+-- along all waits of those that need one
+pub record AreLeaving (d : Declaration) (old : Workqueues) (names : List ℕ) (given leaves : List Bool) (ranks : List ℕ) (new : Workqueues)
+    : Type 0 where
+  pub one_each : length leaves ≡ d.groups
+  pub movable : (g : ℕ) → g < d.groups → IsMarked leaves g → IsNamed d names g × NeedsRescuerOf d old names g
+  pub why : (g : ℕ) → g < d.groups → IsMarked leaves g
+      → (IsBare old (lane_in old g) × (¬ IsMarked given (lane_in old g))) ⊎ IsTriedInVain d old names new g
+  pub others : (g : ℕ) → g < d.groups → NeedsRescuerOf d old names g → (¬ IsMarked leaves g)
+      → IsRescued old (lane_in old g) ⊎ IsMarked given (lane_in old g)
+  pub fall : (g h : ℕ) → GroupWaits d g h → NeedsRescuerOf d old names g → slice_index ranks h < slice_index ranks g
