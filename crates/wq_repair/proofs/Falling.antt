@@ -1,5 +1,5 @@
 -- Numbers of lanes that fall along all waits of those that need a rescuer.
-use Rattle.std.proofs.Common.{◌≡◌, ℕ, ◌<◌, ◌⊎◌, inl, inr, List, length, refl, sym, ap, subst, ◌∙◌}
+use Rattle.std.proofs.Common.{◌≡◌, ℕ, ◌<◌, inl, List, length, sym, subst}
 use Rattle.std.specs.Prelude.{slice_index}
 use Rattle.wq_items.specs.Table.{ItemWaits}
 use Rattle.wq_groups.specs.Declaration.{Declaration, IsDeclaration, GroupWaits}
@@ -11,7 +11,7 @@ use Rattle.wq_core.specs.Workqueues.{Workqueues, wiring_of}
 use Rattle.wq_core.specs.Deadlock.{IsSafe}
 use Rattle.wq_core.proofs.Safety.{IsSafe-rescued}
 use Rattle.wq_repair.specs.Changes.{IsRescued, lane_in}
-use Rattle.wq_repair.specs.Needed.{BringsAlong, NeedsRescuerOf}
+use Rattle.wq_repair.specs.Needed.{BringsAlong}
 use Rattle.wq_repair.specs.Joined.{FallsAlongWaits}
 use Rattle.wq_repair.proofs.Rescuers.{IsLedTo-next, waiting-below, awaited-below}
 

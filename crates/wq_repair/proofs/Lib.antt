@@ -6,3 +6,4 @@ pub mod Falling
 pub mod Joining
 pub mod StartsBy
 pub mod Placed
+pub mod Repaired

@@ -8,7 +8,7 @@ use Rattle.wq_core.specs.Deadlock.{Deadlocks}
 use Rattle.wq_repair.specs.Changes.{IsRescued, HasMoved, IsGiven, IsToBeCompared, HasFewerChanges, lane_in}
 use Rattle.wq_repair.specs.Needed.{NeedsRescuerOf}
 use Rattle.wq_repair.specs.Joined.{HasToLeave, StaysOrIs, IsTriedInVain, AreChangesNeeded}
-use Rattle.wq_repair.proofs.Rescuers.{cases_rescued, cases_moved, stays-not_moved, rescued-needed, Deadlocks-as_other}
+use Rattle.wq_repair.proofs.Rescuers.{stays-not_moved, rescued-needed, Deadlocks-as_other}
 
 module _ (d : Declaration) (old new fewer : Workqueues) (names : List ℕ) (declaration : IsDeclaration d) (before : IsAssignment d.groups old.assignment)
     (are : AreChangesNeeded d old names new) (compared : IsToBeCompared d old names fewer) (less : HasFewerChanges d old fewer new) where

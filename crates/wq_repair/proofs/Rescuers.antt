@@ -1,16 +1,15 @@
 -- Who needs a rescuer has one in whatever may be compared, or that deadlocks.
-use Rattle.std.proofs.Common.{◌≡◌, ℕ, ◌<◌, ◌⊎◌, inl, inr, Bool, true, false, List, [], ◌∷◌, ◌++◌, length, get_or, refl, sym, ap, subst, ◌∙◌, arith}
+use Rattle.std.proofs.Common.{◌≡◌, ℕ, ◌<◌, ◌⊎◌, inl, inr, false, List, [], ◌∷◌, ◌++◌, length, get_or, refl, sym, ap, subst, ◌∙◌, arith}
 use Rattle.std.specs.Prelude.{slice_get, slice_index, Some}
 use Rattle.std.proofs.lemmas.Bool.{cases_Bool, cases_eq}
 use Rattle.std.proofs.lemmas.Option.{get_or_from_slice_get, slice_get_within}
-use Rattle.wq_items.specs.Table.{VertexWaits, ItemWaits}
 use Rattle.wq_items.specs.Chain.{IsChain, last_of, Circle}
 use Rattle.wq_items.proofs.Tables.{VertexWaits-map}
 use Rattle.wq_groups.specs.Declaration.{Declaration, IsDeclaration, GroupWaits}
 use Rattle.wq_groups.specs.Assignment.{IsAssignment, group_lane, item_lanes}
 use Rattle.wq_groups.proofs.Declarations.{waiting-item, awaited-item, GroupWaits-items}
 use Rattle.wq_groups.proofs.Lanes.{item_lanes-at}
-use Rattle.wq_core.specs.Wiring.{Wiring, IsWiring, HasRescuer, LaneWaits, RescuedWaits, lane_of}
+use Rattle.wq_core.specs.Wiring.{IsWiring, HasRescuer, LaneWaits, RescuedWaits, lane_of}
 use Rattle.wq_core.specs.Workqueues.{Workqueues, wiring_of}
 use Rattle.wq_core.specs.Deadlock.{Deadlocks}
 use Rattle.wq_core.proofs.BareWaits.{Deadlocks-bare}

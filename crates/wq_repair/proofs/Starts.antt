@@ -1,5 +1,5 @@
 -- Where the start deadlocks, whatever may be compared does.
-use Rattle.std.proofs.Common.{◌≡◌, ℕ, ◌<◌, ◌==◌, ◌⊎◌, inl, inr, Bool, true, false, List, refl, sym, ap, subst, ◌∙◌, arith}
+use Rattle.std.proofs.Common.{◌≡◌, ℕ, ◌<◌, ◌==◌, ◌⊎◌, inl, inr, Bool, List, refl, sym, ap, subst, ◌∙◌, arith}
 use Rattle.std.specs.Prelude.{slice_index}
 use Rattle.std.specs.List.{list_any}
 use Rattle.std.proofs.lemmas.Bool.{cases_Bool, false≢true, eqb-true, eq-eqb}
@@ -8,7 +8,7 @@ use Rattle.wq_groups.specs.Declaration.{Declaration, IsDeclaration, GroupWaits}
 use Rattle.wq_groups.specs.Assignment.{IsAssignment}
 use Rattle.wq_core.specs.Workqueues.{Workqueues, wiring_of}
 use Rattle.wq_core.specs.Deadlock.{Deadlocks}
-use Rattle.wq_repair.specs.Changes.{IsRescued, IsBare, IsNamed, IsNamedLane, IsGiven, IsToBeCompared, lane_in}
+use Rattle.wq_repair.specs.Changes.{IsRescued, IsBare, IsNamed, IsGiven, IsToBeCompared, lane_in}
 use Rattle.wq_repair.specs.Needed.{BringsAlong, NeedsRescuerOf}
 use Rattle.wq_repair.specs.Joined.{HangsRound, IsStart}
 use Rattle.wq_repair.proofs.Rescuers.{cases_rescued, stays-unnamed, rescued-needed, IsLedTo-next, waiting-below, awaited-below, Deadlocks-as_other}

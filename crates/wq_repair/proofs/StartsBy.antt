@@ -1,5 +1,5 @@
 -- The start that is made of lists is the start.
-use Rattle.std.proofs.Common.{◌≡◌, ℕ, ◌<◌, ◌⊎◌, inl, inr, Bool, true, false, List, length, get_or, refl, sym, subst, ◌∙◌, arith}
+use Rattle.std.proofs.Common.{ℕ, ◌<◌, ◌⊎◌, inl, inr, Bool, false, List, length, get_or, refl, sym, subst, ◌∙◌, arith}
 use Rattle.std.proofs.lemmas.Bool.{cases_Bool, false≢true}
 use Rattle.std.proofs.lemmas.List.{get_or_default}
 use Rattle.wq_groups.specs.Declaration.{Declaration}
@@ -9,7 +9,7 @@ use Rattle.wq_repair.specs.Changes.{IsRescued, IsBare, IsNamed, IsNamedLane, Has
 use Rattle.wq_repair.specs.Needed.{BringsAlong, NeedsRescuerOf}
 use Rattle.wq_repair.specs.Marks.{IsMarked, Marks}
 use Rattle.wq_repair.specs.Joined.{IsStart}
-use Rattle.wq_repair.specs.Steps.{IsToBeGiven, IsMovable, HoldsOther, IsStartBy}
+use Rattle.wq_repair.specs.Steps.{IsToBeGiven, IsMovable, IsStartBy}
 use Rattle.wq_repair.proofs.Rescuers.{cases_rescued, IsLedTo-first, IsLedTo-next}
 
 -- a list says so, or doesn't

@@ -80,8 +80,8 @@ pub record ArePlacedBy (old : Workqueues) (given stays leaves : List Bool) (rank
 -- what is known of those that leave when groups are placed: each may move and needs a rescuer, and either its lane has
 -- none and gets none, or it was tried in vain. Who needs a rescuer and doesn't leave has one on its lane. Ranks fall
 -- along all waits of those that need one
-pub record AreLeaving (d : Declaration) (old : Workqueues) (names : List ℕ) (given leaves : List Bool) (ranks : List ℕ) (new : Workqueues)
-    : Type 0 where
+pub record AreLeaving (d : Declaration) (old : Workqueues) (names : List ℕ) (given leaves : List Bool) (ranks : List ℕ)
+    (new : Workqueues) : Type 0 where
   pub one_each : length leaves ≡ d.groups
   pub movable : (g : ℕ) → g < d.groups → IsMarked leaves g → IsNamed d names g × NeedsRescuerOf d old names g
   pub why : (g : ℕ) → g < d.groups → IsMarked leaves g

@@ -1,6 +1,6 @@
 //! Laws about repairs, as contracts of functions with empty bodies. No code runs here: the clauses are the laws.
 
-ghost use Rattle.std.specs.Prelude.{◌≡◌, ℕ, ◌<◌, ◌⊎◌, true, false, Bool, List, slice_index};
+ghost use Rattle.std.specs.Prelude.{◌≡◌, ℕ, ◌<◌, ◌≤◌, ◌⊎◌, true, false, Bool, List, max, slice_index};
 ghost use Rattle.wq_items.specs.Chain.{Circle};
 ghost use Rattle.wq_groups.specs.Declaration.{Declaration, IsDeclaration, GroupWaits};
 ghost use Rattle.wq_groups.specs.Assignment.{IsAssignment};
@@ -11,6 +11,7 @@ ghost use Rattle.wq_repair.specs.Needed.{NeedsRescuerOf};
 ghost use Rattle.wq_repair.specs.Joined.{become, NeededWaits, HangsRound, IsStart, AreChangesNeeded, FallsAlongWaits};
 ghost use Rattle.wq_repair.specs.Changes.{IsNamed, IsNamedLane};
 ghost use Rattle.wq_repair.specs.Marks.{Marks};
+ghost use Rattle.wq_repair.specs.Repair.{IsRepair};
 ghost use Rattle.wq_repair.specs.Steps.{IsToBeGiven, IsMovable, IsStartBy, ArePlacedBy, AreLeaving};
 
 use wq_items::chain_laws::Relation;
@@ -84,6 +85,14 @@ pub fn a_start_made_of_lists_is_the_start()
         IsStartBy old movable given start → IsStart d old names start }
 {}
 
+/// What may be compared, all whose changes are needed, and in which numbers fall along all waits, is a repair.
+pub fn needed_changes_make_a_repair()
+    ensures { (d : Declaration) (old new : Workqueues) (names : List ℕ) (number : ℕ → ℕ) → IsDeclaration d →
+        IsAssignment d.groups old.assignment → Deadlocks (wiring_of d old) → IsToBeCompared d old names new →
+        AreChangesNeeded d old names new → FallsAlongWaits d old names new number →
+        new.assignment.lanes ≤ max old.assignment.lanes d.groups → IsRepair d old names new }
+{}
+
 /// What `place` makes of lists may be compared, all its changes are needed, and numbers fall along all waits, if those
 /// that leave are known to have to.
 pub fn what_is_placed_is_a_repair()
@@ -92,7 +101,8 @@ pub fn what_is_placed_is_a_repair()
         Marks (IsNamedLane d old names) old.assignment.lanes named_lanes →
         Marks (NeedsRescuerOf d old names) d.groups needed →
         Marks (IsToBeGiven old named_lanes needed) old.assignment.lanes given →
-        AreLeaving d old names given leaves ranks new → ArePlacedBy old given stays leaves ranks new →
+        AreLeaving d old names given leaves ranks new →
+        ArePlacedBy old given stays leaves ranks new →
         ((g : ℕ) → g < d.groups → NeedsRescuerOf d old names g → number (lane_in new g) ≡ slice_index ranks g) →
         IsToBeCompared d old names new × AreChangesNeeded d old names new × FallsAlongWaits d old names new number }
 {}
