@@ -2,7 +2,7 @@
 //!
 //! A group moves as a whole, so one item is enough. It takes time in the number of groups and names.
 
-ghost use Rattle.std.specs.Prelude.{◌≡◌, ◌<◌, length, IfOk};
+ghost use Rattle.std.specs.Prelude.{◌≡◌, ◌<◌, ◌≤◌, length, IfOk};
 ghost use Rattle.std.specs.List.{All};
 ghost use Rattle.wq_repair.specs.Changes.{HasName};
 ghost use Rattle.wq_repair.specs.Marks.{Marks};
@@ -35,7 +35,8 @@ pub(crate) fn named_lanes<A: Allocator + Copy>(
     workqueues: &Workqueues<A>,
     named: &[bool],
 ) -> Result<Vec<bool, A>, AllocError>
-    requires { length named.now ≡ length workqueues.now.assignment.lane_of_group }
+    requires one_each { length named.now ≡ length workqueues.now.assignment.lane_of_group }
+    requires few { length named.now ≤ 4096 }
     ensures { IfOk result (λ lanes.
         Marks (HoldsMarked workqueues.now named.now) workqueues.now.assignment.lanes lanes.items) }
 {
