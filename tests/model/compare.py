@@ -44,13 +44,14 @@ import make_circles  # noqa: E402
 import make_declarations  # noqa: E402
 import make_hangs  # noqa: E402
 import programs  # noqa: E402  (in tests/lib)
+import reasons  # noqa: E402
+import unrescued  # noqa: E402
 from command_line import seed_and_counts  # noqa: E402
 from commands import TEXTS_OF  # noqa: E402  (in tests/lib)
-from declaration import read_declaration  # noqa: E402
+from declaration import Refused, read_declaration  # noqa: E402
 from models import ANSWERS, agrees  # noqa: E402
 from records import records  # noqa: E402  (in tests/lib)
-from standard_error import fits, is_unrescued  # noqa: E402  (there, too)
-from unrescued import beside  # noqa: E402
+from standard_error import STDIN, fits, note  # noqa: E402  (there, too)
 
 DEFAULT_SEED = "1"
 DEFAULT_CASES = 2_000
@@ -224,6 +225,25 @@ def words_behind(command, number):
     return HELPERS[number % len(HELPERS)] if command == "run" else []
 
 
+def wrong_beside(command, files, texts, found):
+    """What is wrong with what the program says on standard error beside its answer, or None: its form, and where it isn't a diagnosis, or
+    behind the one of a `no`, the words.
+    """
+    printed, _, errors = found
+    if not fits(printed, errors, files, command):
+        return "standard error hasn't the form that belongs to this answer"
+    if printed.startswith((b"refused ", b"not lawful ")) or errors == note(files[0]):
+        return None
+    behind = errors.split(b"\n", reasons.BLOCK)[reasons.BLOCK] if printed.startswith(b"no ") else errors
+    try:
+        safe = unrescued.said_of(command, files, texts, printed)
+        if safe:
+            return None if behind == safe else f"this belongs to `safe`: {safe!r}"
+        return reasons.wrong_with(command, files, texts, printed, behind)
+    except Refused:
+        return "the texts are refused"
+
+
 def ask(program, command, texts, folder, number):
     """The program's answer, what it prints to standard error, and whether that belongs to both."""
     named, given = {}, None
@@ -233,11 +253,9 @@ def ask(program, command, texts, folder, number):
         named = {f"{number}.{name}": text for name, text in zip(TEXTS_OF[command], texts)}
     with programs.files(folder, named) as places:
         found = programs.ask([program, command, *places, *words_behind(command, number)], input=given)
-    is_right = not found.is_late() and fits(found.printed, found.errors, places)
-    said = beside(command, [os.fsencode(place) for place in places], texts, found.printed)
-    if said or is_unrescued(found.errors):
-        is_right = is_right and found.errors == said
-    return (found.printed, found.status), found.errors, is_right
+    wrong = None if found.is_late() else wrong_beside(command, [os.fsencode(place) for place in places] or [STDIN], texts, found)
+    errors = found.errors + (f"({wrong})".encode() if wrong else b"")
+    return (found.printed, found.status), errors, wrong is None and not found.is_late()
 
 
 def questions(command, texts, printed):
