@@ -2,17 +2,19 @@
 """Says whether standard error has what belongs to an answer of wqplan, by docs/FORMAT.md, "Diagnoses".
 
     standard_error.py OUT ERR FILE
+    standard_error.py OUT ERR of COMMAND FILE..
 
 ends with 0 where it has, and with 1 where it hasn't. OUT and ERR are files with what the program wrote to standard output and to
-standard error. Where OUT is a refusal, or a `no` of `check`, ERR must be its diagnosis: it names FILE, the line and the number, and
+standard error. In the first form, where OUT is a refusal, or a `no` of `check`, ERR must be its diagnosis: it names FILE, the line and the number, and
 shows the line and its marks where a line is meant; where that is of a declaration, up to nine further ones of the same form may follow,
 and behind that of `no 50` a reason why the workqueues can hang.
-Where OUT is the answer to a declaration without an item, ERR must be the note
-that says so, with FILE; where it may be one, as `safe`, this note or nothing. Where OUT is `not lawful N` of `replay`, ERR must say so of FILE, too,
-and show the step. Where OUT is any other answer, ERR must be empty. The words and the hints of a diagnosis may be any: they aren't
-compared here. `belongs`, `meant` and `fits` do this for other scripts, which know all files of the command. For them the reasons belong
-beside an answer that says that workqueues can hang, as many as there are, and beside `safe` may be what is said of workqueues without a
-rescuer. Which flushes a reason names isn't looked at here: tests/model/reasons.py does.
+Where OUT is the answer to a declaration without an item, ERR must be the note that says so, with FILE; where it may be one, as `safe`,
+this note or nothing. Where OUT is `not lawful N` of `replay`, ERR must say so of FILE, too, and show the step. Where OUT is any other
+answer, ERR must be empty. The words and the hints of a diagnosis may be any: they aren't compared here.
+
+In the second form the files are all that the command reads. Then the reasons belong beside an answer that says that workqueues can hang,
+as many as there are, and beside `safe` may be what is said of workqueues without a rescuer. Which flushes a reason names isn't looked at
+here: tests/model/reasons.py does that. `belongs` does the first for other scripts, and `fits` the second.
 """
 
 import functools
@@ -187,11 +189,14 @@ def fits(printed, errors, places, command):
 
 
 def main(arguments):
-    if len(arguments) != 3:
-        print("usage: standard_error.py OUT ERR FILE", file=sys.stderr)
+    is_long = len(arguments) > 4 and arguments[2] == "of"
+    if len(arguments) != 3 and not is_long:
+        print("usage: standard_error.py OUT ERR FILE, or standard_error.py OUT ERR of COMMAND FILE..", file=sys.stderr)
         return 2
     printed, errors = (pathlib.Path(place).read_bytes() for place in arguments[:2])
-    return 0 if belongs(printed, errors, [arguments[2].encode(errors="surrogateescape")]) else 1
+    if is_long:
+        return 0 if fits(printed, errors, arguments[4:], arguments[3]) else 1
+    return 0 if belongs(printed, errors, [os.fsencode(arguments[2])]) else 1
 
 
 if __name__ == "__main__":
