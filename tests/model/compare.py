@@ -4,11 +4,12 @@
 #
 # It makes up declarations, answers, assignments and runs, gives them to `PROGRAM plan` on standard
 # input, and to the other commands as files, and compares the bytes that are printed and the exit status
-# with the model's. Standard error must have what belongs to the answer (tests/lib/standard_error.py). Of
-# each command there are the cases at the limits of docs/FORMAT.md and at each place of small texts, once
-# each, and then CASES random ones; of `run`, which makes threads, and of `hang`, RUNS, or a fifth as many. The same SEED
-# makes the same cases. It fails where an answer differs, and where some kind of answer never came, as may be with
-# few CASES. Before all this the model must answer the worked examples (examples.py).
+# with the model's. Standard error must have what belongs to the answer (tests/lib/standard_error.py), and
+# right reasons why workqueues can hang (reasons.py). Of each command there are the cases at the limits of
+# docs/FORMAT.md and at each place of small texts, once each, and then CASES random ones; of `run`, which makes
+# threads, and of `hang`, RUNS, or a fifth as many. The same SEED makes the same cases. It fails where an answer
+# differs, and where some kind of answer or of reason never came, as may be with few CASES. Before all this the
+# model must answer the worked examples (examples.py).
 #
 # With --with WORD the cases are only those of which an assignment has a line with this first word: with
 # `--with norescuer` those of workqueues without a rescuer. Commands that read no assignment then have none.
@@ -225,6 +226,10 @@ def words_behind(command, number):
     return HELPERS[number % len(HELPERS)] if command == "run" else []
 
 
+# How often the program said each kind of reason.
+SAID = collections.Counter()
+
+
 def wrong_beside(command, files, texts, found):
     """What is wrong with what the program says on standard error beside its answer, or None: its form, and where it isn't a diagnosis, or
     behind the one of a `no`, the words.
@@ -254,6 +259,7 @@ def ask(program, command, texts, folder, number):
     with programs.files(folder, named) as places:
         found = programs.ask([program, command, *places, *words_behind(command, number)], input=given)
     wrong = None if found.is_late() else wrong_beside(command, [os.fsencode(place) for place in places] or [STDIN], texts, found)
+    SAID.update(reasons.rows_in(found.errors))
     errors = found.errors + (f"({wrong})".encode() if wrong else b"")
     return (found.printed, found.status), errors, wrong is None and not found.is_late()
 
@@ -475,6 +481,9 @@ def main(arguments):
         agreed += sum(kinds.values()) if command in asked else 0
         if word is None:
             never += [f"{command}: {kind}" for kind, _, _ in KINDS[command] if kinds[kind] == 0]
+    if set(asked) == set(COMMANDS) and word is None:
+        print(f"model: reasons: {', '.join(f'{row}: {SAID[row]}' for row in reasons.ROWS)}")
+        never += [f"reasons: {row}" for row in reasons.ROWS if SAID[row] == 0]
     if different:
         print("model: FAILED")
         return 1

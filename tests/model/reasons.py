@@ -25,6 +25,33 @@ FURTHER = b"and "
 # The lines of a block, and those that stand before the reasons: a `no` has its own block.
 BLOCK = 3
 
+# The rows of the tables of tests/DIAGNOSES.md: how WHAT of each ends, or what is in it.
+ROWS = {
+    "to no rescuer": rb"waits for `[^`\n]+`, which nothing guarantees to run: ",
+    "to no rescuer, by flushwq": rb"waits for the workqueue of `[^`\n]+`, which nothing guarantees to run: ",
+    "B is N": rb"waits for `[^`\n]+`, which waits on workqueue [0-9]+",
+    "B and N are A": rb"on workqueue [^\n]*, waits for itself\n",
+    "B isn't N": rb"waits for `[^`\n]+`, which is behind `[^`\n]+` on workqueue [0-9]+",
+    "B isn't N, and N is A": rb"waits for `[^`\n]+`, which is behind it\n",
+    "by flushwq": rb"waits for all of workqueue [0-9]+[^\n]*, where `[^`\n]+` waits\n",
+    "by flushwq, and N is A": rb"waits for all of its workqueue\n",
+    "groups: B is N": rb"` waits for `[^`\n]+`, which waits\n",
+    "groups: B and N are A": rb"` waits for itself\n",
+    "groups: B isn't N": rb"` waits for `[^`\n]+`, which is behind `[^`\n]+`: they are `ordered`\n",
+    "groups: B isn't N, and N is A": rb"` waits for `[^`\n]+`, which is behind it: they are `ordered`\n",
+    "groups: by flushwq": rb"` waits for the workqueue of `[^`\n]+`, where `[^`\n]+` waits\n",
+    "groups: by flushwq, and N is A": rb"` waits for its workqueue\n",
+    "a name of a workqueue": rb"can hang: [^\n]*on workqueue [0-9]+ \(",
+    "several parts": rb"can hang: [^\0]*can hang: ",
+    "beside a circle of plan": rb": can hang on any workqueues: ",
+}
+ROWS = {name: re.compile(form) for name, form in ROWS.items()}
+
+
+def rows_in(said):
+    """Which rows these reasons have."""
+    return [name for name, form in ROWS.items() if form.search(said)] if b"can hang" in said else []
+
 
 @dataclasses.dataclass
 class Line:
