@@ -6,6 +6,14 @@ GROUP = "item a / item b / ordered a b"
 ADVICE = "a: note: where reclaim waits for one of them, declare who waits: an item of its own, on a `wq` line, that flushes it"
 NOTE = "a: note: nothing guarantees that these run while memory is short: "
 QUEUED = "run 4 / queue a / queue b / start 0 a / wait 0 b"
+NONE = [
+    "d:3:9: can hang: `a`, on workqueue 0, waits for `b`, which nothing guarantees to run: workqueue 1 has no rescuer",
+    "    flush a b",
+    "            ^",
+    "a:2:1: workqueue 1 has no rescuer",
+    "    norescuer 1 b",
+    "    ^^^^^^^^^",
+]
 
 
 def safe(declaration, assignment, items, command="deadlock"):
@@ -207,10 +215,10 @@ NOTES = [
     ({"d": AB, "a": "norescuer 0 a / wq 1 b", "r": "run 1 / queue a"}, "replay d a r", "open", 0, []),
 ]
 
-# By which flush a run hangs.
+# Which flush leads to no rescuer, beside a run (why_hanging.py has the other reasons).
 REASONS = [
     ({"d": AB, "a": "wq 0 a / norescuer 1 b"}, "deadlock d a", QUEUED, 1, [
-        "d:3:9: `a`, on workqueue 0, waits for `b`, which nothing guarantees to run: workqueue 1 has no rescuer",
+        "d:3:9: can hang: `a`, on workqueue 0, waits for `b`, which nothing guarantees to run: workqueue 1 has no rescuer",
         "    flush a b",
         "            ^",
         "a:2:1: workqueue 1 has no rescuer",
@@ -219,7 +227,7 @@ REASONS = [
     ]),
     ({"d": "item a / item b / # x /  flush  a b b # a.c:5", "a": "# y /  norescuer 0  b # log, b.c:1 / wq 1 a # md"}, "deadlock d a",
      "run 4 / queue a / queue b / start 1 a / wait 1 b", 1, [
-         "d:4:11: `a`, on workqueue 1 (md), waits for `b`, which nothing guarantees to run: workqueue 0 (log) has no rescuer",
+         "d:4:11: can hang: `a`, on workqueue 1 (md), waits for `b`, which nothing guarantees to run: workqueue 0 (log) has no rescuer",
          "     flush  a b b # a.c:5",
          "              ^",
          "a:2:2: workqueue 0 (log) has no rescuer",
@@ -227,27 +235,31 @@ REASONS = [
          "     ^^^^^^^^^",
      ]),
     ({"d": WHOLE, "a": "wq 0 a / norescuer 1 b # log"}, "deadlock d a", "run 4 / queue a / queue b / start 0 a / waitwq 0 b", 1, [
-        "d:3:11: `a`, on workqueue 0, waits for the workqueue of `b`, which nothing guarantees to run: workqueue 1 (log) has no rescuer",
+        "d:3:11: can hang: `a`, on workqueue 0, waits for the workqueue of `b`, which nothing guarantees to run: workqueue 1 (log) has no rescuer",
         "    flushwq a b",
         "              ^",
         "a:2:1: workqueue 1 (log) has no rescuer",
         "    norescuer 1 b # log",
         "    ^^^^^^^^^",
     ]),
-    # The flush of least place, though a later one is of an item that comes before, and though there is a circle.
+    # `deadlock` runs into the flush of least place, though a later one is of an item that comes before, and though there is a circle. A
+    # circular wait of one item, which takes fewer steps, is said.
     ({"d": "item a / item b / item c / flush a a b / flush b c / flush a c", "a": "wq 0 a / wq 1 b / norescuer 2 c"}, "deadlock d a",
      "run 7 / queue b / queue a / queue c / start 0 a / wait 0 a / start 1 b / wait 1 c", 1, [
-         "d:5:9: `b`, on workqueue 1, waits for `c`, which nothing guarantees to run: workqueue 2 has no rescuer",
-         "    flush b c",
+         "d:4:9: can hang: `a`, on workqueue 0, waits for itself",
+         "    flush a a b",
          "            ^",
-         "a:3:1: workqueue 2 has no rescuer",
-         "    norescuer 2 c",
-         "    ^^^^^^^^^",
      ]),
-    # `hang` says the same, though its run is that of the circle.
     ({"d": "item a / item b / item c / flush a a b / flush b c / flush a c", "a": "wq 0 a / wq 1 b / norescuer 2 c"}, "hang d a",
      "run 3 / queue a / start 0 a / wait 0 a", 1, [
-         "d:5:9: `b`, on workqueue 1, waits for `c`, which nothing guarantees to run: workqueue 2 has no rescuer",
+         "d:4:9: can hang: `a`, on workqueue 0, waits for itself",
+         "    flush a a b",
+         "            ^",
+     ]),
+    # The flush of least place, though a later one is of an item that comes before; a longer circular wait isn't said.
+    ({"d": "item a / item b / item c / flush a b / flush b c / flush a c / flush b a", "a": "wq 0 a / wq 1 b / norescuer 2 c"},
+     "deadlock d a", "run 7 / queue b / queue a / queue c / start 0 a / wait 0 b / start 1 b / wait 1 c", 1, [
+         "d:5:9: can hang: `b`, on workqueue 1, waits for `c`, which nothing guarantees to run: workqueue 2 has no rescuer",
          "    flush b c",
          "            ^",
          "a:3:1: workqueue 2 has no rescuer",
@@ -257,17 +269,20 @@ REASONS = [
     # An item without a rescuer waits too: only the first flush counts.
     ({"d": "item a / item b / flush b a / flush a a b", "a": "wq 0 b / norescuer 1 a"}, "deadlock d a",
      "run 4 / queue b / queue a / start 0 b / wait 0 a", 1, [
-         "d:3:9: `b`, on workqueue 0, waits for `a`, which nothing guarantees to run: workqueue 1 has no rescuer",
+         "d:3:9: can hang: `b`, on workqueue 0, waits for `a`, which nothing guarantees to run: workqueue 1 has no rescuer",
          "    flush b a",
          "            ^",
          "a:2:1: workqueue 1 has no rescuer",
          "    norescuer 1 a",
          "    ^^^^^^^^^",
      ]),
-    # A run of a circle has no such reason, and `circles` lists the flushes itself.
+    # Where none leads to no rescuer; and beside `circles` and `replay`.
     ({"d": "item a / item b / flush a a", "a": "wq 0 a / norescuer 1 b"}, "deadlock d a",
-     "run 4 / queue a / queue b / start 0 a / wait 0 a", 1, []),
-    ({"d": "item a / item b / flush a a", "a": "wq 0 a / norescuer 1 b"}, "hang d a", "run 3 / queue a / start 0 a / wait 0 a", 1, []),
-    ({"d": AB, "a": "wq 0 a / norescuer 1 b"}, "circles d a", "components 0 / norescuer 1 / arc a b", 1, []),
-    ({"d": AB, "a": "wq 0 a / norescuer 1 b", "r": QUEUED}, "replay d a r", "deadlock", 1, []),
+     "run 4 / queue a / queue b / start 0 a / wait 0 a", 1, [
+         "d:3:9: can hang: `a`, on workqueue 0, waits for itself",
+         "    flush a a",
+         "            ^",
+     ]),
+    ({"d": AB, "a": "wq 0 a / norescuer 1 b"}, "circles d a", "components 0 / norescuer 1 / arc a b", 1, NONE),
+    ({"d": AB, "a": "wq 0 a / norescuer 1 b", "r": QUEUED}, "replay d a r", "deadlock", 1, NONE),
 ]
