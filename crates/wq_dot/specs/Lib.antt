@@ -6,4 +6,3 @@ pub mod Drawing
 pub mod Laws
 pub mod Flushes
 pub mod Dotting
-pub mod DotInput
