@@ -244,7 +244,7 @@ def is_right(texts, wanted, found):
     """
     if wanted[1] != 0 or found[1] != 0:
         return False
-    declared, assignment = read_texts(*texts)
+    declared, assignment = read_texts(texts[0], texts[1] if len(texts) == 2 else None)
     shown = assignment or own_workqueues(declared)
     run = hang.shortest_run(declared, shown)
     arrows = found[0].split(b"\n")[-2 - len(declared.flushes):-2]
