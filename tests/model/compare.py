@@ -18,7 +18,7 @@
 # plans as assignments to `PROGRAM deadlock`, and the runs, those behind circles too, to `PROGRAM
 # replay`. It must stand by its answers: `yes`, `safe` and `deadlock`; of what `hang` prints the model says
 # which of `deadlock` and `stuck`. Where it prints `safe` by `circles`, it must print it by `deadlock` too.
-# What `hang` prints may be another run than the model's, if it is as good (hang.py).
+# What `hang` prints may be another run than the model's, if it is as good (hang.py), and what `dot` draws the waits of one (dot.py).
 #
 # With --only the program is asked for these commands alone; with `--only none` it isn't run at all.
 # The cases of the other commands are made all the same, and the model's answers must have one of
@@ -88,12 +88,14 @@ DRAWING = (
 PLANNED = (r"plan of (1 workqueue|N workqueues)"
            r"(, (1 wait|N waits) in bold\\lBold: the chain that needs so many workqueues\.\\l)?")
 DASHED = r"\\lDashed: no rescuer\. While memory is short, nothing\\lguarantees that work there runs\."
-HANGING = (r"(every assignment )?can hang, (1 wait|N waits) in redLEADING"
+HANGING = (r"(every assignment )?can hang, (1 wait|N waits) in redLEADINGBOLD"
            r"\\lRed: while memory is short, a worker may wait for work"
-           rf"\\lthat WORK\.({DASHED})?\\l")
+           rf"\\lthat WORK\.LEGEND({DASHED})?\\l")
 ON_CIRCLES = r"only it, or one that waits for it, can do"
 ON_NONE = r"no rescuer does"
 LEADING = r", N to no rescuer"
+BOLD = r", N in bold"
+LEGEND = r"\\lBold: enough to hang it, in the fewest steps\."
 ESCAPE = r"([ !#-%\'-\[\]-~]|\\\"|\\\\|&amp;)"
 NO_LOOK = "(?!)"
 
@@ -104,8 +106,15 @@ def drawing(title, look):
 
 
 def hanging(leading, work):
-    """The form of a drawing with red arrows: how many lead to no rescuer, and what no one does."""
-    return drawing(HANGING.replace("LEADING", leading).replace("WORK", work), "color=red, style=bold")
+    """The form of a drawing with red arrows, all of which are bold: how many lead to no rescuer, and what no one does."""
+    title = HANGING.replace("LEADING", leading).replace("WORK", work).replace("BOLD", "").replace("LEGEND", "")
+    return drawing(title, "color=red, penwidth=4")
+
+
+def hanging_in_part(leading, work):
+    """The same where only some of them are bold."""
+    title = HANGING.replace("LEADING", leading).replace("WORK", work).replace("BOLD", BOLD).replace("LEGEND", LEGEND)
+    return drawing(title, "color=red, (style=bold|penwidth=4)")
 
 
 # Of a command, where `like_others` isn't enough: the cases at the limits, the random cases, and the kinds
@@ -160,7 +169,8 @@ COMMANDS = {
         [("plans", 0, drawing(PLANNED, "style=bold")), ("safe", 0, drawing("safe", NO_LOOK)),
          ("safe, dashed", 0, drawing(rf"safe{DASHED}\\l", NO_LOOK)),
          ("components", 0, hanging("", ON_CIRCLES)), ("no rescuer", 0, hanging(LEADING, ON_NONE)),
-         ("components and no rescuer", 0, hanging(LEADING, rf"{ON_CIRCLES},\\lor that {ON_NONE}"))]
+         ("components, some bold", 0, hanging_in_part("", ON_CIRCLES)), ("no rescuer, some bold", 0, hanging_in_part(LEADING, ON_NONE)),
+         ("components and no rescuer", 0, hanging_in_part(LEADING, rf"{ON_CIRCLES},\\lor that {ON_NONE}"))]
         + DECLARATION_REFUSALS + CERTIFICATE_REFUSALS[1:],
     ),
     "run": (

@@ -946,7 +946,7 @@ def look_at_dot(*texts):
     demand([[[name.encode() for name in members] for members in of_one] for of_one in drawing.workqueues]
            == groups, "each group is on its workqueue")
     demand(names_of(arrow[:2] for arrow in drawing.arrows) == declared.flushes, "an arrow for each flush, in order")
-    demand(sorted(names_of(drawing.coloured("red"))) == sorted(printed_arcs(circled)), "circles are red")
+    demand(sorted(names_of(drawing.red())) == sorted(printed_arcs(circled)), "circles are red")
     demand(sorted(names_of(drawing.coloured("bold"))) == sorted(bold), "the chain is bold")
     demand([arrow[3] for arrow in drawing.arrows] == [kind in FLUSHES_WHOLE for kind in declared.directive_of],
            "waits for a whole workqueue have their own heads")
