@@ -8,9 +8,10 @@ use crate::declarations::{PLAN_OF_TWO, TWO};
 use std::alloc::{AllocError, Allocator};
 use wq_commands::{CheckCommand, Command, Texts, Voice};
 use wq_diagnosis::{
-    CertificateKind, Diagnosing, Source, of_certificate, of_declaration, of_failed, of_no,
-    of_no_item, of_too_many, of_unlawful,
+    CertificateKind, Source, of_certificate, of_declaration, of_failed, of_no, of_no_item,
+    of_too_many, of_unlawful,
 };
+use wq_voice::{Beside, Diagnosing};
 
 /// What is asked to say what is wrong.
 #[derive(Clone, Copy)]
@@ -381,6 +382,7 @@ fn say_of_check<A: Allocator + Copy>(
         declaration.file,
         CertificateKind::Answer,
         certificate.file,
+        Beside::Other,
     );
     voice.say(alloc, &texts, &outcome)
 }
