@@ -28,12 +28,12 @@ use wq_commands::{
     CheckCommand, Command, DeadlockCommand, End, Fault, Metered, Outcome, PlanCommand,
     ReplayCommand, Stopped, Voice, carry_out,
 };
-use wq_diagnosis::{CertificateKind, Diagnosing, Unrescued};
 use wq_dot::DotCommand;
 use wq_explain::{Explained, explain_cmd};
 use wq_hang_command::HangCommand;
 use wq_meter::write_text;
 use wq_run::{CommandFault, RunStop, carry_out_run, end_of_run};
+use wq_voice::{Beside, CertificateKind, Diagnosing};
 
 /// Carries out a command on these readers.
 fn carry_out_on<
@@ -167,7 +167,7 @@ fn plan_file<'a, O: World<'a>, W: Write, E: Write>(
     let ended = carry_out_on(
         alloc,
         &PlanCommand { seed },
-        &Diagnosing::one(seed, shown_name(file)),
+        &Diagnosing::one(seed, shown_name(file), Beside::Circle),
         declared,
         io::empty(),
         io::empty(),
@@ -199,7 +199,7 @@ fn plan_input<'a, O: World<'a>, I: Read, W: Write, E: Write>(
     let ended = carry_out(
         alloc,
         &PlanCommand { seed },
-        &Diagnosing::one(seed, STDIN),
+        &Diagnosing::one(seed, STDIN, Beside::Circle),
         input,
         &mut second,
         &mut third,
@@ -256,6 +256,7 @@ fn check<'a, O: World<'a>, W: Write, E: Write>(
             shown_name(declaration),
             CertificateKind::Answer,
             shown_name(certificate),
+            Beside::Other,
         ),
         declared,
         certified,
@@ -286,11 +287,12 @@ fn deadlock<'a, O: World<'a>, W: Write, E: Write>(
     let ended = carry_out_on(
         alloc,
         &DeadlockCommand { seed },
-        &Diagnosing::assigned(
+        &Diagnosing::two(
             seed,
             shown_name(declaration),
+            CertificateKind::Assignment,
             shown_name(assignment),
-            Unrescued::Explained,
+            Beside::Verdict,
         ),
         declared,
         assigned,
@@ -321,11 +323,12 @@ fn hang<'a, O: World<'a>, W: Write, E: Write>(
     let ended = carry_out_on(
         alloc,
         &HangCommand { seed },
-        &Diagnosing::assigned(
+        &Diagnosing::two(
             seed,
             shown_name(declaration),
+            CertificateKind::Assignment,
             shown_name(assignment),
-            Unrescued::Explained,
+            Beside::Verdict,
         ),
         declared,
         assigned,
@@ -365,7 +368,7 @@ fn replay<'a, O: World<'a>, W: Write, E: Write>(
             kind: CertificateKind::Assignment,
             certificate: shown_name(assignment),
             run: shown_name(run),
-            unrescued: Unrescued::Unsaid,
+            beside: Beside::RunEnd,
         },
         declared,
         assigned,
@@ -399,11 +402,12 @@ fn assigned_circles<'a, O: World<'a>, W: Write, E: Write>(
             seed,
             assigned: true,
         },
-        &Diagnosing::assigned(
+        &Diagnosing::two(
             seed,
             shown_name(declaration),
+            CertificateKind::Assignment,
             shown_name(assignment),
-            Unrescued::Noted,
+            Beside::Components,
         ),
         declared,
         assigned,
@@ -436,7 +440,7 @@ fn own_circles<'a, O: World<'a>, W: Write, E: Write>(
             seed,
             assigned: false,
         },
-        &Diagnosing::one(seed, shown_name(declaration)),
+        &Diagnosing::one(seed, shown_name(declaration), Beside::OwnComponents),
         declared,
         io::empty(),
         io::empty(),
@@ -495,6 +499,7 @@ fn assigned_dot<'a, O: World<'a>, W: Write, E: Write>(
             shown_name(declaration),
             CertificateKind::Assignment,
             shown_name(assignment),
+            Beside::Other,
         ),
         declared,
         assigned,
@@ -527,7 +532,7 @@ fn own_dot<'a, O: World<'a>, W: Write, E: Write>(
             seed,
             assigned: false,
         },
-        &Diagnosing::one(seed, shown_name(declaration)),
+        &Diagnosing::one(seed, shown_name(declaration), Beside::Other),
         declared,
         io::empty(),
         io::empty(),
@@ -602,7 +607,7 @@ fn run<'a, O: World<'a>, R: Threads + Wait + Sync, W: Write, E: Write>(
     let Some((seed, declared)) = one_file(world, declaration) else {
         return Err(CommandFault::Common(Fault::Read));
     };
-    let voice = Diagnosing::one(seed, shown_name(declaration));
+    let voice = Diagnosing::one(seed, shown_name(declaration), Beside::Other);
     let ended = run_on(rt, alloc, seed, helpers, &voice, declared, writer, teller);
     end_of_run(ended)
 }

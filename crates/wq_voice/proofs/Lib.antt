@@ -1,0 +1,3 @@
+pub mod BareNotes
+pub mod Blocks
+pub mod Walked

@@ -1,0 +1,5 @@
+pub mod Words
+pub mod Note
+pub mod Waits
+pub mod Reasons
+pub mod Voice
