@@ -1,5 +1,5 @@
 -- The waits of a shortest run that ends stuck are red, too: each lies on a circle, or it is one that leads to no rescuer.
-use Rattle.std.proofs.Common.{◌≡◌, ◌⊎◌, ℕ, ◌<◌, inl, inr, List, [], ◌∷◌, length, refl, sym, ap, subst, ◌∙◌, arith}
+use Rattle.std.proofs.Common.{◌≡◌, ◌⊎◌, ℕ, ◌<◌, inl, inr, List, [], ◌∷◌, length, refl, sym, ap, subst, arith}
 use Rattle.std.specs.List.{All}
 use Rattle.std.proofs.lemmas.List.Elements.{All-cons}
 use Rattle.std.proofs.lemmas.Option.{slice_get-get_or}
@@ -7,20 +7,20 @@ use Rattle.wq_groups.specs.Declaration.{Declaration, IsDeclaration}
 use Rattle.wq_groups.specs.Assignment.{IsAssignment, item_lane}
 use Rattle.wq_groups.proofs.Lanes.{item_lanes-at}
 use Rattle.wq_graph.specs.declared.arc.WaitArc.{WaitArc}
-use Rattle.wq_graph.specs.Graph.{arc_of}
+use Rattle.wq_graph.specs.Graph.{HasArc, arc_of}
 use Rattle.wq_core.specs.Wiring.{Wiring, IsWiring, HasRescuer, RescuedWaits, items, lane_of}
 use Rattle.wq_core.specs.Workqueues.{Workqueues, wiring_of}
 use Rattle.wq_core.proofs.Wirings.{IsWiring-wiring, IsWiring-with_bare}
-use Rattle.wq_deadlock.specs.Judging.{bare_waits}
 use Rattle.wq_hang.specs.declared.hop.Hop.{Hop}
 use Rattle.wq_hang.specs.Walk.{IsHop, IsPath, IsWalk}
 use Rattle.wq_hang.proofs.Declared.{declared-item, declared-target}
-use Rattle.wq_circles.specs.Components.{AreComponents}
-use Rattle.wq_circles.specs.Flushes.{HasFlush, IsDeclaredFlush, IsInComponents}
+use Rattle.wq_circles.specs.Components.{AreComponents, kept_graph}
+use Rattle.wq_circles.specs.Flushes.{IsDeclaredFlush, IsInComponents}
 use Rattle.wq_circles.specs.Leading.{Leads}
 use Rattle.wq_circles.proofs.Leading.{Leads-arc, Leads-trans}
 use Rattle.wq_circles.proofs.ForBare.{AreForBare-waits}
-use Rattle.wq_circles.proofs.Promised.{lie}
+use Rattle.wq_circles.proofs.KeptLanes.{VertexWaits-kept_graph}
+use Rattle.wq_circles.proofs.OnCircles.{IsInComponents-leads, Leads-keeps}
 use Rattle.wq_dot.specs.Dotting.{AreShortest}
 use Rattle.wq_dot.specs.Laws.{IsRed}
 
@@ -49,8 +49,7 @@ module _ (d : Declaration) (ws : Workqueues) (declaration : IsDeclaration d) (as
   -- the lane of the item that waits waits for that of the target
   hop-waits : (h : Hop) → IsHop w h → HasRescuer w (lane h.flush.item) → R (lane h.item) (lane h.flush.item)
   hop-waits h hop rescuer =
-      let (k, lt, at) = hop.declared in
-      (
+      let (k, lt, at) = hop.declared in (
         hop.rescuer,
         rescuer,
         record {
@@ -113,11 +112,18 @@ module _ (d : Declaration) (ws : Workqueues) (declaration : IsDeclaration d) (as
     on_lane : (i : ℕ) → i < items w → lane i ≡ item_lane ws.assignment d.group_of i
     on_lane i below = item_lanes-at ws.assignment d.group_of i (omega (arith, below, declaration.one_list_each))
 
+    in_component : (b : WaitArc) → IsDeclaredFlush d.waits b → Leads R (item_lane ws.assignment d.group_of b.dst) (item_lane ws.assignment d.group_of b.src) → IsInComponents components b
+    in_component b flush leads =
+        let graph = kept_graph d ws.assignment ws.bare in
+        subst (λ (l : List (List WaitArc)). IsInComponents l b) (sym are.are)
+        (IsInComponents-leads d ws.assignment ws.bare declaration assignment are.lowest are.are_lowest b flush
+        (Leads-keeps R (HasArc graph) (λ p q waits. (VertexWaits-kept_graph d ws.assignment ws.bare declaration assignment p q).0 waits) _ _ leads))
+
     circled : (h : Hop) → IsHop w h → Leads R (lane h.flush.item) (lane h.item) → IsRed d ws components (flush_of h)
     circled h hop leads =
         let src = on_lane h.item (declared-item w h.item h.flush hop.declared) in
         let dst = on_lane h.flush.item (declared-target w h.item h.flush wired hop.declared) in
-        inl ((lie d ws.assignment ws.bare declaration assignment components are (flush_of h) (declared h hop)).1
+        inl (in_component (flush_of h) (declared h hop)
         (subst (Leads R (item_lane ws.assignment d.group_of h.flush.item)) src (subst (λ (l : ℕ). Leads R l (lane h.item)) dst leads)))
 
     to_bare : (h : Hop) → IsHop w h → (¬ HasRescuer w (lane h.flush.item)) → IsRed d ws components (flush_of h)
