@@ -1,6 +1,6 @@
 //! The words of waits of groups, whatever their workqueues.
 //!
-//! The words are those of "Reasons" in tests/DIAGNOSES.md. A call takes the time and the memory of the words.
+//! The words are those of "Where workqueues can hang" in tests/DIAGNOSES.md. A call takes the time and the memory of the words.
 
 ghost use Rattle.std.specs.Prelude.{◌≡◌, ◌++◌, IfOk};
 ghost use Rattle.wq_voice.specs.Waits.{group_behind_words, group_to_all_words, group_to_behind_words, group_to_next_words, group_to_words, group_wait_words};

@@ -1,6 +1,6 @@
 //! What is spoken of, and what is said of a walk: a block of lines for each wait, in its order.
 //!
-//! The words are those of "Reasons" in tests/DIAGNOSES.md. A wait takes the time of reading the text that declares its flush, and the
+//! The words are those of "Where workqueues can hang" in tests/DIAGNOSES.md. A wait takes the time of reading the text that declares its flush, and the
 //! memory of its lines.
 
 ghost use Rattle.std.specs.Prelude.{◌≡◌, ◌++◌, ◌∷◌, [], ◌<◌, IfOk, OnOk, codes, length, map};

@@ -1,6 +1,6 @@
 //! The words of waits that hold one another up: who waits, for what, and why that doesn't go on.
 //!
-//! The words are those of "Reasons" in tests/DIAGNOSES.md. A call takes the time and the memory of the words.
+//! The words are those of "Where workqueues can hang" in tests/DIAGNOSES.md. A call takes the time and the memory of the words.
 
 ghost use Rattle.std.specs.Prelude.{◌≡◌, ◌++◌, ◌<◌, [], IfOk, codes, cond, length, map};
 ghost use Rattle.wq_voice.specs.Waits.{bare_words, to_all_words, to_bare_words, to_behind_words, to_next_words, to_words, wait_words, words_of};
