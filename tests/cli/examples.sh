@@ -23,6 +23,20 @@ ends() {
     is "$1" "$2: $3" "$status: $(cat out err)"
 }
 
+# hanging NAME TEXT: counts whether the last run ended with status 1 and wrote just this text, and whether standard error says why the
+# workqueues can hang.
+hanging() {
+    is "$1" "1: $2" "$status: $(cat out)"
+    has "$1: why" ': can hang: `[a-zA-Z_.]+`' "$(head -n 1 err)"
+}
+
+# why NAME DECL ASSIGN PAIR: counts whether `hang` says of an item that it waits for another one, whether they are on one workqueue or
+# the other one is on one without a rescuer. A PAIR has both names in backticks, with a blank between them; it may be a pattern of several.
+why() {
+    run hang "$2" "$3"
+    has "$1: which wait is said" "^($4)\$" "$(head -n 1 err | grep -oE '`[a-z_.]+`' | xargs -d '\n')"
+}
+
 # begins NAME STATUS LINE: counts whether the last run ended so, and wrote this line first.
 begins() {
     is "$1" "$2: $3" "$status: $(head -n 1 out)"
@@ -36,7 +50,7 @@ hangs() {
     local steps=${4:-$(($(wc -l <out) - 1))}
     begins "$1: deadlock" 1 "run $steps"
     run replay "$2" "$3" hangs.run
-    ends "$1: its run, replayed" 1 deadlock
+    hanging "$1: its run, replayed" deadlock
     sed "1s/.*/run $((steps - 1))/; \$d" hangs.run >shorter.run
     run replay "$2" "$3" shorter.run
     ends "$1: its run without the last step" 0 open
@@ -170,8 +184,14 @@ boxes() {
         /^ +[^ ]+$/ && $1 != "}" { print lane, $1 }' | LC_ALL=C sort
 }
 
+# waits: those that are made in the run of the file `out`, as `arc` lines, sorted.
+waits() {
+    awk '$1 == "start" { item = $3 } $1 == "wait" || $1 == "waitwq" { print "arc", item, $3 }' out | LC_ALL=C sort
+}
+
 # draws NAME COUNTS DECL [ASSIGN]: counts whether the reader of drawings finds these counts in what `dot` prints. The red arrows
-# must be the flushes that `circles` prints; and where a plan is drawn, its workqueues and the bold arrows must be those of `plan`.
+# must be the flushes that `circles` prints, and those of them that are bold the waits of the run that `hang` prints; and where a
+# plan is drawn, its workqueues and the bold arrows must be those of `plan`.
 draws() {
     local name=$1 counts=$2 wanted
     shift 2
@@ -180,7 +200,7 @@ draws() {
     run dot "$@"
     is "$name: dot" 0 "$status"
     is "$name: what is drawn" "$counts" "$(python3 -B "$reader" out | sed 's/^out: //')"
-    is "$name: the red arrows" "$wanted" "$(arrows 'color=red, style=bold')"
+    is "$name: the red arrows" "$wanted" "$(arrows 'color=red, (style=bold|penwidth=4)')"
     cp out drawing
     if [ $# -eq 1 ] && [ "${counts%% *}" = plan ]; then
         run plan "$1"
@@ -191,6 +211,10 @@ draws() {
     elif [ $# -eq 2 ]; then
         sed 's/#.*//' "$2" >drawn.assign
         is "$name: the boxes" "$(boxes drawn.assign)" "$(boxes drawing)"
+        run hang "$@"
+        wanted=$(waits)
+        cp drawing out
+        is "$name: the bold red arrows" "$wanted" "$(arrows 'color=red, penwidth=4')"
     fi
 }
 
@@ -202,9 +226,10 @@ plan_is_least dm-snapshot
 run deadlock dm-snapshot.wq dm-snapshot.assign
 ends 'dm-snapshot: the kernel' 0 safe
 hangs 'dm-snapshot: one kcopyd' dm-snapshot.wq dm-snapshot.merged.assign 14
+why 'dm-snapshot: one kcopyd' dm-snapshot.wq dm-snapshot.merged.assign '`do_work.merging` `do_work.other`'
 draws dm-snapshot 'plan of 3 workqueues, 2 waits in bold: items 6, workqueues 3, arrows 4, red 0, bold 2' dm-snapshot.wq
 draws 'dm-snapshot: the kernel' 'safe: items 6, workqueues 6, arrows 4, red 0, bold 0' dm-snapshot.wq dm-snapshot.assign
-draws 'dm-snapshot: one kcopyd' 'can hang, 1 wait in red: items 6, workqueues 3, arrows 4, red 1, bold 0' \
+draws 'dm-snapshot: one kcopyd' 'can hang, 1 wait in red: items 6, workqueues 3, arrows 4, red 1, bold 1' \
     dm-snapshot.wq dm-snapshot.merged.assign
 
 # dm-integrity: six workqueues, safe; without dm-integrity-offload it hangs.
@@ -215,6 +240,8 @@ plan_is_least dm-integrity
 run deadlock dm-integrity.wq dm-integrity.assign
 ends 'dm-integrity: the kernel' 0 safe
 hangs 'dm-integrity: without dm-integrity-offload' dm-integrity.wq dm-integrity.merged.assign 20
+why 'dm-integrity: without dm-integrity-offload' dm-integrity.wq dm-integrity.merged.assign \
+    '`integrity_bio_wait.offload` `integrity_metadata`'
 draws dm-integrity 'plan of 3 workqueues, 2 waits in bold: items 8, workqueues 3, arrows 13, red 0, bold 2' dm-integrity.wq
 
 # nvmet-tcp: a circle, and waits by cancel_work_sync for what has no rescuer, so that every assignment hangs: the kernel's, one workqueue for all, and one for each item. The
@@ -239,7 +266,7 @@ hangs 'nvmet-tcp: one workqueue' nvmet-tcp.wq one.assign
 awk '$1 == "item" { print "wq", lanes++, $2 }' nvmet-tcp.wq >own.assign
 hangs 'nvmet-tcp: a workqueue for each item' nvmet-tcp.wq own.assign
 is 'nvmet-tcp: the run behind the circle' "$(cat hangs.run)" "$(sed -n '/^run/,$p' nvmet-tcp.answer)"
-draws nvmet-tcp 'every assignment can hang, 2 waits in red: items 12, workqueues 12, arrows 16, red 2, bold 0' nvmet-tcp.wq
+draws nvmet-tcp 'every assignment can hang, 2 waits in red: items 12, workqueues 12, arrows 16, red 2, bold 2' nvmet-tcp.wq
 grep -v 'flushwq tcp.c:1923' nvmet-tcp.wq >nvmet-tcp.noflush.wq
 answers nvmet-tcp.noflush 'plan 3' nvmet_tcp_release_queue_work nvmet_tcp_io_work nvmet_file_buffered_io_work
 plan_is_least nvmet-tcp.noflush
@@ -252,6 +279,7 @@ answers nvme-auth 'plan 3' dhchap_auth_work auth_work io_work
 without_cancel nvme-auth 3
 plan_is_least nvme-auth
 hangs 'nvme-auth: the kernel' nvme-auth.wq nvme-auth.assign 8
+why 'nvme-auth: the kernel' nvme-auth.wq nvme-auth.assign '`(dhchap_auth|connect)_work` `auth_work`'
 run deadlock nvme-auth.wq nvme-auth.later.assign
 ends 'nvme-auth: a later kernel' 0 safe
 draws nvme-auth 'plan of 3 workqueues, 2 waits in bold: items 4, workqueues 3, arrows 4, red 0, bold 2' nvme-auth.wq
@@ -263,7 +291,7 @@ to_no_rescuer 'nvme-auth: a later kernel, which loads a module' 1 nvme-auth.modu
 { cat nvme-auth.wq && echo 'flush auth_work dhchap_auth_work connect_work'; } >nvme-auth.pool.wq
 run plan nvme-auth.pool.wq
 begins 'nvme-auth: plan, with a pool of buffers' 1 'circle 2'
-draws 'nvme-auth: the kernel' 'can hang, 2 waits in red: items 4, workqueues 2, arrows 4, red 2, bold 0' nvme-auth.wq nvme-auth.assign
+draws 'nvme-auth: the kernel' 'can hang, 2 waits in red, 1 in bold: items 4, workqueues 2, arrows 4, red 2, bold 1' nvme-auth.wq nvme-auth.assign
 draws 'nvme-auth: a later kernel' 'safe: items 4, workqueues 3, arrows 4, red 0, bold 0' nvme-auth.wq nvme-auth.later.assign
 
 # md: one workqueue for all arrays, which hangs where an array has arrays for disks; one for each array doesn't. The kernel's own
@@ -273,17 +301,18 @@ answers md 'plan 2' submit.upper submit.lower
 without_cancel md 2
 plan_is_least md
 hangs 'md: the kernel' md.wq md.assign 6
+why 'md: the kernel' md.wq md.assign '`(submit|data).upper` `(submit|data).lower`'
 printf '%s\n' 'run 7' 'queue submit.lower' 'queue submit.upper' 'start 0 submit.lower' 'finish 0 submit.lower' \
     'start 0 submit.upper' 'queue data.lower' 'wait 0 data.lower' >md.run
 run replay md.wq md.assign md.run
-ends "md: the kernel's order" 1 stuck
+hanging "md: the kernel's order" stuck
 sed '1s/.*/run 6/; $d' md.run >shorter.run
 run replay md.wq md.assign shorter.run
 ends "md: the kernel's order, before the upper array waits" 0 open
 run deadlock md.wq md.perarray.assign
 ends 'md: a workqueue for each array' 0 safe
 draws md 'plan of 2 workqueues, 1 wait in bold: items 4, workqueues 2, arrows 4, red 0, bold 1' md.wq
-draws 'md: the kernel' 'can hang, 4 waits in red: items 4, workqueues 1, arrows 4, red 4, bold 0' md.wq md.assign
+draws 'md: the kernel' 'can hang, 4 waits in red, 1 in bold: items 4, workqueues 1, arrows 4, red 4, bold 1' md.wq md.assign
 
 # nfs: four workqueues, of which rpciod waits for itself; nfsiod doesn't. Two more waits lead to what has no rescuer, wherever the
 # mount ends, but for an item that nobody waits for.
@@ -292,6 +321,7 @@ answers nfs 'plan 2' rpc_async.put rpc_async
 without_cancel nfs 2
 plan_is_least nfs
 hangs 'nfs: the kernel' nfs.wq nfs.assign 30
+why 'nfs: the kernel' nfs.wq nfs.assign '`rpc_async.put` `rpc_(async|timer)`'
 printf '%s\n' 'run 4' 'queue rpc_async.put' 'start 1 rpc_async.put' 'queue rpc_async' 'wait 1 rpc_async' >nfs.run
 run replay nfs.wq nfs.assign nfs.run
 is "nfs: the kernel's order" '1: stuck' "$status: $(cat out)"
@@ -301,7 +331,7 @@ ends "nfs: the kernel's order, before the mount's end waits" 0 open
 run deadlock nfs.wq nfs.moved.assign
 ends 'nfs: released by nfsiod' 0 safe
 draws nfs 'plan of 2 workqueues, 1 wait in bold: items 12, workqueues 2, arrows 24, red 0, bold 1' nfs.wq
-draws 'nfs: the kernel' 'can hang, 2 waits in red: items 12, workqueues 4, arrows 24, red 2, bold 0' nfs.wq nfs.assign
+draws 'nfs: the kernel' 'can hang, 2 waits in red, 1 in bold: items 12, workqueues 4, arrows 24, red 2, bold 1' nfs.wq nfs.assign
 cat nfs.wq nfs.norescuer.wq >nfs.more.wq
 without=$'norescuer 4 wb_do_writeback\nnorescuer 5 inode_switch_wbs_work_fn'
 { cat nfs.moved.assign && echo "$without"; } >nfs.more.assign
@@ -324,7 +354,7 @@ run deadlock rbd.wq rbd.rescued.assign
 ends 'rbd: the kernel, with rescuers' 0 safe
 draws rbd 'plan of 3 workqueues, 2 waits in bold: items 13, workqueues 3, arrows 39, red 0, bold 2' rbd.wq
 draws 'rbd: the kernel' \
-    'can hang, 14 waits in red, 14 to no rescuer: items 13, workqueues 6, arrows 39, red 14, bold 0' rbd.wq rbd.assign
+    'can hang, 14 waits in red, 14 to no rescuer, 1 in bold: items 13, workqueues 6, arrows 39, red 14, bold 1' rbd.wq rbd.assign
 draws 'rbd: the kernel, with rescuers' 'safe: items 13, workqueues 6, arrows 39, red 0, bold 0' rbd.wq rbd.rescued.assign
 
 # xfs: twelve workqueues; six are enough, with and without the two that have no rescuer. All that changes trees of extents waits for
@@ -341,7 +371,7 @@ run deadlock xfs.wq xfs.rescued.assign
 ends 'xfs: the kernel, with rescuers' 0 safe
 sed '/xfsdiscard/s/^norescuer/wq/' xfs.assign >xfs.discard.assign
 notes 'xfs: the kernel, with a rescuer of xfsdiscard' xfs.wq xfs.discard.assign xfs_flush_inodes_worker xfs_log_worker
-draws 'xfs: the kernel' 'can hang, 6 waits in red, 6 to no rescuer: items 13, workqueues 12, arrows 42, red 6, bold 0' xfs.wq xfs.assign
+draws 'xfs: the kernel' 'can hang, 6 waits in red, 6 to no rescuer, 1 in bold: items 13, workqueues 12, arrows 42, red 6, bold 1' xfs.wq xfs.assign
 grep -v '^flush .* xlog_discard_endio_work' xfs.wq >xfs.nodiscard.wq
 notes 'xfs: the kernel, without -o discard' xfs.nodiscard.wq xfs.assign \
     xfs_flush_inodes_worker xfs_log_worker xlog_discard_endio_work
@@ -392,7 +422,7 @@ ends 'nbd: the kernel, with rescuers' 0 safe
 sed '/system_wq/s/^norescuer/wq/' nbd.assign >nbd.system.assign
 notes 'nbd: the kernel, with a rescuer of system_wq' nbd.wq nbd.system.assign nbd_dev_remove_work
 draws nbd 'plan of 5 workqueues, 4 waits in bold: items 8, workqueues 5, arrows 15, red 0, bold 4' nbd.wq
-draws 'nbd: the kernel' 'can hang, 4 waits in red, 4 to no rescuer: items 8, workqueues 5, arrows 15, red 4, bold 0' nbd.wq nbd.assign
+draws 'nbd: the kernel' 'can hang, 4 waits in red, 4 to no rescuer, 1 in bold: items 8, workqueues 5, arrows 15, red 4, bold 1' nbd.wq nbd.assign
 draws 'nbd: the kernel, with rescuers' 'safe: items 8, workqueues 5, arrows 15, red 0, bold 0' nbd.wq nbd.rescued.assign
 { cat nbd.wq && echo 'flush blk_mq_timeout_work blk_mq_run_work_fn'; } >nbd.alarm.wq
 hangs 'nbd: the kernel, with rescuers, with a line for what runs already' nbd.alarm.wq nbd.rescued.assign
@@ -422,9 +452,9 @@ hangs 'bcache: the kernel, without a bucket for the btree' bcache.full.wq bcache
 while read -r steps name assign; do
     run hang "$name.wq" "$assign.assign"
     cp out shortest.run
-    begins "$name, $assign: hang" 1 "run $steps"
+    hanging "$name, $assign: hang" "run $steps"$'\n'"$(tail -n +2 shortest.run)"
     run replay "$name.wq" "$assign.assign" shortest.run
-    ends "$name, $assign: the shortest run, replayed" 1 stuck
+    hanging "$name, $assign: the shortest run, replayed" stuck
     sed "1s/.*/run $((steps - 1))/; \$d" shortest.run >shorter.run
     run replay "$name.wq" "$assign.assign" shorter.run
     ends "$name, $assign: the shortest run without its last step" 0 open

@@ -14,12 +14,15 @@ import sys
 # What is drawn in words, and what its marks mean.
 WAITS = r", (?:1 wait|(?:[2-9]|[1-9][0-9]+) waits) in "
 WORDS = re.compile(rf"plan of (?:1 workqueue|(?:0|[2-9]|[1-9][0-9]+) workqueues)(?:{WAITS}bold)?"
-                   rf"|safe|every assignment can hang{WAITS}red|can hang{WAITS}red(?:, [1-9][0-9]* to no rescuer)?")
+                   rf"|safe|(?:every assignment can hang{WAITS}red|can hang{WAITS}red(?:, [1-9][0-9]* to no rescuer)?)"
+                   r"(?:, [1-9][0-9]* in bold)?")
 LEADING = re.compile(", ([0-9]+) to no rescuer")
+SHORTEST = re.compile(", ([0-9]+) in bold")
 BOLD = r"\lBold: the chain that needs so many workqueues.\l"
 RED = r"\lRed: while memory is short, a worker may wait for work\lthat "
 CIRCLED = "only it, or one that waits for it, can do"
 LEADS = "no rescuer does"
+ENOUGH = r"\lBold: enough to hang it, in the fewest steps."
 DASHED = r"\lDashed: no rescuer. While memory is short, nothing\lguarantees that work there runs."
 HEAD = [
     rb'digraph wqplan \{',
@@ -40,7 +43,8 @@ END_OF_WORKQUEUE = rb'  \}'
 END = rb'\}'
 
 # How an arrow looks: its colour; and its head: whether it is drawn from its target, and whether it is of a whole workqueue.
-LOOKS = {b"": "black", b" [color=red, style=bold]": "red", b" [style=bold]": "bold"}
+LOOKS = {b"": "black", b" [color=red, style=bold]": "red", b" [color=red, penwidth=4]": "bold red", b" [style=bold]": "bold"}
+REDS = {"red", "bold red"}
 HEADS = {
     b"": (False, False),
     b" [arrowhead=odiamond]": (False, True),
@@ -81,7 +85,7 @@ class Drawing:
 
     title: str
     workqueues: list  # by number, each as its groups, each of these as the names of its items
-    arrows: list  # in order, each as the names of its item and of its target, `black`, `red` or `bold`, and whether it is whole
+    arrows: list  # in order, each as the names of its item and of its target, `black`, a colour of REDS or `bold`, and whether it is whole
     comments: list = dataclasses.field(default_factory=list)  # of each arrow, empty if it has none
     bare: set = dataclasses.field(default_factory=set)  # the numbers of the workqueues without a rescuer
     labels: dict = dataclasses.field(default_factory=dict)  # by number, where it isn't just the number: the name, with `wq Q` or not
@@ -97,6 +101,10 @@ class Drawing:
     def coloured(self, colour):
         """The arrows of this colour, without it."""
         return [(item, target) for item, target, of_arrow, _ in self.arrows if of_arrow == colour]
+
+    def red(self):
+        """The arrows that are red, bold or not, without their colours."""
+        return [(item, target) for item, target, colour, _ in self.arrows if colour in REDS]
 
 
 class Reader:
@@ -127,17 +135,16 @@ class Reader:
 def red_legend(words):
     """What red says, where these are the words of TITLE."""
     red, leading = int(re.search(", ([0-9]+) wait", words)[1]), LEADING.search(words)
+    enough = ENOUGH if SHORTEST.search(words) else ""
     if leading is None:
-        return f"{RED}{CIRCLED}."
-    return f"{RED}{LEADS}." if int(leading[1]) == red else rf"{RED}{CIRCLED},\lor that {LEADS}."
+        return f"{RED}{CIRCLED}.{enough}"
+    return f"{RED}{LEADS}.{enough}" if int(leading[1]) == red else rf"{RED}{CIRCLED},\lor that {LEADS}.{enough}"
 
 
 def legends_of(words):
     """The legends that may follow these words of TITLE, each with whether it speaks of dashed frames."""
-    if words.endswith("in bold"):
-        return {BOLD: False}
     if words.startswith("plan"):
-        return {"": False}
+        return {BOLD if words.endswith("in bold") else "": False}
     if words == "safe":
         return {"": False, rf"{DASHED}\l": True}
     red = red_legend(words)
@@ -236,7 +243,8 @@ def must_be_turned(reader, arrows, turned, on_bare):
     ways = {}
     for (item, target, colour, _), back in zip(arrows, turned):
         ways.setdefault((item, target), set()).add(back)
-        reader.must(not back or colour == ("black" if item in on_bare else "red"), "an arrow is drawn from its target in the wrong colour")
+        reader.must(not back or (colour == "black" if item in on_bare else colour in REDS),
+                    "an arrow is drawn from its target in the wrong colour")
     for (item, target), backs in ways.items():
         reader.must(len(backs) == 1, "arrows of one item and one target are drawn from either")
         other = ways.get((target, item)) if item != target else None
@@ -270,10 +278,28 @@ def must_lead(reader, drawing):
     for item, target, colour, _ in drawing.arrows:
         ends = workqueue_of[item] in drawing.bare, workqueue_of[target] in drawing.bare
         leading += ends == (False, True)
-        reader.must(ends == (False, False) or (colour == "red") == (ends == (False, True)),
+        reader.must(ends == (False, False) or (colour in REDS) == (ends == (False, True)),
                     "an arrow that leads to no rescuer isn't red, or another one is")
     said = LEADING.search(drawing.title)
     reader.must(leading == (int(said[1]) if said else 0), "TITLE has another number of arrows that lead to no rescuer")
+
+
+def must_hang(reader, drawing):
+    """Where arrows are red, those that are bold are one that leads to no rescuer, or lead round, from workqueue to workqueue, and TITLE
+    says how many they are, if not all are."""
+    workqueue_of, bold = drawing.workqueue_of(), drawing.coloured("bold red")
+    said = SHORTEST.search(drawing.title)
+    reader.must(int(said[1]) == len(bold) < len(drawing.red()) if said else len(bold) == len(drawing.red()),
+                "TITLE has another number of bold ones among the red arrows")
+    if len(bold) == 1 and workqueue_of[bold[0][1]] in drawing.bare:
+        return
+    leads = {workqueue_of[item]: workqueue_of[target] for item, target in bold}
+    reader.must(len(leads) == len(bold), "two bold red arrows begin on one workqueue")
+    at, passed = workqueue_of[bold[0][0]] if bold else None, []
+    while at in leads and at not in passed:
+        passed.append(at)
+        at = leads[at]
+    reader.must(len(passed) == len(bold) and at == (passed[0] if bold else None), "the bold red arrows don't lead round")
 
 
 def must_fit_title(reader, drawing, is_dashed):
@@ -283,10 +309,10 @@ def must_fit_title(reader, drawing, is_dashed):
                 "without an assignment a workqueue has a name, or no rescuer")
     must_lead(reader, drawing)
     planned = PLANNED.match(drawing.title)
-    for colour in ("red", "bold"):
+    for colour, arrows in ("red", drawing.red()), ("bold", drawing.coloured("bold")):
         said = re.search(f", ([0-9]+) waits? in {colour}", drawing.title)
-        reader.must(len(drawing.coloured(colour)) == (int(said[1]) if said else 0),
-                    f"TITLE has another number of {colour} arrows")
+        reader.must(len(arrows) == (int(said[1]) if said else 0), f"TITLE has another number of {colour} arrows")
+    must_hang(reader, drawing)
     if planned:
         must_be_plan(reader, drawing, int(planned[1]))
 
@@ -315,7 +341,7 @@ def say(place):
         print(f"{place}:{line}: {why}")
         return False
     counts = [len(drawing.workqueue_of()), len(drawing.workqueues), len(drawing.arrows)]
-    counts += [len(drawing.coloured(colour)) for colour in ("red", "bold")]
+    counts += [len(drawing.red()), len(drawing.coloured("bold")) + len(drawing.coloured("bold red"))]
     print("{}: {}: items {}, workqueues {}, arrows {}, red {}, bold {}".format(place, drawing.title, *counts))
     return True
 

@@ -38,7 +38,7 @@ PLAN = rb"""digraph wqplan {
 }
 """
 CIRCLE = rb"""digraph wqplan {
-  graph [label="can hang, 4 waits in red\lRed: while memory is short, a worker may wait for work\lthat only it, or one that waits for it, can do.\l", labelloc=t, labeljust=l, rankdir=LR, nodesep=0.15, ranksep=1, fontname="sans-serif"];
+  graph [label="can hang, 4 waits in red, 1 in bold\lRed: while memory is short, a worker may wait for work\lthat only it, or one that waits for it, can do.\lBold: enough to hang it, in the fewest steps.\l", labelloc=t, labeljust=l, rankdir=LR, nodesep=0.15, ranksep=1, fontname="sans-serif"];
   node [shape=box, style=filled, fillcolor=white, height=0.3, fontname="sans-serif", fontsize=12];
   edge [arrowsize=0.7];
   subgraph "cluster wq 0" {
@@ -52,13 +52,13 @@ CIRCLE = rb"""digraph wqplan {
   "a" -> "b" [color=red, style=bold];
   "b" -> "b" [color=red, style=bold] [arrowhead=odiamond];
   "a" -> "b" [color=red, style=bold] [dir=back];
-  "a" -> "b" [color=red, style=bold] [dir=back, arrowtail=odiamond] [edgetooltip="%s"];
+  "a" -> "b" [color=red, penwidth=4] [dir=back, arrowtail=odiamond] [edgetooltip="%s"];
 }
 """.replace(b"%s", b"&amp;" * 256)
 # Flush 0, `a` of `x`, leads from a workqueue without a rescuer, 1 and 2 lead to one, 3 lies on a circle, and 4 and 5 lead from one.
 # Those of two items that flush one another are drawn from the one that was declared first: `x`, `b`.
 BARE = rb"""digraph wqplan {
-  graph [label="can hang, 3 waits in red, 2 to no rescuer\lRed: while memory is short, a worker may wait for work\lthat only it, or one that waits for it, can do,\lor that no rescuer does.\lDashed: no rescuer. While memory is short, nothing\lguarantees that work there runs.\l", labelloc=t, labeljust=l, rankdir=LR, nodesep=0.15, ranksep=1, fontname="sans-serif"];
+  graph [label="can hang, 3 waits in red, 2 to no rescuer, 1 in bold\lRed: while memory is short, a worker may wait for work\lthat only it, or one that waits for it, can do,\lor that no rescuer does.\lBold: enough to hang it, in the fewest steps.\lDashed: no rescuer. While memory is short, nothing\lguarantees that work there runs.\l", labelloc=t, labeljust=l, rankdir=LR, nodesep=0.15, ranksep=1, fontname="sans-serif"];
   node [shape=box, style=filled, fillcolor=white, height=0.3, fontname="sans-serif", fontsize=12];
   edge [arrowsize=0.7];
   subgraph "cluster wq 0" {
@@ -87,7 +87,7 @@ BARE = rb"""digraph wqplan {
   "x" -> "a" [dir=back];
   "x" -> "a" [color=red, style=bold];
   "b" -> "y" [color=red, style=bold] [arrowhead=odiamond];
-  "c" -> "c" [color=red, style=bold];
+  "c" -> "c" [color=red, penwidth=4];
   "b" -> "y" [dir=back];
   "y" -> "c";
 }
@@ -109,11 +109,11 @@ GOOD = [
         [("c_c", "a", "black", False), ("d-d", "7", "bold", False), ("d-d", "7", "black", True),
          ("node", "b.x", "bold", True)],
         ["", "", 'a "b" \\ & c', "#"])),
-    (CIRCLE, dot.Drawing("can hang, 4 waits in red", [[], [["a"], ["b"]]],
-                         [("a", "b", "red", False), ("b", "b", "red", True), ("b", "a", "red", False), ("b", "a", "red", True)],
+    (CIRCLE, dot.Drawing("can hang, 4 waits in red, 1 in bold", [[], [["a"], ["b"]]],
+                         [("a", "b", "red", False), ("b", "b", "red", True), ("b", "a", "red", False), ("b", "a", "bold red", True)],
                          ["", "", "", "&" * 256])),
-    (BARE, dot.Drawing("can hang, 3 waits in red, 2 to no rescuer", [[["x"]], [["a"]], [["b"]], [["y"]], [["c"]], []],
-                       [("a", "x", "black", False), ("x", "a", "red", False), ("b", "y", "red", True), ("c", "c", "red", False),
+    (BARE, dot.Drawing("can hang, 3 waits in red, 2 to no rescuer, 1 in bold", [[["x"]], [["a"]], [["b"]], [["y"]], [["c"]], []],
+                       [("a", "x", "black", False), ("x", "a", "red", False), ("b", "y", "red", True), ("c", "c", "bold red", False),
                         ("y", "b", "black", False), ("y", "c", "black", False)],
                        [""] * 6, {1, 3, 5}, {0: '"x" & \\', 2: "wq 2 same name", 3: "wq 3 same name", 5: "system_wq"})),
     (EMPTY, dot.Drawing("plan of 0 workqueues", [], [])),
@@ -184,7 +184,7 @@ BROKEN = [
     (BARE, b'style="filled,dashed", fillcolor=gray92, color=black]; "wq 5"', b'style="filled,dashed", color=black]; "wq 5"', 26),
     (BARE, b'  "x" -> "a" [color=red, style=bold];\n', b'  "x" -> "a";\n', 34),
     (BARE, b'  "y" -> "c";\n', b'  "y" -> "c" [color=red, style=bold];\n', 34),
-    (BARE, b'  "c" -> "c" [color=red, style=bold];\n', b'  "c" -> "c" [dir=back];\n', 33),
+    (BARE, b'  "c" -> "c" [color=red, penwidth=4];\n', b'  "c" -> "c" [dir=back];\n', 33),
     (BARE, b'  "x" -> "a" [dir=back];\n', b'  "a" -> "x";\n', 33),
     (BARE, b", 2 to no rescuer", b", 1 to no rescuer", 34),
     (BARE, b", 2 to no rescuer", b", 3 to no rescuer", 2),
@@ -194,7 +194,7 @@ BROKEN = [
     (BARE, rb",\lor that no rescuer does", b"", 2),
     (BARE, rb"only it, or one that waits for it, can do,\lor that no", b"no", 2),
     (BARE, rb"\lDashed: no rescuer. While memory is short, nothing\lguarantees that work there runs.", b"", 34),
-    (CIRCLE, rb"can do.\l", rb"can do.\lDashed: no rescuer. While memory is short, nothing\lguarantees that work there runs.\l", 17),
+    (CIRCLE, rb"steps.\l", rb"steps.\lDashed: no rescuer. While memory is short, nothing\lguarantees that work there runs.\l", 17),
     (PLAN, b'"wq 2" [', b'"wq 2" [label="x", ', 27),
     (CIRCLE.replace(b"can hang", b"every assignment can hang"), b'"wq 0" [', b'"wq 0" [label="x", ', 17),
     (EMPTY.replace(b"plan of 0 workqueues", b"safe"), b"safe", rb"safe\lDashed: no rescuer. While memory is short, nothing\lguarantees that work there runs.\l", 5),
@@ -282,11 +282,24 @@ BROKEN = [
     (PLAN, b"2 waits", b"3 waits", 27),
     (CIRCLE, b"4 waits", b"3 waits", 17),
     (CIRCLE, b"4 waits", b"5 waits", 17),
+    (CIRCLE, b", 1 in bold", b", 2 in bold", 17),
+    (CIRCLE, b", 1 in bold", b", 4 in bold", 17),
+    (CIRCLE, b", 1 in bold", b", 0 in bold", 2),
+    (CIRCLE, b", 1 in bold", b", 1 wait in bold", 2),
+    (CIRCLE, b", 1 in bold", b"", 2),
+    (CIRCLE, rb"\lBold: enough to hang it, in the fewest steps.", b"", 2),
+    (CIRCLE, b"penwidth=4", b"style=bold", 17),
+    (BARE, b", 2 to no rescuer, 1 in bold", b", 1 in bold, 2 to no rescuer", 2),
+    (BARE, b'"c" -> "c" [color=red, penwidth=4]', b'"c" -> "c" [color=red, style=bold]', 34),
+    # The bold red ones must lead round, or be one that leads to no rescuer.
+    (CIRCLE.replace(b", 1 in", b", 2 in"), b'"b" -> "b" [color=red, style=bold]', b'"b" -> "b" [color=red, penwidth=4]', 17),
+    (BARE.replace(b", 1 in", b", 2 in"), b'"x" -> "a" [color=red, style=bold]', b'"x" -> "a" [color=red, penwidth=4]', 34),
     (EMPTY, b"plan of 0 workqueues", CIRCLE.split(b'"')[1].replace(b"4 waits", b"1 wait"), 5),
     (CIRCLE, CIRCLE.split(b'"')[1], b"safe", 17),
     (CIRCLE, CIRCLE.split(b'"')[1], PLAN.split(b'"')[1], 17),
     (PLAN, b'"d-d" -> "7" [style=bold]', b'"d-d" -> "7"', 27),
     (PLAN, b'"d-d" -> "7" [style=bold]', b'"d-d" -> "7" [color=red, style=bold]', 27),
+    (PLAN, b'"d-d" -> "7" [style=bold]', b'"d-d" -> "7" [color=red, penwidth=4]', 27),
     (PLAN, b'"d-d" -> "7" [style=bold]', b'"c_c" -> "7" [style=bold]', 27),
     (PLAN, b'"c_c" -> "a"', b'"c_c" -> "a" [style=bold]', 27),
     (PLAN, b'"c_c" -> "a"', b'"a" -> "c_c"', 27),

@@ -4,11 +4,12 @@
 #
 # It makes up declarations, answers, assignments and runs, gives them to `PROGRAM plan` on standard
 # input, and to the other commands as files, and compares the bytes that are printed and the exit status
-# with the model's. Standard error must have what belongs to the answer (tests/lib/standard_error.py). Of
-# each command there are the cases at the limits of docs/FORMAT.md and at each place of small texts, once
-# each, and then CASES random ones; of `run`, which makes threads, and of `hang`, RUNS, or a fifth as many. The same SEED
-# makes the same cases. It fails where an answer differs, and where some kind of answer never came, as may be with
-# few CASES. Before all this the model must answer the worked examples (examples.py).
+# with the model's. Standard error must have what belongs to the answer (tests/lib/standard_error.py), and
+# right reasons why workqueues can hang (reasons.py). Of each command there are the cases at the limits of
+# docs/FORMAT.md and at each place of small texts, once each, and then CASES random ones; of `run`, which makes
+# threads, and of `hang`, RUNS, or a fifth as many. The same SEED makes the same cases. It fails where an answer
+# differs, and where some kind of answer or of reason never came, as may be with few CASES. Before all this the
+# model must answer the worked examples (examples.py).
 #
 # With --with WORD the cases are only those of which an assignment has a line with this first word: with
 # `--with norescuer` those of workqueues without a rescuer. Commands that read no assignment then have none.
@@ -17,7 +18,7 @@
 # plans as assignments to `PROGRAM deadlock`, and the runs, those behind circles too, to `PROGRAM
 # replay`. It must stand by its answers: `yes`, `safe` and `deadlock`; of what `hang` prints the model says
 # which of `deadlock` and `stuck`. Where it prints `safe` by `circles`, it must print it by `deadlock` too.
-# What `hang` prints may be another run than the model's, if it is as good (hang.py).
+# What `hang` prints may be another run than the model's, if it is as good (hang.py), and what `dot` draws the waits of one (dot.py).
 #
 # With --only the program is asked for these commands alone; with `--only none` it isn't run at all.
 # The cases of the other commands are made all the same, and the model's answers must have one of
@@ -44,13 +45,14 @@ import make_circles  # noqa: E402
 import make_declarations  # noqa: E402
 import make_hangs  # noqa: E402
 import programs  # noqa: E402  (in tests/lib)
+import reasons  # noqa: E402
+import unrescued  # noqa: E402
 from command_line import seed_and_counts  # noqa: E402
 from commands import TEXTS_OF  # noqa: E402  (in tests/lib)
-from declaration import read_declaration  # noqa: E402
+from declaration import Refused, read_declaration  # noqa: E402
 from models import ANSWERS, agrees  # noqa: E402
 from records import records  # noqa: E402  (in tests/lib)
-from standard_error import fits, is_unrescued  # noqa: E402  (there, too)
-from unrescued import beside  # noqa: E402
+from standard_error import STDIN, fits, note  # noqa: E402  (there, too)
 
 DEFAULT_SEED = "1"
 DEFAULT_CASES = 2_000
@@ -86,12 +88,14 @@ DRAWING = (
 PLANNED = (r"plan of (1 workqueue|N workqueues)"
            r"(, (1 wait|N waits) in bold\\lBold: the chain that needs so many workqueues\.\\l)?")
 DASHED = r"\\lDashed: no rescuer\. While memory is short, nothing\\lguarantees that work there runs\."
-HANGING = (r"(every assignment )?can hang, (1 wait|N waits) in redLEADING"
+HANGING = (r"(every assignment )?can hang, (1 wait|N waits) in redLEADINGBOLD"
            r"\\lRed: while memory is short, a worker may wait for work"
-           rf"\\lthat WORK\.({DASHED})?\\l")
+           rf"\\lthat WORK\.LEGEND({DASHED})?\\l")
 ON_CIRCLES = r"only it, or one that waits for it, can do"
 ON_NONE = r"no rescuer does"
 LEADING = r", N to no rescuer"
+BOLD = r", N in bold"
+LEGEND = r"\\lBold: enough to hang it, in the fewest steps\."
 ESCAPE = r"([ !#-%\'-\[\]-~]|\\\"|\\\\|&amp;)"
 NO_LOOK = "(?!)"
 
@@ -102,8 +106,15 @@ def drawing(title, look):
 
 
 def hanging(leading, work):
-    """The form of a drawing with red arrows: how many lead to no rescuer, and what no one does."""
-    return drawing(HANGING.replace("LEADING", leading).replace("WORK", work), "color=red, style=bold")
+    """The form of a drawing with red arrows, all of which are bold: how many lead to no rescuer, and what no one does."""
+    title = HANGING.replace("LEADING", leading).replace("WORK", work).replace("BOLD", "").replace("LEGEND", "")
+    return drawing(title, "color=red, penwidth=4")
+
+
+def hanging_in_part(leading, work):
+    """The same where only some of them are bold."""
+    title = HANGING.replace("LEADING", leading).replace("WORK", work).replace("BOLD", BOLD).replace("LEGEND", LEGEND)
+    return drawing(title, "color=red, (style=bold|penwidth=4)")
 
 
 # Of a command, where `like_others` isn't enough: the cases at the limits, the random cases, and the kinds
@@ -158,7 +169,8 @@ COMMANDS = {
         [("plans", 0, drawing(PLANNED, "style=bold")), ("safe", 0, drawing("safe", NO_LOOK)),
          ("safe, dashed", 0, drawing(rf"safe{DASHED}\\l", NO_LOOK)),
          ("components", 0, hanging("", ON_CIRCLES)), ("no rescuer", 0, hanging(LEADING, ON_NONE)),
-         ("components and no rescuer", 0, hanging(LEADING, rf"{ON_CIRCLES},\\lor that {ON_NONE}"))]
+         ("components, some bold", 0, hanging_in_part("", ON_CIRCLES)), ("no rescuer, some bold", 0, hanging_in_part(LEADING, ON_NONE)),
+         ("components and no rescuer", 0, hanging_in_part(LEADING, rf"{ON_CIRCLES},\\lor that {ON_NONE}"))]
         + DECLARATION_REFUSALS + CERTIFICATE_REFUSALS[1:],
     ),
     "run": (
@@ -224,6 +236,29 @@ def words_behind(command, number):
     return HELPERS[number % len(HELPERS)] if command == "run" else []
 
 
+# How often the program said each kind of reason.
+SAID = collections.Counter()
+
+
+def wrong_beside(command, files, texts, found):
+    """What is wrong with what the program says on standard error beside its answer, or None: its form, and where it isn't a diagnosis, or
+    behind the one of a `no`, the words.
+    """
+    printed, _, errors = found
+    if not fits(printed, errors, files, command):
+        return "standard error hasn't the form that belongs to this answer"
+    if printed.startswith((b"refused ", b"not lawful ")) or errors == note(files[0]):
+        return None
+    behind = errors.split(b"\n", reasons.BLOCK)[reasons.BLOCK] if printed.startswith(b"no ") else errors
+    try:
+        safe = unrescued.said_of(command, files, texts, printed)
+        if safe:
+            return None if behind == safe else f"this belongs to `safe`: {safe!r}"
+        return reasons.wrong_with(command, files, texts, printed, behind)
+    except Refused:
+        return "the texts are refused"
+
+
 def ask(program, command, texts, folder, number):
     """The program's answer, what it prints to standard error, and whether that belongs to both."""
     named, given = {}, None
@@ -233,11 +268,10 @@ def ask(program, command, texts, folder, number):
         named = {f"{number}.{name}": text for name, text in zip(TEXTS_OF[command], texts)}
     with programs.files(folder, named) as places:
         found = programs.ask([program, command, *places, *words_behind(command, number)], input=given)
-    is_right = not found.is_late() and fits(found.printed, found.errors, places)
-    said = beside(command, [os.fsencode(place) for place in places], texts, found.printed)
-    if said or is_unrescued(found.errors):
-        is_right = is_right and found.errors == said
-    return (found.printed, found.status), found.errors, is_right
+    wrong = None if found.is_late() else wrong_beside(command, [os.fsencode(place) for place in places] or [STDIN], texts, found)
+    SAID.update(reasons.rows_in(found.errors))
+    errors = found.errors + (f"({wrong})".encode() if wrong else b"")
+    return (found.printed, found.status), errors, wrong is None and not found.is_late()
 
 
 def questions(command, texts, printed):
@@ -457,6 +491,9 @@ def main(arguments):
         agreed += sum(kinds.values()) if command in asked else 0
         if word is None:
             never += [f"{command}: {kind}" for kind, _, _ in KINDS[command] if kinds[kind] == 0]
+    if set(asked) == set(COMMANDS) and word is None:
+        print(f"model: reasons: {', '.join(f'{row}: {SAID[row]}' for row in reasons.ROWS)}")
+        never += [f"reasons: {row}" for row in reasons.ROWS if SAID[row] == 0]
     if different:
         print("model: FAILED")
         return 1

@@ -1,14 +1,18 @@
 """A model of `wqplan dot DECL [ASSIGN]`.
 
-It prints a drawing for Graphviz, as docs/FORMAT.md asks for in "The command `dot`". See plan.py for what the model is.
+It prints a drawing for Graphviz, as docs/FORMAT.md asks for in "The command `dot`". Where several runs are shortest that end stuck,
+the page doesn't say in which one the flushes wait that are bold red: `is_right` says whether those of another drawing do in one of
+them. See plan.py for what the model is.
 """
 
 import collections
+import re
 import sys
 
 sys.dont_write_bytecode = True
 import certificate  # noqa: E402  (beside this file)
 import declaration  # noqa: E402
+import hang  # noqa: E402
 import plan  # noqa: E402
 from circles import arcs_on_circles, own_workqueues, read_texts  # noqa: E402
 from command_line import answer_texts  # noqa: E402
@@ -35,8 +39,12 @@ ORDERED = [
 ]
 BOLD = rb"\lBold: the chain that needs so many workqueues."
 RED = rb"\lRed: while memory is short, a worker may wait for work\lthat %b."
+SHORTEST = rb"\lBold: enough to hang it, in the fewest steps."
 DASHED = rb"\lDashed: no rescuer. While memory is short, nothing\lguarantees that work there runs."
-LOOKS = {b"bold": [b"style=bold"], b"red": [b"color=red", b"style=bold"]}
+LOOKS = {
+    "plain": [], "bold": [b"style=bold"], "red": [b"color=red", b"style=bold"], "bold red": [b"color=red", b"penwidth=4"],
+}
+BOLD_RED = re.compile(rb'  "[^"]*" -> "[^"]*" \[color=red, penwidth=4\]')
 
 # What is shown of a comment: how many bytes, and how some of them, as in the name of a workqueue.
 SHOWN = 256
@@ -65,38 +73,87 @@ def what_no_one_does(red, to_none):
     return rb"only it, or one that waits for it, can do,\lor that no rescuer does"
 
 
-def title(words, mark, marked, to_none, has_bare):
-    """TITLE: WHAT and the parts that apply. So many flushes are marked, and so many of them lead to no rescuer."""
+def title_of_plan(planned, bold):
+    """TITLE of a plan, where so many flushes are bold."""
+    words = b"plan of " + counted(planned.count, b"workqueue")
+    return words + (b", %b in bold%b" % (counted(bold, b"wait"), BOLD) + rb"\l" if bold else b"")
+
+
+def title_of_workqueues(hanging, red, bold, to_none, has_bare):
+    """TITLE: WHAT and the parts that apply. So many flushes are red, so many of these bold, and so many of them lead to no rescuer."""
     parts = []
-    if marked:
-        parts.append(b", %b in %b" % (counted(marked, b"wait"), mark))
-    if marked and mark == b"bold":
-        parts.append(BOLD)
+    if red:
+        parts.append(b", %b in red" % counted(red, b"wait"))
     if to_none:
         parts.append(b", %d to no rescuer" % to_none)
-    if marked and mark == b"red":
-        parts.append(RED % what_no_one_does(marked, to_none))
+    if bold < red:
+        parts.append(b", %d in bold" % bold)
+    if red:
+        parts.append(RED % what_no_one_does(red, to_none))
+    if bold < red:
+        parts.append(SHORTEST)
     if has_bare:
         parts.append(DASHED)
-    return b"".join([words, *parts, rb"\l" if parts else b""])
+    return b"".join([hanging if red else b"safe", *parts, rb"\l" if parts else b""])
 
 
-def drawn(declared, assignment, declaration_text):
-    """What is drawn: the assignment, TITLE, the mark of flushes, and the places of those that have it.
+def waits_of(run):
+    """The waits of a run that is printed by `hang`: the word of each, its item and its target."""
+    items = [name for word, _, name in run if word == b"start"]
+    return [(word, item, name) for item, (word, _, name) in zip(items, (step for step in run if step[0] in hang.WAITS))]
 
-    `assignment` is None where no ASSIGN is named.
+
+def places_of(declared, waits):
+    """The least place of a flush in which each wait is made."""
+    first = {}
+    for place in range(len(declared.flushes)):
+        first.setdefault(hang.wait_of(declared, place), place)
+    return [first[wait] for wait in waits]
+
+
+def steps_of(declared, shown, places):
+    """How many steps the run has that waits in the flushes of these places, or None where there is no such run."""
+    waits = [hang.wait_of(declared, place) for place in places]
+    if len(waits) == 1 and hang.leads_to_none(waits[0], shown):
+        return len(hang.run_to_no_rescuer(waits[0], shown)) if places == led_to_no_rescuer(declared, shown)[:1] else None
+    on = {shown.workqueue_of[wait[1]]: wait for wait in waits}
+    circle = waits[:1]
+    while circle and len(circle) < len(waits):
+        following = on.get(shown.workqueue_of[circle[-1][2]])
+        if following is None or following in circle:
+            return None
+        circle.append(following)
+    return len(hang.run_of_circle(circle, shown)) if hang.is_circle(circle, shown) else None
+
+
+class Drawn:
+    """What is drawn: an assignment, with which title, and the look of each flush that isn't plain, by place."""
+
+    def __init__(self, assignment, title, looks):
+        self.assignment, self.title, self.looks = assignment, title, looks
+
+
+def drawn_workqueues(declared, shown, hanging, arcs, bold):
+    """Workqueues are drawn, of which `hanging` is said if they can hang. The flushes of these places are bold red."""
+    to_none = led_to_no_rescuer(declared, shown)
+    red = [place for places in arcs for place in places] + to_none
+    title = title_of_workqueues(hanging, len(red), len(bold), len(to_none), bool(shown.bare))
+    return Drawn(shown, title, {place: "red" for place in red} | {place: "bold red" for place in bold})
+
+
+def drawn(declared, assignment, declaration_text, bold=None):
+    """What is drawn. `assignment` is None where no ASSIGN is named. The flushes of the places `bold` are bold red, if workqueues are drawn
+    that can hang; without them it is chosen which ones are.
     """
     shown = assignment or own_workqueues(declared)
-    arcs, to_none = arcs_on_circles(declared, shown), led_to_no_rescuer(declared, shown)
+    arcs = arcs_on_circles(declared, shown)
     if assignment is None and not arcs:
         printed, _ = plan.answer(declaration_text)
-        planned = certificate.read_assignment(printed, declared)
-        bold = followed(declared, printed)
-        words = b"plan of " + counted(planned.count, b"workqueue")
-        return planned, title(words, b"bold", len(bold), 0, False), b"bold", bold
-    red = [place for places in arcs for place in places] + to_none
-    words = b"safe" if not red else b"every assignment can hang" if assignment is None else b"can hang"
-    return shown, title(words, b"red", len(red), len(to_none), bool(shown.bare)), b"red", red
+        planned, chain = certificate.read_assignment(printed, declared), followed(declared, printed)
+        return Drawn(planned, title_of_plan(planned, len(chain)), {place: "bold" for place in chain})
+    if bold is None:
+        bold = places_of(declared, waits_of(hang.shortest_run(declared, shown) or []))
+    return drawn_workqueues(declared, shown, b"every assignment can hang" if assignment is None else b"can hang", arcs, bold)
 
 
 def group_lines(members):
@@ -163,21 +220,38 @@ def arrow_line(ends, turned, whole, look, comment):
     return b'  "%b" -> "%b"%b;' % (*(ends[::-1] if turned else ends), attributes)
 
 
-def dot_text(declared, assignment, words, mark, places, said):
-    """The text. `words` is TITLE, the flushes at these places have this mark, and `said` are the comments by place."""
+def dot_text(declared, drawn, said):
+    """The text. `said` are the comments by place."""
+    assignment = drawn.assignment
     groups = [[] for _ in range(assignment.count)]
     for members in declared.groups:
         groups[assignment.workqueue_of[members[0]]].append(members)
-    lines = [HEAD[0], HEAD[1] % words, *HEAD[2:]]
+    lines = [HEAD[0], HEAD[1] % drawn.title, *HEAD[2:]]
     how_often = collections.Counter(assignment.called.values())
     for number in range(assignment.count):
         shown = label(assignment, number, how_often)
         lines += workqueue_lines(number, number not in assignment.bare, shown, groups[number])
-    turned, marked = turned_ends(declared), set(places)
+    turned = turned_ends(declared)
     for place, (ends, comment) in enumerate(zip(declared.flushes, said, strict=True)):
         whole = declared.directive_of[place] in declaration.FLUSHES_WHOLE
-        lines.append(arrow_line(ends, ends in turned, whole, LOOKS[mark] if place in marked else [], comment))
-    return [*lines, b"}"]
+        lines.append(arrow_line(ends, ends in turned, whole, LOOKS[drawn.looks.get(place, "plain")], comment))
+    return b"".join(line + b"\n" for line in [*lines, b"}"])
+
+
+def is_right(texts, wanted, found):
+    """Whether an answer that isn't the model's, which is `wanted`, is right, too: another shortest run waits in the flushes that are
+    bold red in it, and all else is the same.
+    """
+    if wanted[1] != 0 or found[1] != 0:
+        return False
+    declared, assignment = read_texts(texts[0], texts[1] if len(texts) == 2 else None)
+    shown = assignment or own_workqueues(declared)
+    run = hang.shortest_run(declared, shown)
+    arrows = found[0].split(b"\n")[-2 - len(declared.flushes):-2]
+    bold = [place for place, line in enumerate(arrows) if BOLD_RED.match(line)]
+    if run is None or steps_of(declared, shown, bold) != len(run):
+        return False
+    return found[0] == dot_text(declared, drawn(declared, assignment, texts[0], bold), comments(texts[0]))
 
 
 def answer(declaration_text, assignment_text=None):
@@ -186,8 +260,7 @@ def answer(declaration_text, assignment_text=None):
         declared, assignment = read_texts(declaration_text, assignment_text)
     except Refused as refused:
         return refused.answer()
-    lines = dot_text(declared, *drawn(declared, assignment, declaration_text), comments(declaration_text))
-    return b"".join(line + b"\n" for line in lines), 0
+    return dot_text(declared, drawn(declared, assignment, declaration_text), comments(declaration_text)), 0
 
 
 def main(arguments):

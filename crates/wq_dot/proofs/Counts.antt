@@ -18,6 +18,7 @@ use Rattle.wq_graph.proofs.Arcs.{ByPlace-arc, ByPlace-arcs_by_place}
 use Rattle.wq_core.specs.Workqueues.{Workqueues}
 use Rattle.wq_dot.specs.declared.look.FlushLook.{FlushLook}
 use Rattle.wq_cert.specs.PlanText.{name_of}
+use Rattle.wq_dot.specs.Labels.{is_shared}
 use Rattle.wq_dot.specs.Drawing.{head_lines, single_line, member_line, group_lines, frame_line, workqueue_box_lines, groups_on, flush_line, drawing_lines}
 use Rattle.wq_dot.specs.Laws.{is_line_of, is_arrow}
 use Rattle.wq_dot.proofs.Sums.{sum_by-map, sum_by-flat_map, sum_by-same, sum_by-zero, sum_by-parts, spot}
@@ -47,7 +48,7 @@ record TellsItems (p : List ℕ → Bool) (names : List (List ℕ)) (s : ℕ →
   ordered_second : (name : List ℕ) → p (codes "      graph [label=\"\", style=dashed, color=black]; \"ordered " ++ name ++ codes "\" [label=\"ordered\", shape=plaintext, style=\"\"];") ≡ false
   ordered_last : p (codes "    }") ≡ false
   first : (digits : List ℕ) → p (codes "  subgraph \"cluster wq " ++ digits ++ codes "\" {") ≡ false
-  second : (called : List (List ℕ)) (bare : Bool) (q : ℕ) → p (frame_line called bare q) ≡ false
+  second : (name : List ℕ) (shared bare : Bool) (q : ℕ) → p (frame_line name shared bare q) ≡ false
   last : p (codes "  }") ≡ false
 
 module _ (p : List ℕ → Bool) (names : List (List ℕ)) (s : ℕ → Bool) (h : TellsItems p names s) where
@@ -97,8 +98,10 @@ module _ (p : List ℕ → Bool) (names : List (List ℕ)) (s : ℕ → Bool) (h
     count-workqueue ws called q =
         let own = groups_on ws.assignment q in
         let bare = slice_index_or ws.bare q false in
-        count-box (codes "  subgraph \"cluster wq " ++ decimal q ++ codes "\" {") (frame_line called bare q) (codes "  }")
-        (flat_map (λ k. group_lines names (items_at group_of k)) own) (h.first (decimal q)) (h.second called bare q) h.last
+        let name : List ℕ = slice_index_or called q [] in
+        let shared : Bool = is_shared called name in
+        count-box (codes "  subgraph \"cluster wq " ++ decimal q ++ codes "\" {") (frame_line name shared bare q) (codes "  }")
+        (flat_map (λ k. group_lines names (items_at group_of k)) own) (h.first (decimal q)) (h.second name shared bare q) h.last
         ∙ count-groups own
 
   -- each item is in one group, and each group on one workqueue
@@ -148,7 +151,7 @@ TellsItems-line names i = record {
   ordered_second = λ name. refl;
   ordered_last = refl;
   first = λ digits. refl;
-  second = λ called bare q. refl;
+  second = λ name shared bare q. refl;
   last = refl;
 }
 
@@ -191,7 +194,7 @@ TellsItems-arrow names = record {
   ordered_second = λ name. refl;
   ordered_last = refl;
   first = λ digits. refl;
-  second = λ called bare q. refl;
+  second = λ name shared bare q. refl;
   last = refl;
 }
 

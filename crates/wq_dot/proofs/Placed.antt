@@ -1,14 +1,14 @@
--- Places: the flush of each arc of a chain, or of components, is one of those that are declared.
-use Rattle.std.proofs.Common.{ℕ, ◌<◌, ◌==◌, not, Bool, List, length, map, get_or, sym, subst}
+-- Places: the flush of each arc of a chain, or of components, is one of those that are declared, and so is that of each wait of a walk.
+use Rattle.std.proofs.Common.{ℕ, ◌<◌, ◌==◌, not, Bool, inl, inr, List, [], ◌∷◌, length, map, get_or, refl, sym, subst, arith}
 use Rattle.std.specs.List.{All, range_with_len}
-use Rattle.std.proofs.lemmas.List.Elements.{All-filter, All-map, Contains-get_or}
+use Rattle.std.proofs.lemmas.List.Elements.{All-cons, All-filter, All-map, Contains-get_or}
 use Rattle.wq_items.specs.Table.{flush_count}
 use Rattle.wq_groups.specs.Declaration.{Declaration, IsDeclaration}
 use Rattle.wq_groups.specs.Assignment.{Assignment, IsAssignment, item_lanes}
 use Rattle.wq_graph.specs.declared.arc.WaitArc.{WaitArc}
-use Rattle.wq_graph.specs.Graph.{IsArc, arcs_at}
+use Rattle.wq_graph.specs.Graph.{IsArc, arc_of, arcs_at}
 use Rattle.wq_graph.proofs.Arcs.{Contains-by_item, place-below}
-use Rattle.wq_core.specs.Workqueues.{Workqueues}
+use Rattle.wq_core.specs.Workqueues.{Workqueues, wiring_of}
 use Rattle.wq_deadlock.specs.Judging.{bare_waits}
 use Rattle.wq_deadlock.proofs.BareLanes.{IsArc-bare_waits}
 use Rattle.wq_plan.specs.Solve.{IsPlanned}
@@ -17,7 +17,10 @@ use Rattle.wq_plan.proofs.LongestChain.{chain_of-longest}
 use Rattle.wq_circles.specs.Components.{joined, kept_graph, loops_at, loops, AreComponents}
 use Rattle.wq_circles.proofs.KeptLanes.{AreArcsFrom-kept}
 use Rattle.wq_circles.proofs.Loops.{IsAssignment-components}
-use Rattle.wq_dot.specs.Flushes.{AreMarkable}
+use Rattle.wq_hang.specs.declared.hop.Hop.{Hop}
+use Rattle.wq_hang.specs.Walk.{IsHop, IsPath, IsWalk}
+use Rattle.wq_dot.specs.Dotting.{AreShortest}
+use Rattle.wq_dot.specs.Flushes.{AreFlushes, AreMarkable}
 
 -- the flush of an arc has one of the places
 place_of-below : (d : Declaration) (vertex_of : List ℕ) (a : WaitArc) → IsDeclaration d → IsArc d.waits vertex_of a → a.place < flush_count d.waits
@@ -51,3 +54,25 @@ AreMarkable-components d ws components declaration assignment are =
 pub AreMarkable-waits : (d : Declaration) (ws : Workqueues) → IsDeclaration d → IsAssignment d.groups ws.assignment → AreMarkable (flush_count d.waits) (bare_waits d ws)
 AreMarkable-waits d ws declaration assignment =
     λ k e within. place_of-below d d.group_of _ declaration (IsArc-bare_waits d ws declaration assignment (get_or (bare_waits d ws) k e) (Contains-get_or (bare_waits d ws) k e within)).0
+
+-- ---- the waits of a shortest run that ends stuck
+
+module _ (d : Declaration) (ws : Workqueues) (declaration : IsDeclaration d) where
+  -- the flush of a hop has one of the places
+  hop-below : (h : Hop) → IsHop (wiring_of d ws) h → h.flush.place < flush_count d.waits
+  hop-below h hop =
+      let (k, lt, at) = hop.declared in
+      place_of-below d d.group_of (arc_of d.group_of h.item h.flush) declaration (record { declared = (k, h.flush, lt, at, (refl, refl)); head = refl })
+
+  path-below : (i : ℕ) (hops : List Hop) (j : ℕ) → IsPath (wiring_of d ws) i hops j → AreFlushes (flush_count d.waits) hops
+  path-below i [] j path = λ k e within. absurd (omega (arith, within))
+  path-below i (h ∷ hops) j (is, hop, on, path) = All-cons (λ (x : Hop). x.flush.place < flush_count d.waits) h hops (hop-below h hop) (path-below h.next hops j path)
+
+  pub AreFlushes-shortest : (hops : List Hop) → AreShortest d ws hops → AreFlushes (flush_count d.waits) hops
+  AreFlushes-shortest hops (inl (safe, none)) = subst (AreFlushes (flush_count d.waits)) (sym none) (λ k e within. absurd (omega (arith, within)))
+  AreFlushes-shortest hops (inr (steps, hang)) = by_walk hang.walk
+    where
+      by_walk : {beside : List ℕ} → IsWalk (wiring_of d ws) hops beside → AreFlushes (flush_count d.waits) hops
+      by_walk (inl (round, beside)) = path-below round.first hops round.first round.path
+      by_walk (inr (h, hop, bare, one, beside)) =
+          subst (AreFlushes (flush_count d.waits)) (sym one) (All-cons (λ (x : Hop). x.flush.place < flush_count d.waits) h [] (hop-below h hop) (λ k e within. absurd (omega (arith, within))))

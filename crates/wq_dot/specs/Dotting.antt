@@ -1,17 +1,22 @@
--- The answer to a declaration and an assignment, or to only a declaration: a drawing.
+-- The answer to a declaration and an assignment, or to only a declaration: a drawing. Where workqueues can hang, the flushes are bold
+-- red in which a shortest run waits that ends stuck. There may be several such runs: that is the one freedom of an answer.
 use Rattle.std.specs.Prelude.{◌≡◌, ◌⊎◌, ◌==◌, ◌&&◌, not, cond, if◌then◌else◌, Bool, false, true, ℕ, List, [], ◌++◌, length, codes, decimal, MatchResult}
 use Rattle.std.specs.List.{list_any}
 use Rattle.wq_lines.specs.LineText.{spaced}
 use Rattle.wq_items.specs.Chain.{HasCircle}
 use Rattle.wq_items.specs.Table.{flush_count}
-use Rattle.wq_groups.specs.Declaration.{GroupWaits}
+use Rattle.wq_groups.specs.Declaration.{Declaration, GroupWaits}
 use Rattle.wq_groups.specs.Assignment.{Assignment}
 use Rattle.wq_graph.specs.declared.arc.WaitArc.{WaitArc}
 use Rattle.wq_graph.specs.Graph.{group_graph}
+use Rattle.wq_core.specs.declared.step.Step.{Step}
 use Rattle.wq_core.specs.Wiring.{own_lanes}
-use Rattle.wq_core.specs.Workqueues.{Workqueues, all_rescued}
+use Rattle.wq_core.specs.Workqueues.{Workqueues, all_rescued, wiring_of}
+use Rattle.wq_core.specs.Deadlock.{IsSafe}
 use Rattle.wq_deadlock.specs.Judging.{bare_waits}
 use Rattle.wq_plan.specs.Plan.{IsPlan, chain_of}
+use Rattle.wq_hang.specs.declared.hop.Hop.{Hop}
+use Rattle.wq_hang.specs.Answer.{IsHangOf}
 use Rattle.wq_cert.specs.Texts.{workqueues_of_text, cert_refusal}
 use Rattle.wq_names.specs.Names.{names_of}
 use Rattle.wq_meter.specs.Shell.{Given}
@@ -25,10 +30,10 @@ use Rattle.wq_commands.specs.Declaration.{Declared, declaration}
 use Rattle.wq_commands.specs.Why.{SaysAssigned, SaysDeclared}
 use Rattle.wq_circles.specs.Components.{AreComponents}
 use Rattle.wq_dot.specs.declared.look.FlushLook.{FlushLook}
-use Rattle.wq_dot.specs.declared.look.FlushLook.TheVariants.{Red, Bold}
+use Rattle.wq_dot.specs.declared.look.FlushLook.TheVariants.{Bold}
 use Rattle.wq_dot.specs.Tooltips.{comments_of}
 use Rattle.wq_dot.specs.Drawing.{drawing_text}
-use Rattle.wq_dot.specs.Flushes.{all_arcs, looks_of, marked}
+use Rattle.wq_dot.specs.Flushes.{all_arcs, bold_red, looks_of, marked, red_looks_of}
 
 -- ---- titles
 
@@ -54,14 +59,23 @@ awaited leading red =
     if leading == 0 then codes "only it, or one that waits for it, can do"
     else (if leading == red then codes "no rescuer does" else codes "only it, or one that waits for it, can do,\\lor that no rescuer does")
 
+-- how many of the red waits are bold, if not all are
+abbrev pub shortest_text : ℕ → ℕ → List ℕ
+shortest_text red bold = if red == bold then [] else codes "," ++ spaced (decimal bold) ++ codes " in bold"
+
+-- the legend of bold ones, if not all red waits are bold
+abbrev pub shortest_legend : ℕ → ℕ → List ℕ
+shortest_legend red bold = if red == bold then [] else codes "\\lBold: enough to hang it, in the fewest steps."
+
 -- the legend of red waits
 abbrev pub red_legend : ℕ → ℕ → List ℕ
 red_legend leading red = codes "\\lRed: while memory is short, a worker may wait for work\\lthat " ++ awaited leading red ++ codes "."
 
 -- `safe` if no wait is red, else what hangs, the number of red waits and their legend
-abbrev pub red_text : List ℕ → ℕ → ℕ → List ℕ
-red_text hanging leading red =
-    if red == 0 then codes "safe" else hanging ++ codes "," ++ counted red (codes "wait") ++ codes " in red" ++ leading_text leading ++ red_legend leading red
+abbrev pub red_text : List ℕ → ℕ → ℕ → ℕ → List ℕ
+red_text hanging leading red bold =
+    if red == 0 then codes "safe"
+    else hanging ++ codes "," ++ counted red (codes "wait") ++ codes " in red" ++ leading_text leading ++ shortest_text red bold ++ red_legend leading red ++ shortest_legend red bold
 
 -- some workqueue has no rescuer
 abbrev pub some_bare : List Bool → Bool
@@ -75,9 +89,9 @@ dashed_legend bare = if some_bare bare then codes "\\lDashed: no rescuer. While 
 abbrev pub legend_end : List Bool → ℕ → List ℕ
 legend_end bare red = if red == 0 && not (some_bare bare) then [] else codes "\\l"
 
--- the title of a drawing in which so many waits are red, of which so many lead to no rescuer
-abbrev pub circles_title : List ℕ → ℕ → List Bool → ℕ → List ℕ
-circles_title hanging leading bare red = red_text hanging leading red ++ dashed_legend bare ++ legend_end bare red
+-- the title of a drawing in which so many waits are red, of which so many lead to no rescuer, and so many are bold
+abbrev pub circles_title : List ℕ → ℕ → List Bool → ℕ → ℕ → List ℕ
+circles_title hanging leading bare red bold = red_text hanging leading red bold ++ dashed_legend bare ++ legend_end bare red
 
 -- ---- drawings
 
@@ -86,56 +100,76 @@ abbrev pub declared_looks : Declared → FlushLook → List WaitArc → List Flu
 declared_looks s look arcs = looks_of (flush_count s.table.waits) look arcs
 
 -- the drawing of what is declared, on these workqueues with these names, with these looks and comments; the title is made of the
--- number of looks that are marked
-abbrev pub drawing_of : Declared → Workqueues → List (List ℕ) → (ℕ → List ℕ) → List FlushLook → List (List ℕ) → List ℕ
-drawing_of s ws called title looks comments = drawing_text s.table s.partition ws called (title (marked looks)) looks comments
+-- looks
+abbrev pub drawing_of : Declared → Workqueues → List (List ℕ) → (List FlushLook → List ℕ) → List FlushLook → List (List ℕ) → List ℕ
+drawing_of s ws called title looks comments = drawing_text s.table s.partition ws called (title looks) looks comments
 
 -- the plan is drawn; the flushes along the chain of its plan text are bold
 pub record DrawsPlan (s : Declared) (comments : List (List ℕ)) (out : List ℕ) : Type 0 where
   pub assignment : Assignment
   pub plan : IsPlan (declared_waits s) assignment
-  pub drawn : out ≡ drawing_of s (all_rescued assignment) [] (plan_title assignment.lanes) (declared_looks s Bold (chain_of (group_graph (declared_waits s)) assignment.lane_of_group)) comments
+  pub drawn : out ≡ drawing_of s (all_rescued assignment) [] (λ looks. plan_title assignment.lanes (marked looks)) (declared_looks s Bold (chain_of (group_graph (declared_waits s)) assignment.lane_of_group)) comments
 
 -- the flushes that are on a circle, of these components, and those that lead to a workqueue without a rescuer
 abbrev pub hanging_arcs : Declared → Workqueues → List (List WaitArc) → List WaitArc
 hanging_arcs s ws components = all_arcs components ++ bare_waits (declared_waits s) ws
 
+-- these are the waits of a shortest run of the workqueues that ends stuck, in the walk whose run it is; none if no run ends stuck
+abbrev pub AreShortest : Declaration → Workqueues → List Hop → Type 0
+AreShortest d ws hops = (IsSafe (wiring_of d ws) × (hops ≡ [])) ⊎ ((steps : List Step) × IsHangOf d ws hops steps)
+
+-- how the flushes of what is declared look: those in which these waits are made are bold red, and of the others those of these arcs red
+abbrev pub hanging_looks : Declared → List Hop → List WaitArc → List FlushLook
+hanging_looks s hops arcs = red_looks_of (flush_count s.table.waits) hops arcs
+
 -- workqueues with these names are drawn; the flushes that are on a circle are red, and so are those that lead to a workqueue without
--- a rescuer, and if there are any, this is what hangs
-pub record DrawsCircles (s : Declared) (comments : List (List ℕ)) (ws : Workqueues) (called : List (List ℕ)) (hanging out : List ℕ) : Type 0 where
+-- a rescuer, and if there are any, this is what hangs; and bold red are those in which these waits are made, which are those of a
+-- shortest run that ends stuck
+pub record DrawsCircles (s : Declared) (comments : List (List ℕ)) (ws : Workqueues) (called : List (List ℕ)) (hanging : List ℕ) (hops : List Hop) (out : List ℕ) : Type 0 where
   pub components : List (List WaitArc)
   pub are : AreComponents (declared_waits s) ws components
-  pub drawn : out ≡ drawing_of s ws called (circles_title hanging (length (bare_waits (declared_waits s) ws)) ws.bare) (declared_looks s Red (hanging_arcs s ws components)) comments
+  pub shortest : AreShortest (declared_waits s) ws hops
+  pub drawn : out ≡ drawing_of s ws called (λ looks. circles_title hanging (length (bare_waits (declared_waits s) ws)) ws.bare (marked looks) (bold_red looks)) (hanging_looks s hops (hanging_arcs s ws components)) comments
 
 -- the groups of a declaration are drawn, with the comments of its flushes: on the workqueues of their plan or, if they wait in a circle, each on its own
--- workqueue
-abbrev pub DrawsGroups : Declared → List (List ℕ) → List ℕ → Type 0
-DrawsGroups s comments out =
+-- workqueue, and then these are the waits of a shortest run that ends stuck
+abbrev pub DrawsGroups : Declared → List (List ℕ) → List Hop → List ℕ → Type 0
+DrawsGroups s comments hops out =
     DrawsPlan s comments out
-    ⊎ (HasCircle (GroupWaits (declared_waits s)) s.partition.groups × DrawsCircles s comments (all_rescued (own_lanes s.partition.groups)) [] (codes "every assignment can hang") out)
+    ⊎ (HasCircle (GroupWaits (declared_waits s)) s.partition.groups × DrawsCircles s comments (all_rescued (own_lanes s.partition.groups)) [] (codes "every assignment can hang") hops out)
+
+-- ---- answers in which, if something hangs, the flushes of these waits are bold red
+
+-- the answer to workqueues of a declaration's groups, with these names
+abbrev pub DrawsAssigned : Declared → List (List ℕ) → Workqueues → List (List ℕ) → List Hop → End → List ℕ → Type 0
+DrawsAssigned s comments ws called hops end out = (end ≡ Good) × DrawsCircles s comments ws called (codes "can hang") hops out
+
+-- the answer to the text of an assignment of a declaration, in which the workqueues have their names, or its refusal
+abbrev pub DrawsDeclared : Declared → List (List ℕ) → List ℕ → List Hop → End → List ℕ → Type 0
+DrawsDeclared s comments text hops end out =
+    MatchResult (workqueues_of_text s.table.names s.partition text) (λ ws. DrawsAssigned s comments ws (names_of text) hops end out) (λ fault. PrintsRefusal (cert_refusal fault) end out)
+
+-- the answer to the texts of a declaration and an assignment: a refusal of the declaration comes first
+abbrev pub DrawsBy : List Hop → List ℕ → List ℕ → End → List ℕ → Type 0
+DrawsBy hops declared text end out = MatchResult (declaration declared) (λ s. DrawsDeclared s (comments_of declared) text hops end out) (λ r. PrintsRefusal r end out)
+
+-- the answer to the groups of a declaration
+abbrev pub DrawsOwn : Declared → List (List ℕ) → List Hop → End → List ℕ → Type 0
+DrawsOwn s comments hops end out = (end ≡ Good) × DrawsGroups s comments hops out
+
+-- the answer to only the text of a declaration
+abbrev pub OwnDrawsBy : List Hop → List ℕ → End → List ℕ → Type 0
+OwnDrawsBy hops declared end out = MatchResult (declaration declared) (λ s. DrawsOwn s (comments_of declared) hops end out) (λ r. PrintsRefusal r end out)
 
 -- ---- answers
 
--- the answer to workqueues of a declaration's groups, with these names
-abbrev pub DrawsAssigned : Declared → List (List ℕ) → Workqueues → List (List ℕ) → End → List ℕ → Type 0
-DrawsAssigned s comments ws called end out = (end ≡ Good) × DrawsCircles s comments ws called (codes "can hang") out
-
--- the answer to the text of an assignment of a declaration, in which the workqueues have their names, or its refusal
-abbrev pub DrawsDeclared : Declared → List (List ℕ) → List ℕ → End → List ℕ → Type 0
-DrawsDeclared s comments text end out =
-    MatchResult (workqueues_of_text s.table.names s.partition text) (λ ws. DrawsAssigned s comments ws (names_of text) end out) (λ fault. PrintsRefusal (cert_refusal fault) end out)
-
--- the answer to the texts of a declaration and an assignment: a refusal of the declaration comes first
+-- the answer to the texts of a declaration and an assignment
 abbrev pub Draws : List ℕ → List ℕ → End → List ℕ → Type 0
-Draws declared text end out = MatchResult (declaration declared) (λ s. DrawsDeclared s (comments_of declared) text end out) (λ r. PrintsRefusal r end out)
-
--- the answer to the groups of a declaration
-abbrev pub DrawsOwn : Declared → List (List ℕ) → End → List ℕ → Type 0
-DrawsOwn s comments end out = (end ≡ Good) × DrawsGroups s comments out
+Draws declared text end out = (hops : List Hop) × DrawsBy hops declared text end out
 
 -- the answer to only the text of a declaration
 abbrev pub OwnDraws : List ℕ → End → List ℕ → Type 0
-OwnDraws declared end out = MatchResult (declaration declared) (λ s. DrawsOwn s (comments_of declared) end out) (λ r. PrintsRefusal r end out)
+OwnDraws declared end out = (hops : List Hop) × OwnDrawsBy hops declared end out
 
 -- ---- the command, with an assignment or without one
 
@@ -143,6 +177,11 @@ OwnDraws declared end out = MatchResult (declaration declared) (λ s. DrawsOwn s
 abbrev pub dot_limits : Bool → Limits
 dot_limits true = two_texts
 dot_limits false = one_text
+
+-- its answer in which the flushes of these waits are bold red, if something hangs, and why
+abbrev pub DrawsTextsBy : List Hop → Bool → Given → Outcome → List ℕ → Type 0
+DrawsTextsBy hops true texts outcome out = DrawsBy hops texts.first texts.second outcome.end out × SaysAssigned texts.first texts.second outcome.why
+DrawsTextsBy hops false texts outcome out = OwnDrawsBy hops texts.first outcome.end out × SaysDeclared texts.first outcome.why
 
 -- its answer, and why
 abbrev pub DrawsTexts : Bool → Given → Outcome → List ℕ → Type 0

@@ -10,9 +10,9 @@ use Rattle.wq_graph.specs.declared.arc.WaitArc.{WaitArc}
 use Rattle.wq_graph.specs.Graph.{arcs_by_place}
 use Rattle.wq_core.specs.Workqueues.{Workqueues}
 use Rattle.wq_dot.specs.declared.look.FlushLook.{FlushLook}
-use Rattle.wq_dot.specs.declared.look.FlushLook.TheVariants.{Plain, Red, Bold}
+use Rattle.wq_dot.specs.declared.look.FlushLook.TheVariants.{Plain, Red, BoldRed, Bold}
 use Rattle.wq_cert.specs.PlanText.{name_of}
-use Rattle.wq_dot.specs.Labels.{label_text, numbered}
+use Rattle.wq_dot.specs.Labels.{is_shared, label_text, numbered}
 use Rattle.wq_dot.specs.Tooltips.{tooltip_text}
 
 -- ---- the head
@@ -61,23 +61,24 @@ abbrev pub frame_text : Bool → List ℕ
 frame_text true = codes "style=\"filled,dashed\", fillcolor=gray92, color=black"
 frame_text false = codes "style=filled, color=gray92"
 
--- the second line of workqueue q, with its frame and its label
-abbrev pub frame_line : List (List ℕ) → Bool → ℕ → List ℕ
-frame_line called bare q =
+-- the second line of workqueue q with this name, which others have too or not, with its frame and its label
+abbrev pub frame_line : List ℕ → Bool → Bool → ℕ → List ℕ
+frame_line name shared bare q =
     codes "    graph [label=\"\", " ++ frame_text bare
-    ++ codes "]; \"" ++ numbered q ++ codes "\" [" ++ label_text called bare q ++ codes "shape=plaintext, style=\"\", fontsize=14];"
+    ++ codes "]; \"" ++ numbered q ++ codes "\" [" ++ label_text name shared bare q ++ codes "shape=plaintext, style=\"\", fontsize=14];"
 
--- workqueue q with these groups: its three lines, with those of the groups before the third one. `called` has the names of the
--- workqueues
-abbrev pub box_lines : List (List ℕ) → List ℕ → List (List ℕ) → Bool → ℕ → List ℕ → List (List ℕ)
-box_lines names group_of called bare q own =
+-- workqueue q with this name and these groups: its three lines, with those of the groups before the third one
+abbrev pub box_lines : List (List ℕ) → List ℕ → List ℕ → Bool → Bool → ℕ → List ℕ → List (List ℕ)
+box_lines names group_of name shared bare q own =
     (codes "  subgraph \"cluster wq " ++ decimal q ++ codes "\" {")
-    ∷ frame_line called bare q
+    ∷ frame_line name shared bare q
     ∷ (flat_map (λ g. group_lines names (items_at group_of g)) own ++ (codes "  }" ∷ []))
 
--- the lines of workqueue q with its groups
+-- the lines of workqueue q with its groups. `called` has the names of the workqueues
 abbrev pub workqueue_box_lines : List (List ℕ) → List ℕ → Workqueues → List (List ℕ) → ℕ → List (List ℕ)
-workqueue_box_lines names group_of ws called q = box_lines names group_of called (slice_index_or ws.bare q false) q (groups_on ws.assignment q)
+workqueue_box_lines names group_of ws called q =
+    let name = slice_index_or called q [] in
+    box_lines names group_of name (is_shared called name) (slice_index_or ws.bare q false) q (groups_on ws.assignment q)
 
 -- ---- flushes
 
@@ -93,6 +94,7 @@ is_turned waits flush = nat_lt flush.dst flush.src && list_any (λ (t : Target).
 abbrev pub look_text : FlushLook → List ℕ
 look_text Plain = []
 look_text Red = codes " [color=red, style=bold]"
+look_text BoldRed = codes " [color=red, penwidth=4]"
 look_text Bold = codes " [style=bold]"
 
 -- the head of an arrow that is drawn from its target or not, of a flush of a whole workqueue or not

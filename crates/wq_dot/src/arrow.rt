@@ -68,6 +68,7 @@ fn look_text(look: FlushLook) -> &'static [u8]
     match look {
         FlushLook::Plain => b"",
         FlushLook::Red => b" [color=red, style=bold]",
+        FlushLook::BoldRed => b" [color=red, penwidth=4]",
         FlushLook::Bold => b" [style=bold]",
     }
 }

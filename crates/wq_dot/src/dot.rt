@@ -2,23 +2,20 @@
 //!
 //! The declaration is read first and the assignment next, both before either is judged. The answer is built in full before the
 //! first byte is written. The rule is that of "The command `dot`" in docs/FORMAT.md. It takes the time of reading the texts, of
-//! the plan or the components, and of drawing and writing.
-
-ghost use Rattle.std.specs.Prelude.{◌≡◌, ◌≢◌, ◌≤◌, ◌+◌, ◌⊎◌, ℕ, List, Err, IfOk};
-ghost use Rattle.wq_meter.specs.Meter.{count_after, LosesPrefix, WritesPrefix, WritesWhole};
-ghost use Rattle.wq_meter.specs.Input.{AfterGiven, HasFailed, HasGiven};
-ghost use Rattle.wq_cert.specs.Texts.{max_certificate};
-ghost use Rattle.wq_commands.specs.Declaration.{max_declaration};
-ghost use Rattle.wq_commands.specs.declared.end.End.{End};
-ghost use Rattle.wq_dot.specs.DotInput.{DotInput, OwnDotInput};
+//! the plan or the components, of the search for a shortest run, and of drawing and writing.
 
 use crate::dotting::draw;
 use std::alloc::{AllocError, Allocator};
-use std::io::{self, Read, Write};
-use wq_commands::{Answered, End, ONE_TEXT, Outcome, TWO_TEXTS, end_of};
-use wq_meter::{Command, Fault, Limits, Metered, Silent, Texts, carry_out};
+use wq_commands::{Answered, ONE_TEXT, Outcome, TWO_TEXTS};
+use wq_meter::{Command, Limits, Texts};
 
 /// The command `dot`: its texts are a declaration and, where there is one, an assignment.
+///
+/// The answer to an assignment is the drawing of its workqueues. The flushes that lie on a circle of these are red, and so are those that
+/// lead from a workqueue with a rescuer to one without; of these, the ones in which a shortest run waits that ends stuck are bold. The
+/// answer to a declaration alone is the drawing of its plan, in which the flushes of the plan's chain are bold; where the groups wait in
+/// a circle, each has a workqueue of its own, and the flushes are red and bold as with an assignment. Where a text is refused, the
+/// answer is the refusal of the first that is.
 #[derive(Clone, Copy, Debug)]
 pub struct DotCommand {
     /// The names are hashed with this. No answer depends on it.
@@ -48,122 +45,4 @@ impl<A: Allocator + Copy> Command<A> for DotCommand {
         let Answered { end, text, why } = draw(alloc, self.seed, self.assigned, texts)?;
         Ok((Outcome { end, why }, text))
     }
-}
-
-/// Reads a declaration and then an assignment to their ends, and writes the drawing of the assignment. The flushes that lie on a
-/// circle of its workqueues are red, and so are those that lead from a workqueue with a rescuer to one without. Where one of the two
-/// is refused, it writes the refusal of the first that is.
-///
-/// At most 1,048,577 bytes of the declaration and 8,388,609 of the assignment are read, in at most as many calls; the assignment
-/// isn't touched until the declaration has been read to its end. The errors are `Fault::Read`, where a read failed,
-/// `Fault::Memory`, where memory ran out, and `Fault::Write`, where a write failed or took no byte. After `Fault::Write` a prefix
-/// of the answer is written, and after the others nothing.
-///
-/// The names are hashed with `seed`. No answer depends on it.
-pub fn dot_cmd<D: Read, S: Read, W: Write, A: Allocator + Copy>(
-    alloc: A,
-    seed: u64,
-    declaration: &mut Metered<D>,
-    assignment: &mut Metered<S>,
-    writer: &mut Metered<W>,
-) -> Result<End, Fault>
-    // The answer to the texts that the readers had is written, and nothing else.
-    ensures answered { IfOk result (λ end. (out : List ℕ)
-        × DotInput D.remaining S.remaining declaration.old declaration.new assignment.old assignment.new end out
-        × WritesWhole W.contents writer.old writer.new out) }
-
-    // What a fault leaves.
-    ensures prefix { result ≡ Err Fault.Write → (end : End) × (out : List ℕ)
-        × DotInput D.remaining S.remaining declaration.old declaration.new assignment.old assignment.new end out
-        × WritesPrefix W.contents writer.old writer.new out }
-    ensures untouched { result ≡ Err Fault.Memory → writer.new ≡ writer.old }
-    ensures unwritten { result ≡ Err Fault.Read → writer.new ≡ writer.old }
-
-    // What is asked of the readers, whatever the result.
-    ensures lost { LosesPrefix D.remaining declaration.old declaration.new (max_declaration + 1)
-        × LosesPrefix S.remaining assignment.old assignment.new (max_certificate + 1) }
-    ensures order { AfterGiven D.remaining declaration.old declaration.new max_declaration assignment.old assignment.new }
-    ensures reads { (declaration.new.calls ≤ declaration.old.calls + (max_declaration + 1)) × (assignment.new.calls ≤ assignment.old.calls + (max_certificate + 1)) }
-    ensures bytes_read { (declaration.new.bytes ≤ declaration.old.bytes + (max_declaration + 1)) × (assignment.new.bytes ≤ assignment.old.bytes + (max_certificate + 1)) }
-
-    // Which fault it is, and which reader's.
-    ensures read_failed { result ≡ Err Fault.Read →
-        (HasFailed declaration.old declaration.new × (assignment.new ≡ assignment.old))
-        ⊎ (HasGiven D.remaining declaration.old declaration.new max_declaration × HasFailed assignment.old assignment.new) }
-    ensures no_read_failed { result ≢ Err Fault.Read →
-        (declaration.new.failures ≡ declaration.old.failures) × (assignment.new.failures ≡ assignment.old.failures) }
-    ensures write_failed { result ≡ Err Fault.Write → writer.new.failures ≡ count_after writer.old.failures 1 }
-    ensures no_write_failed { result ≢ Err Fault.Write → writer.new.failures ≡ writer.old.failures }
-{
-    let mut third = Metered::new(io::empty());
-    let mut unsaid = Metered::new(io::sink());
-    let ended = carry_out(
-        alloc,
-        &DotCommand {
-            seed,
-            assigned: true,
-        },
-        &Silent,
-        declaration,
-        assignment,
-        &mut third,
-        writer,
-        &mut unsaid,
-    );
-    end_of(ended)
-}
-
-/// Reads a declaration to its end, and writes the drawing of its plan. The flushes of the plan's chain are bold. Where the groups
-/// wait in a circle, each has a workqueue of its own, and the flushes that lie on a circle are red. Where the declaration is
-/// refused, it writes the refusal.
-///
-/// At most 1,048,577 bytes are read, in at most as many calls. The errors are `Fault::Read`, where a read failed,
-/// `Fault::Memory`, where memory ran out, and `Fault::Write`, where a write failed or took no byte. After `Fault::Write` a prefix
-/// of the answer is written, and after the others nothing.
-///
-/// The names are hashed with `seed`. No answer depends on it.
-pub fn own_dot_cmd<D: Read, W: Write, A: Allocator + Copy>(
-    alloc: A,
-    seed: u64,
-    declaration: &mut Metered<D>,
-    writer: &mut Metered<W>,
-) -> Result<End, Fault>
-    // The answer to the text that the reader had is written, and nothing else.
-    ensures answered { IfOk result (λ end. (out : List ℕ) × OwnDotInput D.remaining declaration.old declaration.new end out
-        × WritesWhole W.contents writer.old writer.new out) }
-
-    // What a fault leaves.
-    ensures prefix { result ≡ Err Fault.Write → (end : End) × (out : List ℕ) × OwnDotInput D.remaining declaration.old declaration.new end out
-        × WritesPrefix W.contents writer.old writer.new out }
-    ensures untouched { result ≡ Err Fault.Memory → writer.new ≡ writer.old }
-    ensures unwritten { result ≡ Err Fault.Read → writer.new ≡ writer.old }
-
-    // What is asked of the reader, whatever the result.
-    ensures lost { LosesPrefix D.remaining declaration.old declaration.new (max_declaration + 1) }
-    ensures reads { declaration.new.calls ≤ declaration.old.calls + (max_declaration + 1) }
-    ensures bytes_read { declaration.new.bytes ≤ declaration.old.bytes + (max_declaration + 1) }
-
-    // Which fault it is.
-    ensures read_failed { result ≡ Err Fault.Read → declaration.new.failures ≡ count_after declaration.old.failures 1 }
-    ensures no_read_failed { result ≢ Err Fault.Read → declaration.new.failures ≡ declaration.old.failures }
-    ensures write_failed { result ≡ Err Fault.Write → writer.new.failures ≡ count_after writer.old.failures 1 }
-    ensures no_write_failed { result ≢ Err Fault.Write → writer.new.failures ≡ writer.old.failures }
-{
-    let mut second = Metered::new(io::empty());
-    let mut third = Metered::new(io::empty());
-    let mut unsaid = Metered::new(io::sink());
-    let ended = carry_out(
-        alloc,
-        &DotCommand {
-            seed,
-            assigned: false,
-        },
-        &Silent,
-        declaration,
-        &mut second,
-        &mut third,
-        writer,
-        &mut unsaid,
-    );
-    end_of(ended)
 }

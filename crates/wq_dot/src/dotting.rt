@@ -1,15 +1,16 @@
 //! The answer to a declaration and an assignment, or to a declaration alone, built in full in memory.
 //!
 //! The rule is that of "The command `dot`" in docs/FORMAT.md. It takes the time and the memory of reading the texts, of the plan,
-//! of the components and of the drawing.
+//! of the components, of the search for a shortest run and of the drawing.
 
-ghost use Rattle.std.specs.Prelude.{◌≡◌, [], IfOk, None, codes, length, map};
+ghost use Rattle.std.specs.Prelude.{◌≡◌, [], IfOk, List, None, codes, length, map};
 ghost use Rattle.wq_items.specs.Chain.{HasCircle};
 ghost use Rattle.wq_groups.specs.Declaration.{GroupWaits, declaration_of};
 ghost use Rattle.wq_core.specs.Wiring.{own_lanes};
 ghost use Rattle.wq_core.specs.Workqueues.{all_rescued};
 ghost use Rattle.wq_deadlock.specs.Judging.{bare_waits};
 ghost use Rattle.wq_plan.specs.Solve.{IsPlanned, Solves};
+ghost use Rattle.wq_hang.specs.declared.hop.Hop.{Hop};
 ghost use Rattle.wq_cert.specs.Texts.{max_certificate, max_certificate_line, workqueues_of_text};
 ghost use Rattle.wq_names.specs.Names.{names_of};
 ghost use Rattle.wq_text.specs.Limits.{limit_fault};
@@ -18,11 +19,12 @@ ghost use Rattle.wq_commands.specs.declared.why.Which.TheVariants.{Certificate};
 ghost use Rattle.wq_commands.specs.Why.{SaysFault, SaysAssigned, SaysDeclared};
 ghost use Rattle.wq_circles.specs.Components.{AreComponents};
 ghost use Rattle.wq_dot.specs.Tooltips.{comments_of};
-ghost use Rattle.wq_dot.specs.Dotting.{DrawsAssigned, DrawsCircles, DrawsDeclared, DrawsGroups, DrawsOwn, DrawsPlan, DrawsTexts, Draws, OwnDraws};
+ghost use Rattle.wq_dot.specs.Dotting.{AreShortest, DrawsAssigned, DrawsCircles, DrawsDeclared, DrawsGroups, DrawsOwn, DrawsPlan, DrawsTexts, Draws, OwnDraws};
 
 use crate::comments::comments;
 use crate::drawing::drawing_text;
-use crate::flushes::{bold_flushes, marked, red_flushes};
+use crate::flushes::{bold_flushes, bold_red, hanging_flushes, marked};
+use crate::shortest::shortest_waits;
 use crate::titles::{circles_title, plan_title};
 use std::alloc::{AllocError, Allocator};
 use wq_cert::{CertError, read_workqueues};
@@ -32,6 +34,7 @@ use wq_core::Workqueues;
 use wq_deadlock::{bare_waits, own_lanes};
 use wq_graph::WaitArc;
 use wq_groups::{Assignment, Groups};
+use wq_hang::Hop;
 use wq_items::ItemTable;
 use wq_names::workqueue_names;
 use wq_plan::{Answer, solve};
@@ -69,7 +72,7 @@ fn draw_plan<A: Allocator + Copy>(
 }
 
 /// The drawing of workqueues with these names and these components, of whose flushes these lead to one without a rescuer. `hanging` says
-/// what hangs if there are any.
+/// what hangs if there are any, and `hops` are the waits of a shortest run that ends stuck.
 fn draw_components<A: Allocator + Copy>(
     alloc: A,
     table: &ItemTable<'_, A>,
@@ -80,14 +83,16 @@ fn draw_components<A: Allocator + Copy>(
     hanging: &[u8],
     components: &[Vec<WaitArc, A>],
     waits: &[WaitArc],
+    hops: &[Hop],
 ) -> Result<Vec<u8, A>, AllocError>
     requires grouped { length groups.now.group_of ≡ length table.now.names }
     requires assigned { length workqueues.now.assignment.lane_of_group ≡ groups.now.groups }
     requires found { AreComponents (declaration_of table.now groups.now) workqueues.now (map (λ l. l.items) components.now) }
     requires waits { waits.now ≡ bare_waits (declaration_of table.now groups.now) workqueues.now }
+    requires shortest { AreShortest (declaration_of table.now groups.now) workqueues.now hops.now }
     ensures { IfOk result (λ text.
         DrawsCircles (record { table = table.now; partition = groups.now }) (map (λ c. c.now) comments.now) workqueues.now (map (λ n. n.now) called.now)
-        hanging.now text.items) }
+        hanging.now hops.now text.items) }
 {
     // What holds of every table, of all groups and of every assignment.
     let _items = table.len();
@@ -96,9 +101,10 @@ fn draw_components<A: Allocator + Copy>(
     let assignment = workqueues.assignment();
     let _lanes = assignment.lanes();
     let bare = workqueues.bare();
-    let looks = red_flushes(alloc, table, components, waits)?;
+    let looks = hanging_flushes(alloc, table, components, waits, hops)?;
     let red = marked(looks.as_slice());
-    let title = circles_title(alloc, hanging, waits.len() as u32, bare, red)?;
+    let bold = bold_red(looks.as_slice());
+    let title = circles_title(alloc, hanging, waits.len() as u32, bare, red, bold)?;
     drawing_text(
         alloc,
         table,
@@ -112,8 +118,8 @@ fn draw_components<A: Allocator + Copy>(
     )
 }
 
-/// The drawing of workqueues with these names, with those flushes marked that lie on a circle or lead to a workqueue without a rescuer.
-/// `hanging` says what hangs if there are any.
+/// The drawing of workqueues with these names, with those flushes marked that lie on a circle or lead to a workqueue without a rescuer,
+/// and those in which a shortest run waits that ends stuck. `hanging` says what hangs if there are any.
 fn draw_circles<A: Allocator + Copy>(
     alloc: A,
     table: &ItemTable<'_, A>,
@@ -125,12 +131,13 @@ fn draw_circles<A: Allocator + Copy>(
 ) -> Result<Vec<u8, A>, AllocError>
     requires grouped { length groups.now.group_of ≡ length table.now.names }
     requires assigned { length workqueues.now.assignment.lane_of_group ≡ groups.now.groups }
-    ensures { IfOk result (λ text.
+    ensures { IfOk result (λ text. (hops : List Hop) ×
         DrawsCircles (record { table = table.now; partition = groups.now }) (map (λ c. c.now) comments.now) workqueues.now (map (λ n. n.now) called.now)
-        hanging.now text.items) }
+        hanging.now hops text.items) }
 {
     let components = components(alloc, table, groups, workqueues)?;
     let waits = bare_waits(alloc, table, groups, workqueues)?;
+    let hops = shortest_waits(alloc, table, groups, workqueues)?;
     draw_components(
         alloc,
         table,
@@ -141,6 +148,7 @@ fn draw_circles<A: Allocator + Copy>(
         hanging,
         &components,
         &waits,
+        &hops,
     )
 }
 
@@ -152,9 +160,9 @@ fn draw_own_lanes<A: Allocator + Copy>(
     comments: &[&[u8]],
 ) -> Result<Vec<u8, A>, AllocError>
     requires { length groups.now.group_of ≡ length table.now.names }
-    ensures { IfOk result (λ text.
+    ensures { IfOk result (λ text. (hops : List Hop) ×
         DrawsCircles (record { table = table.now; partition = groups.now }) (map (λ c. c.now) comments.now) (all_rescued (own_lanes groups.now.groups)) []
-        (codes "every assignment can hang") text.items) }
+        (codes "every assignment can hang") hops text.items) }
 {
     let assignment = own_lanes(alloc, groups)?;
     let workqueues = Workqueues::new(assignment, Vec::new(alloc));
@@ -179,7 +187,8 @@ fn draw_answer<A: Allocator + Copy>(
 ) -> Result<Vec<u8, A>, AllocError>
     requires grouped { length groups.now.group_of ≡ length table.now.names }
     requires solved { Solves (declaration_of table.now groups.now) answer.now }
-    ensures { IfOk result (λ text. DrawsGroups (record { table = table.now; partition = groups.now }) (map (λ c. c.now) comments.now) text.items) }
+    ensures { IfOk result (λ text. (hops : List Hop) ×
+        DrawsGroups (record { table = table.now; partition = groups.now }) (map (λ c. c.now) comments.now) hops text.items) }
 {
     match answer {
         Answer::Plan { assignment, chain } => draw_plan(
@@ -197,7 +206,8 @@ fn draw_groups<A: Allocator + Copy>(
     comments: &[&[u8]],
 ) -> Result<Vec<u8, A>, AllocError>
     requires { length groups.now.group_of ≡ length table.now.names }
-    ensures { IfOk result (λ text. DrawsGroups (record { table = table.now; partition = groups.now }) (map (λ c. c.now) comments.now) text.items) }
+    ensures { IfOk result (λ text. (hops : List Hop) ×
+        DrawsGroups (record { table = table.now; partition = groups.now }) (map (λ c. c.now) comments.now) hops text.items) }
 {
     let answer = solve(alloc, table, groups)?;
     draw_answer(alloc, table, groups, comments, &answer)
@@ -214,9 +224,9 @@ fn draw_assigned<A: Allocator + Copy>(
 ) -> Result<Answered<A>, AllocError>
     requires grouped { length groups.now.group_of ≡ length table.now.names }
     requires assigned { length workqueues.now.assignment.lane_of_group ≡ groups.now.groups }
-    ensures answer { IfOk result (λ a.
+    ensures answer { IfOk result (λ a. (hops : List Hop) ×
         DrawsAssigned (record { table = table.now; partition = groups.now }) (map (λ c. c.now) comments.now) workqueues.now (map (λ n. n.now) called.now)
-        a.end a.text.items) }
+        hops a.end a.text.items) }
     ensures why { IfOk result (λ a. a.why ≡ None) }
 {
     let text = draw_circles(
@@ -243,9 +253,9 @@ fn draw_named<A: Allocator + Copy>(
     requires grouped { length groups.now.group_of ≡ length table.now.names }
     requires assigned { length workqueues.now.assignment.lane_of_group ≡ groups.now.groups }
     requires limits { limit_fault max_certificate max_certificate_line text.now ≡ None }
-    ensures answer { IfOk result (λ a.
+    ensures answer { IfOk result (λ a. (hops : List Hop) ×
         DrawsAssigned (record { table = table.now; partition = groups.now }) (map (λ c. c.now) comments.now) workqueues.now (names_of text.now)
-        a.end a.text.items) }
+        hops a.end a.text.items) }
     ensures why { IfOk result (λ a. a.why ≡ None) }
 {
     let called = workqueue_names(alloc, text)?;
@@ -260,7 +270,8 @@ fn draw_unassigned<A: Allocator + Copy>(
     comments: &[&[u8]],
 ) -> Result<Answered<A>, AllocError>
     requires { length groups.now.group_of ≡ length table.now.names }
-    ensures answer { IfOk result (λ a. DrawsOwn (record { table = table.now; partition = groups.now }) (map (λ c. c.now) comments.now) a.end a.text.items) }
+    ensures answer { IfOk result (λ a. (hops : List Hop) ×
+        DrawsOwn (record { table = table.now; partition = groups.now }) (map (λ c. c.now) comments.now) hops a.end a.text.items) }
     ensures why { IfOk result (λ a. a.why ≡ None) }
 {
     let text = draw_groups(alloc, table, groups, comments)?;
@@ -276,7 +287,8 @@ fn draw_declared<A: Allocator + Copy>(
     text: &[u8],
 ) -> Result<Answered<A>, AllocError>
     requires { length groups.now.group_of ≡ length table.now.names }
-    ensures answer { IfOk result (λ a. DrawsDeclared (record { table = table.now; partition = groups.now }) (map (λ c. c.now) comments.now) text.now a.end a.text.items) }
+    ensures answer { IfOk result (λ a. (hops : List Hop) ×
+        DrawsDeclared (record { table = table.now; partition = groups.now }) (map (λ c. c.now) comments.now) text.now hops a.end a.text.items) }
     ensures why { IfOk result (λ a. SaysFault Certificate (workqueues_of_text table.now.names groups.now text.now) a.why) }
 {
     // What holds of all groups.
@@ -303,8 +315,8 @@ fn draw_commented<A: Allocator + Copy>(
 ) -> Result<Answered<A>, AllocError>
     requires grouped { length groups.now.group_of ≡ length table.now.names }
     requires limits { limit_fault max_declaration max_declaration_line declared.now ≡ None }
-    ensures answer { IfOk result (λ a.
-        DrawsDeclared (record { table = table.now; partition = groups.now }) (comments_of declared.now) text.now a.end a.text.items) }
+    ensures answer { IfOk result (λ a. (hops : List Hop) ×
+        DrawsDeclared (record { table = table.now; partition = groups.now }) (comments_of declared.now) text.now hops a.end a.text.items) }
     ensures why { IfOk result (λ a. SaysFault Certificate (workqueues_of_text table.now.names groups.now text.now) a.why) }
 {
     let comments = comments(alloc, declared)?;
@@ -320,8 +332,8 @@ fn draw_own_commented<A: Allocator + Copy>(
 ) -> Result<Answered<A>, AllocError>
     requires grouped { length groups.now.group_of ≡ length table.now.names }
     requires limits { limit_fault max_declaration max_declaration_line declared.now ≡ None }
-    ensures answer { IfOk result (λ a.
-        DrawsOwn (record { table = table.now; partition = groups.now }) (comments_of declared.now) a.end a.text.items) }
+    ensures answer { IfOk result (λ a. (hops : List Hop) ×
+        DrawsOwn (record { table = table.now; partition = groups.now }) (comments_of declared.now) hops a.end a.text.items) }
     ensures why { IfOk result (λ a. a.why ≡ None) }
 {
     let comments = comments(alloc, declared)?;

@@ -1,7 +1,7 @@
 //! The text of a drawing: its head, its workqueues, its flushes and its end.
 //!
 //! The format is that of "The command `dot`" in docs/FORMAT.md. Drawing takes time and memory in the number of items, groups,
-//! workqueues and flushes, and in the length of the text.
+//! workqueues and flushes, and in the length of the text, and as many comparisons of names as sorting those of the workqueues.
 
 ghost use Rattle.std.specs.Prelude.{◌≡◌, false, length, map, slice_index_or, IfOk};
 ghost use Rattle.wq_items.specs.Table.{flush_count};
@@ -12,6 +12,7 @@ use crate::comments::comment_at;
 use crate::group_lanes::lanes_of_groups;
 use crate::head::put_head;
 use crate::look::FlushLook;
+use crate::shared::shared_names;
 use crate::workqueue::put_workqueue;
 use std::alloc::{AllocError, Allocator};
 use wq_buckets::Buckets;
@@ -19,6 +20,7 @@ use wq_graph::group_arcs_by_place;
 use wq_groups::{Assignment, Groups};
 use wq_items::ItemTable;
 use wq_lines::put;
+use wq_names::name_at;
 
 /// Whether a workqueue has no rescuer: those past the end of the list have one.
 fn is_bare(bare: &[bool], number: u16) -> bool
@@ -56,15 +58,18 @@ pub fn drawing_text<A: Allocator + Copy>(
     let lanes = lanes_of_groups(alloc, assignment, groups.len())?;
     let by_workqueue = Buckets::new(alloc, &lanes, workqueues)?;
     let flushes = group_arcs_by_place(alloc, table, groups)?;
+    let shared = shared_names(alloc, called)?;
     let mut out = Vec::new(alloc);
     put_head(&mut out, title)?;
     for number in 0..workqueues {
         let own = by_workqueue.places(number);
+        let name = name_at(called, number);
         put_workqueue(
             &mut out,
             table,
             groups,
-            called,
+            name,
+            shared.contains(&name),
             is_bare(bare, number),
             number,
             own,

@@ -1,5 +1,5 @@
 //! How each flush of a drawing looks: those of a chain are bold, those of components red, and so are those that lead to a workqueue
-//! without a rescuer. The others are plain.
+//! without a rescuer. Those in which a shortest run waits that ends stuck are bold and red. The others are plain.
 //!
 //! The rule is that of "The command `dot`" in docs/FORMAT.md. A flush is identified by its place. So if several have the same
 //! item and target, only the one that is meant is marked. It takes time and memory in the number of flushes.
@@ -8,11 +8,12 @@ ghost use Rattle.std.specs.Prelude.{◌≡◌, ◌<◌, ◌^◌, ◌++◌, lengt
 ghost use Rattle.std.specs.List.{All};
 ghost use Rattle.wq_items.specs.Table.{flush_count};
 ghost use Rattle.wq_dot.specs.declared.look.FlushLook.{FlushLook};
-ghost use Rattle.wq_dot.specs.Flushes.{AreMarkable, all_arcs, looks_of, marked, with_marks};
+ghost use Rattle.wq_dot.specs.Flushes.{AreFlushes, AreMarkable, all_arcs, bold_red, looks_of, marked, red_looks_of, with_bold_red, with_marks};
 
 use crate::look::FlushLook;
 use std::alloc::{AllocError, Allocator};
 use wq_graph::WaitArc;
+use wq_hang::Hop;
 use wq_items::ItemTable;
 
 /// How many of these looks aren't plain.
@@ -23,6 +24,14 @@ pub(crate) fn marked(looks: &[FlushLook]) -> u32
     looks.iter().filter(|look| look.is_marked()).count() as u32
 }
 
+/// How many of these looks are both bold and red.
+pub(crate) fn bold_red(looks: &[FlushLook]) -> u32
+    requires { length looks.now < 2 ^ 32 }
+    ensures { result ≡ bold_red looks.now }
+{
+    looks.iter().filter(|look| look.is_bold_red()).count() as u32
+}
+
 /// Gives the flushes of these arcs this look.
 fn mark(looks: &mut [FlushLook], arcs: &[WaitArc], look: FlushLook)
     requires { AreMarkable (length looks.old) arcs.now }
@@ -30,6 +39,16 @@ fn mark(looks: &mut [FlushLook], arcs: &[WaitArc], look: FlushLook)
 {
     for arc in arcs {
         looks[arc.place as usize] = look;
+    }
+}
+
+/// Makes the flushes bold and red in which these waits are made.
+fn mark_bold_red(looks: &mut [FlushLook], hops: &[Hop])
+    requires { AreFlushes (length looks.old) hops.now }
+    ensures { looks.new ≡ with_bold_red looks.old hops.now }
+{
+    for hop in hops {
+        looks[hop.flush.place as usize] = FlushLook::BoldRed;
     }
 }
 
@@ -48,7 +67,7 @@ pub(crate) fn bold_flushes<A: Allocator + Copy>(
 }
 
 /// How each flush of a table's items looks, in order of place. Those of these components are red, and so are these waits.
-pub(crate) fn red_flushes<A: Allocator + Copy>(
+fn red_flushes<A: Allocator + Copy>(
     alloc: A,
     table: &ItemTable<'_, A>,
     components: &[Vec<WaitArc, A>],
@@ -64,5 +83,25 @@ pub(crate) fn red_flushes<A: Allocator + Copy>(
         mark(looks.as_mut_slice(), arcs, FlushLook::Red);
     }
     mark(looks.as_mut_slice(), waits, FlushLook::Red);
+    Ok(looks)
+}
+
+/// How each flush of a table's items looks, in order of place. Those of these components are red, and so are these waits; but those are
+/// bold and red in which a run waits as these hops say.
+pub(crate) fn hanging_flushes<A: Allocator + Copy>(
+    alloc: A,
+    table: &ItemTable<'_, A>,
+    components: &[Vec<WaitArc, A>],
+    waits: &[WaitArc],
+    hops: &[Hop],
+) -> Result<Vec<FlushLook, A>, AllocError>
+    requires places { All (AreMarkable (flush_count table.now.waits)) (map (λ l. l.items) components.now) }
+    requires waits { AreMarkable (flush_count table.now.waits) waits.now }
+    requires hops { AreFlushes (flush_count table.now.waits) hops.now }
+    ensures { IfOk result (λ looks. looks.items
+        ≡ red_looks_of (flush_count table.now.waits) hops.now (all_arcs (map (λ l. l.items) components.now) ++ waits.now)) }
+{
+    let mut looks = red_flushes(alloc, table, components, waits)?;
+    mark_bold_red(looks.as_mut_slice(), hops);
     Ok(looks)
 }

@@ -19,20 +19,22 @@ ghost use Rattle.wq_dot.specs.declared.look.FlushLook.{FlushLook};
 ghost use Rattle.wq_dot.specs.Drawing.{drawing_lines, is_whole_at};
 ghost use Rattle.wq_dot.specs.Tooltips.{comments_of};
 ghost use Rattle.wq_dot.specs.Laws.{is_arrow, is_line_of};
-ghost use Rattle.wq_dot.specs.Dotting.{Draws, DrawsTexts, OwnDraws};
+ghost use Rattle.wq_hang.specs.declared.hop.Hop.{Hop};
+ghost use Rattle.wq_dot.specs.Dotting.{Draws, DrawsBy, DrawsTextsBy, OwnDraws, OwnDrawsBy};
 
-/// A declaration and an assignment, or a declaration alone, have at most one answer: one end, and one text that is printed. There
-/// is one reason for what is said besides, so `what_is_said_changes_no_answer` holds of the command.
+/// A declaration and an assignment, or a declaration alone, have at most one end, and at most one text that is printed for the waits
+/// of a shortest run that ends stuck: where there are several such runs, the text says which one is meant, and nothing else is left
+/// open. For these waits there is one reason for what is said besides, too.
 pub fn drawings_have_one_answer()
     ensures end { (declared text : List ℕ) (end other : End) (out printed : List ℕ) →
         Draws declared text end out → Draws declared text other printed → end ≡ other }
-    ensures out { (declared text : List ℕ) (end other : End) (out printed : List ℕ) →
-        Draws declared text end out → Draws declared text other printed → out ≡ printed }
+    ensures out { (hops : List Hop) (declared text : List ℕ) (end other : End) (out printed : List ℕ) →
+        DrawsBy hops declared text end out → DrawsBy hops declared text other printed → out ≡ printed }
     ensures own_end { (declared : List ℕ) (end other : End) (out printed : List ℕ) →
         OwnDraws declared end out → OwnDraws declared other printed → end ≡ other }
-    ensures own_out { (declared : List ℕ) (end other : End) (out printed : List ℕ) →
-        OwnDraws declared end out → OwnDraws declared other printed → out ≡ printed }
-    ensures command { (assigned : Bool) → HasOneAnswer (DrawsTexts assigned) }
+    ensures own_out { (hops : List Hop) (declared : List ℕ) (end other : End) (out printed : List ℕ) →
+        OwnDrawsBy hops declared end out → OwnDrawsBy hops declared other printed → out ≡ printed }
+    ensures command { (hops : List Hop) (assigned : Bool) → HasOneAnswer (DrawsTextsBy hops assigned) }
 {}
 
 /// Each item has exactly one line, whatever the title, the looks, the comments and the names of the workqueues, and whichever of these

@@ -2,11 +2,11 @@
 //!
 //! What the layer above relies on: the bytes written are the drawing of the bytes read, or their refusal. A drawing is that of
 //! the plan, with the flushes that the chain of its plan text follows, or of workqueues, with those that lie on a circle or lead to
-//! one without a rescuer. The text for Graphviz is the definition `drawing_text` of the items, the groups, the workqueues and their
+//! one without a rescuer, and among these the ones in which a shortest run waits that ends stuck. The text for Graphviz is the definition `drawing_text` of the items, the groups, the workqueues and their
 //! names, the title, and the looks and comments of the flushes, byte by byte. The rule is that of "The command `dot`" in
-//! docs/FORMAT.md. It takes the time of reading the texts, of the plan, of the components, of the drawing, and of writing it; a
-//! drawing takes time and memory in the number of items, groups, workqueues and flushes, and in the length of its text. Looking for
-//! workqueues that have one name takes time in the square of their number.
+//! docs/FORMAT.md. It takes the time of reading the texts, of the plan, of the components, of the search for a shortest run, of
+//! the drawing, and of writing it; a drawing takes time and memory in the number of items, groups, workqueues and flushes, and in the
+//! length of its text, and as many comparisons of names as sorting those of the workqueues.
 #![tactic(auto)]
 
 mod arrow;
@@ -21,10 +21,12 @@ mod head;
 mod label;
 pub mod laws;
 mod look;
+mod shared;
+mod shortest;
 mod titles;
 mod tooltip;
 mod workqueue;
 
-pub use dot::{DotCommand, dot_cmd, own_dot_cmd};
+pub use dot::DotCommand;
 pub use drawing::drawing_text;
 pub use look::FlushLook;

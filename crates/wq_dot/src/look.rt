@@ -1,7 +1,6 @@
 //! How a flush is drawn.
 //!
-//! The three kinds are those of "The command `dot`" in docs/FORMAT.md. No flush is both red and bold. Nothing is computed
-//! here.
+//! The four kinds are those of "The command `dot`" in docs/FORMAT.md. Nothing is computed here.
 
 ghost use Rattle.std.specs.Prelude.{◌≡◌};
 
@@ -12,12 +11,14 @@ pub enum FlushLook {
     Plain,
     /// It lies on a circle, or leads to a workqueue without a rescuer.
     Red,
+    /// It is red, and a shortest run that ends stuck waits in it.
+    BoldRed,
     /// The chain of a plan follows it.
     Bold,
 }
 
 impl FlushLook {
-    ghost use Rattle.wq_dot.specs.Flushes.{is_marked};
+    ghost use Rattle.wq_dot.specs.Flushes.{is_bold_red, is_marked};
 
     /// Whether it isn't plain.
     pub(crate) fn is_marked(self) -> bool
@@ -25,7 +26,17 @@ impl FlushLook {
     {
         match self {
             FlushLook::Plain => false,
-            FlushLook::Red | FlushLook::Bold => true,
+            FlushLook::Red | FlushLook::BoldRed | FlushLook::Bold => true,
+        }
+    }
+
+    /// Whether it is both bold and red.
+    pub(crate) fn is_bold_red(self) -> bool
+        ensures { result ≡ is_bold_red self }
+    {
+        match self {
+            FlushLook::BoldRed => true,
+            FlushLook::Plain | FlushLook::Red | FlushLook::Bold => false,
         }
     }
 }

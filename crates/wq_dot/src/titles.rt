@@ -3,7 +3,7 @@
 //! They are those of "The command `dot`" in docs/FORMAT.md. Making one takes time and memory in its length.
 
 ghost use Rattle.std.specs.Prelude.{◌≡◌, ◌==◌, ◌++◌, [], codes, cond, IfOk, OnOk};
-ghost use Rattle.wq_dot.specs.Dotting.{awaited, bold_text, circles_title, counted, dashed_legend, leading_text, legend_end, plan_title, red_legend, red_text, some_bare};
+ghost use Rattle.wq_dot.specs.Dotting.{awaited, bold_text, circles_title, counted, dashed_legend, leading_text, legend_end, plan_title, red_legend, red_text, shortest_legend, shortest_text, some_bare};
 
 use std::alloc::{AllocError, Allocator};
 use wq_lines::{put, put_number, put_word};
@@ -70,6 +70,33 @@ fn put_leading<A: Allocator + Copy>(out: &mut Vec<u8, A>, leading: u32) -> Resul
     put(out, b" to no rescuer")
 }
 
+/// Adds how many of the red waits are bold, if not all are.
+fn put_shortest<A: Allocator + Copy>(
+    out: &mut Vec<u8, A>,
+    red: u32,
+    bold: u32,
+) -> Result<(), AllocError>
+    ensures { OnOk result (out.new.items ≡ out.old.items ++ shortest_text red bold) }
+{
+    if red == bold {
+        return Ok(());
+    }
+    put(out, b",")?;
+    put_number(out, bold)?;
+    put(out, b" in bold")
+}
+
+/// The legend of bold ones, if not all red waits are bold.
+fn shortest_legend(red: u32, bold: u32) -> &'static [u8]
+    ensures { result.now ≡ shortest_legend red bold }
+{
+    if red == bold {
+        b""
+    } else {
+        b"\\lBold: enough to hang it, in the fewest steps."
+    }
+}
+
 /// The work that red waits are for, if so many of so many lead to no rescuer.
 fn awaited(leading: u32, red: u32) -> &'static [u8]
     ensures { result.now ≡ awaited leading red }
@@ -105,8 +132,9 @@ fn put_red<A: Allocator + Copy>(
     hanging: &[u8],
     leading: u32,
     red: u32,
+    bold: u32,
 ) -> Result<(), AllocError>
-    ensures { OnOk result (out.new.items ≡ out.old.items ++ red_text hanging.now leading red) }
+    ensures { OnOk result (out.new.items ≡ out.old.items ++ red_text hanging.now leading red bold) }
 {
     if red == 0 {
         return put(out, b"safe");
@@ -116,7 +144,9 @@ fn put_red<A: Allocator + Copy>(
     put_counted(out, red, b"wait")?;
     put(out, b" in red")?;
     put_leading(out, leading)?;
-    put_red_legend(out, leading, red)
+    put_shortest(out, red, bold)?;
+    put_red_legend(out, leading, red)?;
+    put(out, shortest_legend(red, bold))
 }
 
 /// Whether some workqueue has no rescuer.
@@ -148,19 +178,20 @@ fn legend_end(bare: &[bool], red: u32) -> &'static [u8]
     }
 }
 
-/// The title of a drawing with so many red waits, so many of which lead to no rescuer: what hangs, or that nothing does. `bare` says
-/// which workqueues have no rescuer.
+/// The title of a drawing with so many red waits, so many of which lead to no rescuer, and so many of which are bold: what hangs, or
+/// that nothing does. `bare` says which workqueues have no rescuer.
 pub(crate) fn circles_title<A: Allocator + Copy>(
     alloc: A,
     hanging: &[u8],
     leading: u32,
     bare: &[bool],
     red: u32,
+    bold: u32,
 ) -> Result<Vec<u8, A>, AllocError>
-    ensures { IfOk result (λ title. title.items ≡ circles_title hanging.now leading bare.now red) }
+    ensures { IfOk result (λ title. title.items ≡ circles_title hanging.now leading bare.now red bold) }
 {
     let mut title = Vec::new(alloc);
-    put_red(&mut title, hanging, leading, red)?;
+    put_red(&mut title, hanging, leading, red, bold)?;
     put(&mut title, dashed_legend(bare))?;
     put(&mut title, legend_end(bare, red))?;
     Ok(title)

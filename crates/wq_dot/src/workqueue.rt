@@ -1,9 +1,8 @@
 //! A workqueue: a box with its groups.
 //!
-//! The lines are those of "The command `dot`" in docs/FORMAT.md. Printing takes time and memory in the length of what is printed, and
-//! time in the number of workqueues.
+//! The lines are those of "The command `dot`" in docs/FORMAT.md. Printing takes time and memory in the length of what is printed.
 
-ghost use Rattle.std.specs.Prelude.{◌≡◌, ◌<◌, ◌++◌, flat_map, length, map, OnOk};
+ghost use Rattle.std.specs.Prelude.{◌≡◌, ◌<◌, ◌++◌, flat_map, length, OnOk};
 ghost use Rattle.std.specs.List.{All};
 ghost use Rattle.wq_dot.specs.Drawing.{box_lines, ended, frame_line, frame_text};
 
@@ -28,28 +27,30 @@ fn frame_text(bare: bool) -> &'static [u8]
 /// Adds the line with the frame and the label of a workqueue.
 fn put_frame<A: Allocator + Copy>(
     out: &mut Vec<u8, A>,
-    called: &[&[u8]],
+    name: &[u8],
+    shared: bool,
     bare: bool,
     number: u16,
 ) -> Result<(), AllocError>
-    ensures { OnOk result (out.new.items ≡ out.old.items ++ ended (frame_line (map (λ n. n.now) called.now) bare number)) }
+    ensures { OnOk result (out.new.items ≡ out.old.items ++ ended (frame_line name.now shared bare number)) }
 {
     put(out, b"    graph [label=\"\", ")?;
     put(out, frame_text(bare))?;
     put(out, b"]; \"")?;
     put_numbered(out, number)?;
     put(out, b"\" [")?;
-    put_label(out, called, bare, number)?;
+    put_label(out, name, shared, bare, number)?;
     put(out, b"shape=plaintext, style=\"\", fontsize=14];\n")
 }
 
-/// Adds the lines of a workqueue with these groups. `called` has the names of the workqueues, and `bare` says whether this one has no
-/// rescuer.
+/// Adds the lines of a workqueue with this name and these groups. `shared` says whether others have its name, too, and `bare` whether it
+/// has no rescuer.
 pub(crate) fn put_workqueue<A: Allocator + Copy>(
     out: &mut Vec<u8, A>,
     table: &ItemTable<'_, A>,
     groups: &Groups<A>,
-    called: &[&[u8]],
+    name: &[u8],
+    shared: bool,
     bare: bool,
     number: u16,
     own: &[u32],
@@ -57,14 +58,14 @@ pub(crate) fn put_workqueue<A: Allocator + Copy>(
     requires grouped { length groups.now.group_of ≡ length table.now.names }
     requires own { All (λ g. g < groups.now.groups) own.now }
     ensures { OnOk result (out.new.items ≡ out.old.items
-        ++ flat_map ended (box_lines table.now.names groups.now.group_of (map (λ n. n.now) called.now) bare number own.now)) }
+        ++ flat_map ended (box_lines table.now.names groups.now.group_of name.now shared bare number own.now)) }
 {
     // What holds of all groups.
     let _groups = groups.len();
     put(out, b"  subgraph \"cluster wq")?;
     put_number(out, u32::from(number))?;
     put(out, b"\" {\n")?;
-    put_frame(out, called, bare, number)?;
+    put_frame(out, name, shared, bare, number)?;
     for group in own {
         put_group(out, table, groups.members(GroupId::new(*group as u16)))?;
     }

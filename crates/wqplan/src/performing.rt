@@ -13,6 +13,7 @@ ghost use Rattle.wq_commands.specs.Answer.{Answers};
 ghost use Rattle.wq_run.specs.Running.{RunsTexts};
 ghost use Rattle.wqplan.specs.CommandLine.{HasFewHelpers, plans, spelled};
 ghost use Rattle.wqplan.specs.Cause.{EndsAlone, EndsReady, IsCaused, IsReady, IsUnready, ReadsInput};
+ghost use Rattle.wqplan.specs.Promised.{PromisesAsAsked};
 ghost use Rattle.wqplan.specs.Status.{end_or_common, explained_or_common, unheld};
 ghost use Rattle.wqplan.specs.Ended.{EndedBy, EndsAsAsked, EndsCheck, EndsCircles, EndsDeadlock, EndsDot, EndsExplain, EndsHang, EndsPlan, EndsReplay, EndsRun, Has, IsInputIf};
 
@@ -626,7 +627,7 @@ fn explain<W: Write>(
 }
 
 /// Carries out the command that is asked for.
-pub(crate) fn perform<'a, O: World<'a>, R: Threads + Wait + Sync, I: Read, W: Write, E: Write>(
+fn carry_out_asked<'a, O: World<'a>, R: Threads + Wait + Sync, I: Read, W: Write, E: Write>(
     world: &O,
     rt: &R,
     alloc: Global,
@@ -677,6 +678,36 @@ pub(crate) fn perform<'a, O: World<'a>, R: Threads + Wait + Sync, I: Read, W: Wr
     }
 }
 
+/// Carries out the command that is asked for, and keeps what is promised of its answer.
+pub(crate) fn perform<'a, O: World<'a>, R: Threads + Wait + Sync, I: Read, W: Write, E: Write>(
+    world: &O,
+    rt: &R,
+    alloc: Global,
+    request: Request<'a>,
+    input: &mut Metered<I>,
+    writer: &mut Metered<W>,
+    teller: &mut Metered<E>,
+) -> Result<End, CommandFault>
+    requires few_helpers { HasFewHelpers (spelled request) }
+    ensures ended { EndedBy W.contents writer.old writer.new (EndsAsAsked (Has (O.opens world.now) O.File.Read.remaining)
+        (IsInput (I.remaining input.old.device)) (spelled request.entry)) result }
+
+    // The answer is true. Of `plan`: for every declaration text that is answered, either the printed assignment lets no run of
+    // queueings, cancellations and steps of rescuers and helpers end stuck, and every assignment to fewer workqueues has a run
+    // without helpers, with each item queued once and flushing as declared, that ends stuck; or a printed circle of groups is given
+    // and every assignment has such a run. Of `check`: its yes is true. Of `circles`: exactly the flushes on circles, and those to no
+    // rescuer, are printed, and `safe` exactly where no run ends stuck. The other commands end as they promise.
+    ensures promised { IfOk result (λ end. (out : List ℕ)
+        × PromisesAsAsked (Has (O.opens world.now) O.File.Read.remaining) (IsInput (I.remaining input.old.device)) (spelled request.entry) end out
+        × WritesWhole W.contents writer.old writer.new out) }
+
+    ensures caused { IsCaused (O.seeds world.now) (O.opens world.now) (HasFailed input.old input.new) (spelled request.entry) result }
+    ensures input { ReadsInput I.remaining input.old input.new (spelled request.entry) }
+    ensures unsaid { OnErr result (teller.new ≡ teller.old) }
+{
+    carry_out_asked(world, rt, alloc, request, input, writer, teller)
+}
+
 /// The same, but the answer is written once everything else is said: on a terminal a diagnosis is above it.
 pub(crate) fn perform_above<
     'a,
@@ -697,6 +728,9 @@ pub(crate) fn perform_above<
     requires few_helpers { HasFewHelpers (spelled request) }
     ensures ended { EndedBy W.contents writer.old writer.new (EndsAsAsked (Has (O.opens world.now) O.File.Read.remaining)
         (IsInput (I.remaining input.old.device)) (spelled request.entry)) result }
+    ensures promised { IfOk result (λ end. (out : List ℕ)
+        × PromisesAsAsked (Has (O.opens world.now) O.File.Read.remaining) (IsInput (I.remaining input.old.device)) (spelled request.entry) end out
+        × WritesWhole W.contents writer.old writer.new out) }
     ensures caused { IsCaused (O.seeds world.now) (O.opens world.now) (HasFailed input.old input.new) (spelled request.entry) result }
     ensures input { ReadsInput I.remaining input.old input.new (spelled request.entry) }
 {

@@ -15,6 +15,7 @@ import sys
 sys.dont_write_bytecode = True
 sys.path.append(str(pathlib.Path(__file__).resolve().parents[2] / "lib"))
 import every  # noqa: E402  (beside this file)
+import drawings  # noqa: E402
 import hangs  # noqa: E402
 import prefixes  # noqa: E402
 import replays  # noqa: E402
@@ -48,6 +49,10 @@ def table_cases():
             yield from hang_cases([text, assignment], ends)
     for *texts, answer in hangs.LONG:
         yield Case("the longest hangs", ["hang", 0, 1], [text_of(text) for text in texts], text_of(answer), 1, first_line=True)
+    for *texts, answers in drawings.SEVERAL:
+        allowed = b"|".join(map(re.escape, answers))
+        words = ["dot", *range(len(texts))]
+        yield Case("drawings of which several are right", words, [text_of(text) for text in texts], rb"(?:%s)\Z" % allowed, 0, is_pattern=True)
     for text, answer in runs.RUNS + runs.OTHERS:
         for helpers in runs.HELPERS:
             yield case("plans that are run with helpers", "run", [text], answer, helpers)

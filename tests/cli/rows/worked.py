@@ -333,10 +333,11 @@ def in_bold(waits):
     return rf", {waits} in bold\lBold: the chain that needs so many workqueues.\l"
 
 
-def in_red(waits):
-    """The end of the title of a drawing with these red waits."""
-    return (rf", {waits} in red\lRed: while memory is short, a worker may wait for work\l"
-            r"that only it, or one that waits for it, can do.\l")
+def in_red(waits, bold=None):
+    """The end of the title of a drawing with these red waits, all of which are bold, or so many."""
+    in_bold, legend = (f", {bold} in bold", r"\lBold: enough to hang it, in the fewest steps.") if bold else ("", "")
+    return (rf", {waits} in red{in_bold}\lRed: while memory is short, a worker may wait for work\l"
+            rf"that only it, or one that waits for it, can do.{legend}\l")
 
 
 def box(number, *lines):
@@ -363,23 +364,24 @@ DOTS = [
     (ITEMS + " / ordered d b / flush c a / flush d a a",
      drawing("plan of 2 workqueues" + in_bold("1 wait"), *box(0, '    "a";'), *box(1, *ordered("b", "d"), '    "c";'),
              '  "c" -> "a";', '  "d" -> "a" [style=bold];', '  "d" -> "a";')),
-    (S, drawing("every assignment can hang" + in_red("1 wait"), *box(0, '    "a";'), '  "a" -> "a" [color=red, style=bold];')),
+    (S, drawing("every assignment can hang" + in_red("1 wait"), *box(0, '    "a";'), '  "a" -> "a" [color=red, penwidth=4];')),
     (R, drawing("plan of 3 workqueues" + in_bold("2 waits"), *R_BOXES, '  "a" -> "b" [style=bold];', '  "b" -> "c" [style=bold];')),
     (T, drawing("every assignment can hang" + in_red("2 waits"), *box(0, *ordered("a", "d")), *box(1, *ordered("b", "c")),
-                '  "a" -> "b" [color=red, style=bold];', '  "c" -> "d" [color=red, style=bold];')),
-    (D, drawing("every assignment can hang" + in_red("4 waits"), *box(0, '    "a";'), *box(1, '    "b";'), *box(2, '    "c";'),
-                *box(3, '    "d";'), '  "c" -> "d" [color=red, style=bold] [dir=back];', '  "a" -> "b" [color=red, style=bold];',
-                '  "c" -> "d" [color=red, style=bold];', '  "a" -> "b" [color=red, style=bold] [dir=back];', '  "b" -> "c";')),
+                '  "a" -> "b" [color=red, penwidth=4];', '  "c" -> "d" [color=red, penwidth=4];')),
+    (ITEMS + " / item e / ordered b e / flush d c / flush a e / flush c d / flush b a / flush b c",
+     drawing("every assignment can hang" + in_red("4 waits", 2), *box(0, '    "a";'), *box(1, *ordered("b", "e")), *box(2, '    "c";'),
+             *box(3, '    "d";'), '  "c" -> "d" [color=red, penwidth=4] [dir=back];', '  "a" -> "e" [color=red, style=bold];',
+             '  "c" -> "d" [color=red, penwidth=4];', '  "b" -> "a" [color=red, style=bold];', '  "b" -> "c";')),
     (R, "plan 3 / wq 0 c / wq 1 b / wq 2 a / chain 3 / arc a b / arc b c",
      drawing("safe", *R_BOXES, '  "a" -> "b";', '  "b" -> "c";')),
     (R, "wq 0 / wq 1 c a / wq 2 b",
      drawing("can hang" + in_red("2 waits"), *box(0), *box(1, '    "a";', '    "c";'), *box(2, '    "b";'),
-             '  "a" -> "b" [color=red, style=bold];', '  "b" -> "c" [color=red, style=bold];')),
+             '  "a" -> "b" [color=red, penwidth=4];', '  "b" -> "c" [color=red, penwidth=4];')),
     (W, drawing("plan of 3 workqueues" + in_bold("2 waits"), *box(0, '    "b";'), *box(1, '    "a";'), *box(2, '    "c";'),
                 '  "a" -> "b" [style=bold] [arrowhead=odiamond];', '  "c" -> "a" [style=bold];')),
     (W, "wq 0 a / wq 1 b c",
      drawing("can hang" + in_red("2 waits"), *box(0, '    "a";'), *box(1, '    "b";', '    "c";'),
-             '  "a" -> "b" [color=red, style=bold] [arrowhead=odiamond];', '  "c" -> "a" [color=red, style=bold];')),
+             '  "a" -> "b" [color=red, penwidth=4] [arrowhead=odiamond];', '  "c" -> "a" [color=red, penwidth=4];')),
     (W, "wq 0 a / wq 1 b / wq 2 c",
      drawing("safe", *box(0, '    "a";'), *box(1, '    "b";'), *box(2, '    "c";'),
              '  "a" -> "b" [arrowhead=odiamond];', '  "c" -> "a";')),

@@ -14,7 +14,7 @@ use Rattle.wq_dot.proofs.dotting.draw_both.Goals as goal
 pub returns-in-Ok-clause-answer : goal.returns-in-Ok-clause-answer
 returns-in-Ok-clause-answer g c =
     IfOk-weaker c.draw_commented-answer.result _ _
-    (λ a answers. MatchResult-ok (declaration c.args.text.now) _ (λ s. DrawsDeclared s (comments_of c.args.text.now) c.args.assigned.now a.end a.text.items) (λ r. PrintsRefusal r a.end a.text.items) c.in-Ok.ensures.declaration answers)
+    (λ a answers. (answers.0, MatchResult-ok (declaration c.args.text.now) _ (λ s. DrawsDeclared s (comments_of c.args.text.now) c.args.assigned.now answers.0 a.end a.text.items) (λ r. PrintsRefusal r a.end a.text.items) c.in-Ok.ensures.declaration answers.1))
     c.draw_commented-answer.ensures.answer
 
 pub returns-in-Ok-clause-why : goal.returns-in-Ok-clause-why

@@ -24,4 +24,4 @@ returns g c =
     let hanging : List ℕ = codes "every assignment can hang" in
     let made = c.new-workqueues.ensures ∙ ap₂ with_list c.in_ok-assignment.ensures.lanes c.new.ensures.items in
     IfOk-weaker c.draw_circles.result _ _
-    (λ text drawn. subst (λ (ws : Workqueues). DrawsCircles s (map (λ v. v.now) c.args.comments.now) ws [] hanging text.items) made drawn) c.draw_circles.ensures
+    (λ text drawn. (drawn.0, subst (λ (ws : Workqueues). DrawsCircles s (map (λ v. v.now) c.args.comments.now) ws [] hanging drawn.0 text.items) made drawn.1)) c.draw_circles.ensures

@@ -51,5 +51,5 @@ returns g c =
       drawn =
           drawn
           ∙ ap₂ (λ (t : List ℕ) (l : List FlushLook). drawing_text s.table s.partition (all_rescued a) [] t l (map (λ v. v.now) c.args.comments.now)) title looks
-          ∙ ap (λ (l : List WaitArc). drawing_of s (all_rescued a) [] (plan_title a.lanes) (declared_looks s Bold l) (map (λ v. v.now) c.args.comments.now)) c.requires.planned.longest;
+          ∙ ap (λ (l : List WaitArc). drawing_of s (all_rescued a) [] (λ (looks : List FlushLook). plan_title a.lanes (marked looks)) (declared_looks s Bold l) (map (λ v. v.now) c.args.comments.now)) c.requires.planned.longest;
     }) c.drawing_text.ensures

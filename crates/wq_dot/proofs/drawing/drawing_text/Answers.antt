@@ -1,4 +1,4 @@
-use Rattle.std.proofs.Common.{◌≡◌, ◌<◌, ◌++◌, ℕ, Bool, List, length, map, sym, ap, subst, ◌∙◌, arith}
+use Rattle.std.proofs.Common.{◌≡◌, ◌<◌, ◌++◌, ℕ, Bool, false, List, [], length, map, sym, ap, subst, ◌∙◌, arith}
 use Rattle.std.specs.Prelude.{codes, flat_map, slice_index_or}
 use Rattle.std.specs.List.{All, range_with_len}
 use Rattle.std.proofs.lemmas.List.{take_all}
@@ -7,6 +7,7 @@ use Rattle.wq_items.proofs.TableLemmas.{range_with_len-push}
 use Rattle.wq_buckets.specs.Places.{places_of, buckets_of}
 use Rattle.wq_graph.specs.declared.arc.WaitArc.{WaitArc}
 use Rattle.wq_dot.specs.declared.look.FlushLook.TheVariants.{Plain}
+use Rattle.wq_dot.specs.Labels.{is_shared}
 use Rattle.wq_dot.specs.Drawing.{arrow_line, box_lines, ended, flush_line, groups_on, head_lines, workqueue_box_lines}
 use Rattle.wq_dot.proofs.Arrows.{IsDrawable-at}
 use Rattle.wq_dot.proofs.Lines.{text_of, text_of-more, text_of-line, text_of-whole}
@@ -37,10 +38,14 @@ loop-number-preserved g c =
     let made = subst (λ n. c.in_ok-by_workqueue.by_workqueue ≡ buckets_of c.deref.result.now n) c.lanes-workqueues.ensures.lanes c.in_ok-by_workqueue.ensures.buckets in
     let own = groups_on-bucket a c.deref.result.now c.in_ok-by_workqueue.by_workqueue number c.places-own.result.now (c.deref.ensures.value ∙ c.in_ok-lanes.ensures) made (omega (arith, c.loop-number-test.true, c.lanes-workqueues.ensures.lanes)) c.places-own.ensures in
     let called = map (λ v. v.now) c.args.called.now in
+    let name = slice_index_or called number [] in
     let lines = workqueue_box_lines names group_of (record { assignment = a; bare = c.args.bare.now }) called in
     c.in_ok-put_workqueue.ensures
-    ∙ ap (λ (is : List ℕ). c.loop-number.out.items ++ text_of (box_lines names group_of called c.is_bare.result number is)) own
-    ∙ ap (λ (bare : Bool). c.loop-number.out.items ++ text_of (box_lines names group_of called bare number (groups_on a number))) c.is_bare.ensures
+    ∙ ap (λ (is : List ℕ). c.loop-number.out.items ++ text_of (box_lines names group_of c.name_at-name.result.now c.contains.result c.is_bare.result number is)) own
+    ∙ ap (λ (bare : Bool). c.loop-number.out.items ++ text_of (box_lines names group_of c.name_at-name.result.now c.contains.result bare number (groups_on a number))) c.is_bare.ensures
+    ∙ ap (λ (shared : Bool). c.loop-number.out.items ++ text_of (box_lines names group_of c.name_at-name.result.now shared (slice_index_or c.args.bare.now number false) number (groups_on a number)))
+    (c.contains.ensures ∙ c.in_ok-shared.ensures c.name_at-name.result.now)
+    ∙ ap (λ (n : List ℕ). c.loop-number.out.items ++ text_of (box_lines names group_of n (is_shared called n) (slice_index_or c.args.bare.now number false) number (groups_on a number))) c.name_at-name.ensures
     ∙ ap (λ (o : List ℕ). o ++ text_of (lines number)) c.loop-number.invariant
     ∙ text_of-more lines out (range_with_len 0 number) number
     ∙ ap (λ (qs : List ℕ). out ++ text_of (flat_map lines qs)) (sym (range_with_len-push number))

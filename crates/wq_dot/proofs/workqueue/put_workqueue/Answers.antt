@@ -1,4 +1,4 @@
-use Rattle.std.proofs.Common.{◌≡◌, ◌<◌, ◌++◌, ℕ, List, length, map, get_or, sym, ap, subst, ◌∙◌, arith}
+use Rattle.std.proofs.Common.{◌≡◌, ◌<◌, ◌++◌, ℕ, List, length, get_or, sym, ap, subst, ◌∙◌, arith}
 use Rattle.std.specs.Prelude.{codes, decimal, flat_map}
 use Rattle.std.specs.List.{All}
 use Rattle.std.proofs.lemmas.List.{get_or_default}
@@ -35,7 +35,7 @@ returns g c =
     let digits = decimal c.args.number in
     let lines : ℕ → List (List ℕ) = λ k. group_lines names (items_at group_of k) in
     let first : List ℕ = codes "  subgraph \"cluster wq " ++ digits ++ codes "\" {" in
-    let second : List ℕ = frame_line (map (λ v. v.now) c.args.called.now) c.args.bare c.args.number in
+    let second : List ℕ = frame_line c.args.name.now c.args.shared c.args.bare c.args.number in
     let h2 = put_more out (codes "  subgraph \"cluster wq") _ (spaced digits) _ _ c.in_ok-put.ensures.added c.in_ok-put_number.ensures.added (ap (λ (n : ℕ). spaced (decimal n)) c.from.ensures) in
     let h3 = put_end out (codes "  subgraph \"cluster wq" ++ spaced digits) (codes "\" {") _ _ h2 c.in_ok-put-2.ensures.added in
     let h4 : c.put_frame.new.out.items ≡ out ++ (ended first ++ ended second) = put_line out (ended first) (ended second) _ _ h3 c.in_ok-put_frame.ensures in

@@ -12,7 +12,7 @@ least_round-requires g c = record { numbers = c.requires; low = limit-low c.hop_
 
 pub returns-in-Some-clause-some : goal.returns-in-Some-clause-some
 returns-in-Some-clause-some g c =
-    let w = c.args.core.now.wiring in
+    let w = c.args.waits.now in
     let limit = c.limit.result in
     let hops = c.in-Some.hops.items in
     let is : IsLeastRound w limit hops = rw c.in-Some.is at c.in_ok-found.ensures.some in
@@ -20,7 +20,7 @@ returns-in-Some-clause-some g c =
 
 pub returns-in_ok-vec-in-Some-bare-2-clause-some : goal.returns-in_ok-vec-in-Some-bare-2-clause-some
 returns-in_ok-vec-in-Some-bare-2-clause-some g c =
-    let w = c.args.core.now.wiring in
+    let w = c.args.waits.now in
     let h : Hop = c.in-Some-bare.hop in
     let hop : IsHop w h = rw c.in-Some-bare.is at c.hop_to_bare-bare.ensures.hop in
     let bare : HasRescuer w (lane_of w h.flush.item) → ⊥ = rw c.in-Some-bare.is at c.hop_to_bare-bare.ensures.bare in
@@ -30,8 +30,8 @@ returns-in_ok-vec-in-Some-bare-2-clause-some g c =
 
 pub returns-in-None-clause-none : goal.returns-in-None-clause-none
 returns-in-None-clause-none g c =
-    let w = c.args.core.now.wiring in
-    let most : c.limit.result ≡ 16385 = rw c.in-None.is at c.limit.ensures in
+    let w = c.args.waits.now in
+    let most : c.limit.result ≡ 16388 = rw c.in-None.is at c.limit.ensures in
     let rescued : (h : Hop) → IsHop w h → HasRescuer w (lane_of w h.flush.item) = rw c.in-None.is at c.hop_to_bare-bare.ensures.none in
     let rounds : (others : List Hop) → IsRound w others → c.limit.result ≤ hops_cost others = rw c.in_default.is at c.in_ok-found.ensures.none in
-    IsSafe-no_round w c.limit.result c.items-items.ensures.machine.wiring (omega (arith, most, c.items-items.ensures.machine.few_lanes)) rescued rounds
+    IsSafe-no_round w c.limit.result c.items-items.ensures.wiring (omega (arith, most, c.items-items.ensures.few)) rescued rounds

@@ -1,0 +1,26 @@
+//! The names that several workqueues have.
+//!
+//! They are kept in order, so it takes n log n comparisons of names, in the number of workqueues, and memory in this number.
+
+ghost use Rattle.std.specs.Prelude.{map, IfOk};
+ghost use Rattle.wq_dot.specs.Shared.{HasShared};
+
+use std::alloc::{AllocError, Allocator};
+use std::collections::BTreeSet;
+
+/// The names that stand more than once among those of the workqueues.
+pub(crate) fn shared_names<'a, A: Allocator + Copy>(
+    alloc: A,
+    called: &[&'a [u8]],
+) -> Result<BTreeSet<&'a [u8], A>, AllocError>
+    ensures { IfOk result (HasShared (map (λ n. n.now) called.now)) }
+{
+    let mut seen = BTreeSet::new(alloc);
+    let mut shared = BTreeSet::new(alloc);
+    for name in called {
+        if !seen.insert(*name)? {
+            shared.insert(*name)?;
+        }
+    }
+    Ok(shared)
+}
