@@ -127,12 +127,12 @@ fn of_subject<A: Allocator + Copy>(
 }
 
 /// How these workqueues, whose text is that one, can hang, by components.
-fn of_assigned<A: Allocator + Copy>(
+fn of_assigned<'a, A: Allocator + Copy>(
     alloc: A,
-    declaration: Source<'_>,
-    assignment: Source<'_>,
-    declared: &Declaration<'_, A>,
-    workqueues: &Workqueues<A>,
+    declaration: Source<'a>,
+    assignment: Source<'a>,
+    declared: &'a Declaration<'a, A>,
+    workqueues: &'a Workqueues<A>,
 ) -> Result<Option<Vec<u8, A>>, AllocError>
     requires grouped { length declared.now.groups.group_of ≡ length declared.now.table.names }
     requires read { workqueues_of_text declared.now.table.names declared.now.groups assignment.text.now ≡ Ok workqueues.now }
@@ -154,11 +154,11 @@ fn of_assigned<A: Allocator + Copy>(
 }
 
 /// How the workqueues with this text can hang, by components; nothing where it is refused.
-fn of_declared<A: Allocator + Copy>(
+fn of_declared<'a, A: Allocator + Copy>(
     alloc: A,
-    declaration: Source<'_>,
-    assignment: Source<'_>,
-    declared: &Declaration<'_, A>,
+    declaration: Source<'a>,
+    assignment: Source<'a>,
+    declared: &'a Declaration<'a, A>,
 ) -> Result<Option<Vec<u8, A>>, AllocError>
     requires { length declared.now.groups.group_of ≡ length declared.now.table.names }
     ensures { IfOk result (λ said. GivesReasonsOf declaration.entry.file.now assignment.entry.text.now
@@ -207,10 +207,10 @@ pub(crate) fn of_both<A: Allocator + Copy>(
 }
 
 /// How these groups can hang, by components, where each has a workqueue of its own.
-fn of_groups<A: Allocator + Copy>(
+fn of_groups<'a, A: Allocator + Copy>(
     alloc: A,
-    declaration: Source<'_>,
-    declared: &Declaration<'_, A>,
+    declaration: Source<'a>,
+    declared: &'a Declaration<'a, A>,
 ) -> Result<Option<Vec<u8, A>>, AllocError>
     requires { length declared.now.groups.group_of ≡ length declared.now.table.names }
     ensures { IfOk result (λ said. GivesReasonsOfGroups declaration.entry.file.now
