@@ -81,7 +81,7 @@ IfSome-first w n None is enough = tt
 IfSome-first w n (Some h) is enough = record { to_bare = is.some; first = λ g hop bare. is.first g hop bare (omega (arith, enough, declared-item w g.item g.flush hop.declared)) }
 
 pub IfNone-first : (w : Wiring) (n : ℕ) (found : Option Hop) → IsFirstBelow w n found → items w ≤ n → IfNone found ((h : Hop) → IsHop w h → HasRescuer w (lane_of w h.flush.item))
-IfNone-first w n None is enough h hop = elim (cases_rescuer w (lane_of w h.flush.item)) [
+IfNone-first w n None is enough = λ h hop. elim (cases_rescuer w (lane_of w h.flush.item)) [
   | inl has ↦ has
   | inr bare ↦ absurd (is.first h hop bare (omega (arith, enough, declared-item w h.item h.flush hop.declared)))
 ]

@@ -15,7 +15,7 @@ returns-then-not-has_rescuer g c =
     record {
       some = tt;
       none = IsNoBetter-bare w c.args.first c.args.least (λ rescuer.
-          false≢true (sym c.if-not-has_rescuer.true ∙ c.has_rescuer.ensures.1 (subst (HasRescuer w) (sym c.lane_of-lane.ensures.lane) rescuer))
+          false≢true (sym c.if-not-has_rescuer.true ∙ c.has_rescuer.ensures.1 (subst (HasRescuer w) (sym c.lane_of.ensures.lane) rescuer))
           );
     }
 
