@@ -1,6 +1,6 @@
 -- Rounds on some lanes are those of the wiring in which all other lanes are bare.
 use Rattle.std.proofs.Common.{◌≡◌, ℕ, zero, suc, ◌+◌, ◌*◌, ◌<◌, ◌≤◌, ◌⊎◌, inl, inr, Bool, true, false, List, [], ◌∷◌, length, get_or, set, replicate, refl, sym, ap, subst, ◌∙◌, arith}
-use Rattle.std.specs.Prelude.{Contains, flat_map, slice_index, slice_index_or, ◌↔◌, IsTrue, not}
+use Rattle.std.specs.Prelude.{Contains, slice_index_or, ◌↔◌, IsTrue, not}
 use Rattle.std.specs.List.{All}
 use Rattle.std.proofs.lemmas.Bool.{cases_eq, cases_lt, not-false, false≢true}
 use Rattle.std.proofs.lemmas.List.{get_or-replicate, get_or-set_same, get_or-set_other, length-replicate, length-set}
@@ -10,8 +10,8 @@ use Rattle.wq_groups.specs.Declaration.{Declaration}
 use Rattle.wq_core.specs.Workqueues.{Workqueues, with_bare, wiring_of}
 use Rattle.wq_core.proofs.Wirings.{lane_of-within, IsWiring-with_bare}
 use Rattle.wq_hang.specs.declared.hop.Hop.{Hop}
-use Rattle.wq_hang.specs.Walk.{IsHop, IsPath, IsRound, IsRoundOn, IsLeastRoundOn, target_beside, walk_cost}
-use Rattle.wq_hang.specs.Search.{hop_cost, hops_cost, AreItemsOn, ArePassed, IsLeastRound, AreMarked, AreMarkedOf, AreMade}
+use Rattle.wq_hang.specs.Walk.{IsPath, IsRound, IsRoundOn, IsLeastRoundOn, target_beside}
+use Rattle.wq_hang.specs.Search.{hops_cost, AreItemsOn, ArePassed, IsLeastRound, AreMarked, AreMarkedOf, AreMade}
 use Rattle.wq_hang.proofs.Apart.{Apart, Apart-few}
 use Rattle.wq_hang.proofs.Declared.{declared-item, target_beside-most}
 use Rattle.wq_hang.proofs.StuckRounds.{walk_cost-hops}

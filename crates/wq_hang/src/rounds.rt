@@ -89,8 +89,8 @@ impl<A: Allocator + Copy> Rounds<A> {
         requires assigned { length workqueues.now.assignment.lane_of_group ≡ groups.now.groups }
         ensures { IfOk result (λ r. r ≡ wiring_of (declaration_of table.now groups.now) workqueues.now) }
     {
-        let core = Core::on_workqueues(alloc, table, groups, workqueues)?;
         let numbers = lane_numbers(alloc, table, groups, workqueues)?;
+        let core = Core::on_workqueues(alloc, table, groups, workqueues)?;
         let waits = Waits::new(&core, workqueues.bare());
         let on = items_on_lanes(alloc, &waits)?;
         let marks = marked_lanes(alloc, &waits, &numbers)?;

@@ -1,10 +1,9 @@
-use Rattle.std.proofs.Common.{◌≡◌, ◌<◌, ◌≤◌, inl, inr, List, ap, ◌∙◌, arith}
+use Rattle.std.proofs.Common.{◌≡◌, ◌≤◌, inr, List, ap, ◌∙◌, arith}
 use Rattle.std.specs.Prelude.{flat_map}
 use Rattle.wq_core.specs.Wiring.{HasRescuer, lane_of}
 use Rattle.wq_hang.specs.declared.hop.Hop.{Hop}
 use Rattle.wq_hang.specs.Walk.{IsHop, IsRound, IsFirstToBare, target_beside}
 use Rattle.wq_hang.specs.Search.{IsLeastRound, hops_cost}
-use Rattle.wq_hang.proofs.StuckRounds.{walk_cost-hops}
 use Rattle.wq_hang.proofs.LeastFound.{limit-enough, limit-low, IsLeastWalk-round, IsRoundOrFirst-round, IsLeastWalk-bare, IsSafe-no_round}
 use Rattle.wq_hang.proofs.hanging.least_walk.Goals as goal
 

@@ -1,4 +1,4 @@
-use Rattle.std.proofs.Common.{◌≡◌, ◌∙◌, length, List, ap}
+use Rattle.std.proofs.Common.{◌∙◌, length, List, ap}
 use Rattle.std.proofs.lemmas.List.FromFn.{length-map-range_with_len}
 use Rattle.wq_groups.specs.Declaration.{Declaration, declaration_of}
 use Rattle.wq_groups.specs.Assignment.{Assignment, item_lanes}

@@ -1,4 +1,4 @@
-use Rattle.std.proofs.Common.{◌≡◌, ◌<◌, ℕ, Bool, false, List, get_or, sym, ap, subst, ◌∙◌, arith}
+use Rattle.std.proofs.Common.{◌≡◌, ◌<◌, ℕ, false, get_or, sym, ap, ◌∙◌, arith}
 use Rattle.wq_core.specs.Wiring.{items, lane_of}
 use Rattle.wq_hang.proofs.LaneItems.{AreMarkedBelow-none, AreMarkedBelow-more, AreMarkedBelow-kept}
 use Rattle.wq_hang.proofs.on_lanes.marked_items.Goals as goal

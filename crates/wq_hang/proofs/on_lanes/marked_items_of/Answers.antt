@@ -1,6 +1,5 @@
-use Rattle.std.proofs.Common.{◌≡◌, ◌+◌, ◌++◌, ◌⊎◌, ℕ, [], false, List, take, get_or, sym, ap, subst, ◌∙◌}
-use Rattle.std.specs.Prelude.{Contains, slice_index_or}
-use Rattle.wq_hang.specs.Search.{AreMarkedOf}
+use Rattle.std.proofs.Common.{◌≡◌, ◌+◌, ◌++◌, ◌⊎◌, ℕ, List, take, get_or, sym, ap, ◌∙◌}
+use Rattle.std.specs.Prelude.{Contains}
 use Rattle.wq_hang.proofs.Taken.{contains_more, contains_all}
 use Rattle.wq_hang.proofs.LaneItems.{AreMarkedOf-none, AreMarkedOf-more, AreMarkedOf-kept}
 use Rattle.wq_hang.proofs.on_lanes.marked_items_of.Goals as goal

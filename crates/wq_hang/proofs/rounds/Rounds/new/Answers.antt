@@ -1,4 +1,4 @@
-use Rattle.std.proofs.Common.{◌≡◌, sym, ap, subst, ◌∙◌}
+use Rattle.std.proofs.Common.{◌≡◌, ap, subst, ◌∙◌}
 use Rattle.wq_groups.specs.Declaration.{declaration_of}
 use Rattle.wq_core.specs.Wiring.{Wiring}
 use Rattle.wq_core.specs.Held.{Machine}
