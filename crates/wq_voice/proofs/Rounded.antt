@@ -42,7 +42,7 @@ module _ (s : Declared) (ws : Workqueues) where
       rounds ++ others,
       AreRounds-append some more rounds others found rest,
       subst (λ (whats : List (List ℕ)). AddsSaid file whats old new) (sym (flat_map-append (told can_hang words) rounds others))
-      (AddsSaid-then file (flat_map (told can_hang words) rounds) (flat_map (told can_hang words) others) old middle new first then),
+          (AddsSaid-then file (flat_map (told can_hang words) rounds) (flat_map (told can_hang words) others) old middle new first then),
     )
 
     -- those of some components were added, and then that of the next

@@ -12,6 +12,8 @@ ghost use Rattle.wq_circles.specs.ComponentsText.{AreBetween};
 ghost use Rattle.wq_voice.specs.Components.{first_told, hop_of, is_of_whole, GivesOwnReasons, GivesReasons, GivesReasonsOf, GivesReasonsOfGroups, GivesReasonsOfTexts};
 ghost use Rattle.wq_voice.specs.Reasons.{AddsSaid};
 ghost use Rattle.wq_voice.specs.Waits.{words_of};
+ghost use Rattle.wq_voice.specs.declared.waits.Wording.TheVariants.{OnWorkqueues};
+ghost use Rattle.wq_names.specs.Names.{names_of};
 
 use crate::reason::CAN_HANG;
 use crate::rounds::put_rounds;
@@ -133,12 +135,13 @@ fn of_assigned<'a, A: Allocator + Copy>(
     assignment: Source<'a>,
     declared: &'a Declaration<'a, A>,
     workqueues: &'a Workqueues<A>,
-) -> Result<Option<Vec<u8, A>>, AllocError>
+) -> Result<Vec<u8, A>, AllocError>
     requires grouped { length declared.now.groups.group_of ≡ length declared.now.table.names }
     requires read { workqueues_of_text declared.now.table.names declared.now.groups assignment.text.now ≡ Ok workqueues.now }
     requires assigned { length workqueues.now.assignment.lane_of_group ≡ declared.now.groups.groups }
-    ensures { IfOk result (λ said. GivesReasonsOf declaration.entry.file.now assignment.entry.text.now
-        (record { table = declared.now.table; partition = declared.now.groups }) (option_map (λ text. text.items) said)) }
+    ensures { IfOk result (λ said. GivesReasons declaration.entry.file.now (λ h. words_of OnWorkqueues
+        (record { table = declared.now.table; partition = declared.now.groups }) workqueues.now (names_of assignment.entry.text.now) h)
+        (record { table = declared.now.table; partition = declared.now.groups }) workqueues.now said.items) }
 {
     let names = workqueue_names(alloc, assignment.text)?;
     let subject = Subject {
@@ -149,8 +152,7 @@ fn of_assigned<'a, A: Allocator + Copy>(
         workqueues,
         names: &names,
     };
-    let said = of_subject(alloc, &subject)?;
-    Ok(Some(said))
+    of_subject(alloc, &subject)
 }
 
 /// How the workqueues with this text can hang, by components; nothing where it is refused.
@@ -171,7 +173,7 @@ fn of_declared<'a, A: Allocator + Copy>(
         Ok(workqueues) => {
             let said = of_assigned(alloc, declaration, assignment, declared, &workqueues);
             drop(workqueues);
-            said
+            Ok(Some(said?))
         }
         Err(CertError::OutOfMemory) => Err(AllocError),
         Err(
@@ -211,10 +213,10 @@ fn of_groups<'a, A: Allocator + Copy>(
     alloc: A,
     declaration: Source<'a>,
     declared: &'a Declaration<'a, A>,
-) -> Result<Option<Vec<u8, A>>, AllocError>
+) -> Result<Vec<u8, A>, AllocError>
     requires { length declared.now.groups.group_of ≡ length declared.now.table.names }
     ensures { IfOk result (λ said. GivesReasonsOfGroups declaration.entry.file.now
-        (record { table = declared.now.table; partition = declared.now.groups }) (option_map (λ text. text.items) said)) }
+        (record { table = declared.now.table; partition = declared.now.groups }) said.items) }
 {
     let assignment = own_lanes(alloc, &declared.groups)?;
     let workqueues = Workqueues::new(assignment, Vec::new(alloc));
@@ -229,8 +231,7 @@ fn of_groups<'a, A: Allocator + Copy>(
         workqueues: &workqueues,
         names: &[],
     };
-    let said = of_subject(alloc, &subject)?;
-    Ok(Some(said))
+    of_subject(alloc, &subject)
 }
 
 /// How the groups of this text can hang, by components; nothing where it is refused.
@@ -247,7 +248,7 @@ pub(crate) fn of_own<A: Allocator + Copy>(
         Ok(declared) => {
             let said = of_groups(alloc, declaration, &declared);
             drop(declared);
-            said
+            Ok(Some(said?))
         }
         Err(Stop::Refused { .. }) => Ok(None),
         Err(Stop::OutOfMemory) => Err(AllocError),
