@@ -1,5 +1,5 @@
 -- The first flush that leads to a bare lane, item by item and flush by flush.
-use Rattle.std.proofs.Common.{◌≡◌, ℕ, ◌+◌, ◌<◌, ◌≤◌, ◌⊎◌, inl, inr, List, [], Option, Some, None, refl, sym, ap, subst, arith}
+use Rattle.std.proofs.Common.{◌≡◌, ℕ, ◌+◌, ◌<◌, ◌≤◌, ◌⊎◌, inl, inr, List, [], Option, Some, None, sym, ap, subst, arith}
 use Rattle.std.specs.Prelude.{Contains, IfSome, IfNone}
 use Rattle.std.proofs.lemmas.Bool.{cases_eq}
 use Rattle.wq_items.specs.declared.target.Target.{Target}
@@ -81,7 +81,7 @@ IfSome-first w n None is enough = tt
 IfSome-first w n (Some h) is enough = record { to_bare = is.some; first = λ g hop bare. is.first g hop bare (omega (arith, enough, declared-item w g.item g.flush hop.declared)) }
 
 pub IfNone-first : (w : Wiring) (n : ℕ) (found : Option Hop) → IsFirstBelow w n found → items w ≤ n → IfNone found ((h : Hop) → IsHop w h → HasRescuer w (lane_of w h.flush.item))
-IfNone-first w n None is enough h hop = elim (cases_rescuer w (lane_of w h.flush.item)) [
+IfNone-first w n None is enough = λ h hop. elim (cases_rescuer w (lane_of w h.flush.item)) [
   | inl has ↦ has
   | inr bare ↦ absurd (is.first h hop bare (omega (arith, enough, declared-item w h.item h.flush hop.declared)))
 ]

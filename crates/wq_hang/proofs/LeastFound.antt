@@ -1,13 +1,12 @@
 -- The best round so far, and the least walk in the end.
-use Rattle.std.proofs.Common.{◌≡◌, ℕ, ◌+◌, ◌*◌, ◌<◌, ◌≤◌, ◌⊎◌, inl, inr, Bool, true, false, List, [], ◌∷◌, length, Option, Some, None, refl, sym, ap, subst, ◌∙◌, arith}
+use Rattle.std.proofs.Common.{◌≡◌, ℕ, ◌*◌, ◌<◌, ◌≤◌, ◌⊎◌, inl, inr, Bool, true, false, List, [], ◌∷◌, length, Option, Some, None, refl, sym, ap, subst, ◌∙◌, arith}
 use Rattle.std.specs.Prelude.{flat_map, slice_index, slice_index_or, option_map, MatchOption, IfSome, IfNone, Contains}
 use Rattle.std.specs.List.{All}
 use Rattle.std.proofs.lemmas.List.Elements.{All-nil, All-cons}
-use Rattle.std.proofs.lemmas.Bool.{cases_eq, false≢true}
 use Rattle.wq_core.specs.Wiring.{Wiring, IsWiring, HasRescuer, items, lane_of}
 use Rattle.wq_core.specs.Deadlock.{IsSafe}
 use Rattle.wq_hang.specs.declared.hop.Hop.{Hop}
-use Rattle.wq_hang.specs.Walk.{IsHop, IsPath, IsRound, IsWalk, IsLeastWalk, target_beside, walk_cost}
+use Rattle.wq_hang.specs.Walk.{IsHop, IsPath, IsRound, IsWalk, IsLeastWalk, IsRoundOrFirst, target_beside, walk_cost}
 use Rattle.wq_hang.specs.Search.{hops_cost, Reach, IsSearched, IsBetter, IsNoBetter, IsLeastRound, ArePassed, AreMarked}
 use Rattle.wq_hang.proofs.Declared.{declared-item}
 use Rattle.wq_hang.proofs.Rotations.{round_turned}
@@ -143,6 +142,13 @@ IsLeastWalk-round w limit hops beside bare is same = record { walk = inl (is.rou
     least : (others : List Hop) (more : List ℕ) → IsWalk w others more → walk_cost hops beside ≤ walk_cost others more
     least others more (inl (round, with_targets)) = omega (arith, cost, is.least others round, ap (walk_cost others) with_targets, walk_cost-hops others)
     least others more (inr (h, hop, leads, one, other)) = omega (arith, cost, is.less, bare h hop leads, bare_cost w others more h one other)
+
+-- it costs less than 4 where a flush leads to a bare lane
+pub IsRoundOrFirst-round : (w : Wiring) (limit : ℕ) (hops : List Hop) (beside : List ℕ) → ((h : Hop) → IsHop w h → (¬ HasRescuer w (lane_of w h.flush.item)) → limit ≤ 4) → IsLeastRound w limit hops → beside ≡ flat_map target_beside hops → IsRoundOrFirst w hops beside
+IsRoundOrFirst-round w limit hops beside bare is same = inl (is.round, λ g hop leads. omega (arith, is.less, bare g hop leads, cost))
+  where
+    cost : walk_cost hops beside ≡ hops_cost hops
+    cost = ap (walk_cost hops) same ∙ walk_cost-hops hops
 
 pub IsLeastWalk-bare : (w : Wiring) (h : Hop) (hops : List Hop) (beside : List ℕ) → IsHop w h → (¬ HasRescuer w (lane_of w h.flush.item)) → ((others : List Hop) → IsRound w others → 4 ≤ hops_cost others)
     → hops ≡ h ∷ [] → beside ≡ h.flush.item ∷ [] → IsLeastWalk w hops beside

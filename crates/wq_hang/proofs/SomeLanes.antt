@@ -1,16 +1,17 @@
 -- Rounds on some lanes are those of the wiring in which all other lanes are bare.
 use Rattle.std.proofs.Common.{◌≡◌, ℕ, zero, suc, ◌+◌, ◌*◌, ◌<◌, ◌≤◌, ◌⊎◌, inl, inr, Bool, true, false, List, [], ◌∷◌, length, get_or, set, replicate, refl, sym, ap, subst, ◌∙◌, arith}
-use Rattle.std.specs.Prelude.{Contains, flat_map, slice_index, slice_index_or, ◌↔◌, IsTrue, not}
+use Rattle.std.specs.Prelude.{Contains, slice_index_or, ◌↔◌, IsTrue, not}
 use Rattle.std.specs.List.{All}
-use Rattle.std.proofs.lemmas.Bool.{cases_eq, cases_lt, false≢true}
+use Rattle.std.proofs.lemmas.Bool.{cases_eq, cases_lt, not-false, false≢true}
 use Rattle.std.proofs.lemmas.List.{get_or-replicate, get_or-set_same, get_or-set_other, length-replicate, length-set}
-use Rattle.std.proofs.lemmas.List.Elements.{All-nil, All-cons}
+use Rattle.std.proofs.lemmas.List.Elements.{All-nil, All-cons, Contains-get_or}
 use Rattle.wq_core.specs.Wiring.{Wiring, IsWiring, HasRescuer, items, lane_of, declared_by}
-use Rattle.wq_core.specs.Workqueues.{with_bare}
+use Rattle.wq_groups.specs.Declaration.{Declaration}
+use Rattle.wq_core.specs.Workqueues.{Workqueues, with_bare, wiring_of}
 use Rattle.wq_core.proofs.Wirings.{lane_of-within, IsWiring-with_bare}
 use Rattle.wq_hang.specs.declared.hop.Hop.{Hop}
-use Rattle.wq_hang.specs.Walk.{IsHop, IsPath, IsRound, IsRoundOn, IsLeastRoundOn, target_beside, walk_cost}
-use Rattle.wq_hang.specs.Search.{hop_cost, hops_cost, AreItemsOn, ArePassed, IsLeastRound, AreMarked, AreMarkedOf, AreMade}
+use Rattle.wq_hang.specs.Walk.{IsPath, IsRound, IsRoundOn, IsLeastRoundOn, target_beside}
+use Rattle.wq_hang.specs.Search.{hops_cost, AreItemsOn, ArePassed, IsLeastRound, AreMarked, AreMarkedOf, AreMade}
 use Rattle.wq_hang.proofs.Apart.{Apart, Apart-few}
 use Rattle.wq_hang.proofs.Declared.{declared-item, target_beside-most}
 use Rattle.wq_hang.proofs.StuckRounds.{walk_cost-hops}
@@ -20,7 +21,7 @@ use Rattle.wq_hang.proofs.LeastFound.{ArePassed-marked}
 -- ---- where each round costs more than 4 for each lane, there is none
 
 -- the first hops
-front : ℕ → List Hop → List Hop
+abbrev front : ℕ → List Hop → List Hop
 front zero hops = []
 front (suc n) [] = []
 front (suc n) (h ∷ hops) = h ∷ front n hops
@@ -125,6 +126,13 @@ module _ (w : Wiring) (wiring : IsWiring w) (lanes : List ℕ) (bare : List Bool
           let own = (are (lane_of w h.item) (own_lane h hop.declared)).0 hop.rescuer in
           made.marked h (record { declared = hop.declared; rescuer = own.0 }) low
 
+-- the items that are passed exist
+pub passed_items : (w : Wiring) (on : List (List ℕ)) (marks : List Bool) (lanes passed : List ℕ) → AreMade w on marks → AreMarkedOf on marks lanes passed → All (λ i. i < items w) passed
+passed_items w on marks lanes passed made of k d lt =
+    let i : ℕ = get_or passed k d in
+    let at = of.within i (Contains-get_or passed k d lt) in
+    (made.items_on.within at.0 i at.1).0
+
 -- ---- which lanes are left out
 
 -- of all lanes these stay, if they have a rescuer
@@ -141,40 +149,33 @@ AreKept-none w bare is = record {
 }
 
 -- one lane more
-pub AreKept-more : (w : Wiring) (before after : List ℕ) (bare new : List Bool) (q : ℕ) (out : Bool) → AreKept w before bare → q < w.lanes
-    → (IsTrue (not out) ↔ HasRescuer w q) → ((p : ℕ) → Contains after p → Contains before p ⊎ (q ≡ p)) → ((p : ℕ) → Contains before p ⊎ (q ≡ p) → Contains after p) → new ≡ set bare q out → AreKept w after new
-AreKept-more w before after bare new q out are below rescuer fewer more is = subst (AreKept w after) (sym is) (record { len = length-set bare q out ∙ are.len; kept = kept; all = all })
+pub AreKept-more : (w : Wiring) (before after : List ℕ) (bare new : List Bool) (q : ℕ) (has : Bool) → AreKept w before bare → q < w.lanes
+    → (IsTrue has ↔ HasRescuer w q) → ((p : ℕ) → Contains after p → Contains before p ⊎ (q ≡ p)) → ((p : ℕ) → Contains before p ⊎ (q ≡ p) → Contains after p) → new ≡ set bare q (not has) → AreKept w after new
+AreKept-more w before after bare new q has are below rescuer fewer more is = subst (AreKept w after) (sym is) (record { len = length-set bare q (not has) ∙ are.len; kept = kept; all = all })
   where
     within : q < length bare
     within = omega (arith, below, are.len)
 
-    at : (p : ℕ) → (p ≡ q) → get_or (set bare q out) p false ≡ out
-    at p same = subst (λ (k : ℕ). get_or (set bare q out) k false ≡ out) (sym same) (get_or-set_same bare q out false within)
+    at : (p : ℕ) → (p ≡ q) → get_or (set bare q (not has)) p false ≡ not has
+    at p same = subst (λ (k : ℕ). get_or (set bare q (not has)) k false ≡ not has) (sym same) (get_or-set_same bare q (not has) false within)
 
-    kept : (p : ℕ) → p < w.lanes → get_or (set bare q out) p false ≡ false → HasRescuer w p × Contains after p
+    kept : (p : ℕ) → p < w.lanes → get_or (set bare q (not has)) p false ≡ false → HasRescuer w p × Contains after p
     kept p lt stays = elim (cases_eq p q) [
       | inl same ↦ (
-          let has : HasRescuer w q = rescuer.0 (not_out (sym (at p same) ∙ stays)) in
-          (subst (HasRescuer w) (sym same) has, more p (inr (sym same)))
+          let here : HasRescuer w q = rescuer.0 (not-false has (sym (at p same) ∙ stays)) in
+          (subst (HasRescuer w) (sym same) here, more p (inr (sym same)))
           )
       | inr other ↦ (
-          let was = are.kept p lt (sym (get_or-set_other bare q p out false other) ∙ stays) in
+          let was = are.kept p lt (sym (get_or-set_other bare q p (not has) false other) ∙ stays) in
           (was.0, more p (inl was.1))
           )
     ]
-      where
-        not_out : out ≡ false → IsTrue (not out)
-        not_out no = subst (λ (b : Bool). IsTrue (not b)) (sym no) refl
 
-    all : (p : ℕ) → p < w.lanes → HasRescuer w p → Contains after p → get_or (set bare q out) p false ≡ false
-    all p lt has there = elim (cases_eq p q) [
-      | inl same ↦ at p same ∙ out_of out (rescuer.1 (subst (HasRescuer w) same has))
-      | inr other ↦ get_or-set_other bare q p out false other ∙ elim (fewer p there) [ inl old ↦ are.all p lt has old | inr same ↦ absurd (other (sym same)) ]
+    all : (p : ℕ) → p < w.lanes → HasRescuer w p → Contains after p → get_or (set bare q (not has)) p false ≡ false
+    all p lt here there = elim (cases_eq p q) [
+      | inl same ↦ at p same ∙ ap not (rescuer.1 (subst (HasRescuer w) same here))
+      | inr other ↦ get_or-set_other bare q p (not has) false other ∙ elim (fewer p there) [ inl old ↦ are.all p lt here old | inr same ↦ absurd (other (sym same)) ]
     ]
-      where
-        out_of : (b : Bool) → IsTrue (not b) → b ≡ false
-        out_of true no = absurd (false≢true no)
-        out_of false yes = refl
 
 -- one number more, which is no lane's
 pub AreKept-past : (w : Wiring) (before after : List ℕ) (bare : List Bool) (q : ℕ) → AreKept w before bare → w.lanes ≤ q → ((p : ℕ) → Contains after p → Contains before p ⊎ (q ≡ p)) → ((p : ℕ) → Contains before p ⊎ (q ≡ p) → Contains after p)
@@ -187,3 +188,7 @@ AreKept-past w before after bare q are past fewer more = record {
 
 pub AreKept-rescued : (w : Wiring) (lanes : List ℕ) (bare : List Bool) → AreKept w lanes bare → (q : ℕ) → q < w.lanes → (HasRescuer (with_bare w bare) q ↔ (HasRescuer w q × Contains lanes q))
 AreKept-rescued w lanes bare are q below = (λ stays. are.kept q below stays, λ on. are.all q below on.0 on.1)
+
+-- the same bare lanes again
+pub same_bare : (w : Wiring) (d : Declaration) (ws : Workqueues) (bare : List Bool) → w ≡ wiring_of d ws → bare ≡ ws.bare → with_bare w bare ≡ w
+same_bare w d ws bare same is = ap (λ (v : Wiring). with_bare v bare) same ∙ ap (with_bare (wiring_of d ws)) is ∙ sym same

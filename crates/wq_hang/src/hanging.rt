@@ -102,8 +102,9 @@ pub fn hang<A: Allocator + Copy>(
     if workqueues.assignment().lanes() == 0 {
         return Ok(Answer::Safe);
     }
-    let core = Core::on_workqueues(alloc, table, groups, workqueues)?;
+    // The wait graph, which these are made of, is let go before the machine takes memory.
     let numbers = lane_numbers(alloc, table, groups, workqueues)?;
+    let core = Core::on_workqueues(alloc, table, groups, workqueues)?;
     let waits = Waits::new(&core, workqueues.bare());
     match least_walk(alloc, &waits, &numbers)? {
         Some((hops, beside)) => {

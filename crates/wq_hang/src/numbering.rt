@@ -238,5 +238,7 @@ pub(crate) fn lane_numbers<A: Allocator + Copy>(
     ensures { IfOk result (λ numbers. length numbers.items ≡ workqueues.now.assignment.lanes) }
 {
     let graph = WaitGraph::of_lanes(alloc, table, groups, workqueues.assignment())?;
-    vertex_numbers(alloc, &graph.without(alloc, workqueues.bare())?)
+    let kept = graph.without(alloc, workqueues.bare())?;
+    let numbers = vertex_numbers(alloc, &kept)?;
+    Ok(numbers)
 }

@@ -2,7 +2,7 @@
 //!
 //! It takes time and memory in the number of items and lanes.
 
-ghost use Rattle.std.specs.Prelude.{◌≡◌, ◌<◌, length, map, slice_index_or, true, false, ℕ, IfOk, OnOk, Contains};
+ghost use Rattle.std.specs.Prelude.{◌≡◌, ◌<◌, ◌≤◌, length, map, slice_index_or, true, false, ℕ, IfOk, OnOk, IsTrue, Contains};
 ghost use Rattle.std.specs.List.{All, range_with_len};
 ghost use Rattle.wq_core.specs.Wiring.{items, lane_of};
 ghost use Rattle.wq_hang.specs.Search.{AreItemsOn, AreMarkedOf};
@@ -33,6 +33,7 @@ pub(crate) fn items_on_lanes<A: Allocator + Copy>(
 ) -> Result<Buckets<A>, AllocError>
     ensures { IfOk result (AreItemsOn waits.now) }
 {
+    let _items = waits.items();
     let lanes = lanes_of_items(alloc, waits)?;
     Buckets::new(alloc, &lanes, waits.lanes() as u16)
 }
@@ -49,13 +50,24 @@ pub(crate) fn marked_items<A: Allocator + Copy>(
         slice_index_or marks.now (lane_of waits.now i) false ≡ true → Contains list.items i) }
 {
     let mut list = Vec::new(alloc);
-    for i in 0..waits.items() as u16 {
-        let lane = waits.lane_of(ItemId::new(i));
-        if marks[usize::from(lane.get())] {
-            list.push(u32::from(i))?;
+    for i in 0..waits.items() as u32 {
+        let at = usize::from(waits.lane_of(ItemId::new(i as u16)).get());
+        if marks[at] {
+            list.push(i)?;
         }
     }
     Ok(list)
+}
+
+/// Whether a lane is marked. A number that is no lane's isn't.
+fn is_marked(marks: &[bool], lane: u32) -> bool
+    ensures value { result ≡ slice_index_or marks.now lane false }
+    ensures within { IsTrue result → lane < length marks.now }
+{
+    match marks.get(lane as usize) {
+        Some(is_marked) => *is_marked,
+        None => false,
+    }
 }
 
 /// The items on those of these lanes that are marked.
@@ -65,12 +77,13 @@ pub(crate) fn marked_items_of<A: Allocator + Copy>(
     lanes: &[u32],
     list: &mut Vec<u32, A>,
 ) -> Result<(), AllocError>
-    requires { length marks.now ≡ length on.now }
+    requires one_each { length marks.now ≡ length on.now }
+    requires few { length marks.now ≤ 4096 }
     ensures { OnOk result (AreMarkedOf on.now marks.now lanes.now list.new.items) }
 {
     list.clear();
     for lane in lanes {
-        if marks.get(*lane as usize) == Some(&true) {
+        if is_marked(marks, *lane) {
             list.extend_from_slice(on.places(*lane as u16))?;
         }
     }

@@ -3,7 +3,7 @@
 //! What doesn't depend on the lanes is made once, and the memory of one search serves all. So each answer takes the
 //! time of a search for each item of its lanes, and memory for its own hops alone.
 
-ghost use Rattle.std.specs.Prelude.{◌≡◌, ◌<◌, ℕ, List, length, slice_index_or, false, Contains, ◌↔◌, IfOk, OnOk, IfSome, IfNone};
+ghost use Rattle.std.specs.Prelude.{◌≡◌, ◌<◌, ℕ, List, length, replicate, slice_index_or, true, false, Contains, ◌↔◌, IfOk, OnOk, IfSome, IfNone};
 ghost use Rattle.wq_groups.specs.Declaration.{declaration_of};
 ghost use Rattle.wq_core.specs.Wiring.{HasRescuer};
 ghost use Rattle.wq_core.specs.Workqueues.{wiring_of, with_bare};
@@ -46,6 +46,15 @@ impl<A: Allocator> Model for Rounds<A> {
     ghost invariant = { λ r. AreMade r.core.wiring r.on r.marks.items };
 }
 
+/// Leaves out all of this many lanes.
+fn leave_all_out<A: Allocator>(bare: &mut Vec<bool, A>, lanes: usize) -> Result<(), AllocError>
+    ensures { OnOk result (bare.new.items ≡ replicate lanes true) }
+{
+    bare.resize(lanes, true)?;
+    bare.fill(true);
+    Ok(())
+}
+
 /// Leaves out all lanes but these: for each lane whether it is bare or isn't one of them.
 fn leave_others_out<A: Allocator>(
     core: &Core<A>,
@@ -55,11 +64,11 @@ fn leave_others_out<A: Allocator>(
     ensures { OnOk result ((q : ℕ) → q < core.now.wiring.lanes →
         (HasRescuer (with_bare core.now.wiring bare.new.items) q ↔ (HasRescuer core.now.wiring q × Contains lanes.now q))) }
 {
-    bare.resize(core.lanes(), true)?;
-    bare.fill(true);
+    let count = core.lanes();
+    leave_all_out(bare, count)?;
     for q in lanes {
         let at = *q as usize;
-        if at < core.lanes() {
+        if at < count {
             bare[at] = !core.has_rescuer(LaneId::new(at as u16));
         }
     }
@@ -80,8 +89,8 @@ impl<A: Allocator + Copy> Rounds<A> {
         requires assigned { length workqueues.now.assignment.lane_of_group ≡ groups.now.groups }
         ensures { IfOk result (λ r. r ≡ wiring_of (declaration_of table.now groups.now) workqueues.now) }
     {
-        let core = Core::on_workqueues(alloc, table, groups, workqueues)?;
         let numbers = lane_numbers(alloc, table, groups, workqueues)?;
+        let core = Core::on_workqueues(alloc, table, groups, workqueues)?;
         let waits = Waits::new(&core, workqueues.bare());
         let on = items_on_lanes(alloc, &waits)?;
         let marks = marked_lanes(alloc, &waits, &numbers)?;
@@ -104,6 +113,7 @@ impl<A: Allocator + Copy> Rounds<A> {
         ensures none { IfOk result (λ found. IfNone found ((hops : List Hop) → ¬ IsRoundOn self.old lanes.now hops)) }
         ensures wiring { self.new ≡ self.old }
     {
+        let _lanes = self.core.lanes();
         leave_others_out(&self.core, lanes, &mut self.bare)?;
         marked_items_of(&self.on, &self.marks, lanes, &mut self.passed)?;
         let waits = Waits::new(&self.core, self.bare.as_slice());

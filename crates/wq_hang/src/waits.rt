@@ -41,6 +41,7 @@ impl<'a, A: Allocator> Waits<'a, A> {
         ensures items { result ≡ items self.now }
         ensures wiring { IsWiring self.now }
         ensures few { result ≤ 4096 }
+        ensures few_lanes { self.now.lanes ≤ 4096 }
     {
         self.core.items()
     }

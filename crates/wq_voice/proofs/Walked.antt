@@ -2,6 +2,7 @@
 use Rattle.std.proofs.Common.{◌≡◌, ℕ, ◌<◌, ◌⊎◌, inl, inr, List, [], ◌∷◌, length, sym, subst}
 use Rattle.std.specs.List.{All}
 use Rattle.std.proofs.lemmas.List.Elements.{All-cons, All-nil}
+use Rattle.wq_groups.specs.Assignment.{IsAssignment}
 use Rattle.wq_groups.specs.Declaration.{Declaration, IsDeclaration}
 use Rattle.wq_core.specs.declared.step.Step.{Step}
 use Rattle.wq_core.specs.Wiring.{Wiring, IsWiring, wiring, items}
@@ -9,7 +10,7 @@ use Rattle.wq_core.specs.Workqueues.{Workqueues, wiring_of}
 use Rattle.wq_core.proofs.Wirings.{IsWiring-wiring, IsWiring-with_bare}
 use Rattle.wq_hang.specs.declared.hop.Hop.{Hop}
 use Rattle.wq_hang.specs.Answer.{IsHangOf}
-use Rattle.wq_hang.specs.Walk.{IsPath, IsWalk}
+use Rattle.wq_hang.specs.Walk.{IsPath, IsRound, IsWalk}
 use Rattle.wq_hang.proofs.Declared.{declared-item, declared-target}
 
 abbrev AreItems : ℕ → List Hop → Type 0
@@ -37,12 +38,20 @@ module _ (w : Wiring) (sound : IsWiring w) where
   walk_targets hops beside (inr (h, hop, bare, one, queued)) =
       subst (AreTargets (items w)) (sym one) (All-cons (λ (h : Hop). h.flush.item < items w) h [] (declared-target w h.item h.flush sound hop.declared) (All-nil (λ (h : Hop). h.flush.item < items w)))
 
-module _ (d : Declaration) (ws : Workqueues) (declaration : IsDeclaration d) (hops : List Hop) (steps : List Step) (hang : IsHangOf d ws hops steps) where
-  sound : IsWiring (wiring_of d ws)
-  sound = IsWiring-with_bare (wiring d ws.assignment) ws.bare (IsWiring-wiring d ws.assignment declaration hang.assignment)
+module _ (d : Declaration) (ws : Workqueues) (declaration : IsDeclaration d) where
+  IsWiring-of : IsAssignment d.groups ws.assignment → IsWiring (wiring_of d ws)
+  IsWiring-of assignment = IsWiring-with_bare (wiring d ws.assignment) ws.bare (IsWiring-wiring d ws.assignment declaration assignment)
 
-  pub hang_items : AreItems (length d.group_of) hops
-  hang_items = subst (λ n. AreItems n hops) declaration.one_list_each (walk_items (wiring_of d ws) sound hops hang.beside hang.walk)
+  pub round_items : IsAssignment d.groups ws.assignment → (hops : List Hop) → IsRound (wiring_of d ws) hops → AreItems (length d.group_of) hops
+  round_items assignment hops round =
+      subst (λ n. AreItems n hops) declaration.one_list_each (path_items (wiring_of d ws) (IsWiring-of assignment) round.first round.first hops round.path)
 
-  pub hang_targets : AreTargets (length d.group_of) hops
-  hang_targets = subst (λ n. AreTargets n hops) declaration.one_list_each (walk_targets (wiring_of d ws) sound hops hang.beside hang.walk)
+  pub round_targets : IsAssignment d.groups ws.assignment → (hops : List Hop) → IsRound (wiring_of d ws) hops → AreTargets (length d.group_of) hops
+  round_targets assignment hops round =
+      subst (λ n. AreTargets n hops) declaration.one_list_each (path_targets (wiring_of d ws) (IsWiring-of assignment) round.first round.first hops round.path)
+
+  pub hang_items : (hops : List Hop) (steps : List Step) → IsHangOf d ws hops steps → AreItems (length d.group_of) hops
+  hang_items hops steps hang = subst (λ n. AreItems n hops) declaration.one_list_each (walk_items (wiring_of d ws) (IsWiring-of hang.assignment) hops hang.beside hang.walk)
+
+  pub hang_targets : (hops : List Hop) (steps : List Step) → IsHangOf d ws hops steps → AreTargets (length d.group_of) hops
+  hang_targets hops steps hang = subst (λ n. AreTargets n hops) declaration.one_list_each (walk_targets (wiring_of d ws) (IsWiring-of hang.assignment) hops hang.beside hang.walk)

@@ -76,10 +76,10 @@ GivesReasonsOf first lanes s said =
     (λ _. said ≡ None)
 
 -- the same where each group has a workqueue of its own, in words of groups
-abbrev pub GivesReasonsOfGroups : List ℕ → Declared → Option (List ℕ) → Type 0
-GivesReasonsOfGroups first s said =
+abbrev pub GivesReasonsOfGroups : List ℕ → Declared → List ℕ → Type 0
+GivesReasonsOfGroups first s text =
     let ws = all_rescued (own_lanes s.partition.groups) in
-    (text : List ℕ) × (said ≡ Some text) × GivesReasons first (λ h. words_of OfGroups s ws [] h) s ws text
+    GivesReasons first (λ h. words_of OfGroups s ws [] h) s ws text
 
 -- the same of the texts of a declaration and of workqueues; nothing if one is refused
 abbrev pub GivesReasonsOfTexts : List ℕ → List ℕ → List ℕ → Option (List ℕ) → Type 0
@@ -87,4 +87,4 @@ GivesReasonsOfTexts first text lanes said = MatchResult (declaration text) (λ s
 
 -- the same of the text of a declaration alone; nothing if it is refused
 abbrev pub GivesOwnReasons : List ℕ → List ℕ → Option (List ℕ) → Type 0
-GivesOwnReasons first text said = MatchResult (declaration text) (λ s. GivesReasonsOfGroups first s said) (λ _. said ≡ None)
+GivesOwnReasons first text said = MatchResult (declaration text) (λ s. (own : List ℕ) × (said ≡ Some own) × GivesReasonsOfGroups first s own) (λ _. said ≡ None)

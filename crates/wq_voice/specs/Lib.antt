@@ -2,4 +2,5 @@ pub mod Words
 pub mod Note
 pub mod Waits
 pub mod Reasons
+pub mod Components
 pub mod Voice

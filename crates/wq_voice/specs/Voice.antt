@@ -14,6 +14,7 @@ use Rattle.wq_diagnosis.specs.Diagnosis.{IsDiagnosis}
 use Rattle.wq_diagnosis.specs.Unlawful.{IsUnlawfulText}
 use Rattle.wq_diagnosis.specs.Refused.{Diagnoses, NotesNoItem, SaysIfDeclared, SaysNo}
 use Rattle.wq_voice.specs.Note.{NotesBare, SaysIfBoth}
+use Rattle.wq_voice.specs.Components.{GivesOwnReasons, GivesReasonsOfTexts}
 use Rattle.wq_voice.specs.Reasons.{GivesReasonOf, GivesReasonOfCircle, GivesReasonOfTexts}
 use Rattle.wq_voice.specs.declared.voice.Beside.{Beside}
 use Rattle.wq_voice.specs.declared.voice.Beside.TheVariants as beside
@@ -59,14 +60,16 @@ NotesSafe first second texts said =
     SaysIfBoth texts.first texts.second (λ s ws. NotesBare first second texts.first texts.second s ws said) (NotesNoItem first texts.first said)
 
 -- what is said beside an answer that needs no reason: beside a circle how its groups can hang; beside `safe` which items are on
--- workqueues without a rescuer; beside a run, and beside `deadlock` and `stuck`, how the workqueues can hang; or else a note on a
--- declaration without an item, or nothing
+-- workqueues without a rescuer; beside a run, and beside `deadlock` and `stuck`, how the workqueues can hang; beside components how
+-- those of each can; or else a note on a declaration without an item, or nothing
 abbrev pub SaysMore : Beside → List ℕ → List ℕ → Given → End → Option (List ℕ) → Type 0
 SaysMore beside.Circle first second texts Bad said = GivesReasonOfCircle first texts.first said
 SaysMore beside.Verdict first second texts Good said = NotesSafe first second texts said
 SaysMore beside.Verdict first second texts Bad said = GivesReasonOfTexts first texts.first texts.second said
 SaysMore beside.RunEnd first second texts Bad said = GivesReasonOfTexts first texts.first texts.second said
 SaysMore beside.Components first second texts Good said = NotesSafe first second texts said
+SaysMore beside.Components first second texts Bad said = GivesReasonsOfTexts first texts.first texts.second said
+SaysMore beside.OwnComponents first second texts Bad said = GivesOwnReasons first texts.first said
 SaysMore beside first second texts end said = NotesNoItem first texts.first said
 
 -- what is said beside an answer with this end, for this reason, if there is one

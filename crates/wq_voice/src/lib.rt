@@ -9,10 +9,12 @@
 
 mod bare_lines;
 mod block;
+mod components;
 mod groups;
 mod lacking;
 mod note;
 mod reason;
+mod rounds;
 mod safe;
 mod subject;
 mod voice;

@@ -7,8 +7,10 @@ ghost use Rattle.std.specs.Prelude.{◌≡◌, IfOk, Ok, length, map, option_map
 ghost use Rattle.wq_groups.specs.Declaration.{declaration_of};
 ghost use Rattle.wq_hang.specs.Answer.{IsAnswer};
 ghost use Rattle.wq_cert.specs.Texts.{workqueues_of_text};
-ghost use Rattle.wq_voice.specs.Reasons.{GivesReason, GivesReasonOf, GivesReasonOfCircle, GivesReasonOfGroups, GivesReasonOfTexts};
+ghost use Rattle.wq_names.specs.Names.{names_of};
+ghost use Rattle.wq_voice.specs.Reasons.{can_hang, GivesReason, GivesReasonOf, GivesReasonOfCircle, GivesReasonOfGroups, GivesReasonOfTexts};
 ghost use Rattle.wq_voice.specs.Waits.{words_of};
+ghost use Rattle.wq_voice.specs.declared.waits.Wording.TheVariants.{OnWorkqueues};
 
 use crate::subject::{Subject, put_walk};
 use crate::waits::Wording;
@@ -76,18 +78,19 @@ fn of_subject<A: Allocator + Copy>(
 }
 
 /// How these workqueues, whose text is that one, hang soonest; nothing where they can't.
-fn of_assigned<A: Allocator + Copy>(
+fn of_assigned<'a, A: Allocator + Copy>(
     alloc: A,
-    declaration: Source<'_>,
-    assignment: Source<'_>,
-    declared: &Declaration<'_, A>,
-    workqueues: &Workqueues<A>,
+    declaration: Source<'a>,
+    assignment: Source<'a>,
+    declared: &'a Declaration<'a, A>,
+    workqueues: &'a Workqueues<A>,
 ) -> Result<Option<Vec<u8, A>>, AllocError>
     requires grouped { length declared.now.groups.group_of ≡ length declared.now.table.names }
     requires read { workqueues_of_text declared.now.table.names declared.now.groups assignment.text.now ≡ Ok workqueues.now }
     requires assigned { length workqueues.now.assignment.lane_of_group ≡ declared.now.groups.groups }
-    ensures { IfOk result (λ said. GivesReasonOf declaration.entry.file.now assignment.entry.text.now
-        (record { table = declared.now.table; partition = declared.now.groups }) (option_map (λ text. text.items) said)) }
+    ensures { IfOk result (λ said. GivesReason declaration.entry.file.now can_hang (λ h. words_of OnWorkqueues
+        (record { table = declared.now.table; partition = declared.now.groups }) workqueues.now (names_of assignment.entry.text.now) h)
+        (declaration_of declared.now.table declared.now.groups) workqueues.now (option_map (λ text. text.items) said)) }
 {
     let names = workqueue_names(alloc, assignment.text)?;
     let subject = Subject {
@@ -102,11 +105,11 @@ fn of_assigned<A: Allocator + Copy>(
 }
 
 /// How the workqueues with this text hang soonest; nothing where they can't, or where it is refused.
-pub(crate) fn of_declared<A: Allocator + Copy>(
+pub(crate) fn of_declared<'a, A: Allocator + Copy>(
     alloc: A,
-    declaration: Source<'_>,
-    assignment: Source<'_>,
-    declared: &Declaration<'_, A>,
+    declaration: Source<'a>,
+    assignment: Source<'a>,
+    declared: &'a Declaration<'a, A>,
 ) -> Result<Option<Vec<u8, A>>, AllocError>
     requires { length declared.now.groups.group_of ≡ length declared.now.table.names }
     ensures { IfOk result (λ said. GivesReasonOf declaration.entry.file.now assignment.entry.text.now
@@ -155,10 +158,10 @@ pub(crate) fn of_run<A: Allocator + Copy>(
 }
 
 /// How these groups hang soonest, where each has a workqueue of its own; nothing where they can't.
-fn of_groups<A: Allocator + Copy>(
+fn of_groups<'a, A: Allocator + Copy>(
     alloc: A,
-    declaration: Source<'_>,
-    declared: &Declaration<'_, A>,
+    declaration: Source<'a>,
+    declared: &'a Declaration<'a, A>,
 ) -> Result<Option<Vec<u8, A>>, AllocError>
     requires { length declared.now.groups.group_of ≡ length declared.now.table.names }
     ensures { IfOk result (λ said. GivesReasonOfGroups declaration.entry.file.now

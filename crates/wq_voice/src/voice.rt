@@ -8,6 +8,7 @@ ghost use Rattle.wq_commands.specs.declared.why.Why.TheVariants.{Refused};
 ghost use Rattle.wq_diagnosis.specs.Diagnosis.{IsDiagnosis};
 ghost use Rattle.wq_voice.specs.Voice.{Says, SaysMore, SaysWhy};
 
+use crate::components::{of_both, of_own};
 use crate::lacking::of_answered_no;
 use crate::reason::{of_circle, of_run};
 use crate::safe::of_safe;
@@ -30,9 +31,10 @@ pub enum Beside {
     Verdict,
     /// How a run ends, of `replay`: beside `deadlock` and `stuck`, how the workqueues can hang.
     RunEnd,
-    /// The components of an assignment, of `circles`: beside `safe`, which items are on workqueues without a rescuer.
+    /// The components of an assignment, of `circles`: beside `safe`, which items are on workqueues without a rescuer; beside components,
+    /// how the workqueues of each can hang, and by which flush to no rescuer.
     Components,
-    /// The components of groups, of `circles` too.
+    /// The components of groups, of `circles` too: how those of each can hang.
     OwnComponents,
 }
 
@@ -181,6 +183,8 @@ fn of_more<A: Allocator + Copy>(
         (Beside::Verdict | Beside::RunEnd, End::Bad) => {
             of_run(alloc, voice.seed, declaration, assignment)
         }
+        (Beside::Components, End::Bad) => of_both(alloc, voice.seed, declaration, assignment),
+        (Beside::OwnComponents, End::Bad) => of_own(alloc, voice.seed, declaration),
         _ => of_no_item(alloc, voice.seed, declaration),
     }
 }

@@ -1,4 +1,4 @@
-use Rattle.std.proofs.Common.{◌<◌, ℕ, false, ap, ◌∙◌, sym, subst, arith, get_or}
+use Rattle.std.proofs.Common.{◌<◌, ℕ, ◌∙◌, sym, subst, arith}
 use Rattle.std.specs.Prelude.{slice_index}
 use Rattle.std.proofs.lemmas.Bool.{false≢true}
 use Rattle.wq_core.specs.Wiring.{HasRescuer}
@@ -15,7 +15,7 @@ returns-then-not-has_rescuer g c =
     record {
       some = tt;
       none = IsNoBetter-bare w c.args.first c.args.least (λ rescuer.
-          false≢true (sym c.if-not-has_rescuer.true ∙ c.has_rescuer.ensures.1 (subst (HasRescuer w) (sym c.lane_of-lane.ensures.lane) rescuer))
+          false≢true (sym c.if-not-has_rescuer.true ∙ c.has_rescuer.ensures.1 (subst (HasRescuer w) (sym c.lane_of.ensures.lane) rescuer))
           );
     }
 

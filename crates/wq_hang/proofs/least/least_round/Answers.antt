@@ -17,16 +17,16 @@ loop-i-preserved g c =
     let i : ℕ = get_or passed n 0 in
     let least : ℕ = c.loop-i.least in
     let more : (j : ℕ) → Contains (take (n + 1) passed) j → Contains (take n passed) j ⊎ (i ≡ j) = λ j there. contains_more passed n 0 j c.loop-i-test.true there in
-    elim c.match-branch-4.branch [
+    elim c.match-branch-2.branch [
       | in-Some w ↦ (
           let better : IsBetter v c.new-first.result least w.in-Some.cost w.in-Some.hops.items = rw w.in-Some.is at c.in_ok-cost.ensures.some in
           let here : IsBetter v i least w.in-Some.cost w.in-Some.hops.items = subst (λ (k : ℕ). IsBetter v k least w.in-Some.cost w.in-Some.hops.items) c.new-first.ensures better in
-          IsBest-some c.loop-i.found c.match-branch-4.found w.in-Some.hops (λ x. x.items) v c.args.limit (take n passed) (take (n + 1) passed) i least w.in-Some.cost c.match-branch-4.least c.loop-i.invariant more here w.least-is w.found-is
+          IsBest-some c.loop-i.found c.match-branch-2.found w.in-Some.hops (λ x. x.items) v c.args.limit (take n passed) (take (n + 1) passed) i least w.in-Some.cost c.match-branch-2.least c.loop-i.invariant more here w.least-is w.found-is
           )
       | in_default w ↦ (
           let none : IsNoBetter v c.new-first.result least = rw w.in_default.is at c.in_ok-cost.ensures.none in
           let here : IsNoBetter v i least = subst (λ (k : ℕ). IsNoBetter v k least) c.new-first.ensures none in
-          IsBest-kept c.loop-i.found c.match-branch-4.found (λ x. x.items) v c.args.limit (take n passed) (take (n + 1) passed) i least c.match-branch-4.least c.loop-i.invariant more here w.least-is w.found-is
+          IsBest-kept c.loop-i.found c.match-branch-2.found (λ x. x.items) v c.args.limit (take n passed) (take (n + 1) passed) i least c.match-branch-2.least c.loop-i.invariant more here w.least-is w.found-is
           )
     ]
 

@@ -10,19 +10,19 @@ pub new-requires-clause-keys : goal.new-requires-clause-keys
 new-requires-clause-keys g c =
     let w = c.args.waits.now in
     let same = c.deref.ensures.value ∙ c.in_ok-lanes.ensures in
-    let within : All (λ q. q < w.lanes) c.deref.result.now = subst (λ (l : List ℕ). All (λ q. q < w.lanes) l) (sym same) (item_lanes-within w c.lanes.ensures.wiring) in
+    let within : All (λ q. q < w.lanes) c.deref.result.now = subst (λ (l : List ℕ). All (λ q. q < w.lanes) l) (sym same) (item_lanes-within w c.items-items.ensures.wiring) in
     subst (λ (n : ℕ). All (λ q. q < n) c.deref.result.now) (sym c.lanes.ensures.lanes) within
 
 pub new-requires-clause-few : goal.new-requires-clause-few
 new-requires-clause-few g c =
     let w = c.args.waits.now in
     let same = c.deref.ensures.value ∙ c.in_ok-lanes.ensures in
-    omega (arith, ap (λ (l : List ℕ). length l) same, length-item_lanes w, c.lanes.ensures.few)
+    omega (arith, ap (λ (l : List ℕ). length l) same, length-item_lanes w, c.items-items.ensures.few, c.items-items.ensures.items)
 
 pub returns : goal.returns
 returns g c =
     let w = c.args.waits.now in
     let same = c.deref.ensures.value ∙ c.in_ok-lanes.ensures in
     let are : AreItemsOn w (buckets_of c.deref.result.now c.lanes.result) =
-    subst (λ (n : ℕ). AreItemsOn w (buckets_of c.deref.result.now n)) (sym c.lanes.ensures.lanes) (subst (λ (l : List ℕ). AreItemsOn w (buckets_of l w.lanes)) (sym same) (AreItemsOn-buckets w c.lanes.ensures.wiring)) in
+    subst (λ (n : ℕ). AreItemsOn w (buckets_of c.deref.result.now n)) (sym c.lanes.ensures.lanes) (subst (λ (l : List ℕ). AreItemsOn w (buckets_of l w.lanes)) (sym same) (AreItemsOn-buckets w c.items-items.ensures.wiring)) in
     IfOk-is (AreItemsOn w) (buckets_of c.deref.result.now c.lanes.result) c.new.result c.new.ensures.buckets are

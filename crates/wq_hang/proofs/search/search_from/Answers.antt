@@ -7,14 +7,14 @@ pub loop-item-init : goal.loop-item-init
 loop-item-init g c =
     let w = c.args.waits.now in
     let limit = c.args.limit in
-    let new : IsNew w limit c.in_ok-search.search = record {
-      costs = c.in_ok-search.ensures.costs ∙ ap (λ (n : ℕ). replicate n limit) c.items.ensures.items;
-      lane_costs = c.in_ok-search.ensures.lane_costs ∙ ap (λ (n : ℕ). replicate n limit) c.lanes.ensures.lanes;
-      by_each = c.in_ok-search.ensures.by ∙ c.items.ensures.items;
-      near = c.in_ok-search.ensures.near;
-      far = c.in_ok-search.ensures.far;
+    let new : IsNew w limit c.begin.new.self = record {
+      costs = c.in_ok-begin.ensures.costs ∙ ap (λ (n : ℕ). replicate n limit) c.items.ensures.items;
+      lane_costs = c.in_ok-begin.ensures.lane_costs ∙ ap (λ (n : ℕ). replicate n limit) c.lanes.ensures.lanes;
+      by_each = c.in_ok-begin.ensures.by ∙ c.items.ensures.items;
+      near = c.in_ok-begin.ensures.near;
+      far = c.in_ok-begin.ensures.far;
     } in
-    IsGoing-first w c.args.first limit c.items.ensures.wiring c.args.on.now c.requires.on c.in_ok-search.search c.expand.new.self new c.requires.rescuer c.in_ok-expand.ensures
+    IsGoing-first w c.args.first limit c.items.ensures.wiring c.args.on.now c.requires.on c.begin.new.self c.expand.new.self new c.requires.rescuer c.in_ok-expand.ensures
 
 pub cost-cost-requires : goal.cost-cost-requires
 cost-cost-requires g c =
