@@ -34,7 +34,8 @@ REFUSED = {
     ("check", "a plan below comments, refused at its last line"),
 }
 # Commands and names of all cases: where the lengths of queues, the targets of an item, waiting workqueues or names that
-# were chosen for their hash once made a run take seconds, and where a text has millions of lines that hold no word.
+# were chosen for their hash once made a run take seconds, where names of workqueues that are shared were found in the square of their
+# number, and where a text has millions of lines that hold no word.
 CASES = {
     ("plan", "2,046 wait for the last of 2,048"),
     ("plan", "3,094 wait for the last of a group of 1,000"),
@@ -56,6 +57,8 @@ CASES = {
     ("deadlock", "only the last of 16,384 flushes leads to no rescuer, 2,048 workqueues without a rescuer"),
     ("replay", "16,384 flushes of workqueues lead to no rescuer, one workqueue without a rescuer"),
     ("circles", "16,384 flushes lead to no rescuer, 2,048 workqueues without a rescuer"),
+    ("dot", "16,384 flushes lead to no rescuer, 2,048 named workqueues without a rescuer"),
+    ("dot", "16,384 flushes lead to no rescuer, names that differ at the end"),
 } | REFUSED
 
 

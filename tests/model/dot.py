@@ -97,6 +97,12 @@ def title_of_workqueues(hanging, red, bold, to_none, has_bare):
     return b"".join([hanging if red else b"safe", *parts, rb"\l" if parts else b""])
 
 
+def shortest_run(declared, shown):
+    """What `hang` prints for these workqueues, however the assignment spells them: the items come in the order of their declaration."""
+    in_order = {name: shown.workqueue_of[name] for name in declared.items}
+    return hang.shortest_run(declared, certificate.Assignment(in_order, shown.count, shown.bare))
+
+
 def waits_of(run):
     """The waits of a run that is printed by `hang`: the word of each, its item and its target."""
     items = [name for word, _, name in run if word == b"start"]
@@ -152,7 +158,7 @@ def drawn(declared, assignment, declaration_text, bold=None):
         planned, chain = certificate.read_assignment(printed, declared), followed(declared, printed)
         return Drawn(planned, title_of_plan(planned, len(chain)), {place: "bold" for place in chain})
     if bold is None:
-        bold = places_of(declared, waits_of(hang.shortest_run(declared, shown) or []))
+        bold = places_of(declared, waits_of(shortest_run(declared, shown) or []))
     return drawn_workqueues(declared, shown, b"every assignment can hang" if assignment is None else b"can hang", arcs, bold)
 
 
@@ -246,7 +252,7 @@ def is_right(texts, wanted, found):
         return False
     declared, assignment = read_texts(texts[0], texts[1] if len(texts) == 2 else None)
     shown = assignment or own_workqueues(declared)
-    run = hang.shortest_run(declared, shown)
+    run = shortest_run(declared, shown)
     arrows = found[0].split(b"\n")[-2 - len(declared.flushes):-2]
     bold = [place for place, line in enumerate(arrows) if BOLD_RED.match(line)]
     if run is None or steps_of(declared, shown, bold) != len(run):

@@ -10,4 +10,6 @@ pub mod Placed
 pub mod Taking
 pub mod CommentCounts
 pub mod WithinLimits
+pub mod SharedNames
 mod OneDrawing
+mod BoldRed

@@ -83,4 +83,4 @@ with_marks-is n look looks arcs plain =
 pub with_bold_red-is : (n : ℕ) (looks : List FlushLook) (arcs : List WaitArc) (hops : List Hop) → looks ≡ looks_of n Red arcs → with_bold_red looks hops ≡ red_looks_of n hops arcs
 with_bold_red-is n looks arcs hops red =
     marks-is (λ (h : Hop). h.flush.place) BoldRed n (look_at Red arcs) looks hops (ap length red ∙ length-map-range_with_len (look_at Red arcs) 0 n)
-    (λ p within. ap (λ (l : List FlushLook). get_or l p Plain) red ∙ get_or-map-range_with_len (look_at Red arcs) 0 n p Plain within)
+    (λ p within. ap (λ (l : List FlushLook). get_or l p Plain) red ∙ get_or-map-range_with_len (look_at Red arcs) 0 n p p Plain within (omega arith))

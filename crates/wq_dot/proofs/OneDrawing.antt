@@ -25,7 +25,7 @@ use Rattle.wq_dot.specs.declared.look.FlushLook.{FlushLook}
 use Rattle.wq_dot.specs.declared.look.FlushLook.TheVariants.{Bold}
 use Rattle.wq_hang.specs.declared.hop.Hop.{Hop}
 use Rattle.wq_dot.specs.Flushes.{bold_red, marked}
-use Rattle.wq_dot.specs.Dotting.{circles_title, declared_looks, drawing_of, hanging_arcs, hanging_looks, plan_title, Draws, DrawsBy, DrawsAssigned, DrawsCircles, DrawsDeclared, DrawsGroups, DrawsOwn, DrawsPlan, DrawsTextsBy, OwnDraws, OwnDrawsBy}
+use Rattle.wq_dot.specs.Dotting.{circles_title, declared_looks, drawing_of, hanging_arcs, hanging_looks, plan_title, DrawsBy, DrawsAssigned, DrawsCircles, DrawsDeclared, DrawsGroups, DrawsOwn, DrawsPlan, DrawsTextsBy, OwnDrawsBy}
 use Rattle.wq_dot.specs.Tooltips.{comments_of}
 use Rattle.wq_names.specs.Names.{names_of}
 

@@ -18,9 +18,11 @@ ghost use Rattle.wq_commands.specs.Declaration.{Declared, declaration};
 ghost use Rattle.wq_dot.specs.declared.look.FlushLook.{FlushLook};
 ghost use Rattle.wq_dot.specs.Drawing.{drawing_lines, is_whole_at};
 ghost use Rattle.wq_dot.specs.Tooltips.{comments_of};
-ghost use Rattle.wq_dot.specs.Laws.{is_arrow, is_line_of};
+ghost use Rattle.wq_dot.specs.Laws.{IsRed, is_arrow, is_line_of};
 ghost use Rattle.wq_hang.specs.declared.hop.Hop.{Hop};
-ghost use Rattle.wq_dot.specs.Dotting.{Draws, DrawsBy, DrawsTextsBy, OwnDraws, OwnDrawsBy};
+ghost use Rattle.wq_groups.specs.Declaration.{Declaration, IsDeclaration};
+ghost use Rattle.wq_circles.specs.Components.{AreComponents};
+ghost use Rattle.wq_dot.specs.Dotting.{AreShortest, Draws, DrawsBy, DrawsTextsBy, OwnDraws, OwnDrawsBy};
 
 /// A declaration and an assignment, or a declaration alone, have at most one end, and at most one text that is printed for the waits
 /// of a shortest run that ends stuck: where there are several such runs, the text says which one is meant, and nothing else is left
@@ -65,4 +67,12 @@ pub fn each_flush_has_a_comment()
 pub fn an_arrow_has_the_head_of_its_kind()
     ensures { (t : Table) (p : Partition) (i : ℕ) (target : Target) → IsTable t → Contains (targets_of t.waits i) target →
         is_whole_at t.waits (arc_of p.group_of i target) ≡ target.whole }
+{}
+
+/// What is bold red is red: each flush in which a shortest run waits that ends stuck is in a component, or leads from a workqueue that
+/// has a rescuer to one that has none.
+pub fn what_is_bold_red_is_red()
+    ensures { (d : Declaration) (ws : Workqueues) (components : List (List WaitArc)) (hops : List Hop) → IsDeclaration d →
+        IsAssignment d.groups ws.assignment → AreComponents d ws components → AreShortest d ws hops →
+        All (λ (h : Hop). IsRed d ws components (arc_of d.group_of h.item h.flush)) hops }
 {}

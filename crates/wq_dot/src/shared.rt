@@ -18,7 +18,8 @@ pub(crate) fn shared_names<'a, A: Allocator + Copy>(
     let mut seen = BTreeSet::new(alloc);
     let mut shared = BTreeSet::new(alloc);
     for name in called {
-        if !seen.insert(*name)? {
+        let is_new = seen.insert(*name)?;
+        if !is_new {
             shared.insert(*name)?;
         }
     }

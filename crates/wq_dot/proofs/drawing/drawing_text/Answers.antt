@@ -44,7 +44,7 @@ loop-number-preserved g c =
     ∙ ap (λ (is : List ℕ). c.loop-number.out.items ++ text_of (box_lines names group_of c.name_at-name.result.now c.contains.result c.is_bare.result number is)) own
     ∙ ap (λ (bare : Bool). c.loop-number.out.items ++ text_of (box_lines names group_of c.name_at-name.result.now c.contains.result bare number (groups_on a number))) c.is_bare.ensures
     ∙ ap (λ (shared : Bool). c.loop-number.out.items ++ text_of (box_lines names group_of c.name_at-name.result.now shared (slice_index_or c.args.bare.now number false) number (groups_on a number)))
-    (c.contains.ensures ∙ c.in_ok-shared.ensures c.name_at-name.result.now)
+    (c.contains.ensures ∙ c.in_ok-shared.ensures c.name_at-name.result)
     ∙ ap (λ (n : List ℕ). c.loop-number.out.items ++ text_of (box_lines names group_of n (is_shared called n) (slice_index_or c.args.bare.now number false) number (groups_on a number))) c.name_at-name.ensures
     ∙ ap (λ (o : List ℕ). o ++ text_of (lines number)) c.loop-number.invariant
     ∙ text_of-more lines out (range_with_len 0 number) number

@@ -20,4 +20,4 @@ returns g c =
     let bold = c.args.bold in
     let h2 = put_line out (codes ",") (spaced (decimal bold)) _ _ c.in_ok-put.ensures.added c.in_ok-put_number.ensures.added in
     on_ok_weaker c.put-2.result
-    (λ e. put_line out (codes "," ++ spaced (decimal bold)) (codes " in bold") _ _ h2 e ∙ ap (λ (l : List ℕ). out ++ l) (said c.args.red bold (λ all. omega (arith, all, c.if-red-eqbold.false)))) c.put-2.ensures.added
+    (λ e. put_line out (codes "," ++ spaced (decimal bold)) (codes " in bold") _ _ h2 e ∙ ap (λ (l : List ℕ). out ++ l) (said c.args.red bold (λ all. omega (arith, all, c.if-red-bold.false)))) c.put-2.ensures.added
