@@ -62,7 +62,7 @@ fn hop_of<A: Allocator + Copy>(declared: &Declaration<'_, A>, arc: &WaitArc) -> 
 fn put_first<A: Allocator + Copy>(
     alloc: A,
     out: &mut Vec<u8, A>,
-    subject: &Subject<'_, A>,
+    subject: &Subject<'_, '_, '_, '_, A>,
     waits: &[WaitArc],
 ) -> Result<(), AllocError>
     requires between { AreBetween (length subject.now.declared.now.groups.group_of) waits.now }
@@ -85,7 +85,7 @@ fn put_first<A: Allocator + Copy>(
 /// What is said of these components, and of these flushes to no rescuer.
 fn of_components<A: Allocator + Copy>(
     alloc: A,
-    subject: &Subject<'_, A>,
+    subject: &Subject<'_, '_, '_, '_, A>,
     components: &[Vec<WaitArc, A>],
     waits: &[WaitArc],
 ) -> Result<Vec<u8, A>, AllocError>
@@ -113,7 +113,7 @@ fn of_components<A: Allocator + Copy>(
 /// How these workqueues can hang, by components.
 fn of_subject<A: Allocator + Copy>(
     alloc: A,
-    subject: &Subject<'_, A>,
+    subject: &Subject<'_, '_, '_, '_, A>,
 ) -> Result<Vec<u8, A>, AllocError>
     requires grouped { length subject.now.declared.now.groups.group_of ≡ length subject.now.declared.now.table.names }
     requires assigned { length subject.now.workqueues.now.assignment.lane_of_group ≡ subject.now.declared.now.groups.groups }
@@ -133,8 +133,8 @@ fn of_assigned<'a, A: Allocator + Copy>(
     alloc: A,
     declaration: Source<'a>,
     assignment: Source<'a>,
-    declared: &'a Declaration<'a, A>,
-    workqueues: &'a Workqueues<A>,
+    declared: &Declaration<'a, A>,
+    workqueues: &Workqueues<A>,
 ) -> Result<Vec<u8, A>, AllocError>
     requires grouped { length declared.now.groups.group_of ≡ length declared.now.table.names }
     requires read { workqueues_of_text declared.now.table.names declared.now.groups assignment.text.now ≡ Ok workqueues.now }
@@ -160,7 +160,7 @@ fn of_declared<'a, A: Allocator + Copy>(
     alloc: A,
     declaration: Source<'a>,
     assignment: Source<'a>,
-    declared: &'a Declaration<'a, A>,
+    declared: &Declaration<'a, A>,
 ) -> Result<Option<Vec<u8, A>>, AllocError>
     requires { length declared.now.groups.group_of ≡ length declared.now.table.names }
     ensures { IfOk result (λ said. GivesReasonsOf declaration.entry.file.now assignment.entry.text.now
@@ -188,11 +188,11 @@ fn of_declared<'a, A: Allocator + Copy>(
 /// How the workqueues of these texts can hang, by components; nothing where a text is refused.
 ///
 /// The only error is out of memory (20). The names are hashed with `seed`. Nothing that is said depends on it.
-pub(crate) fn of_both<A: Allocator + Copy>(
+pub(crate) fn of_both<'a, A: Allocator + Copy>(
     alloc: A,
     seed: u64,
-    declaration: Source<'_>,
-    assignment: Source<'_>,
+    declaration: Source<'a>,
+    assignment: Source<'a>,
 ) -> Result<Option<Vec<u8, A>>, AllocError>
     ensures { IfOk result (λ said. GivesReasonsOfTexts declaration.entry.file.now declaration.entry.text.now assignment.entry.text.now
         (option_map (λ text. text.items) said)) }
@@ -212,7 +212,7 @@ pub(crate) fn of_both<A: Allocator + Copy>(
 fn of_groups<'a, A: Allocator + Copy>(
     alloc: A,
     declaration: Source<'a>,
-    declared: &'a Declaration<'a, A>,
+    declared: &Declaration<'a, A>,
 ) -> Result<Vec<u8, A>, AllocError>
     requires { length declared.now.groups.group_of ≡ length declared.now.table.names }
     ensures { IfOk result (λ said. GivesReasonsOfGroups declaration.entry.file.now
@@ -237,10 +237,10 @@ fn of_groups<'a, A: Allocator + Copy>(
 /// How the groups of this text can hang, by components; nothing where it is refused.
 ///
 /// The only error is out of memory (20). The names are hashed with `seed`. Nothing that is said depends on it.
-pub(crate) fn of_own<A: Allocator + Copy>(
+pub(crate) fn of_own<'a, A: Allocator + Copy>(
     alloc: A,
     seed: u64,
-    declaration: Source<'_>,
+    declaration: Source<'a>,
 ) -> Result<Option<Vec<u8, A>>, AllocError>
     ensures { IfOk result (λ said. GivesOwnReasons declaration.entry.file.now declaration.entry.text.now (option_map (λ text. text.items) said)) }
 {

@@ -29,11 +29,11 @@ fn followed<A: Allocator + Copy>(
 }
 
 /// What is said of a certificate of this declaration to which the checker answered this no.
-fn of_lacking<A: Allocator + Copy>(
+fn of_lacking<'a, A: Allocator + Copy>(
     alloc: A,
-    declaration: Source<'_>,
-    certificate: Source<'_>,
-    declared: &Declaration<'_, A>,
+    declaration: Source<'a>,
+    certificate: Source<'a>,
+    declared: &Declaration<'a, A>,
     no: &No,
 ) -> Result<Vec<u8, A>, AllocError>
     requires { length declared.now.groups.group_of ≡ length declared.now.table.names }
@@ -55,11 +55,11 @@ fn of_lacking<A: Allocator + Copy>(
 /// What is said of a certificate of a declaration to which the checker answered this no; nothing where the declaration is refused.
 ///
 /// The only error is out of memory (20). The names are hashed with `seed`. Nothing that is said depends on it.
-pub(crate) fn of_answered_no<A: Allocator + Copy>(
+pub(crate) fn of_answered_no<'a, A: Allocator + Copy>(
     alloc: A,
     seed: u64,
-    declaration: Source<'_>,
-    certificate: Source<'_>,
+    declaration: Source<'a>,
+    certificate: Source<'a>,
     no: &No,
 ) -> Result<Option<Vec<u8, A>>, AllocError>
     ensures { IfOk result (λ said. SaysLackingOf declaration.entry.file.now certificate.entry.file.now declaration.entry.text.now

@@ -32,7 +32,7 @@ const CAN_HANG_ON_ANY: &[u8] = b"can hang on any workqueues: ";
 /// What is said of this answer; nothing where no run ends stuck.
 fn of_answer<A: Allocator + Copy>(
     alloc: A,
-    subject: &Subject<'_, A>,
+    subject: &Subject<'_, '_, '_, '_, A>,
     lead: &[u8],
     answer: &Answer<A>,
 ) -> Result<Option<Vec<u8, A>>, AllocError>
@@ -61,7 +61,7 @@ fn of_answer<A: Allocator + Copy>(
 /// How these workqueues hang soonest; nothing where they can't.
 fn of_subject<A: Allocator + Copy>(
     alloc: A,
-    subject: &Subject<'_, A>,
+    subject: &Subject<'_, '_, '_, '_, A>,
     lead: &[u8],
 ) -> Result<Option<Vec<u8, A>>, AllocError>
     requires grouped { length subject.now.declared.now.groups.group_of ≡ length subject.now.declared.now.table.names }
@@ -82,8 +82,8 @@ fn of_assigned<'a, A: Allocator + Copy>(
     alloc: A,
     declaration: Source<'a>,
     assignment: Source<'a>,
-    declared: &'a Declaration<'a, A>,
-    workqueues: &'a Workqueues<A>,
+    declared: &Declaration<'a, A>,
+    workqueues: &Workqueues<A>,
 ) -> Result<Option<Vec<u8, A>>, AllocError>
     requires grouped { length declared.now.groups.group_of ≡ length declared.now.table.names }
     requires read { workqueues_of_text declared.now.table.names declared.now.groups assignment.text.now ≡ Ok workqueues.now }
@@ -109,7 +109,7 @@ pub(crate) fn of_declared<'a, A: Allocator + Copy>(
     alloc: A,
     declaration: Source<'a>,
     assignment: Source<'a>,
-    declared: &'a Declaration<'a, A>,
+    declared: &Declaration<'a, A>,
 ) -> Result<Option<Vec<u8, A>>, AllocError>
     requires { length declared.now.groups.group_of ≡ length declared.now.table.names }
     ensures { IfOk result (λ said. GivesReasonOf declaration.entry.file.now assignment.entry.text.now
@@ -137,11 +137,11 @@ pub(crate) fn of_declared<'a, A: Allocator + Copy>(
 /// How the workqueues of these texts hang soonest; nothing where they can't, or where a text is refused.
 ///
 /// The only error is out of memory (20). The names are hashed with `seed`. Nothing that is said depends on it.
-pub(crate) fn of_run<A: Allocator + Copy>(
+pub(crate) fn of_run<'a, A: Allocator + Copy>(
     alloc: A,
     seed: u64,
-    declaration: Source<'_>,
-    assignment: Source<'_>,
+    declaration: Source<'a>,
+    assignment: Source<'a>,
 ) -> Result<Option<Vec<u8, A>>, AllocError>
     ensures { IfOk result (λ said. GivesReasonOfTexts declaration.entry.file.now declaration.entry.text.now assignment.entry.text.now
         (option_map (λ text. text.items) said)) }
@@ -161,7 +161,7 @@ pub(crate) fn of_run<A: Allocator + Copy>(
 fn of_groups<'a, A: Allocator + Copy>(
     alloc: A,
     declaration: Source<'a>,
-    declared: &'a Declaration<'a, A>,
+    declared: &Declaration<'a, A>,
 ) -> Result<Option<Vec<u8, A>>, AllocError>
     requires { length declared.now.groups.group_of ≡ length declared.now.table.names }
     ensures { IfOk result (λ said. GivesReasonOfGroups declaration.entry.file.now
@@ -186,10 +186,10 @@ fn of_groups<'a, A: Allocator + Copy>(
 /// How the groups of this text hang soonest on any workqueues; nothing where they can't, or where it is refused.
 ///
 /// The only error is out of memory (20). The names are hashed with `seed`. Nothing that is said depends on it.
-pub(crate) fn of_circle<A: Allocator + Copy>(
+pub(crate) fn of_circle<'a, A: Allocator + Copy>(
     alloc: A,
     seed: u64,
-    declaration: Source<'_>,
+    declaration: Source<'a>,
 ) -> Result<Option<Vec<u8, A>>, AllocError>
     ensures { IfOk result (λ said. GivesReasonOfCircle declaration.entry.file.now declaration.entry.text.now (option_map (λ text. text.items) said)) }
 {

@@ -42,7 +42,7 @@ fn lanes_of<A: Allocator + Copy>(
 fn put_round<A: Allocator + Copy>(
     alloc: A,
     out: &mut Vec<u8, A>,
-    subject: &Subject<'_, A>,
+    subject: &Subject<'_, '_, '_, '_, A>,
     rounds: &mut Rounds<A>,
     arcs: &[WaitArc],
 ) -> Result<(), AllocError>
@@ -72,7 +72,7 @@ fn put_round<A: Allocator + Copy>(
 pub(crate) fn put_rounds<A: Allocator + Copy>(
     alloc: A,
     out: &mut Vec<u8, A>,
-    subject: &Subject<'_, A>,
+    subject: &Subject<'_, '_, '_, '_, A>,
     rounds: &mut Rounds<A>,
     components: &[Vec<WaitArc, A>],
 ) -> Result<(), AllocError>

@@ -21,7 +21,7 @@ use wq_lines::put;
 
 /// Workqueues of the groups of a declaration, and the texts that say so.
 #[derive(Clone, Copy)]
-pub(crate) struct Subject<'a, A: Allocator> {
+pub(crate) struct Subject<'a, 'b, 'c, 'd, A: Allocator> {
     /// The text of the declaration.
     pub(crate) declaration: Source<'a>,
     /// The text of the workqueues; without a byte where each group has one of its own.
@@ -29,18 +29,18 @@ pub(crate) struct Subject<'a, A: Allocator> {
     /// Which of the two it is.
     pub(crate) wording: Wording,
     /// What is declared.
-    pub(crate) declared: &'a Declaration<'a, A>,
+    pub(crate) declared: &'b Declaration<'a, A>,
     /// The workqueues.
-    pub(crate) workqueues: &'a Workqueues<A>,
+    pub(crate) workqueues: &'c Workqueues<A>,
     /// Their names.
-    pub(crate) names: &'a [&'a [u8]],
+    pub(crate) names: &'d [&'a [u8]],
 }
 
 /// Adds the line of the workqueue of a wait's target, which has no rescuer, and says so.
 fn push_bare<A: Allocator + Copy>(
     alloc: A,
     lines: &mut Vec<Vec<u8, A>, A>,
-    subject: &Subject<'_, A>,
+    subject: &Subject<'_, '_, '_, '_, A>,
     hop: &Hop,
 ) -> Result<(), AllocError>
     requires target { hop.now.flush.item < length subject.now.declared.now.groups.group_of }
@@ -63,7 +63,7 @@ fn push_bare<A: Allocator + Copy>(
 /// The lines below the first one: that of the flush, and, where its target is on a workqueue without a rescuer, that of this workqueue.
 fn below<A: Allocator + Copy>(
     alloc: A,
-    subject: &Subject<'_, A>,
+    subject: &Subject<'_, '_, '_, '_, A>,
     spot: Spot<'_>,
     hop: &Hop,
 ) -> Result<Vec<Vec<u8, A>, A>, AllocError>
@@ -81,7 +81,7 @@ fn below<A: Allocator + Copy>(
 /// The block of lines that says this of a wait.
 fn block_of<A: Allocator + Copy>(
     alloc: A,
-    subject: &Subject<'_, A>,
+    subject: &Subject<'_, '_, '_, '_, A>,
     hop: &Hop,
     what: &[u8],
 ) -> Result<Vec<u8, A>, AllocError>
@@ -97,7 +97,7 @@ fn block_of<A: Allocator + Copy>(
 /// What there is to say of a wait, behind this.
 fn what_of<A: Allocator + Copy>(
     alloc: A,
-    subject: &Subject<'_, A>,
+    subject: &Subject<'_, '_, '_, '_, A>,
     lead: &[u8],
     hop: &Hop,
 ) -> Result<Vec<u8, A>, AllocError>
@@ -126,7 +126,7 @@ fn what_of<A: Allocator + Copy>(
 fn put_wait<A: Allocator + Copy>(
     alloc: A,
     out: &mut Vec<u8, A>,
-    subject: &Subject<'_, A>,
+    subject: &Subject<'_, '_, '_, '_, A>,
     lead: &[u8],
     hop: &Hop,
 ) -> Result<(), AllocError>
@@ -146,7 +146,7 @@ fn put_wait<A: Allocator + Copy>(
 fn put_further<A: Allocator + Copy>(
     alloc: A,
     out: &mut Vec<u8, A>,
-    subject: &Subject<'_, A>,
+    subject: &Subject<'_, '_, '_, '_, A>,
     hops: &[Hop],
 ) -> Result<(), AllocError>
     requires items { All (λ h. h.item < length subject.now.declared.now.groups.group_of) hops.now }
@@ -166,7 +166,7 @@ fn put_further<A: Allocator + Copy>(
 pub(crate) fn put_walk<A: Allocator + Copy>(
     alloc: A,
     out: &mut Vec<u8, A>,
-    subject: &Subject<'_, A>,
+    subject: &Subject<'_, '_, '_, '_, A>,
     lead: &[u8],
     hops: &[Hop],
 ) -> Result<(), AllocError>
