@@ -1,5 +1,5 @@
 -- What is said of components, one after another.
-use Rattle.std.proofs.Common.{◌≡◌, ◌⊎◌, inl, inr, ℕ, ◌<◌, ◌+◌, List, [], ◌∷◌, ◌++◌, length, map, take, get_or, append-nil, refl, sym, ap, subst, ◌∙◌}
+use Rattle.std.proofs.Common.{◌≡◌, inl, inr, ℕ, ◌<◌, ◌+◌, List, [], ◌∷◌, ◌++◌, length, map, take, get_or, append-nil, refl, sym, ap, subst, ◌∙◌, arith}
 use Rattle.std.specs.Prelude.{flat_map}
 use Rattle.std.proofs.lemmas.List.{take_more, map_push}
 use Rattle.std.proofs.lemmas.List.Concat.{flat_map-append}
@@ -9,7 +9,7 @@ use Rattle.wq_hang.specs.declared.hop.Hop.{Hop}
 use Rattle.wq_hang.specs.Walk.{IsLeastRoundOn, IsRoundOn}
 use Rattle.wq_commands.specs.Answer.{declared_waits}
 use Rattle.wq_commands.specs.Declaration.{Declared}
-use Rattle.wq_voice.specs.Components.{lanes_of, AddsRounds, AreRounds}
+use Rattle.wq_voice.specs.Components.{first_told, hop_of, lanes_of, AddsRounds, AreRounds}
 use Rattle.wq_voice.specs.Reasons.{can_hang, told, AddsSaid}
 use Rattle.wq_voice.proofs.Blocks.{AddsSaid-none, AddsSaid-then}
 
@@ -49,8 +49,13 @@ module _ (s : Declared) (ws : Workqueues) where
     pub AddsRounds-next : {X : Type 0} (arcs_of : X → List WaitArc) (xs : List X) (k : ℕ) (x : X) (old middle new : List ℕ) → k < length xs → x ≡ get_or xs k x
         → AddsRounds file words s ws (map arcs_of (take k xs)) old middle → AddsRounds file words s ws (arcs_of x ∷ []) middle new
         → AddsRounds file words s ws (map arcs_of (take (k + 1) xs)) old new
-    AddsRounds-next arcs_of xs k x old middle new within is some one =
+    AddsRounds-next {X = X} arcs_of xs k x old middle new within is some one =
         let on : map arcs_of (take (k + 1) xs) ≡ map arcs_of (take k xs) ++ (arcs_of x ∷ []) =
         ap (map arcs_of) (take_more xs k x within) ∙ map_push arcs_of (take k xs) (get_or xs k x) ∙ ap (λ y. map arcs_of (take k xs) ++ (arcs_of y ∷ [])) (sym is) in
         subst (λ (components : List (List WaitArc)). AddsRounds file words s ws components old new) (sym on)
         (AddsRounds-then (map arcs_of (take k xs)) (arcs_of x ∷ []) old middle new some one)
+
+-- of flushes to no rescuer the first is told
+pub first_told-first : (words : Hop → List ℕ) (s : Declared) (waits : List WaitArc) (a : WaitArc) → 0 < length waits → a ≡ get_or waits 0 a → first_told words s waits ≡ told can_hang words (hop_of s a ∷ [])
+first_told-first words s [] a some is = absurd (omega (arith, some))
+first_told-first words s (b ∷ more) a some is = ap (λ (x : WaitArc). told can_hang words (hop_of s x ∷ [])) (sym is)

@@ -1,6 +1,5 @@
-use Rattle.std.proofs.Common.{◌≡◌, ◌++◌, ℕ, List, [], length, map, sym, ap, subst, ◌∙◌}
+use Rattle.std.proofs.Common.{◌++◌, ℕ, List, [], length, map, sym, ap, subst, ◌∙◌}
 use Rattle.std.specs.Prelude.{flat_map}
-use Rattle.std.specs.List.{All}
 use Rattle.wq_groups.specs.Assignment.{Assignment, IsAssignment}
 use Rattle.wq_groups.specs.Declaration.{IsDeclaration, declaration_of}
 use Rattle.wq_groups.proofs.Declarations.{IsDeclaration-of}

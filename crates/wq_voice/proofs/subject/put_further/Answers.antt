@@ -1,4 +1,4 @@
-use Rattle.std.proofs.Common.{ℕ, List, ◌++◌, map, subst, arith}
+use Rattle.std.proofs.Common.{List, ◌++◌, map, subst}
 use Rattle.std.specs.Prelude.{codes}
 use Rattle.std.proofs.lemmas.List.{take_all}
 use Rattle.wq_hang.specs.declared.hop.Hop.{Hop}

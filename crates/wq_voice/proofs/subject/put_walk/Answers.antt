@@ -1,4 +1,4 @@
-use Rattle.std.proofs.Common.{ℕ, List, map, arith}
+use Rattle.std.proofs.Common.{map, arith}
 use Rattle.std.proofs.lemmas.Result.{on_ok_weaker}
 use Rattle.wq_hang.specs.declared.hop.Hop.{Hop}
 use Rattle.wq_commands.specs.Declaration.{Declared}
