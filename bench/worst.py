@@ -150,6 +150,32 @@ def leading_and_circle():
     return [(place % HALF, (place + 1) % HALF) for place in range(FLUSHES - 1)] + [(0, LAST)]
 
 
+def around():
+    """Each item flushes the four after it, around: no way round is short, and there are very many."""
+    return [(i, (i + step) % ITEMS) for i in range(ITEMS) for step in (1, 2, 3, 4)]
+
+
+def one_back():
+    """The same, but only the last flush leads back: the way round goes through all layers."""
+    return layers()[:FLUSHES - 1] + [(LAST, 0)]
+
+
+def across():
+    """Random flushes by both kinds that lead on by a little, around."""
+    numbers = random.Random(1)
+    return [(i, (i + numbers.choice((1, 2, 3, 16))) % ITEMS) for i in range(ITEMS) for _ in range(4)]
+
+
+def between(count, half):
+    """Items that lie on so many workqueues in turn, each of which flushes random ones of the next workqueue; if `half`, of each
+    workqueue every other item flushes, and the others are flushed."""
+    numbers = random.Random(7)
+    waiting = [i for i in range(ITEMS) if not half or i // count % 2 == 0]
+    targets = [[i for i in range(queue, ITEMS, count) if not half or i // count % 2 == 1] for queue in range(count)]
+    sources = [waiting[place % len(waiting)] for place in range(FLUSHES)]
+    return [(i, numbers.choice(targets[(i + 1) % count])) for i in sources]
+
+
 # ---- assignments and runs
 
 def workqueues(queues, name=short):
@@ -176,6 +202,10 @@ def two():
 
 def own():
     return workqueues([i] for i in range(ITEMS))
+
+
+def in_turn(count):
+    return workqueues(range(queue, ITEMS, count) for queue in range(count))
 
 
 def backwards():
@@ -278,6 +308,16 @@ def bare_declarations():
     yield "no flush of one on a workqueue without a rescuer", declaration(ITEMS, [(HALF + place % HALF, place % ITEMS) for place in range(FLUSHES)])
 
 
+def long_rounds():
+    """Of each a name, the declaration and the assignment, in which workqueues wait in circles, none of them short or few."""
+    yield "four flushes on, around", declaration(ITEMS, around()), own()
+    yield "four flushes on, and one back from the last", declaration(ITEMS, one_back()), own()
+    yield "random flushes on, around", declaration(ITEMS, across(), words=["flush", "flushwq"]), own()
+    for count in 3, 64:
+        yield f"{count} workqueues around, each item flushes the next one", declaration(ITEMS, between(count, False)), in_turn(count)
+        yield f"{count} workqueues around, half of the items flush others that don't", declaration(ITEMS, between(count, True)), in_turn(count)
+
+
 COLLIDING = "names that collide for the seed 0"
 
 
@@ -347,6 +387,10 @@ def cases(program, folder, write, most_run=MOST_CERTIFICATE):
             run = program.answer("deadlock", folder, path, queues)
             if run.startswith("run"):
                 yield "replay", f"{name}, {kind}", [path, queues, write(run)]
+    for name, text, assignment in long_rounds():
+        path, queues = write(text), write(assignment)
+        for command in "deadlock", "hang", "circles":
+            yield command, name, [path, queues]
     for name, text in texts():
         path = write(text)
         yield "plan", name, [path]

@@ -23,6 +23,20 @@ ends() {
     is "$1" "$2: $3" "$status: $(cat out err)"
 }
 
+# hanging NAME TEXT: counts whether the last run ended with status 1 and wrote just this text, and whether standard error says why the
+# workqueues can hang.
+hanging() {
+    is "$1" "1: $2" "$status: $(cat out)"
+    has "$1: why" ': can hang: `[a-zA-Z_.]+`' "$(head -n 1 err)"
+}
+
+# why NAME DECL ASSIGN PAIR: counts whether `hang` says of an item that it waits for another one, whether they are on one workqueue or
+# the other one is on one without a rescuer. A PAIR has both names in backticks, with a blank between them; it may be a pattern of several.
+why() {
+    run hang "$2" "$3"
+    has "$1: which wait is said" "^($4)\$" "$(head -n 1 err | grep -oE '`[a-z_.]+`' | xargs -d '\n')"
+}
+
 # begins NAME STATUS LINE: counts whether the last run ended so, and wrote this line first.
 begins() {
     is "$1" "$2: $3" "$status: $(head -n 1 out)"
@@ -36,7 +50,7 @@ hangs() {
     local steps=${4:-$(($(wc -l <out) - 1))}
     begins "$1: deadlock" 1 "run $steps"
     run replay "$2" "$3" hangs.run
-    ends "$1: its run, replayed" 1 deadlock
+    hanging "$1: its run, replayed" deadlock
     sed "1s/.*/run $((steps - 1))/; \$d" hangs.run >shorter.run
     run replay "$2" "$3" shorter.run
     ends "$1: its run without the last step" 0 open
@@ -212,6 +226,7 @@ plan_is_least dm-snapshot
 run deadlock dm-snapshot.wq dm-snapshot.assign
 ends 'dm-snapshot: the kernel' 0 safe
 hangs 'dm-snapshot: one kcopyd' dm-snapshot.wq dm-snapshot.merged.assign 14
+why 'dm-snapshot: one kcopyd' dm-snapshot.wq dm-snapshot.merged.assign '`do_work.merging` `do_work.other`'
 draws dm-snapshot 'plan of 3 workqueues, 2 waits in bold: items 6, workqueues 3, arrows 4, red 0, bold 2' dm-snapshot.wq
 draws 'dm-snapshot: the kernel' 'safe: items 6, workqueues 6, arrows 4, red 0, bold 0' dm-snapshot.wq dm-snapshot.assign
 draws 'dm-snapshot: one kcopyd' 'can hang, 1 wait in red: items 6, workqueues 3, arrows 4, red 1, bold 1' \
@@ -225,6 +240,8 @@ plan_is_least dm-integrity
 run deadlock dm-integrity.wq dm-integrity.assign
 ends 'dm-integrity: the kernel' 0 safe
 hangs 'dm-integrity: without dm-integrity-offload' dm-integrity.wq dm-integrity.merged.assign 20
+why 'dm-integrity: without dm-integrity-offload' dm-integrity.wq dm-integrity.merged.assign \
+    '`integrity_bio_wait.offload` `integrity_metadata`'
 draws dm-integrity 'plan of 3 workqueues, 2 waits in bold: items 8, workqueues 3, arrows 13, red 0, bold 2' dm-integrity.wq
 
 # nvmet-tcp: a circle, and waits by cancel_work_sync for what has no rescuer, so that every assignment hangs: the kernel's, one workqueue for all, and one for each item. The
@@ -262,6 +279,7 @@ answers nvme-auth 'plan 3' dhchap_auth_work auth_work io_work
 without_cancel nvme-auth 3
 plan_is_least nvme-auth
 hangs 'nvme-auth: the kernel' nvme-auth.wq nvme-auth.assign 8
+why 'nvme-auth: the kernel' nvme-auth.wq nvme-auth.assign '`(dhchap_auth|connect)_work` `auth_work`'
 run deadlock nvme-auth.wq nvme-auth.later.assign
 ends 'nvme-auth: a later kernel' 0 safe
 draws nvme-auth 'plan of 3 workqueues, 2 waits in bold: items 4, workqueues 3, arrows 4, red 0, bold 2' nvme-auth.wq
@@ -283,10 +301,11 @@ answers md 'plan 2' submit.upper submit.lower
 without_cancel md 2
 plan_is_least md
 hangs 'md: the kernel' md.wq md.assign 6
+why 'md: the kernel' md.wq md.assign '`(submit|data).upper` `(submit|data).lower`'
 printf '%s\n' 'run 7' 'queue submit.lower' 'queue submit.upper' 'start 0 submit.lower' 'finish 0 submit.lower' \
     'start 0 submit.upper' 'queue data.lower' 'wait 0 data.lower' >md.run
 run replay md.wq md.assign md.run
-ends "md: the kernel's order" 1 stuck
+hanging "md: the kernel's order" stuck
 sed '1s/.*/run 6/; $d' md.run >shorter.run
 run replay md.wq md.assign shorter.run
 ends "md: the kernel's order, before the upper array waits" 0 open
@@ -302,6 +321,7 @@ answers nfs 'plan 2' rpc_async.put rpc_async
 without_cancel nfs 2
 plan_is_least nfs
 hangs 'nfs: the kernel' nfs.wq nfs.assign 30
+why 'nfs: the kernel' nfs.wq nfs.assign '`rpc_async.put` `rpc_(async|timer)`'
 printf '%s\n' 'run 4' 'queue rpc_async.put' 'start 1 rpc_async.put' 'queue rpc_async' 'wait 1 rpc_async' >nfs.run
 run replay nfs.wq nfs.assign nfs.run
 is "nfs: the kernel's order" '1: stuck' "$status: $(cat out)"
@@ -432,9 +452,9 @@ hangs 'bcache: the kernel, without a bucket for the btree' bcache.full.wq bcache
 while read -r steps name assign; do
     run hang "$name.wq" "$assign.assign"
     cp out shortest.run
-    begins "$name, $assign: hang" 1 "run $steps"
+    hanging "$name, $assign: hang" "run $steps"$'\n'"$(tail -n +2 shortest.run)"
     run replay "$name.wq" "$assign.assign" shortest.run
-    ends "$name, $assign: the shortest run, replayed" 1 stuck
+    hanging "$name, $assign: the shortest run, replayed" stuck
     sed "1s/.*/run $((steps - 1))/; \$d" shortest.run >shorter.run
     run replay "$name.wq" "$assign.assign" shorter.run
     ends "$name, $assign: the shortest run without its last step" 0 open

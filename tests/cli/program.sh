@@ -32,11 +32,13 @@ holds() {
 }
 
 # says ERR: whether standard error has this text. `of N` is the diagnosis that belongs to standard output, of the file that is
-# the Nth word behind the command, or of standard input where N is 0.
+# the Nth word behind the command, or of standard input where N is 0. `why` is what belongs to an answer that says that workqueues
+# can hang, and isn't nothing: the reasons.
 says() {
     local files=('<stdin>' "${given[@]:1}")
     case $1 in
         'of '*) python3 -B "$rule" out err "${files[${1#of }]}" ;;
+        why) [ -s err ] && python3 -B "$rule" out err of "${given[@]/#-/<stdin>}" ;;
         *) holds err "$1" ;;
     esac
 }
@@ -99,9 +101,9 @@ run plan whole </dev/null
 check 'a plan with a wait for a whole workqueue' 0 \
     'plan 3\nwq 0 b\nwq 1 a\nwq 2 c\nchain 3\narc c a\narc a b\n' ''
 run plan circle </dev/null
-check 'a circle and its run' 1 'circle 1\narc a a\nrun 3\nqueue a\nstart 0 a\nwait 0 a\n' ''
+check 'a circle and its run' 1 'circle 1\narc a a\nrun 3\nqueue a\nstart 0 a\nwait 0 a\n' why
 run plan ordered_circle </dev/null
-check 'a circle within an ordered group' 1 'circle 1\narc a b\nrun 4\nqueue a\nqueue b\nstart 0 a\nwait 0 b\n' ''
+check 'a circle within an ordered group' 1 'circle 1\narc a b\nrun 4\nqueue a\nqueue b\nstart 0 a\nwait 0 b\n' why
 run plan refused </dev/null
 check 'a refusal' 2 'refused 8 line 2\n' 'of 1'
 run plan grouped_twice </dev/null
@@ -124,7 +126,7 @@ check 'check: the plan that is printed' 0 'yes 2\n' ''
 run check declaration not_least </dev/null
 check 'check: a plan with a workqueue too many' 1 'no 52\n' 'of 2'
 run check declaration one_workqueue </dev/null
-check 'check: a flush within a workqueue' 1 'no 50 a b\n' 'of 2'
+check 'check: a flush within a workqueue' 1 'no 50 a b\n' why
 run check declaration cut_off </dev/null
 check 'check: a plan without its last line' 2 'refused 40 line 0\n' 'of 2'
 run check declaration no_circle </dev/null
@@ -145,24 +147,24 @@ printf 'wq 0 a c\nwq 1 b\n' >lanes
 printf 'plan 2\nwq 0 a c\nwq 1 b\nchain 0\n' >lanes_of_a_plan
 printf 'wq 0 c\nwq 1 b\nwq 2 a\n' >safe_lanes
 run deadlock chain lanes </dev/null
-check 'deadlock: a run that deadlocks' 1 "$hangs" ''
+check 'deadlock: a run that deadlocks' 1 "$hangs" why
 printf 'wq 0 a\nwq 1 b c\n' >whole_lanes
 run deadlock whole whole_lanes </dev/null
 check 'deadlock: a wait for a whole workqueue' 1 \
-    'run 7\nqueue a\nqueue c\nqueue b\nstart 0 a\nwaitwq 0 b\nstart 1 c\nwait 1 a\n' ''
+    'run 7\nqueue a\nqueue c\nqueue b\nstart 0 a\nwaitwq 0 b\nstart 1 c\nwait 1 a\n' why
 run deadlock chain safe_lanes </dev/null
 check 'deadlock: a safe assignment' 0 'safe\n' ''
 run deadlock declaration plan_of_two </dev/null
 check 'deadlock: the plan that is printed' 0 'safe\n' ''
 run deadlock chain lanes_of_a_plan </dev/null
-check 'deadlock: a plan text as an assignment' 1 "$hangs" ''
+check 'deadlock: a plan text as an assignment' 1 "$hangs" why
 
-# Workqueues without a rescuer: by which flush a run hangs, and which items `safe` doesn't speak of. Without such items it says nothing.
+# Workqueues without a rescuer: which flush leads to one, and which items `safe` doesn't speak of. Without such items it says nothing.
 printf 'wq 0 a # md, md.c:1\nnorescuer 1 b # log\n' >bare_target
 printf 'norescuer 0 a # md, md.c:1\nwq 1 b\n' >bare_item
 printf 'wq 0 b\nwq 1 a\nnorescuer 2\n' >bare_and_empty
 bare_hangs='run 4\nqueue a\nqueue b\nstart 0 a\nwait 0 b\n'
-bare_reason='declaration:3:9: `a`, on workqueue 0 (md), waits for `b`, which nothing guarantees to run: workqueue 1 (log) has no rescuer
+bare_reason='declaration:3:9: can hang: `a`, on workqueue 0 (md), waits for `b`, which nothing guarantees to run: workqueue 1 (log) has no rescuer
     flush a b\n            ^\nbare_target:2:1: workqueue 1 (log) has no rescuer\n    norescuer 1 b # log\n    ^^^^^^^^^\n'
 bare_note='bare_item: note: nothing guarantees that these run while memory is short: `a` on workqueue 0 (md)
 bare_item: note: where reclaim waits for one of them, declare who waits: an item of its own, on a `wq` line, that flushes it\n'
@@ -175,7 +177,7 @@ check 'deadlock: safe, with a workqueue without a rescuer and without items' 0 '
 run circles declaration bare_item </dev/null
 check 'circles: safe, with an item on a workqueue without a rescuer' 0 'safe\n' "$bare_note"
 run circles declaration bare_target </dev/null
-check 'circles: a flush that leads to no rescuer' 1 'components 0\nnorescuer 1\narc a b\n' ''
+check 'circles: a flush that leads to no rescuer' 1 'components 0\nnorescuer 1\narc a b\n' "$bare_reason"
 run circles declaration bare_and_empty </dev/null
 check 'circles: safe, with a workqueue without a rescuer and without items' 0 'safe\n' ''
 run deadlock declaration - <bare_item
@@ -185,21 +187,21 @@ status=$?
 : >err
 check 'deadlock: a note that cannot be written' 0 'safe\n' ''
 
-# The shortest run that ends stuck. What is said of workqueues without a rescuer is what `deadlock` says, also where a shorter run has
-# no part in it.
+# The shortest run that ends stuck. What is said of workqueues without a rescuer is what `deadlock` says, but where a wait of one item
+# takes fewer steps.
 printf 'item a\nitem b\nitem c\nflush b c\n' >one_flush
 printf 'wq 0 a b c\n' >one_lane
 printf 'plan 1\nwq 0 a b c\nchain 0\n' >one_lane_of_a_plan
 printf 'item a\nitem b\nflush a b\nflush a a\n' >waits_for_itself
 two_of_three='run 4\nqueue b\nqueue c\nstart 0 b\nwait 0 c\n'
 run hang one_flush one_lane </dev/null
-check 'hang: two of three items' 1 "$two_of_three" ''
+check 'hang: two of three items' 1 "$two_of_three" why
 run hang one_flush one_lane_of_a_plan </dev/null
-check 'hang: a plan text as an assignment' 1 "$two_of_three" ''
+check 'hang: a plan text as an assignment' 1 "$two_of_three" why
 run hang one_flush - <one_lane
-check 'hang: an assignment from standard input' 1 "$two_of_three" ''
+check 'hang: an assignment from standard input' 1 "$two_of_three" why
 run hang whole one_lane </dev/null
-check 'hang: a wait for the whole workqueue that it is on' 1 'run 3\nqueue a\nstart 0 a\nwaitwq 0 b\n' ''
+check 'hang: a wait for the whole workqueue that it is on' 1 'run 3\nqueue a\nstart 0 a\nwaitwq 0 b\n' why
 run hang chain safe_lanes </dev/null
 check 'hang: a safe assignment' 0 'safe\n' ''
 run hang declaration plan_of_two </dev/null
@@ -208,7 +210,7 @@ run hang declaration bare_target </dev/null
 check 'hang: a flush that leads to no rescuer' 1 "$bare_hangs" "$bare_reason"
 run hang waits_for_itself bare_target </dev/null
 check 'hang: a shorter run than that of the flush that leads to no rescuer' 1 'run 3\nqueue a\nstart 0 a\nwait 0 a\n' \
-    "${bare_reason/#declaration/waits_for_itself}"
+    'waits_for_itself:4:9: can hang: `a`, on workqueue 0 (md), waits for itself\n    flush a a\n            ^\n'
 run hang declaration bare_item </dev/null
 check 'hang: safe, with an item on a workqueue without a rescuer' 0 'safe\n' "$bare_note"
 run hang declaration bare_and_empty </dev/null
@@ -217,15 +219,15 @@ check 'hang: safe, with a workqueue without a rescuer and without items' 0 'safe
 # All flushes on circles at once.
 components='components 1\ncomponent 2\narc a b\narc b c\n'
 run circles chain lanes </dev/null
-check 'circles: the flushes on circles' 1 "$components" ''
+check 'circles: the flushes on circles' 1 "$components" why
 run circles chain safe_lanes </dev/null
 check 'circles: a safe assignment' 0 'safe\n' ''
 run circles chain lanes_of_a_plan </dev/null
-check 'circles: a plan text as an assignment' 1 "$components" ''
+check 'circles: a plan text as an assignment' 1 "$components" why
 run circles chain </dev/null
 check 'circles: a declaration that has a plan' 0 'safe\n' ''
 run circles circle </dev/null
-check 'circles: a declaration that has none' 1 'components 1\ncomponent 1\narc a a\n' ''
+check 'circles: a declaration that has none' 1 'components 1\ncomponent 1\narc a a\n' why
 run circles empty </dev/null
 check 'circles: no byte at all' 0 'safe\n' "empty$no_item"
 
@@ -281,22 +283,22 @@ printf 'run 1\nstart 0 a\n' >unlawful
 printf 'run 7\nqueue a\ncancel a\nqueue a\nqueue b\nqueue c\nstart 0 a\nwait 0 b\n' >unstuck
 printf 'run 9\nqueue a\ncancel a\nqueue a\nqueue b\nqueue c\nstart 0 a\nwait 0 b\nstart 1 b\nwait 1 c\n' >stuck
 run replay chain lanes deadlock </dev/null
-check 'replay: a deadlock' 1 'deadlock\n' ''
+check 'replay: a deadlock' 1 'deadlock\n' why
 printf "$two_of_three" >shortest
 run replay one_flush one_lane shortest </dev/null
-check 'replay: the shortest run that ends stuck' 1 'stuck\n' ''
+check 'replay: the shortest run that ends stuck' 1 'stuck\n' why
 run replay chain lanes open </dev/null
 check 'replay: a run that can go on' 0 'open\n' ''
 run deadlock chain lanes </dev/null
 mv out printed
 run replay chain lanes printed </dev/null
-check 'replay: the run that is printed' 1 'deadlock\n' ''
+check 'replay: the run that is printed' 1 'deadlock\n' why
 run replay chain lanes unlawful </dev/null
 check 'replay: a step that is not lawful' 1 'not lawful 1\n' 'of 3'
 run replay chain lanes unstuck </dev/null
 check 'replay: a run with a cancelled item that can go on' 0 'open\n' ''
 run replay chain lanes stuck </dev/null
-check 'replay: a run with a cancelled item that is stuck' 1 'stuck\n' ''
+check 'replay: a run with a cancelled item that is stuck' 1 'stuck\n' why
 
 # Plans that are run.
 ran='workqueues 2\nitem a wq 1 queued 1 cancelled 0 finished 1\nitem b wq 0 queued 1 cancelled 0 finished 1\nfaults 0\n'
@@ -640,7 +642,9 @@ above 'item a\nflush a b\n' 2 '<stdin>:2:9: no item `b` is declared above this l
 above 'item a\nitem b\nflush a b\n' 0 "$plan" plan
 above '' 0 '<stdin>: note: no item is declared: is this the right file?\nplan 0\nchain 0\n' plan
 above 'plan 1\nwq 0 a b\nchain 1\n' 1 '<stdin>:2:6: `a` flushes `b`, so it should be on a higher workqueue [no 50, `wqplan explain 50`]
-    wq 0 a b\n         ^ `b` is on workqueue 0\nno 50 a b\n' check declaration -
+    wq 0 a b\n         ^ `b` is on workqueue 0
+declaration:3:9: can hang: `a`, on workqueue 0, waits for `b`, which is behind it\n    flush a b
+            ^\nno 50 a b\n' check declaration -
 above 'norescuer 0 a\nwq 1 b\n' 0 '<stdin>: note: nothing guarantees that these run while memory is short: `a` on workqueue 0
 <stdin>: note: where reclaim waits for one of them, declare who waits: an item of its own, on a `wq` line, that flushes it\nsafe\n' deadlock declaration -
 

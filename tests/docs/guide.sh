@@ -14,10 +14,11 @@
 #   before it;
 # - an excerpt: the word behind the backticks is `rust` or `antt`. Its lines stand in a file of the guide's program
 #   (crates/example_rdisk), in src/ or proofs/, one below the other and just so;
+# - a mail: the word behind the backticks is `mail`. It is written as mail.txt, so that a command can look into it;
 # - something to read, which is skipped: the word behind the backticks is `text`, or `c` and it is no file. (What `wqsource` prints
 #   on docs/GUIDE.md is compared by tests/source/test_pages.py, which has Coccinelle.)
-# A page is played in a folder of its own, from top to bottom. Those in examples/ find the files of examples/ there, and README.md
-# finds the folder.
+# A page is played in a folder of its own, from top to bottom. Those in examples/ find the files of examples/ there; README.md and
+# docs/GUIDE.md find the folder.
 set -u
 . "$(dirname "$0")/../lib/script.bash"
 root=$(realpath -- "$(dirname "$0")/../..")
@@ -98,6 +99,8 @@ block() {
         excerpt "$at" antt "$@"
     elif [ "$word" = text ]; then
         return
+    elif [ "$word" = mail ]; then
+        printf '%s\n' "$@" >mail.txt
     elif [ "${first:0:2}" = '$ ' ]; then
         commands "$@"
     elif [[ $first =~ ^(#|/\*)\ ([A-Za-z0-9._-]+)(\ \*/)?$ ]]; then
@@ -116,8 +119,8 @@ pages() {
         mkdir -p -- "$work/$page"
         if [ "${page%/*}" = examples ]; then
             cp -- "$root"/examples/*.wq "$root"/examples/*.assign "$work/$page"
-        elif [ "$page" = README.md ]; then
-            cp -R -- "$root/examples" "$work/$page"
+        else
+            case $page in README.md | docs/GUIDE.md) cp -R -- "$root/examples" "$work/$page" ;; esac
         fi
         cd -- "$work/$page" || exit 1
         status=0 number=0 inside=no before=$((passed + failed))

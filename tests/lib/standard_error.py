@@ -2,15 +2,19 @@
 """Says whether standard error has what belongs to an answer of wqplan, by docs/FORMAT.md, "Diagnoses".
 
     standard_error.py OUT ERR FILE
+    standard_error.py OUT ERR of COMMAND FILE..
 
 ends with 0 where it has, and with 1 where it hasn't. OUT and ERR are files with what the program wrote to standard output and to
-standard error. Where OUT is a refusal, or a `no` of `check`, ERR must be its diagnosis: it names FILE, the line and the number, and
-shows the line and its marks where a line is meant; where that is of a declaration, up to nine further ones of the same form may follow.
-Where OUT is the answer to a declaration without an item, ERR must be the note
-that says so, with FILE; where it may be one, as `safe`, this note or nothing. Where OUT is `not lawful N` of `replay`, ERR must say so of FILE, too,
-and show the step. Where OUT is any other answer, ERR must be empty. The words and the hints of a diagnosis may be any: they aren't
-compared here. `belongs`, `meant` and `fits` do this for other scripts. For them what is said of workqueues without a rescuer
-may be beside `safe` and beside a run, too, where the files are two.
+standard error. In the first form, where OUT is a refusal, or a `no` of `check`, ERR must be its diagnosis: it names FILE, the line and the number, and
+shows the line and its marks where a line is meant; where that is of a declaration, up to nine further ones of the same form may follow,
+and behind that of `no 50` a reason why the workqueues can hang.
+Where OUT is the answer to a declaration without an item, ERR must be the note that says so, with FILE; where it may be one, as `safe`,
+this note or nothing. Where OUT is `not lawful N` of `replay`, ERR must say so of FILE, too, and show the step. Where OUT is any other
+answer, ERR must be empty. The words and the hints of a diagnosis may be any: they aren't compared here.
+
+In the second form the files are all that the command reads. Then the reasons belong beside an answer that says that workqueues can hang,
+as many as there are, and beside `safe` may be what is said of workqueues without a rescuer. Which flushes a reason names isn't looked at
+here: tests/model/reasons.py does that. `belongs` does the first for other scripts, and `fits` the second.
 """
 
 import functools
@@ -30,25 +34,36 @@ NUMBER = rb"[1-9][0-9]*"
 # Answers that only a declaration without an item has, and answers that others have, too.
 NO_ITEM = re.compile(rb"plan 0\nchain 0\n|yes 0\n|workqueues 0\nfaults 0\n")
 MAY_BE_NO_ITEM = re.compile(rb"safe\n|open\n|digraph [^\0]*")
-# The line that is meant, and below it the marks, with the hint if there is one.
+# The line that is meant, and below it the marks, with the hint if there is one; and where there is none.
 MARKED = rb"    [ -~]+\n {4,}\^+(?: [ -~]+)?\n"
-
-# Workqueues without a rescuer: what is said beside `safe` and beside a run, by the first word of the answer. <DECL> and
-# <ASSIGN> stand for the files.
-WORKQUEUE = rb"workqueue (?:0|[1-9][0-9]*)(?: \([ -~]{1,63}\))?"
-ON_ONE = rb"`[^`\n]+` on " + WORKQUEUE
 NO_HINT = MARKED.replace(rb"(?: [ -~]+)?", b"")
-UNRESCUED = {
-    b"safe": rb"<ASSIGN>: note: nothing guarantees that these run while memory is short: " + ON_ONE
-             + rb"(?:, " + ON_ONE + rb")*\n"
-             rb"<ASSIGN>: note: where reclaim waits for one of them, declare who waits: an item of its own,"
-             rb" on a `wq` line, that flushes it\n",
-    b"run": rb"<DECL>:[1-9][0-9]*:[1-9][0-9]*: `[^`\n]+`, on " + WORKQUEUE
-            + rb", waits for (?:the workqueue of )?`[^`\n]+`, which nothing guarantees to run: (" + WORKQUEUE
-            + rb") has no rescuer\n" + NO_HINT
-            + rb"<ASSIGN>:[1-9][0-9]*:[1-9][0-9]*: \1 has no rescuer\n" + NO_HINT,
-}
 
+# What is said beside `safe` of workqueues without a rescuer, behind the file of the assignment.
+WORKQUEUE = rb"workqueue (?:0|[1-9][0-9]*)(?: \([ -~]{1,63}\))?"
+ITEM = rb"`[A-Za-z0-9_.-]{1,63}`"
+ON_ONE = ITEM + b" on " + WORKQUEUE
+NOTES = (
+    rb": note: nothing guarantees that these run while memory is short: " + ON_ONE + rb"(?:, " + ON_ONE + rb")*\n",
+    rb": note: where reclaim waits for one of them, declare who waits: an item of its own,"
+    rb" on a `wq` line, that flushes it\n",
+)
+
+# The reasons of hangs: WHAT of a wait, by the workqueues of an assignment, or where each group has one; and of one that leads to no
+# rescuer.
+WAITS = (
+    ITEM + rb", on " + WORKQUEUE + rb", waits for (?:itself|" + ITEM + rb", which (?:waits on " + WORKQUEUE
+    + rb"|is behind (?:" + ITEM + rb" on " + WORKQUEUE + rb"|it))|all of (?:its workqueue|" + WORKQUEUE + rb", where " + ITEM + rb" waits))"
+)
+WAITS_IN_GROUPS = (
+    ITEM + rb" waits for (?:itself|" + ITEM + rb", which (?:waits|is behind (?:" + ITEM + rb"|it): they are `ordered`)"
+    rb"|its workqueue|the workqueue of " + ITEM + rb", where " + ITEM + rb" waits)"
+)
+HAS_NONE = WORKQUEUE + rb" has no rescuer"
+WAITS_FOR_NONE = (
+    ITEM + rb", on " + WORKQUEUE + rb", waits for (?:the workqueue of )?" + ITEM + rb", which nothing guarantees to run: " + HAS_NONE
+)
+FRONT = rb"can hang: "
+FRONT_OF_PLAN = rb"can hang on any workqueues: "
 
 # The further mistakes of a declaration: each is a diagnosis of a line, of which a byte is meant.
 FURTHER = rb"(?:[ -~]+:%s:%s: [ -~]+ \[refused ([0-9]+), `wqplan explain \1`\]\n%s){0,9}" % (NUMBER, NUMBER, MARKED)
@@ -60,6 +75,21 @@ def shown(file):
     return re.sub(rb"[^ -~]", b"?", file.replace(b"\t", b" "))
 
 
+def block(file, what):
+    """The form of a block of a reason. The file is a form, too."""
+    return rb"%s:%s:%s: %s\n%s" % (file, NUMBER, NUMBER, what, NO_HINT)
+
+
+def circular_wait(file, waits, front=FRONT):
+    """The form of what is said of a circular wait."""
+    return rb"%s(?:%s)*" % (block(file, front + waits), block(file, b"and " + waits))
+
+
+def to_no_rescuer(files):
+    """The form of what is said of a flush that leads to no rescuer."""
+    return block(files[0], FRONT + WAITS_FOR_NONE) + block(files[1], HAS_NONE)
+
+
 @functools.cache
 def diagnosis(word, code, line):
     """The form of a diagnosis, behind the file.
@@ -68,8 +98,10 @@ def diagnosis(word, code, line):
     """
     place = b"" if line == b"0" else b":%s:%s" % (line, NUMBER)
     head = rb"%s: [ -~]+ \[%s %s, `wqplan explain %s`\]\n" % (place, word, code, code)
-    further = FURTHER if word == b"refused" and code in HAS_FURTHER else b""
-    return re.compile(head + (MARKED if place else b"(?:%s)?" % MARKED if code == b"41" else b"") + further)
+    behind = FURTHER if word == b"refused" and code in HAS_FURTHER else b""
+    if word == b"no" and code == b"50":
+        behind = b"(?:%s)?" % circular_wait(rb"[ -~]+", WAITS)
+    return re.compile(head + (MARKED if place else b"(?:%s)?" % MARKED if code == b"41" else b"") + behind)
 
 
 def note(file):
@@ -77,20 +109,25 @@ def note(file):
     return shown(file) + b": note: no item is declared: is this the right file?\n"
 
 
-def unrescued(printed, errors, files):
-    """Whether this is said of workqueues without a rescuer beside the answer."""
-    form = UNRESCUED.get(printed.split(None, 1)[0] if printed.strip() else None)
-    if form is None or len(files) != 2:
-        return False
-    file = {b"<DECL>": files[0], b"<ASSIGN>": files[1]}
-    form = re.sub(b"<DECL>|<ASSIGN>", lambda found: re.escape(shown(file[found[0]])), form)
-    return re.fullmatch(form, errors) is not None
-
-
-def is_unrescued(errors):
-    """Whether this, which belongs beside an answer, is said of workqueues without a rescuer."""
-    first = errors.split(b"\n", 1)[0]
-    return b": note: nothing guarantees" in first or first.endswith(b" has no rescuer")
+def said_beside(printed, files, command):
+    """The form of what is said beside an answer that isn't a refusal or a `no`, of a declaration with items; the command is None where
+    it isn't known.
+    """
+    files = [re.escape(shown(file)) for file in files]
+    first = printed.split(None, 1)[0] if printed.strip() else b""
+    count = len(files)
+    if first == b"safe" and count == 2:
+        return b"(?:%s)?" % b"".join(files[1] + line for line in NOTES)
+    if first == b"circle" and count == 1 and command != "run":
+        return b"(?:%s)%s" % (circular_wait(files[0], WAITS_IN_GROUPS, FRONT_OF_PLAN), b"" if command else b"?")
+    if first == b"components" and count == 1:
+        return b"(?:%s){%s}" % (circular_wait(files[0], WAITS_IN_GROUPS), printed.split()[1])
+    if first == b"components" and count == 2:
+        to_none = to_no_rescuer(files) if b"\nnorescuer " in printed else b""
+        return b"(?:%s){%s}%s" % (circular_wait(files[0], WAITS), printed.split()[1], to_none)
+    if first == b"run" and count == 2 or first in (b"deadlock", b"stuck") and count == 3:
+        return b"%s|%s" % (circular_wait(files[0], WAITS), to_no_rescuer(files))
+    return b""
 
 
 def answer(printed):
@@ -127,32 +164,39 @@ def is_of(file, form, errors):
     return errors.startswith(front) and form.fullmatch(errors, len(front)) is not None
 
 
-def belongs(printed, errors, files):
-    """Whether this belongs on standard error beside the answer: the diagnosis of one of these files, a note on the first, or nothing."""
+def belongs(printed, errors, files, command=None):
+    """Whether this belongs on standard error beside the answer: the diagnosis of one of these files, a note on the first, reasons of
+    hangs, or nothing.
+    """
     refused_step = UNLAWFUL.fullmatch(printed)
     if refused_step:
         return is_of(files[-1], unlawful(refused_step[1]), errors)
     found = answer(printed)
     if NO_ITEM.fullmatch(printed):
         return errors == note(files[0])
-    if not found:
-        if unrescued(printed, errors, files):
-            return True
-        return errors == b"" or (MAY_BE_NO_ITEM.fullmatch(printed) is not None and errors == note(files[0]))
-    return any(is_of(file, diagnosis(*found), errors) for file in files)
+    if found:
+        return any(is_of(file, diagnosis(*found), errors) for file in files)
+    if MAY_BE_NO_ITEM.fullmatch(printed) and errors == note(files[0]):
+        return True
+    return re.fullmatch(said_beside(printed, files, command), errors) is not None
 
 
-def fits(printed, errors, places):
-    """Whether this belongs on standard error beside the answer to the files at these places, or without one to standard input."""
-    return belongs(printed, errors, meant(printed, [os.fsencode(place) for place in places] or [STDIN]))
+def fits(printed, errors, places, command):
+    """Whether this belongs on standard error beside the answer of a command to the files at these places, or without one to standard
+    input.
+    """
+    return belongs(printed, errors, meant(printed, [os.fsencode(place) for place in places] or [STDIN]), command)
 
 
 def main(arguments):
-    if len(arguments) != 3:
-        print("usage: standard_error.py OUT ERR FILE", file=sys.stderr)
+    is_long = len(arguments) > 4 and arguments[2] == "of"
+    if len(arguments) != 3 and not is_long:
+        print("usage: standard_error.py OUT ERR FILE, or standard_error.py OUT ERR of COMMAND FILE..", file=sys.stderr)
         return 2
     printed, errors = (pathlib.Path(place).read_bytes() for place in arguments[:2])
-    return 0 if belongs(printed, errors, [arguments[2].encode(errors="surrogateescape")]) else 1
+    if is_long:
+        return 0 if fits(printed, errors, arguments[4:], arguments[3]) else 1
+    return 0 if belongs(printed, errors, [os.fsencode(arguments[2])]) else 1
 
 
 if __name__ == "__main__":

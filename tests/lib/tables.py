@@ -58,7 +58,7 @@ def limiter(memory):
 
 def says_right(given, found, places):
     """Whether the program wrote to standard error what it should."""
-    return fits(found.printed, found.errors, places) if given.diagnoses else bool(found.errors) == given.complains
+    return fits(found.printed, found.errors, places, given.arguments[0]) if given.diagnoses else bool(found.errors) == given.complains
 
 
 def failure(program, folder, number, given):

@@ -4,11 +4,12 @@
 #
 # It makes up declarations, answers, assignments and runs, gives them to `PROGRAM plan` on standard
 # input, and to the other commands as files, and compares the bytes that are printed and the exit status
-# with the model's. Standard error must have what belongs to the answer (tests/lib/standard_error.py). Of
-# each command there are the cases at the limits of docs/FORMAT.md and at each place of small texts, once
-# each, and then CASES random ones; of `run`, which makes threads, and of `hang`, RUNS, or a fifth as many. The same SEED
-# makes the same cases. It fails where an answer differs, and where some kind of answer never came, as may be with
-# few CASES. Before all this the model must answer the worked examples (examples.py).
+# with the model's. Standard error must have what belongs to the answer (tests/lib/standard_error.py), and
+# right reasons why workqueues can hang (reasons.py). Of each command there are the cases at the limits of
+# docs/FORMAT.md and at each place of small texts, once each, and then CASES random ones; of `run`, which makes
+# threads, and of `hang`, RUNS, or a fifth as many. The same SEED makes the same cases. It fails where an answer
+# differs, and where some kind of answer or of reason never came, as may be with few CASES. Before all this the
+# model must answer the worked examples (examples.py).
 #
 # With --with WORD the cases are only those of which an assignment has a line with this first word: with
 # `--with norescuer` those of workqueues without a rescuer. Commands that read no assignment then have none.
@@ -44,13 +45,14 @@ import make_circles  # noqa: E402
 import make_declarations  # noqa: E402
 import make_hangs  # noqa: E402
 import programs  # noqa: E402  (in tests/lib)
+import reasons  # noqa: E402
+import unrescued  # noqa: E402
 from command_line import seed_and_counts  # noqa: E402
 from commands import TEXTS_OF  # noqa: E402  (in tests/lib)
-from declaration import read_declaration  # noqa: E402
+from declaration import Refused, read_declaration  # noqa: E402
 from models import ANSWERS, agrees  # noqa: E402
 from records import records  # noqa: E402  (in tests/lib)
-from standard_error import fits, is_unrescued  # noqa: E402  (there, too)
-from unrescued import beside  # noqa: E402
+from standard_error import STDIN, fits, note  # noqa: E402  (there, too)
 
 DEFAULT_SEED = "1"
 DEFAULT_CASES = 2_000
@@ -234,6 +236,29 @@ def words_behind(command, number):
     return HELPERS[number % len(HELPERS)] if command == "run" else []
 
 
+# How often the program said each kind of reason.
+SAID = collections.Counter()
+
+
+def wrong_beside(command, files, texts, found):
+    """What is wrong with what the program says on standard error beside its answer, or None: its form, and where it isn't a diagnosis, or
+    behind the one of a `no`, the words.
+    """
+    printed, _, errors = found
+    if not fits(printed, errors, files, command):
+        return "standard error hasn't the form that belongs to this answer"
+    if printed.startswith((b"refused ", b"not lawful ")) or errors == note(files[0]):
+        return None
+    behind = errors.split(b"\n", reasons.BLOCK)[reasons.BLOCK] if printed.startswith(b"no ") else errors
+    try:
+        safe = unrescued.said_of(command, files, texts, printed)
+        if safe:
+            return None if behind == safe else f"this belongs to `safe`: {safe!r}"
+        return reasons.wrong_with(command, files, texts, printed, behind)
+    except Refused:
+        return "the texts are refused"
+
+
 def ask(program, command, texts, folder, number):
     """The program's answer, what it prints to standard error, and whether that belongs to both."""
     named, given = {}, None
@@ -243,11 +268,10 @@ def ask(program, command, texts, folder, number):
         named = {f"{number}.{name}": text for name, text in zip(TEXTS_OF[command], texts)}
     with programs.files(folder, named) as places:
         found = programs.ask([program, command, *places, *words_behind(command, number)], input=given)
-    is_right = not found.is_late() and fits(found.printed, found.errors, places)
-    said = beside(command, [os.fsencode(place) for place in places], texts, found.printed)
-    if said or is_unrescued(found.errors):
-        is_right = is_right and found.errors == said
-    return (found.printed, found.status), found.errors, is_right
+    wrong = None if found.is_late() else wrong_beside(command, [os.fsencode(place) for place in places] or [STDIN], texts, found)
+    SAID.update(reasons.rows_in(found.errors))
+    errors = found.errors + (f"({wrong})".encode() if wrong else b"")
+    return (found.printed, found.status), errors, wrong is None and not found.is_late()
 
 
 def questions(command, texts, printed):
@@ -467,6 +491,9 @@ def main(arguments):
         agreed += sum(kinds.values()) if command in asked else 0
         if word is None:
             never += [f"{command}: {kind}" for kind, _, _ in KINDS[command] if kinds[kind] == 0]
+    if set(asked) == set(COMMANDS) and word is None:
+        print(f"model: reasons: {', '.join(f'{row}: {SAID[row]}' for row in reasons.ROWS)}")
+        never += [f"reasons: {row}" for row in reasons.ROWS if SAID[row] == 0]
     if different:
         print("model: FAILED")
         return 1

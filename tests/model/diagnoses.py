@@ -24,10 +24,10 @@
 # - the items that are on no workqueue are named in the order of their declaration, and the fourth one is `1 more`.
 #
 # Of the further mistakes of a declaration the model has no words. They must have their form, each of another line, and those that
-# a line has by itself it must have where all other lines are blank.
+# a line has by itself it must have where all other lines are blank. Of the reasons of hangs the model says one of several right
+# ones, and judges others (reasons.py).
 
 import collections
-import dataclasses
 import os
 import pathlib
 import random
@@ -42,14 +42,17 @@ import certificate  # noqa: E402  (beside this file)
 import deadlock  # noqa: E402
 import plan  # noqa: E402
 import programs  # noqa: E402  (in tests/lib)
+import reasons  # noqa: E402
 import unlawful  # noqa: E402
+import unrescued  # noqa: E402
 from command_line import seed_and_counts  # noqa: E402
 from commands import TEXTS_OF, given  # noqa: E402  (in tests/lib)
 from declaration import (  # noqa: E402
-    DIRECTIVES, FEWEST_WORDS, FLUSHES, FLUSHES_WHOLE, LINE_BYTES, LINE_LIMIT, LISTED, NAME_LIMIT, Refused, before_comment,
+    DIRECTIVES, FEWEST_WORDS, FLUSHES_WHOLE, LINE_BYTES, LINE_LIMIT, LISTED, NAME_LIMIT, Refused, before_comment,
     is_name, read_declaration, split_lines, split_words,
 )
-from models import ANSWERS  # noqa: E402
+from marks import Finding, about, excerpt, shown, words_of  # noqa: E402
+from models import ANSWERS, agrees  # noqa: E402
 from records import records  # noqa: E402  (in tests/lib)
 from standard_error import FURTHER, HAS_FURTHER  # noqa: E402  (there, too)
 
@@ -59,11 +62,6 @@ READERS = {
     "assignment": certificate.read_assignment,
     "run": certificate.read_run,
 }
-
-# How much of a line is shown.
-WHOLE = 100
-CUT = 94
-BEFORE = 40
 
 # The lines of declarations, and the first words of the other texts.
 DIRECTIVE_FORMS = {word: b"`%s %s`" % (word, row["names"].encode()) for word, row in DIRECTIVES.items()}
@@ -84,48 +82,6 @@ KINDS = {
     **dict.fromkeys([b"run", *certificate.NAMES_WORKQUEUE], b"a run"),
     b"refused": b"a refusal, written here in place of an answer",
 }
-
-
-@dataclasses.dataclass
-class Finding:
-    """What is said, the bytes of the line that are meant, from one place to another, and the hint."""
-
-    what: bytes
-    first: int = None  # counted from 0; None where nothing is meant
-    behind: int = None
-    hint: bytes = b""
-    line: int = 0  # the number of the line where these bytes are, if it isn't that of the refusal
-
-
-# The words of a line -----------------------------------------------------------------------------
-
-
-@dataclasses.dataclass
-class Word:
-    """A word, and its place in the line, counted from 0."""
-
-    word: bytes
-    first: int
-
-    @property
-    def behind(self):
-        return self.first + len(self.word)
-
-
-def words_of(line):
-    """The words of the line with their places."""
-    found = []
-    at = 0
-    for word in split_words(line):
-        at = line.index(word, at)
-        found.append(Word(word, at))
-        at += len(word)
-    return found
-
-
-def about(word, what, hint=b""):
-    """A finding that means this word."""
-    return Finding(what, word.first, word.behind, hint)
 
 
 def behind_last(words, what, hint):
@@ -575,25 +531,6 @@ def of_no(declared, text, printed):
     return number, about(words[1], what)
 
 
-def shown(text):
-    """Bytes: what is printed of them."""
-    return bytes(0x20 if byte == 9 else byte if 0x20 <= byte <= 0x7E else 0x3F for byte in text)
-
-
-def excerpt(line, found):
-    """The line and its marks, with the hint."""
-    begin, end = 0, len(line)
-    if len(line) > WHOLE:
-        begin = max(min(found.first - BEFORE, len(line) - CUT), 0)
-        end = begin + CUT
-    left = b"..." if begin > 0 else b""
-    right = b"..." if end < len(line) else b""
-    marks = b"^" * max(min(found.behind, end) - found.first, 1)
-    indent = b" " * (len(left) + found.first - begin)
-    hint = b" " + found.hint if found.hint else b""
-    return [left + line[begin:end] + right, indent + marks + hint]
-
-
 def diagnosis(file, kind, declaration, text, code, line):
     """What is said of a refused text.
 
@@ -621,67 +558,26 @@ def printed_of(file, text, line, found, word, code):
 def answer(command, files, texts):
     """The bytes of the answer, the exit status, and what is said on standard error."""
     printed, status = ANSWERS[command](*texts)
+    said = said_first(command, files, texts, printed, status)
+    return printed, status, said if status == 2 else said + reasons.said_of(command, files, texts, printed)
+
+
+def said_first(command, files, texts, printed, status):
+    """What is said of this answer but for reasons of hangs, which come behind it."""
     if printed.startswith(b"no "):
         line, found = of_no(read_declaration(texts[0]), texts[1], printed)
-        return printed, status, printed_of(files[1], texts[1], line, found, b"no", int(printed.split()[1]))
+        return printed_of(files[1], texts[1], line, found, b"no", int(printed.split()[1]))
     if printed.startswith(b"not lawful "):
-        return printed, status, of_step(files[2], texts, int(printed.split()[2]))
+        return of_step(files[2], texts, int(printed.split()[2]))
     if status != 2:
-        if not read_declaration(texts[0]).items:
-            return printed, status, note(files[0])
-        return printed, status, of_no_rescuer(command, files, texts, status)
+        return unrescued.said_of(command, files, texts, printed) if read_declaration(texts[0]).items else note(files[0])
     code, line = (int(word) for word in printed.split()[1::2])
-    return printed, status, said(TEXTS_OF[command][1:], files, texts, code, line)
+    return said(TEXTS_OF[command][1:], files, texts, code, line)
 
 
 def note(file):
     """What is said beside the answer to a declaration without an item."""
     return shown(file + b": note: no item is declared: is this the right file?") + b"\n"
-
-
-def of_no_rescuer(command, files, texts, status):
-    """What is said of workqueues without a rescuer, beside `safe` and beside a run."""
-    if command not in ("deadlock", "hang", "circles") or len(texts) < 2:
-        return b""
-    declared = read_declaration(texts[0])
-    assignment = certificate.read_assignment(texts[1], declared)
-    if status == 0:
-        return note_of_items(files[1], declared, assignment)
-    places = deadlock.led_to_no_rescuer(declared, assignment)
-    return reason_of_run(files, texts, declared, assignment, places[0]) if places and command != "circles" else b""
-
-
-def note_of_items(file, declared, assignment):
-    """Which items `safe` doesn't speak of, and what to do."""
-    items = [b"`%s` on %s" % (item, unlawful.workqueue(assignment, assignment.workqueue_of[item]))
-             for item in declared.items if assignment.workqueue_of[item] in assignment.bare]
-    if not items:
-        return b""
-    return b"".join(shown(file + b": note: " + line) + b"\n" for line in (
-        b"nothing guarantees that these run while memory is short: " + b", ".join(items),
-        b"where reclaim waits for one of them, declare who waits: an item of its own, on a `wq` line, that flushes it",
-    ))
-
-
-def reason_of_run(files, texts, declared, assignment, place):
-    """The flush at this place, which leads to no rescuer."""
-    item, target = declared.flushes[place]
-    here, there = (unlawful.workqueue(assignment, assignment.workqueue_of[name]) for name in (item, target))
-    whole = b"the workqueue of " if declared.directive_of[place] in FLUSHES_WHOLE else b""
-    none = b"%s has no rescuer" % there
-    what = b"`%s`, on %s, waits for %s`%s`, which nothing guarantees to run: %s" % (item, here, whole, target, none)
-    flushes = [(number, word) for number, line in enumerate(split_lines(texts[0]), start=1)
-               for word in words_of(line)[2:] if split_words(line)[0] in FLUSHES]
-    lines = [(number, words_of(line)[0]) for number, line in enumerate(split_lines(texts[1]), start=1)
-             if split_words(line)[:1] and split_words(line)[0] in certificate.HAS_RESCUER]
-    parts = []
-    for file, text, (number, word), said in (
-        (files[0], texts[0], flushes[place], what),
-        (files[1], texts[1], lines[assignment.workqueue_of[target]], none),
-    ):
-        parts.append(b"%s:%d:%d: %s" % (file, number, word.first + 1, said))
-        parts += [b"    " + part for part in excerpt(split_lines(text)[number - 1], about(word, said))]
-    return b"".join(shown(part) + b"\n" for part in parts)
 
 
 def of_step(file, texts, number):
@@ -936,15 +832,18 @@ def are_further(text, first, further):
     return len({first, *lines}) == len(lines) + 1 and all(refusal_alone(text, line) == code for line, code in by_itself)
 
 
-def agree(texts, wanted, found):
-    """Whether the program's answer, its status and what it says are the model's."""
-    if found[:2] != wanted[:2]:
+def agree(command, files, texts, wanted, found):
+    """Whether an answer, its status and what is said beside it are the model's, or as right."""
+    if not agrees(command, texts, wanted[:2], found[:2]):
         return False
     refused = re.fullmatch(rb"refused (\d+) line (\d+)\n", wanted[0])
-    if not refused or refused[1] not in HAS_FURTHER:
-        return found[2] == wanted[2]
-    further = found[2][len(wanted[2]):]
-    return found[2].startswith(wanted[2]) and are_further(texts[0], int(refused[2]), further)
+    first = wanted[2] if refused else said_first(command, files, texts, *found[:2])
+    behind = found[2][len(first):]
+    if not found[2].startswith(first):
+        return False
+    if refused:
+        return are_further(texts[0], int(refused[2]), behind) if refused[1] in HAS_FURTHER else not behind
+    return reasons.wrong_with(command, files, texts, found[0], behind) is None
 
 
 def compare(program, seed, count):
@@ -958,7 +857,7 @@ def compare(program, seed, count):
         numbers[int(wanted[0].split()[1]) if wanted[1] == 2 else 0] += 1
         words = [command, *(file for file in files if file != b"<stdin>")]
         found, same = ask(program, words, dict(zip(files, texts)))
-        if agree(texts, wanted, found) and same:
+        if agree(command, files, texts, wanted, found) and same:
             passed += 1
         else:
             failed += 1

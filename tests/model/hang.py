@@ -78,21 +78,25 @@ def leads_to_none(wait, assignment):
 # are; where the wait is for the target alone, this takes one step more, in which the target is queued.
 
 
-def ways(declared, assignment):
-    """For each item and workqueue the points to which the way goes on: of each the number of steps, the point, and the wait, if one is
-    made.
+def among_rescuers(declared, assignment):
+    """The places of the flushes that lead from a workqueue with a rescuer to such a one."""
+    workqueue_of = assignment.workqueue_of
+    return [place for place, flush in enumerate(declared.flushes) if not any(workqueue_of[name] in assignment.bare for name in flush)]
+
+
+def ways(declared, assignment, places):
+    """The ways by the flushes of these places: for each item and workqueue the points to which the way goes on, of each the number of
+    steps, the point, and the place of the flush, if a wait is made. Left out are items that don't wait.
     """
-    found = {name: [] for name in declared.items} | {number: [] for number in range(assignment.count)}
-    for name, number in assignment.workqueue_of.items():
-        found[number].append((0, name, None))
-    for place, (item, target) in enumerate(declared.flushes):
-        here, there = assignment.workqueue_of[item], assignment.workqueue_of[target]
-        if here in assignment.bare or there in assignment.bare:
-            continue
-        wait = wait_of(declared, place)
-        found[item].append((3, target, wait))
-        found[item].append((4 if wait[0] == b"wait" else 3, there, wait))
-    return found
+    found = {}
+    for place in places:
+        item, target = declared.flushes[place]
+        there = assignment.workqueue_of[target]
+        beside = 4 if wait_of(declared, place)[0] == b"wait" else 3
+        found.setdefault(item, []).extend([(3, target, place), (beside, there, place)])
+    for item in list(found):
+        found.setdefault(assignment.workqueue_of[item], []).append((0, item, None))
+    return {point: [way for way in further if way[1] in found] for point, further in found.items()}
 
 
 def backward_ends(graph):
@@ -117,18 +121,18 @@ def backward_ends(graph):
 
 
 def shortest_way_round(graph, first, bound):
-    """The waits of the way from this point back to it that takes the fewest steps, or None if that isn't below the bound."""
+    """The places of the waits of the way from this point back to it that takes the fewest steps, or None if that isn't below the bound."""
     reached = {}  # by point, from which one it is reached first, and by which wait
     count = itertools.count()  # of two that are as near the one that was found first
-    left = [(steps, next(count), other, first, wait) for steps, other, wait in graph[first]]
+    left = [(steps, next(count), other, first, place) for steps, other, place in graph[first]]
     heapq.heapify(left)
     while left:
-        steps, _, point, before, wait = heapq.heappop(left)
+        steps, _, point, before, place = heapq.heappop(left)
         if steps >= bound:
             return None
         if point in reached:
             continue
-        reached[point] = before, wait
+        reached[point] = before, place
         if point == first:
             break
         for more, other, by in graph[point]:
@@ -136,34 +140,43 @@ def shortest_way_round(graph, first, bound):
                 heapq.heappush(left, (steps + more, next(count), other, point, by))
     if first not in reached:
         return None
-    waits = []
-    point, wait = reached[first]
+    places = []
+    point, place = reached[first]
     while True:
-        if wait is not None:
-            waits.append(wait)
+        if place is not None:
+            places.append(place)
         if point == first:
-            return waits[::-1]
-        point, wait = reached[point]
+            return places[::-1]
+        point, place = reached[point]
 
 
-def shortest_circle(declared, assignment):
-    """The steps of the run of a circular wait than which none has fewer, or None where there is none."""
-    graph = ways(declared, assignment)
+def run_of_places(declared, assignment, places):
+    """The run of the circular wait by the flushes of these places."""
+    return run_of_circle([wait_of(declared, place) for place in places], assignment)
+
+
+def shortest_circle(declared, assignment, places, bound=None):
+    """The places of a circular wait, all of them among these, than whose run none has fewer steps; None where there is none, or none
+    with fewer steps than the bound.
+    """
+    graph = ways(declared, assignment, places)
     found = None
-    bound = 4 * len(declared.items) + 1  # more than any run has in which no item is queued twice
+    if bound is None:
+        bound = 4 * len(declared.items) + 1  # more than any run has in which no item is queued twice
     for first in backward_ends(graph):
-        waits = shortest_way_round(graph, first, bound)
-        if waits is not None:
-            found = run_of_circle(waits, assignment)
-            bound = len(found)
+        shorter = shortest_way_round(graph, first, bound)
+        if shorter is not None:
+            found = shorter
+            bound = len(run_of_places(declared, assignment, found))
     return found
 
 
 def shortest_run(declared, assignment):
     """The steps of a run than which none that ends stuck has fewer, or None where the assignment is safe."""
     runs = [run_to_no_rescuer(wait_of(declared, place), assignment) for place in led_to_no_rescuer(declared, assignment)[:1]]
-    circle = shortest_circle(declared, assignment)
-    return min(runs + ([circle] if circle is not None else []), key=len, default=None)
+    circle = shortest_circle(declared, assignment, among_rescuers(declared, assignment))
+    runs += [run_of_places(declared, assignment, circle)] if circle else []
+    return min(runs, key=len, default=None)
 
 
 # Whether a run is as good ------------------------------------------------------------------------

@@ -5,8 +5,8 @@
 # It makes up the same cases as compare.py, and looks at the model's answers with other means: with
 # a second reading of certificates that is one pattern for each kind of text, with a second reading
 # of the steps that keeps no state and looks at all steps before, with a second reading of circles
-# and of deadlocking runs, and with laws that docs/FORMAT.md implies. It stops at the first case
-# that breaks one. Then the states of search.py must allow the same steps as those of the model, and
+# and of deadlocking runs, and with laws that docs/FORMAT.md implies. Of the reasons that are said of small cases it lists all
+# circular waits. It stops at the first case that breaks a law. Then the states of search.py must allow the same steps as those of the model, and
 # what that search finds must be what the model answers.
 
 import collections
@@ -24,15 +24,18 @@ import check  # noqa: E402
 import circles  # noqa: E402
 import compare  # noqa: E402
 import deadlock  # noqa: E402
+import diagnoses  # noqa: E402
 import dot  # noqa: E402
 import hang  # noqa: E402
 import make_certificates  # noqa: E402
 import plan  # noqa: E402
+import reasons  # noqa: E402
 import replay  # noqa: E402
 import run  # noqa: E402
 import search  # noqa: E402
 from command_line import seed_and_counts  # noqa: E402
 from declaration import FLUSHES_WHOLE, Refused, read_declaration  # noqa: E402
+from standard_error import fits  # noqa: E402  (in tests/lib)
 from steps import State  # noqa: E402
 
 DEFAULT_SEED = "1"
@@ -623,7 +626,9 @@ LISTED_FLUSHES = 7
 
 
 def second_runs(declared, assignment):
-    """All runs of a circular wait in which no item waits twice, and all of a flush that leads to no rescuer, as the lines of run texts."""
+    """All runs of a circular wait in which no item waits twice, and all of a flush that leads to no rescuer, as the lines of run texts,
+    each with the places of its flushes.
+    """
     flushes = [(*declared.flush_line(place).split(b" "), place) for place in range(len(declared.flushes))]
     of, bare = assignment.workqueue_of, assignment.bare
     runs = []
@@ -632,7 +637,7 @@ def second_runs(declared, assignment):
         run = [b"queue %s" % item for _, item, _, _ in listed] + [b"queue %s" % name for name in beside]
         for word, item, target, _ in listed:
             run += [b"start %d %s" % (of[item], item), b"wait%s %d %s" % (word[len(b"flush"):], of[item], target)]
-        runs.append(run)
+        runs.append((run, [place for *_, place in listed]))
 
     def go_on(listed):
         if of[listed[-1][2]] == of[listed[0][1]]:
@@ -686,7 +691,7 @@ def look_at_hang(declaration_text, assignment_text):
     head = hang.answer(again, wqs_text(wqs[::-1], turned))[0].splitlines()[0]
     demand(head == lines[0], "how flushes and workqueues are numbered doesn't change the number of steps")
     if len(declared.items) <= LISTED_ITEMS and len(declared.flushes) <= LISTED_FLUSHES:
-        runs = second_runs(declared, assignment)
+        runs = [run for run, _ in second_runs(declared, assignment)]
         demand(min(map(len, runs)) == fewest, "of all circular waits none has fewer steps")
         demand(lines[1:] in runs, "the run is one of all of these")
         for run in runs:
@@ -695,6 +700,83 @@ def look_at_hang(declaration_text, assignment_text):
             demand((hang.wrong_with(declared, assignment, fewest, text) is None) == is_as_short, "each as short may be printed")
             changed = joined([b"run %d" % len(run), *run[:-2], *run[:-3:-1]])
             demand(hang.wrong_with(declared, assignment, fewest, changed) is not None, "the last steps have their order")
+
+
+# The reasons -------------------------------------------------------------------------------------
+
+FILES = [b"d.wq", b"a.assign", b"r.run"]
+# Of so many ways to say the reasons of several components all are looked at.
+WAYS_LOOKED_AT = 30
+
+
+def right_reasons(command, declared, assignment):
+    """Of each part of what is said the right reasons and the wrong ones, each as the places of its flushes."""
+    to_none = [place for place, flush in enumerate(declared.flushes)
+               if [assignment.workqueue_of[name] in assignment.bare for name in flush] == [False, True]]
+    found = [(len(run), places) for run, places in second_runs(declared, assignment) if not set(places) & set(to_none)]
+    if command != "circles":
+        is_of_one = any(steps == 3 for steps, _ in found)
+        if to_none and not is_of_one:
+            return [([to_none[:1]], [places for _, places in found] + [[place] for place in to_none[1:]])]
+        parts = [found]
+    else:
+        reached = leads([arc[:2] for arc in arcs_of_rescuers(declared, assignment) if arc[1] not in assignment.bare], assignment.count)
+
+        def lowest(places):
+            here = assignment.workqueue_of[declared.flushes[places[0]][0]]
+            return min(other for other in range(assignment.count) if reached[here] >> other & 1 and reached[other] >> here & 1)
+
+        numbers = sorted({lowest(places) for _, places in found})
+        parts = [[round for round in found if lowest(round[1]) == number] for number in numbers]
+    fewest = [min((steps for steps, _ in part), default=0) for part in parts]
+    sorted_out = [([places for steps, places in part if steps == least], [places for steps, places in part if steps > least])
+                  for part, least in zip(parts, fewest)]
+    return sorted_out + ([([to_none[:1]], [[place] for place in to_none[1:]])] if to_none and command == "circles" else [])
+
+
+def look_at_reasons(command, texts):
+    """What the model says is right, by itself and by all circular waits; what differs from that is wrong."""
+    files = FILES[:len(texts)]
+    printed, status, said = diagnoses.answer(command, files, texts)
+    demand(fits(printed, said, files, command), "what the model says on standard error has its form")
+    if status == 2 or not read_declaration(texts[0]).items:
+        return
+    said = said[len(diagnoses.said_first(command, files, texts, printed, status)):]
+
+    def wrong(said):
+        return reasons.wrong_with(command, files, texts, printed, said)
+
+    demand(wrong(said) is None, "the model's own reasons are right")
+    demand(wrong(said + b"d.wq:1:1: can hang\n") is not None, "no further line may be said")
+    found = reasons.case_of(command, files, texts, printed)
+    if found is None or not said:
+        demand(not said, "reasons are said of what hangs")
+        demand(found is None or command == "check", "and of all but a safe plan")
+        return
+    case, _ = found
+    lines = said.splitlines(keepends=True)
+    demand(len(lines) % 3 == 0, "each block has three lines")
+    for other in b"", b"".join(lines[3:]), b"".join(lines[:-3]), said + b"".join(lines[:3]), said.replace(b"can hang", b"may hang", 1):
+        demand(wrong(other) is not None, "each block is needed, once, and by its words")
+    declared, assignment = case.declared, case.assignment
+    own = reasons.flushes_said(case, said)
+    demand(case.printed(own) == said, "the flushes are read as they are said")
+    if len(own[0]) > 2:
+        demand(wrong(case.printed([own[0][1:] + own[0][:1], *own[1:]])) is None, "the first wait may be any")
+        demand(wrong(said.replace(lines[3], lines[3].replace(b"and ", b"can hang: ", 1), 1)) is not None, "the others aren't the first")
+        parted = lines[:3] + lines[6:9] + lines[3:6] + lines[9:]
+        demand(wrong(b"".join(parted)) is not None, "waits have an order")
+    if len(declared.items) > LISTED_ITEMS or len(declared.flushes) > LISTED_FLUSHES:
+        return
+    parts = right_reasons(command, declared, assignment)
+    demand(len(parts) == len(own), "there are as many reasons")
+    for part, (right, others) in enumerate(parts):
+        demand(own[part] in right, "the model's own is among all that are right")
+        for places in others:
+            demand(wrong(case.printed([*own[:part], places, *own[part + 1:]])) is not None, "a longer one is wrong")
+    ways = itertools.product(*[right for right, _ in parts])
+    for chosen in itertools.islice(ways, WAYS_LOOKED_AT):
+        demand(wrong(case.printed(chosen)) is None, "each that is as short is right")
 
 
 # Circles and drawings ----------------------------------------------------------------------------
@@ -940,6 +1022,7 @@ def main(arguments):
             looked += 1
             try:
                 look_at(*texts)
+                look_at_reasons(command, texts)
             except AssertionError as error:
                 print(f"FAILED  {command}, case {number} (seed {seed}): {error}")
                 print("\n".join(f"    {text[:2_000]!r}" for text in texts))

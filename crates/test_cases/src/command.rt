@@ -23,9 +23,9 @@ use wq_commands::{
     CheckCommand, DeadlockCommand, End, Fault, Metered, Outcome, PlanCommand, ReplayCommand,
     carry_out, end_of,
 };
-use wq_diagnosis::{CertificateKind, Diagnosing, Unrescued};
 use wq_dot::DotCommand;
 use wq_hang_command::HangCommand;
+use wq_voice::{Beside, CertificateKind, Diagnosing};
 
 /// The seed of the hashes of names. No answer depends on it.
 pub const SEED: u64 = 0;
@@ -119,10 +119,13 @@ fn voice(command: PlainCommand) -> Diagnosing<'static> {
         PlainCommand::Check => CertificateKind::Answer,
         _ => CertificateKind::Assignment,
     };
-    let unrescued = match command {
-        PlainCommand::Deadlock | PlainCommand::Hang => Unrescued::Explained,
-        PlainCommand::Circles => Unrescued::Noted,
-        _ => Unrescued::Unsaid,
+    let beside = match command {
+        PlainCommand::Plan => Beside::Circle,
+        PlainCommand::Deadlock | PlainCommand::Hang => Beside::Verdict,
+        PlainCommand::Replay => Beside::RunEnd,
+        PlainCommand::Circles => Beside::Components,
+        PlainCommand::OwnCircles => Beside::OwnComponents,
+        PlainCommand::Check | PlainCommand::Dot | PlainCommand::OwnDot => Beside::Other,
     };
     Diagnosing {
         seed: SEED,
@@ -130,7 +133,7 @@ fn voice(command: PlainCommand) -> Diagnosing<'static> {
         kind,
         certificate,
         run,
-        unrescued,
+        beside,
     }
 }
 

@@ -6,33 +6,30 @@
 use crate::command::SEED;
 use crate::declarations::{PLAN_OF_TWO, TWO};
 use std::alloc::{AllocError, Allocator};
-use wq_commands::{CheckCommand, Command, Texts, Voice};
-use wq_diagnosis::{
-    CertificateKind, Diagnosing, Source, of_certificate, of_declaration, of_failed, of_no,
-    of_no_item, of_too_many, of_unlawful,
+use wq_commands::{
+    CheckCommand, Command, DeadlockCommand, Outcome, PlanCommand, ReplayCommand, Texts, Voice,
 };
+use wq_diagnosis::{Source, of_failed, of_no_item, of_too_many};
+use wq_voice::{Beside, CertificateKind, Diagnosing};
+
+/// The assignment that a run is made under.
+const ONE_WORKQUEUE: &str = "wq 0 send log\n";
 
 /// What is asked to say what is wrong.
 #[derive(Clone, Copy)]
 pub enum Saying {
-    /// `of_declaration`.
-    OfDeclaration,
-    /// `of_certificate` of an answer.
-    OfAnswer,
-    /// `of_certificate` of an assignment.
-    OfAssignment,
-    /// `of_certificate` of a run.
-    OfRun,
-    /// `of_no`.
-    OfNo,
+    /// The command `plan`, and what the program says of its answer.
+    OfPlan,
+    /// The command `deadlock` of an assignment, likewise.
+    OfDeadlock,
+    /// The command `replay` of a run, likewise, where both items are on one workqueue.
+    OfReplay,
     /// `of_no_item`.
     OfNoItem,
     /// `of_too_many`.
     OfTooMany,
-    /// The command `check`, and what the program says of its answer.
+    /// The command `check`, likewise.
     OfCheck,
-    /// `of_unlawful` of step 3 of a run, where both items are on one workqueue.
-    OfUnlawful,
     /// `of_failed` of a file, whose name is the certificate.
     OfFailed,
 }
@@ -49,7 +46,7 @@ pub struct Said {
 const SAYINGS: &[Said] = &[
     Said {
         name: "an item that isn't there",
-        saying: Saying::OfDeclaration,
+        saying: Saying::OfPlan,
         declaration: "item send\nitem log\nflush send lgo\n",
         certificate: "",
         said: "\
@@ -60,7 +57,7 @@ d:3:12: no item `lgo` is declared above this line [refused 8, `wqplan explain 8`
     },
     Said {
         name: "a wait that isn't spelled `flush`",
-        saying: Saying::OfDeclaration,
+        saying: Saying::OfPlan,
         declaration: "item send\nitem log\nwait send log\n",
         certificate: "",
         said: "\
@@ -71,7 +68,7 @@ d:3:1: `wait` isn't a directive [refused 4, `wqplan explain 4`]
     },
     Said {
         name: "a call that queues",
-        saying: Saying::OfDeclaration,
+        saying: Saying::OfPlan,
         declaration: "item send\nitem log\nqueue send log\n",
         certificate: "",
         said: "\
@@ -82,7 +79,7 @@ d:3:1: `queue` isn't a directive [refused 4, `wqplan explain 4`]
     },
     Said {
         name: "a call that cancels",
-        saying: Saying::OfDeclaration,
+        saying: Saying::OfPlan,
         declaration: "item send\ncancel send\n",
         certificate: "",
         said: "\
@@ -93,7 +90,7 @@ d:2:1: `cancel` isn't a directive [refused 4, `wqplan explain 4`]
     },
     Said {
         name: "two mistakes",
-        saying: Saying::OfDeclaration,
+        saying: Saying::OfPlan,
         declaration: "itme a\nflush a b\n",
         certificate: "",
         said: "\
@@ -107,25 +104,14 @@ d:2:9: no item `b` is declared above this line [refused 8, `wqplan explain 8`]
     },
     Said {
         name: "nothing wrong with a declaration",
-        saying: Saying::OfDeclaration,
+        saying: Saying::OfPlan,
         declaration: TWO,
         certificate: "",
         said: "",
     },
     Said {
-        name: "a first word of an answer",
-        saying: Saying::OfAnswer,
-        declaration: TWO,
-        certificate: "plans 2\nwq 0 b\nwq 1 a\n",
-        said: "\
-c:1:1: expected `plan K`, found `plans` [refused 40, `wqplan explain 40`]
-    plans 2
-    ^^^^^
-",
-    },
-    Said {
         name: "an assignment that isn't an answer",
-        saying: Saying::OfAnswer,
+        saying: Saying::OfCheck,
         declaration: TWO,
         certificate: "wq 0 b\nwq 1 a\n",
         said: "\
@@ -136,7 +122,7 @@ c:1:1: expected `plan K`, found `wq` [refused 40, `wqplan explain 40`]
     },
     Said {
         name: "an assignment that begins with a byte order mark",
-        saying: Saying::OfAssignment,
+        saying: Saying::OfDeadlock,
         declaration: TWO,
         certificate: "\u{FEFF}wq 0 b\nwq 1 a\n",
         said: "\
@@ -147,7 +133,7 @@ c: `a`, `b` are on no workqueue: line 1 isn't a `wq` or `norescuer` line [refuse
     },
     Said {
         name: "a line that is like a `wq` line",
-        saying: Saying::OfAssignment,
+        saying: Saying::OfDeadlock,
         declaration: TWO,
         certificate: "wq 0 b\nwp 1 a\n",
         said: "\
@@ -158,7 +144,7 @@ c: `a` is on no workqueue: line 2 isn't a `wq` or `norescuer` line [refused 41, 
     },
     Said {
         name: "a declaration that isn't an assignment",
-        saying: Saying::OfAssignment,
+        saying: Saying::OfDeadlock,
         declaration: TWO,
         certificate: TWO,
         said: "\
@@ -169,7 +155,7 @@ c: `a`, `b` are on no workqueue: line 1 isn't a `wq` or `norescuer` line [refuse
     },
     Said {
         name: "a plan without its first line",
-        saying: Saying::OfAssignment,
+        saying: Saying::OfDeadlock,
         declaration: TWO,
         certificate: "wq 0 b\nwq 1 a\nchain 2\narc a b\n",
         said: "\
@@ -180,7 +166,7 @@ c:3:1: the text should end before this line [refused 40, `wqplan explain 40`]
     },
     Said {
         name: "a workqueue with a name",
-        saying: Saying::OfAssignment,
+        saying: Saying::OfDeadlock,
         declaration: TWO,
         certificate: "wq md a b\n",
         said: "\
@@ -191,7 +177,7 @@ c:1:4: `md` isn't a number [refused 40, `wqplan explain 40`]
     },
     Said {
         name: "a flag among the items",
-        saying: Saying::OfAssignment,
+        saying: Saying::OfDeadlock,
         declaration: TWO,
         certificate: "wq 0 WQ_MEM_RECLAIM a b\n",
         said: "\
@@ -202,39 +188,21 @@ c:1:6: no item `WQ_MEM_RECLAIM` is declared [refused 40, `wqplan explain 40`]
     },
     Said {
         name: "an assignment without an item",
-        saying: Saying::OfAssignment,
+        saying: Saying::OfDeadlock,
         declaration: TWO,
         certificate: "wq 0 a\n",
         said: "c: `b` is on no workqueue [refused 41, `wqplan explain 41`]\n",
     },
     Said {
         name: "a run without a step",
-        saying: Saying::OfRun,
-        declaration: TWO,
+        saying: Saying::OfReplay,
+        declaration: "item send\nitem log\nflush send log\n",
         certificate: "run 1\nend 0 a\n",
         said: "\
-c:2:1: expected a step, found `end` [refused 40, `wqplan explain 40`]
+r:2:1: expected a step, found `end` [refused 40, `wqplan explain 40`]
     end 0 a
     ^^^
 ",
-    },
-    Said {
-        name: "a plan of one workqueue",
-        saying: Saying::OfNo,
-        declaration: TWO,
-        certificate: "plan 1\nwq 0 a b\nchain 1\n",
-        said: "\
-c:2:6: `a` flushes `b`, so it should be on a higher workqueue [no 50, `wqplan explain 50`]
-    wq 0 a b
-         ^ `b` is on workqueue 0
-",
-    },
-    Said {
-        name: "nothing wrong with a plan",
-        saying: Saying::OfNo,
-        declaration: TWO,
-        certificate: PLAN_OF_TWO,
-        said: "",
     },
     Said {
         name: "no item",
@@ -288,6 +256,9 @@ c:1:1: expected `plan K`, found `plans` [refused 40, `wqplan explain 40`]
 c:2:6: `a` flushes `b`, so it should be on a higher workqueue [no 50, `wqplan explain 50`]
     wq 0 a b
          ^ `b` is on workqueue 0
+d:3:9: can hang: `a`, on workqueue 0, waits for `b`, which is behind it
+    flush a b
+            ^
 ",
     },
     Said {
@@ -299,39 +270,43 @@ c:2:6: `a` flushes `b`, so it should be on a higher workqueue [no 50, `wqplan ex
     },
     Said {
         name: "an item that isn't the first",
-        saying: Saying::OfUnlawful,
+        saying: Saying::OfReplay,
         declaration: "item send\nitem log\nflush send log\n",
         certificate: "run 3\nqueue send\nqueue log\nstart 0 log\n",
         said: "\
-c:4:9: `log` isn't the first entry of workqueue 0, which is `send` [not lawful 3]
+r:4:9: `log` isn't the first entry of workqueue 0, which is `send` [not lawful 3]
     start 0 log
             ^^^
 ",
     },
     Said {
         name: "a wait of what doesn't flush",
-        saying: Saying::OfUnlawful,
+        saying: Saying::OfReplay,
         declaration: "item send\nitem log\nflush send log\n",
         certificate: "run 3\nqueue log\nstart 0 log\nwait 0 send\n",
         said: "\
-c:4:8: `log`, which runs on workqueue 0, declares no flush of `send` [not lawful 3]
+r:4:8: `log`, which runs on workqueue 0, declares no flush of `send` [not lawful 3]
     wait 0 send
            ^^^^
 ",
     },
     Said {
         name: "a run that may be made",
-        saying: Saying::OfUnlawful,
+        saying: Saying::OfReplay,
         declaration: "item send\nitem log\nflush send log\n",
         certificate: "run 1\nqueue send\n",
         said: "",
     },
     Said {
         name: "a run that is refused",
-        saying: Saying::OfUnlawful,
+        saying: Saying::OfReplay,
         declaration: "item send\nitem log\nflush send log\n",
         certificate: "run 1\nqueue sent\n",
-        said: "",
+        said: "\
+r:2:7: no item `sent` is declared [refused 40, `wqplan explain 40`]
+    queue sent
+          ^^^^ did you mean `send`?
+",
     },
     Said {
         name: "a file that isn't there",
@@ -351,71 +326,102 @@ impl Saying {
     /// What is asked for.
     pub fn words(self) -> &'static str {
         match self {
-            Saying::OfDeclaration => "of a declaration",
-            Saying::OfAnswer => "of an answer",
-            Saying::OfAssignment => "of an assignment",
-            Saying::OfRun => "of a run",
-            Saying::OfNo => "of a no",
+            Saying::OfPlan => "of an answer of plan",
+            Saying::OfDeadlock => "of an answer of deadlock",
+            Saying::OfReplay => "of an answer of replay",
             Saying::OfNoItem => "of no item",
             Saying::OfTooMany => "of too many workqueues",
             Saying::OfCheck => "of an answer of check",
-            Saying::OfUnlawful => "of a step that isn't lawful",
             Saying::OfFailed => "of a file that can't be read",
         }
     }
 }
 
-/// Checks a certificate, and says what the program says of the answer.
-fn say_of_check<A: Allocator + Copy>(
+/// What is said beside the answer of a command to these texts.
+fn say_of<C, A>(
     alloc: A,
-    declaration: Source<'_>,
-    certificate: Source<'_>,
-) -> Result<Option<Vec<u8, A>>, AllocError> {
-    let first = copied(alloc, declaration.text)?;
-    let second = copied(alloc, certificate.text)?;
-    let texts = Texts::new(first, second, Vec::new(alloc));
-    let command = CheckCommand { seed: SEED };
-    let (outcome, _) = command.answer(alloc, &texts)?;
-    let voice = Diagnosing::two(
-        SEED,
-        declaration.file,
-        CertificateKind::Answer,
-        certificate.file,
-    );
-    voice.say(alloc, &texts, &outcome)
+    command: &C,
+    kind: CertificateKind,
+    beside: Beside,
+    texts: &Texts<A>,
+) -> Result<Option<Vec<u8, A>>, AllocError>
+where
+    C: Command<A, End = Outcome, Stop = AllocError>,
+    A: Allocator + Copy,
+{
+    let (outcome, _) = command.answer(alloc, texts)?;
+    let voice = Diagnosing {
+        seed: SEED,
+        declaration: "d",
+        kind,
+        certificate: "c",
+        run: "r",
+        beside,
+    };
+    voice.say(alloc, texts, &outcome)
 }
 
 /// A copy of these bytes.
-fn copied<A: Allocator + Copy>(alloc: A, bytes: &[u8]) -> Result<Vec<u8, A>, AllocError> {
+fn copied<A: Allocator + Copy>(alloc: A, bytes: &str) -> Result<Vec<u8, A>, AllocError> {
     let mut copy = Vec::new(alloc);
-    copy.extend_from_slice(bytes)?;
+    copy.extend_from_slice(bytes.as_bytes())?;
     Ok(copy)
 }
 
-/// Asks what is wrong. Nothing where nothing is.
+/// The texts of a case for a command that has two.
+fn two_texts<A: Allocator + Copy>(alloc: A, case: &Said) -> Result<Texts<A>, AllocError> {
+    let first = copied(alloc, case.declaration)?;
+    let second = copied(alloc, case.certificate)?;
+    Ok(Texts::new(first, second, Vec::new(alloc)))
+}
+
+/// The texts of a case whose certificate is a run.
+fn run_texts<A: Allocator + Copy>(alloc: A, case: &Said) -> Result<Texts<A>, AllocError> {
+    let first = copied(alloc, case.declaration)?;
+    let second = copied(alloc, ONE_WORKQUEUE)?;
+    let third = copied(alloc, case.certificate)?;
+    Ok(Texts::new(first, second, third))
+}
+
+/// Asks what is said. Nothing where nothing is.
 pub fn say<A: Allocator + Copy>(alloc: A, case: &Said) -> Result<Option<Vec<u8, A>>, AllocError> {
+    let seed = SEED;
+    let answer = CertificateKind::Answer;
+    let assignment = CertificateKind::Assignment;
     let text = case.declaration.as_bytes();
     let declaration = Source { file: "d", text };
-    let certificate = Source {
-        file: "c",
-        text: case.certificate.as_bytes(),
-    };
     match case.saying {
-        Saying::OfDeclaration => of_declaration(alloc, SEED, declaration),
-        Saying::OfAnswer => of_certificate(alloc, SEED, CertificateKind::Answer, text, certificate),
-        Saying::OfAssignment => of_certificate(
-            alloc,
-            SEED,
-            CertificateKind::Assignment,
-            text,
-            certificate,
-        ),
-        Saying::OfRun => of_certificate(alloc, SEED, CertificateKind::Run, text, certificate),
-        Saying::OfNo => of_no(alloc, SEED, text, certificate),
+        Saying::OfPlan => {
+            let texts = two_texts(alloc, case)?;
+            say_of(
+                alloc,
+                &PlanCommand { seed },
+                assignment,
+                Beside::Circle,
+                &texts,
+            )
+        }
+        Saying::OfCheck => {
+            let texts = two_texts(alloc, case)?;
+            say_of(alloc, &CheckCommand { seed }, answer, Beside::Other, &texts)
+        }
+        Saying::OfDeadlock => {
+            let texts = two_texts(alloc, case)?;
+            let command = DeadlockCommand { seed };
+            say_of(alloc, &command, assignment, Beside::Verdict, &texts)
+        }
+        Saying::OfReplay => {
+            let texts = run_texts(alloc, case)?;
+            say_of(
+                alloc,
+                &ReplayCommand { seed },
+                assignment,
+                Beside::RunEnd,
+                &texts,
+            )
+        }
         Saying::OfNoItem => of_no_item(alloc, SEED, declaration),
         Saying::OfTooMany => Ok(Some(of_too_many(alloc, declaration)?)),
-        Saying::OfCheck => say_of_check(alloc, declaration, certificate),
-        Saying::OfUnlawful => of_unlawful(alloc, SEED, text, b"wq 0 send log\n", certificate, 3),
         Saying::OfFailed => {
             let file = case.certificate;
             Ok(Some(of_failed(alloc, file, "no such file")?))

@@ -8,9 +8,9 @@ use std::sync::Wait;
 use std::thread::Threads;
 use test_cases::{Case, PlainCommand, RunCase, SEED, perform};
 use wq_commands::{End, Fault};
-use wq_diagnosis::Diagnosing;
 use wq_explain::{Explained, explain_cmd};
 use wq_run::{CommandFault, carry_out_run, end_of_run};
+use wq_voice::{Beside, Diagnosing};
 
 /// What is asked for.
 #[derive(Clone, Copy)]
@@ -105,7 +105,7 @@ fn run<R: Threads + Wait + Sync, A: Allocator + Copy + Send + Sync>(
         writer,
         teller,
     } = devices;
-    let voice = Diagnosing::one(SEED, "d");
+    let voice = Diagnosing::one(SEED, "d", Beside::Other);
     let ended = carry_out_run(
         rt,
         alloc,

@@ -12,7 +12,7 @@ pub mod OnCircles
 pub mod InOrder
 pub mod Safe
 mod Answered
-mod Promised
+pub mod Promised
 mod Printed
 pub mod Taking
 pub mod ForBare

@@ -11,7 +11,6 @@ use Rattle.wq_core.specs.Wiring.{RescuedWaits, own_lanes}
 use Rattle.wq_core.specs.Workqueues.{Workqueues, wiring_of, all_rescued}
 use Rattle.wq_deadlock.specs.Judging.{bare_waits}
 use Rattle.wq_circles.specs.Leading.{Leads, AreTogether}
-use Rattle.wq_meter.specs.Meter.{Meter}
 use Rattle.wq_cert.specs.Ranges.{IsAssignmentOf}
 use Rattle.wq_cert.specs.Texts.{workqueues_of_text, cert_refusal}
 use Rattle.wq_cert.proofs.LanesRead.{AreWorkqueuesOf-workqueues_of_text}
@@ -25,7 +24,6 @@ use Rattle.wq_circles.specs.Components.{joined, kept_graph, AreComponents}
 use Rattle.wq_circles.specs.Flushes.{IsInComponents, AreInOneComponent, IsDeclaredFlush, IsBefore}
 use Rattle.wq_circles.specs.Circling.{CirclesAssigned, CirclesDeclared, Circles, OwnCircles}
 use Rattle.wq_circles.specs.CirclesPromise.{AreOnCircles, KeepsAssigned, KeepsCirclesDeclared, KeepsCircles, KeepsOwnCircles}
-use Rattle.wq_circles.specs.CirclesInput.{CirclesInput, OwnCirclesInput, KeepsCirclesOfInput, KeepsOwnCirclesOfInput}
 use Rattle.wq_circles.proofs.InOrder.{rising-loops, IsBefore-loops}
 use Rattle.wq_circles.proofs.ForBare.{AreForBare-waits}
 use Rattle.wq_circles.proofs.KeptLanes.{VertexWaits-kept_graph}
@@ -117,11 +115,3 @@ KeepsOwnCircles-answers declared end out =
     by_case (declaration declared) (λ s. CirclesAssigned s (all_rescued (own_lanes s.partition.groups)) end out) (λ s. KeepsAssigned s (all_rescued (own_lanes s.partition.groups)) end out) (λ r. PrintsRefusal r end out) (λ r. end ≡ Refused)
     (λ s is. let sound = IsSound-declaration declared s is in kept s sound (all_rescued (own_lanes s.partition.groups)) (IsAssignmentOf-own_lanes s sound) end out)
     (λ r refused. refused.0)
-
-pub KeepsCirclesOfInput-answered : {D S : Type 0} {known : D → Option (List ℕ)} {assigned : S → Option (List ℕ)} {old new : Meter D} {a_old a_new : Meter S} (end : End) (out : List ℕ)
-    → CirclesInput known assigned old new a_old a_new end out → KeepsCirclesOfInput known assigned old new a_old a_new end out
-KeepsCirclesOfInput-answered end out answered = record { answered = answered; promise = KeepsCircles-answers answered.text answered.lanes end out answered.answer }
-
-pub KeepsOwnCirclesOfInput-answered : {D : Type 0} {known : D → Option (List ℕ)} {old new : Meter D} (end : End) (out : List ℕ)
-    → OwnCirclesInput known old new end out → KeepsOwnCirclesOfInput known old new end out
-KeepsOwnCirclesOfInput-answered end out answered = record { answered = answered; promise = KeepsOwnCircles-answers answered.text end out answered.answer }

@@ -13,5 +13,4 @@ pub mod ComponentsText
 pub mod Flushes
 pub mod Circling
 pub mod CirclesPromise
-pub mod CirclesInput
 pub mod AllRescued

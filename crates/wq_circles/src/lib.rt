@@ -22,7 +22,7 @@ mod progress;
 mod together;
 mod walk;
 
-pub use circles::{CirclesCommand, circles_cmd, own_circles_cmd};
+pub use circles::CirclesCommand;
 pub use joining::components;
 pub use printing::{circles_text, components_text};
 pub use together::lowest;

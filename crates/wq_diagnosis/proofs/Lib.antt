@@ -1,2 +1,1 @@
-pub mod BareNotes
 pub mod Lines

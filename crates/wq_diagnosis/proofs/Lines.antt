@@ -6,7 +6,6 @@ use Rattle.std.proofs.lemmas.List.Elements.{All-append, All-cons, All-nil}
 use Rattle.wq_findings.specs.Shown.{shown}
 use Rattle.wq_diagnosis.specs.Diagnosis.{shown_lines, head, IsDiagnosis, IsOnLine, IsPlain}
 use Rattle.wq_diagnosis.specs.Unlawful.{IsUnlawfulText, unlawful_head}
-use Rattle.wq_diagnosis.specs.Unrescued.{IsSaidOf, plain_head}
 
 -- ---- what is shown is plain
 
@@ -25,7 +24,7 @@ plain-line : (line : List ℕ) → IsPlain (map shown line)
 plain-line [] = All-nil Plain
 plain-line (byte ∷ line) = All-cons Plain (shown byte) (map shown line) (plain-shown byte) (plain-line line)
 
-plain-lines : (lines : List (List ℕ)) → IsPlain (shown_lines lines)
+pub plain-lines : (lines : List (List ℕ)) → IsPlain (shown_lines lines)
 plain-lines [] = All-nil Plain
 plain-lines (line ∷ lines) =
     All-append Plain (map shown line ++ (10 ∷ [])) (shown_lines lines)
@@ -52,13 +51,4 @@ unlawful_of file what n place more text lines = record {
   more = more;
   lines = lines;
   plain = subst IsPlain (sym lines) (plain-lines (unlawful_head file place what n ∷ more));
-}
-
--- lines that begin with that one say this
-pub said_of : (file what : List ℕ) (place : List ℕ) (more : List (List ℕ)) (text : List ℕ) → text ≡ shown_lines (plain_head file place what ∷ more) → IsSaidOf file what text
-said_of file what place more text lines = record {
-  place = place;
-  more = more;
-  lines = lines;
-  plain = subst IsPlain (sym lines) (plain-lines (plain_head file place what ∷ more));
 }

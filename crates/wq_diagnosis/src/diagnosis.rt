@@ -3,27 +3,26 @@
 //! The form is that of "Diagnoses" in docs/FORMAT.md. A call that is told the refusal, or what a certificate lacks, takes the time and
 //! the memory of reading the declaration and of searching the text for the fault. The others read the texts first to learn it.
 
-ghost use Rattle.std.specs.Prelude.{◌≡◌, ◌++◌, ◌∷◌, [], ◌<◌, codes, length, map, option_map, ℕ, IfOk, OnOk, Option, Some, IsTrue};
-ghost use Rattle.wq_findings.specs.Shown.{place_text, shown};
+ghost use Rattle.std.specs.Prelude.{◌≡◌, ◌++◌, ◌∷◌, codes, length, map, option_map, ℕ, IfOk, OnOk, Some, IsTrue};
+ghost use Rattle.wq_findings.specs.Shown.{place_text};
 ghost use Rattle.wq_diagnosis.specs.Diagnosis.{head, shown_lines, IsDiagnosis};
 ghost use Rattle.wq_checker.specs.Codes.{no_code};
-ghost use Rattle.wq_checker.specs.declared.answer.No.{No};
-ghost use Rattle.wq_diagnosis.specs.Refused.{no_item_note, Diagnoses, DiagnosesNo, HasNoItem, IsFaultOfCertificate, IsNoTo, NotesNoItem, SaysIfDeclared, SaysNo, certificate_refusal, declaration_refusal, refusal_with};
+ghost use Rattle.wq_diagnosis.specs.Refused.{no_item_note, Diagnoses, HasNoItem, NotesNoItem, SaysIfDeclared};
 
 use crate::further::push_further;
+use crate::layout::{column, lines_of, push_excerpt, put_line, put_lines};
 use std::alloc::{AllocError, Allocator};
-use wq_cert::{CertError, read_answer, read_run, read_workqueues};
-use wq_checker::{No, check_answer};
+use wq_checker::No;
 use wq_commands::{Declaration, Stop, read_declaration};
 use wq_findings::{
-    CertificateKind, Excerpt, Finding, Found, Hint, Mark, Marks, Refused, What, has_words,
-    in_answer, in_certificate, in_declaration, line_at, put_place, shown,
+    CertificateKind, Finding, Found, Mark, Refused, What, has_words, in_answer, in_certificate,
+    in_declaration, line_at, put_place,
 };
 use wq_lines::put;
 use wq_text::{Line, Text};
 
 /// The number of the refusal of a plan that has too many workqueues to run.
-pub(crate) const TOO_MANY: u32 = 69;
+pub const TOO_MANY: u32 = 69;
 
 /// A text of a command, and the file that it comes from.
 #[derive(Clone, Copy, Debug, PartialEq, Eq)]
@@ -68,31 +67,6 @@ impl Refusal {
             line,
         }
     }
-}
-
-/// The bytes as they are shown.
-fn shown_bytes<A: Allocator + Copy>(alloc: A, bytes: &[u8]) -> Result<Vec<u8, A>, AllocError>
-    ensures { IfOk result (λ line. line.items ≡ map shown bytes.now) }
-{
-    let mut line = Vec::new(alloc);
-    for byte in bytes {
-        line.push(shown(*byte))?;
-    }
-    Ok(line)
-}
-
-/// Adds a line as it is shown.
-pub(crate) fn put_line<A: Allocator + Copy>(
-    alloc: A,
-    out: &mut Vec<u8, A>,
-    line: &[u8],
-) -> Result<(), AllocError>
-    ensures { OnOk result (out.new.items ≡ out.old.items ++ (map shown line.now ++ (10 ∷ []))) }
-{
-    let line = shown_bytes(alloc, line)?;
-    out.extend_from_slice(&line)?;
-    out.push(b'\n')?;
-    Ok(())
 }
 
 /// Adds the word of an answer with its number, and the command that explains it.
@@ -148,20 +122,6 @@ pub(crate) fn head<A: Allocator + Copy>(
     Ok(line)
 }
 
-/// Adds a line and its marks.
-pub(crate) fn push_excerpt<A: Allocator + Copy>(
-    alloc: A,
-    details: &mut Vec<Vec<u8, A>, A>,
-    bytes: &[u8],
-    mark: Mark,
-    hint: Hint<'_>,
-) -> Result<(), AllocError> {
-    let marks = Marks::of(bytes.len(), mark, hint);
-    details.push(Excerpt::of(bytes, mark).to_string(alloc)?.into_bytes())?;
-    details.push(marks.to_string(alloc)?.into_bytes())?;
-    Ok(())
-}
-
 /// Adds the line that is meant and its marks, where bytes of it are meant.
 pub(crate) fn push_details<A: Allocator + Copy>(
     alloc: A,
@@ -186,20 +146,6 @@ fn details<A: Allocator + Copy>(
     Ok(details)
 }
 
-/// Adds lines as they are shown.
-pub(crate) fn put_lines<A: Allocator + Copy>(
-    alloc: A,
-    out: &mut Vec<u8, A>,
-    lines: &[Vec<u8, A>],
-) -> Result<(), AllocError>
-    ensures { OnOk result (out.new.items ≡ out.old.items ++ shown_lines (map (λ line. line.items) lines.now)) }
-{
-    for line in lines {
-        put_line(alloc, out, line)?;
-    }
-    Ok(())
-}
-
 /// The whole text of a diagnosis.
 fn whole_text<A: Allocator + Copy>(
     alloc: A,
@@ -217,11 +163,6 @@ fn whole_text<A: Allocator + Copy>(
     put_line(alloc, &mut out, &head)?;
     put_lines(alloc, &mut out, details)?;
     Ok(out)
-}
-
-/// The column of a mark, from 1.
-pub(crate) fn column(mark: Mark) -> u32 {
-    u32::try_from(mark.at).unwrap_or(u32::MAX).saturating_add(1)
 }
 
 /// The diagnosis of a refusal, from the bytes that are meant, what is wrong, and the lines below the first one.
@@ -268,19 +209,6 @@ fn diagnosis<A: Allocator + Copy>(
     diagnosis_at(alloc, file, refusal, finding.mark, &what, &details)
 }
 
-/// The lines of a text, however long they are. A text of more than 4,294,967,295 bytes, which no command reads, has none.
-pub(crate) fn lines_of(text: &[u8]) -> Text<'_> {
-    match Text::new(text, u32::MAX, u32::MAX) {
-        Ok(text) => text,
-        Err(_) => no_text(),
-    }
-}
-
-/// A text without lines.
-fn no_text<'a>() -> Text<'a> {
-    Text::new(b"", 0, 0).unwrap()
-}
-
 /// The diagnosis of a declaration that is refused like this, and below it those of its further mistakes.
 fn of_refused<A: Allocator + Copy>(
     alloc: A,
@@ -319,46 +247,6 @@ pub fn of_refused_declaration<A: Allocator + Copy>(
     ensures { IfOk result (λ said. IsDiagnosis declaration.entry.file.now (codes "refused") code line said.items) }
 {
     of_refused(alloc, seed, declaration, Refusal::new(code, line))
-}
-
-/// Diagnoses a declaration: nothing where it is one, or else the diagnosis of its refusal.
-///
-/// The only error is out of memory (20).
-///
-/// The names are hashed with `seed`. No answer depends on it.
-pub fn of_declaration<A: Allocator + Copy>(
-    alloc: A,
-    seed: u64,
-    declaration: Source<'_>,
-) -> Result<Option<Vec<u8, A>>, AllocError>
-    ensures { IfOk result (λ said. Diagnoses declaration.entry.file.now (declaration_refusal declaration.entry.text.now) (option_map (λ text. text.items) said)) }
-{
-    match read_declaration(alloc, seed, declaration.text) {
-        Ok(_) => Ok(None),
-        Err(Stop::Refused { code, line }) => {
-            let said = of_refused(alloc, seed, declaration, Refusal::new(code, line))?;
-            Ok(Some(said))
-        }
-        Err(Stop::OutOfMemory) => Err(AllocError),
-    }
-}
-
-/// Why a certificate of a declaration is refused; none where it has its form.
-fn fault_of<A: Allocator + Copy>(
-    alloc: A,
-    kind: CertificateKind,
-    declared: &Declaration<'_, A>,
-    text: &[u8],
-) -> Option<CertError>
-    requires { length declared.now.groups.group_of ≡ length declared.now.table.names }
-    ensures { IsFaultOfCertificate result (certificate_refusal kind (record { table = declared.now.table; partition = declared.now.groups }) text.now) }
-{
-    let Declaration { table, groups } = declared;
-    match kind {
-        CertificateKind::Answer => read_answer(alloc, text, table, groups).err(),
-        CertificateKind::Assignment => read_workqueues(alloc, text, table, groups).err(),
-        CertificateKind::Run => read_run(alloc, text, table).err(),
-    }
 }
 
 /// Finds what is wrong in a certificate that is refused like this, and the line that is meant, if there is one.
@@ -423,50 +311,6 @@ pub fn of_refused_certificate<A: Allocator + Copy>(
             let said = of_fault(alloc, kind, &declared, declaration, certificate, refusal)?;
             Ok(Some(said))
         }
-        Err(Stop::Refused { .. }) => Ok(None),
-        Err(Stop::OutOfMemory) => Err(AllocError),
-    }
-}
-
-/// Diagnoses a certificate of this declaration: nothing where it has its form, or else the diagnosis of its refusal.
-fn of_certificate_for<A: Allocator + Copy>(
-    alloc: A,
-    kind: CertificateKind,
-    declared: &Declaration<'_, A>,
-    declaration: &[u8],
-    certificate: Source<'_>,
-) -> Result<Option<Vec<u8, A>>, AllocError>
-    requires { length declared.now.groups.group_of ≡ length declared.now.table.names }
-    ensures { IfOk result (λ said. Diagnoses certificate.entry.file.now (certificate_refusal kind (record { table = declared.now.table; partition = declared.now.groups }) certificate.entry.text.now) (option_map (λ text. text.items) said)) }
-{
-    match fault_of(alloc, kind, declared, certificate.text) {
-        None => Ok(None),
-        Some(CertError::OutOfMemory) => Err(AllocError),
-        Some(fault) => {
-            let refusal = Refusal::new(fault.code(), fault.line());
-            let said = of_fault(alloc, kind, declared, declaration, certificate, refusal)?;
-            Ok(Some(said))
-        }
-    }
-}
-
-/// Diagnoses a certificate of a declaration: nothing where it has its form, or where the declaration is refused, or else the
-/// diagnosis of its refusal.
-///
-/// The only error is out of memory (20).
-///
-/// The names are hashed with `seed`. No answer depends on it.
-pub fn of_certificate<A: Allocator + Copy>(
-    alloc: A,
-    seed: u64,
-    kind: CertificateKind,
-    declaration: &[u8],
-    certificate: Source<'_>,
-) -> Result<Option<Vec<u8, A>>, AllocError>
-    ensures { IfOk result (λ said. Diagnoses certificate.entry.file.now (refusal_with kind declaration.now certificate.entry.text.now) (option_map (λ text. text.items) said)) }
-{
-    match read_declaration(alloc, seed, declaration) {
-        Ok(declared) => of_certificate_for(alloc, kind, &declared, declaration, certificate),
         Err(Stop::Refused { .. }) => Ok(None),
         Err(Stop::OutOfMemory) => Err(AllocError),
     }
@@ -539,29 +383,6 @@ pub fn of_no_item<A: Allocator + Copy>(
     Ok(Some(said))
 }
 
-/// The `no` that the checker answers to a certificate; none where the certificate is refused, or the answer is yes.
-fn no_to<A: Allocator + Copy>(
-    alloc: A,
-    declared: &Declaration<'_, A>,
-    text: &[u8],
-) -> Result<Option<No>, AllocError>
-    requires { length declared.now.groups.group_of ≡ length declared.now.table.names }
-    ensures { IfOk result (λ no. IsNoTo (record { table = declared.now.table; partition = declared.now.groups }) text.now no) }
-{
-    let Declaration { table, groups } = declared;
-    // What holds of every table and of all groups.
-    let _items = table.len();
-    let _groups = groups.len();
-    match read_answer(alloc, text, table, groups) {
-        Ok(answer) => match check_answer(alloc, table, groups, &answer)? {
-            Ok(_) => Ok(None),
-            Err(no) => Ok(Some(no)),
-        },
-        Err(CertError::OutOfMemory) => Err(AllocError),
-        Err(_) => Ok(None),
-    }
-}
-
 /// The number of the line that is meant; 0 where none is.
 fn number_of(line: &Option<Line<'_>>) -> u32 {
     match line {
@@ -570,8 +391,10 @@ fn number_of(line: &Option<Line<'_>>) -> u32 {
     }
 }
 
-/// The diagnosis of a certificate with this answer.
-fn of_lack<A: Allocator + Copy>(
+/// The diagnosis of a certificate of this declaration to which the checker answered this no.
+///
+/// The only error is out of memory (20).
+pub fn of_lack<A: Allocator + Copy>(
     alloc: A,
     declared: &Declaration<'_, A>,
     certificate: Source<'_>,
@@ -583,65 +406,4 @@ fn of_lack<A: Allocator + Copy>(
     let Found { line, finding } = in_answer(&declared.table, &text, no);
     let refusal = Refusal::no(no.code(), number_of(&line));
     diagnosis(alloc, certificate.file, line, refusal, finding)
-}
-
-/// The diagnosis of a certificate of a declaration to which the checker answered this no; nothing where the declaration is refused.
-///
-/// The only error is out of memory (20). The names are hashed with `seed`. No answer depends on it.
-pub fn of_answered_no<A: Allocator + Copy>(
-    alloc: A,
-    seed: u64,
-    declaration: &[u8],
-    certificate: Source<'_>,
-    no: &No,
-) -> Result<Option<Vec<u8, A>>, AllocError>
-    ensures { IfOk result (λ said. SaysIfDeclared declaration.now
-        (SaysNo certificate.entry.file.now (Some no.now)) (option_map (λ text. text.items) said)) }
-{
-    match read_declaration(alloc, seed, declaration) {
-        Ok(declared) => {
-            let said = of_lack(alloc, &declared, certificate, no)?;
-            Ok(Some(said))
-        }
-        Err(Stop::Refused { .. }) => Ok(None),
-        Err(Stop::OutOfMemory) => Err(AllocError),
-    }
-}
-
-/// Diagnoses a certificate of this declaration to which the checker says no. For any other it gives nothing.
-fn of_no_for<A: Allocator + Copy>(
-    alloc: A,
-    declared: &Declaration<'_, A>,
-    certificate: Source<'_>,
-) -> Result<Option<Vec<u8, A>>, AllocError>
-    requires { length declared.now.groups.group_of ≡ length declared.now.table.names }
-    ensures { IfOk result (λ said. (why : Option No) × IsNoTo (record { table = declared.now.table; partition = declared.now.groups }) certificate.entry.text.now why × SaysNo certificate.entry.file.now why (option_map (λ text. text.items) said)) }
-{
-    match no_to(alloc, declared, certificate.text)? {
-        None => Ok(None),
-        Some(no) => {
-            let said = of_lack(alloc, declared, certificate, &no)?;
-            Ok(Some(said))
-        }
-    }
-}
-
-/// Diagnoses a certificate of a declaration to which the checker says no. For any other it gives nothing.
-///
-/// The only error is out of memory (20).
-///
-/// The names are hashed with `seed`. No answer depends on it.
-pub fn of_no<A: Allocator + Copy>(
-    alloc: A,
-    seed: u64,
-    declaration: &[u8],
-    certificate: Source<'_>,
-) -> Result<Option<Vec<u8, A>>, AllocError>
-    ensures { IfOk result (λ said. DiagnosesNo certificate.entry.file.now declaration.now certificate.entry.text.now (option_map (λ text. text.items) said)) }
-{
-    match read_declaration(alloc, seed, declaration) {
-        Ok(declared) => of_no_for(alloc, &declared, certificate),
-        Err(Stop::Refused { .. }) => Ok(None),
-        Err(Stop::OutOfMemory) => Err(AllocError),
-    }
 }

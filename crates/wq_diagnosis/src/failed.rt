@@ -5,7 +5,7 @@
 ghost use Rattle.std.specs.Prelude.{◌≡◌, ◌++◌, ◌∷◌, [], codes, IfOk};
 ghost use Rattle.wq_diagnosis.specs.Diagnosis.{shown_lines};
 
-use crate::diagnosis::put_line;
+use crate::layout::put_line;
 use std::alloc::{AllocError, Allocator};
 use wq_lines::put;
 

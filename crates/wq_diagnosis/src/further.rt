@@ -2,7 +2,8 @@
 //!
 //! The text is mended and read again, at most 30 times. So it takes the time and the memory of that many readings.
 
-use crate::diagnosis::{Refusal, Source, column, head, lines_of, push_details};
+use crate::diagnosis::{Refusal, Source, head, push_details};
+use crate::layout::{column, lines_of};
 use std::alloc::{AllocError, Allocator};
 use wq_commands::{Stop, read_declaration};
 use wq_findings::{Mended, Mending, in_mended, line_at};

@@ -1,27 +1,26 @@
 //! Diagnoses: what standard error says of a text that is refused, in addition to the refusal; of a run with a step that isn't lawful;
 //! and of a file that can't be read or written.
 //!
-//! What the program relies on: a diagnosis begins with the file and the line of the refusal, has the number of the refusal on its
-//! first line, and is printable ASCII and line feeds, whatever the text holds; the reason why a step isn't lawful holds in the state;
-//! the note beside `safe` has each item whose workqueue has no rescuer; and the reason of a run is a flush that leads to one of these.
-//! wq_findings decides which word is meant, and what was most likely meant. The form is that of "Diagnoses" in docs/FORMAT.md. Each call takes time in the length of the texts and,
-//! where a name is unknown, in the names of the declaration times the length of one.
+//! What the layer above relies on: a diagnosis begins with the file and the line of the refusal, has the number of the refusal on its
+//! first line, and is printable ASCII and line feeds, whatever the text holds; and the reason why a step isn't lawful holds in the
+//! state. wq_findings decides which word is meant, and what was most likely meant; wq_voice says when which is said. The form is that
+//! of "Diagnoses" in docs/FORMAT.md. Each call takes time in the length of the texts and, where a name is unknown, in the names of
+//! the declaration times the length of one.
 #![tactic(auto)]
 
-mod bare;
 mod diagnosis;
 mod failed;
 mod further;
+mod layout;
 mod replayed;
 mod unlawful;
-mod voice;
 
 pub use diagnosis::{
-    Source, of_answered_no, of_certificate, of_declaration, of_no, of_no_item,
-    of_refused_certificate, of_refused_declaration, of_too_many,
+    Source, TOO_MANY, of_lack, of_no_item, of_refused_certificate, of_refused_declaration,
+    of_too_many,
 };
 pub use failed::of_failed;
+pub use layout::{column, lines_of, push_excerpt, put_line, put_lines};
 pub use replayed::of_unlawful;
 pub use unlawful::{Unlawful, reason_of};
-pub use voice::{Diagnosing, Unrescued};
 pub use wq_findings::CertificateKind;

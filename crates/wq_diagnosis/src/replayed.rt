@@ -9,7 +9,8 @@ ghost use Rattle.wq_core.specs.declared.step.StepError.{StepError};
 ghost use Rattle.wq_diagnosis.specs.Diagnosis.{shown_lines};
 ghost use Rattle.wq_diagnosis.specs.Unlawful.{ReasonHolds, IsUnlawfulText, item_of, unlawful_head, workqueue_of};
 
-use crate::diagnosis::{Source, lines_of, put_line, put_lines};
+use crate::diagnosis::Source;
+use crate::layout::{lines_of, put_line, put_lines};
 use crate::unlawful::{Unlawful, reason_of};
 use std::alloc::{AllocError, Allocator};
 use std::fmt;

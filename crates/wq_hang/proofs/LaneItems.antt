@@ -1,10 +1,10 @@
--- The items of each lane, as their places in the list of all lanes.
-use Rattle.std.proofs.Common.{◌≡◌, ℕ, ◌+◌, ◌<◌, true, eqb, List, [], ◌∷◌, ◌++◌, length, map, get_or, sym, ap, subst, ◌∙◌, arith, inl, inr}
+-- The items of each lane, as their places in the list of all lanes, and those on marked lanes.
+use Rattle.std.proofs.Common.{◌≡◌, ℕ, ◌+◌, ◌<◌, ◌⊎◌, Bool, true, false, eqb, List, [], ◌∷◌, ◌++◌, length, map, get_or, sym, ap, subst, ◌∙◌, arith, inl, inr}
 use Rattle.std.specs.Prelude.{Contains, slice_index, slice_index_or}
 use Rattle.std.specs.List.{All, range_with_len}
-use Rattle.std.proofs.lemmas.Bool.{cases_lt, eqb-true, eq-eqb}
+use Rattle.std.proofs.lemmas.Bool.{cases_eq, cases_lt, eqb-true, eq-eqb, false≢true}
 use Rattle.std.proofs.lemmas.List.{get_or-map, get_or_past, map_push}
-use Rattle.std.proofs.lemmas.List.Elements.{All-contains, filter_passes}
+use Rattle.std.proofs.lemmas.List.Elements.{All-nil, All-cons, All-append, All-contains, Contains-push, Contains-append_left, Contains-append_right, Contains-append_cases, filter_passes}
 use Rattle.std.proofs.lemmas.List.FromFn.{get_or-range_with_len, length-range_with_len, length-map-range_with_len}
 use Rattle.wq_buckets.specs.Places.{places_of, buckets_of}
 use Rattle.wq_items.proofs.Lists.{Contains-filtered, Contains-range_with_len, range_with_len-below}
@@ -12,7 +12,7 @@ use Rattle.wq_items.proofs.TableLemmas.{range_with_len-push}
 use Rattle.wq_core.specs.Wiring.{Wiring, IsWiring, items, lane_of}
 use Rattle.wq_core.proofs.LaneLemmas.{Contains-filter}
 use Rattle.wq_core.proofs.Wirings.{lane_of-within}
-use Rattle.wq_hang.specs.Search.{AreItemsOn}
+use Rattle.wq_hang.specs.Search.{AreItemsOn, AreMarkedOf}
 
 -- the lane of each item
 abbrev pub item_lanes : Wiring → List ℕ
@@ -72,3 +72,56 @@ pub item_lanes-more : (w : Wiring) (n : ℕ) (lanes new : List ℕ) (q : ℕ) �
 item_lanes-more w n lanes new q before more is =
     more ∙ ap (λ (l : List ℕ). l ++ (q ∷ [])) before ∙ ap (λ (p : ℕ). map (lane_of w) (range_with_len 0 n) ++ (p ∷ [])) is
     ∙ sym (ap (map (lane_of w)) (range_with_len-push n) ∙ map_push (lane_of w) (range_with_len 0 n) n)
+
+-- ---- items on marked lanes
+
+-- items, and among them those of the items below n that are on marked lanes
+pub record AreMarkedBelow (w : Wiring) (marks : List Bool) (n : ℕ) (list : List ℕ) : Type 0 where
+  pub within : All (λ i. i < items w) list
+  pub all : (i : ℕ) → i < n → slice_index_or marks (lane_of w i) false ≡ true → Contains list i
+
+pub AreMarkedBelow-none : (w : Wiring) (marks : List Bool) → AreMarkedBelow w marks 0 []
+AreMarkedBelow-none w marks = record { within = All-nil (λ i. i < items w); all = λ i below marked. absurd (omega (arith, below)) }
+
+pub AreMarkedBelow-more : (w : Wiring) (marks : List Bool) (n : ℕ) (list new : List ℕ) → AreMarkedBelow w marks n list → n < items w → new ≡ list ++ (n ∷ []) → AreMarkedBelow w marks (n + 1) new
+AreMarkedBelow-more w marks n list new are item is = subst (AreMarkedBelow w marks (n + 1)) (sym is) (record {
+  within = All-append (λ i. i < items w) list (n ∷ []) are.within (All-cons (λ i. i < items w) n [] item (All-nil (λ i. i < items w)));
+  all = λ i below marked. elim (cases_eq i n) [
+    | inl same ↦ subst (λ (k : ℕ). Contains (list ++ (n ∷ [])) k) (sym same) (Contains-push list n)
+    | inr other ↦ Contains-append_left list (n ∷ []) i (are.all i (omega arith) marked)
+  ];
+})
+
+pub AreMarkedBelow-kept : (w : Wiring) (marks : List Bool) (n : ℕ) (list : List ℕ) → AreMarkedBelow w marks n list → slice_index_or marks (lane_of w n) false ≡ false → AreMarkedBelow w marks (n + 1) list
+AreMarkedBelow-kept w marks n list are unmarked = record {
+  within = are.within;
+  all = λ i below marked. elim (cases_eq i n) [
+    | inl same ↦ absurd (false≢true (sym unmarked ∙ ap (λ (k : ℕ). slice_index_or marks (lane_of w k) false) (sym same) ∙ marked))
+    | inr other ↦ are.all i (omega arith) marked
+  ];
+}
+
+pub AreMarkedOf-none : (on : List (List ℕ)) (marks : List Bool) → AreMarkedOf on marks [] []
+AreMarkedOf-none on marks = record { within = λ i there. absurd (omega (arith, there.1)); all = λ q i there marked on_it. absurd (omega (arith, there.1)) }
+
+-- one lane more, which is marked
+pub AreMarkedOf-more : (on : List (List ℕ)) (marks : List Bool) (before after list new : List ℕ) (q : ℕ) → AreMarkedOf on marks before list → ((p : ℕ) → Contains after p → Contains before p ⊎ (q ≡ p))
+    → new ≡ list ++ slice_index_or on q [] → AreMarkedOf on marks after new
+AreMarkedOf-more on marks before after list new q are more is = subst (AreMarkedOf on marks after) (sym is) (record {
+  within = λ i there. elim (Contains-append_cases list (slice_index_or on q []) i there) [ inl old ↦ are.within i old | inr now ↦ (q, now) ];
+  all = λ p i there marked on_it. elim (more p there) [
+    | inl old ↦ Contains-append_left list (slice_index_or on q []) i (are.all p i old marked on_it)
+    | inr same ↦ Contains-append_right list (slice_index_or on q []) i (subst (λ (k : ℕ). Contains (slice_index_or on k []) i) (sym same) on_it)
+  ];
+})
+
+-- one lane more, which isn't
+pub AreMarkedOf-kept : (on : List (List ℕ)) (marks : List Bool) (before after list : List ℕ) (q : ℕ) → AreMarkedOf on marks before list → ((p : ℕ) → Contains after p → Contains before p ⊎ (q ≡ p))
+    → slice_index_or marks q false ≡ false → AreMarkedOf on marks after list
+AreMarkedOf-kept on marks before after list q are more unmarked = record {
+  within = are.within;
+  all = λ p i there marked on_it. elim (more p there) [
+    | inl old ↦ are.all p i old marked on_it
+    | inr same ↦ absurd (false≢true (sym unmarked ∙ ap (λ (k : ℕ). slice_index_or marks k false) same ∙ marked))
+  ];
+}

@@ -1,17 +1,16 @@
 -- The best round so far, and the least walk in the end.
-use Rattle.std.proofs.Common.{◌≡◌, ℕ, ◌+◌, ◌*◌, ◌<◌, ◌≤◌, inl, inr, Bool, true, false, List, [], ◌∷◌, length, Option, Some, None, refl, sym, ap, subst, ◌∙◌, arith}
-use Rattle.std.specs.Prelude.{flat_map, slice_index, slice_index_or, option_map, MatchOption, IfSome, IfNone}
+use Rattle.std.proofs.Common.{◌≡◌, ℕ, ◌*◌, ◌<◌, ◌≤◌, ◌⊎◌, inl, inr, Bool, true, false, List, [], ◌∷◌, length, Option, Some, None, refl, sym, ap, subst, ◌∙◌, arith}
+use Rattle.std.specs.Prelude.{flat_map, slice_index, slice_index_or, option_map, MatchOption, IfSome, IfNone, Contains}
 use Rattle.std.specs.List.{All}
 use Rattle.std.proofs.lemmas.List.Elements.{All-nil, All-cons}
-use Rattle.std.proofs.lemmas.Bool.{cases_eq, false≢true}
 use Rattle.wq_core.specs.Wiring.{Wiring, IsWiring, HasRescuer, items, lane_of}
 use Rattle.wq_core.specs.Deadlock.{IsSafe}
 use Rattle.wq_hang.specs.declared.hop.Hop.{Hop}
-use Rattle.wq_hang.specs.Walk.{IsHop, IsPath, IsRound, IsWalk, IsLeastWalk, target_beside, walk_cost}
-use Rattle.wq_hang.specs.Search.{hops_cost, Reach, IsSearched, IsBetter, IsNoBetter, IsLeastRound, AreMarked}
+use Rattle.wq_hang.specs.Walk.{IsHop, IsPath, IsRound, IsWalk, IsLeastWalk, IsRoundOrFirst, target_beside, walk_cost}
+use Rattle.wq_hang.specs.Search.{hops_cost, Reach, IsSearched, IsBetter, IsNoBetter, IsLeastRound, ArePassed, AreMarked}
 use Rattle.wq_hang.proofs.Declared.{declared-item}
 use Rattle.wq_hang.proofs.Rotations.{round_turned}
-use Rattle.wq_hang.proofs.Rounds.{walk_cost-hops}
+use Rattle.wq_hang.proofs.StuckRounds.{walk_cost-hops}
 use Rattle.wq_hang.proofs.Shortest.{IsSafe-no_cheap_walk}
 
 -- what a round is, if one was found that costs less than the limit: it costs at most this
@@ -19,58 +18,56 @@ abbrev pub IsFound : Wiring → ℕ → ℕ → Option (List Hop) → Type 0
 IsFound w limit least None = least ≡ limit
 IsFound w limit least (Some hops) = IsRound w hops × (hops_cost hops ≤ least) × (least < limit)
 
--- after the searches from the items below n that are on marked lanes
-pub record IsBest (w : Wiring) (marks : List Bool) (limit n least : ℕ) (round : Option (List Hop)) : Type 0 where
+-- after the searches from these items
+pub record IsBest (w : Wiring) (limit : ℕ) (tried : List ℕ) (least : ℕ) (round : Option (List Hop)) : Type 0 where
   pub low : least ≤ limit
   pub found : IsFound w limit least round
-  pub all : (hops : List Hop) (i : ℕ) → 0 < length hops → IsPath w i hops i → slice_index_or marks (lane_of w i) false ≡ true → i < n → least ≤ hops_cost hops
+  pub all : (hops : List Hop) (i : ℕ) → 0 < length hops → IsPath w i hops i → Contains tried i → least ≤ hops_cost hops
 
-pub IsBest-none : (w : Wiring) (marks : List Bool) (limit : ℕ) → IsBest w marks limit 0 limit None
-IsBest-none w marks limit = record { low = omega arith; found = refl; all = λ hops i some path marked less. absurd (omega arith) }
+pub IsBest-none : (w : Wiring) (limit : ℕ) → IsBest w limit [] limit None
+IsBest-none w limit = record { low = omega arith; found = refl; all = λ hops i some path there. absurd (omega (arith, there.1)) }
 
 -- the first item of a path is on a lane that has a rescuer, and exists
-path_rescuer : (w : Wiring) (i j : ℕ) (hops : List Hop) → 0 < length hops → IsPath w i hops j → (i < items w) × HasRescuer w (lane_of w i)
+pub path_rescuer : (w : Wiring) (i j : ℕ) (hops : List Hop) → 0 < length hops → IsPath w i hops j → (i < items w) × HasRescuer w (lane_of w i)
 path_rescuer w i j [] some path = absurd (omega arith)
 path_rescuer w i j (h ∷ hops) some path = (
   subst (λ (k : ℕ). k < items w) path.0 (declared-item w h.item h.flush path.1.declared),
   subst (λ (k : ℕ). HasRescuer w (lane_of w k)) path.0 path.1.rescuer,
 )
 
-module _ (w : Wiring) (marks : List Bool) (limit n least : ℕ) (found : Option (List Hop)) (best : IsBest w marks limit n least found) where
-  pub IsBest-same : IsNoBetter w marks n least → IsBest w marks limit (n + 1) least found
+-- one item more
+module _ (w : Wiring) (limit : ℕ) (tried now : List ℕ) (i least : ℕ) (found : Option (List Hop)) (best : IsBest w limit tried least found) (more : (j : ℕ) → Contains now j → Contains tried j ⊎ (i ≡ j)) where
+  pub IsBest-same : IsNoBetter w i least → IsBest w limit now least found
   IsBest-same none = record {
     low = best.low;
     found = best.found;
-    all = λ hops i some path marked less. elim (cases_eq i n) [
-      | inl same ↦ none (ap (λ (k : ℕ). slice_index_or marks (lane_of w k) false) (sym same) ∙ marked) hops some (subst (λ (k : ℕ). IsPath w k hops k) same path)
-      | inr other ↦ best.all hops i some path marked (omega arith)
+    all = λ hops j some path there. elim (more j there) [
+      | inl before ↦ best.all hops j some path before
+      | inr same ↦ none hops some (subst (λ (k : ℕ). IsPath w k hops k) (sym same) path)
     ];
   }
 
-  pub IsBest-better : (cost : ℕ) (hops : List Hop) → IsBetter w n least cost hops → IsBest w marks limit (n + 1) cost (Some hops)
+  pub IsBest-better : (cost : ℕ) (hops : List Hop) → IsBetter w i least cost hops → IsBest w limit now cost (Some hops)
   IsBest-better cost hops better = record {
     low = omega (arith, better.less, best.low);
     found = (better.round, better.costs, omega (arith, better.less, best.low));
-    all = λ others i some path marked below. elim (cases_eq i n) [
-      | inl same ↦ better.all others some (subst (λ (k : ℕ). IsPath w k others k) same path)
-      | inr other ↦ omega (arith, best.all others i some path marked (omega arith), better.less)
+    all = λ others j some path there. elim (more j there) [
+      | inl before ↦ omega (arith, best.all others j some path before, better.less)
+      | inr same ↦ better.all others some (subst (λ (k : ℕ). IsPath w k others k) (sym same) path)
     ];
   }
 
 -- no round begins with an item on a bare lane
-pub IsNoBetter-bare : (w : Wiring) (marks : List Bool) (first least : ℕ) → (¬ HasRescuer w (lane_of w first)) → IsNoBetter w marks first least
-IsNoBetter-bare w marks first least bare marked hops some path = absurd (bare (path_rescuer w first first hops some path).1)
+pub IsNoBetter-bare : (w : Wiring) (first least : ℕ) → (¬ HasRescuer w (lane_of w first)) → IsNoBetter w first least
+IsNoBetter-bare w first least bare hops some path = absurd (bare (path_rescuer w first first hops some path).1)
 
 -- no round costs less than 3
-pub IsNoBetter-low : (w : Wiring) (marks : List Bool) (first least : ℕ) → least ≤ 3 → IsNoBetter w marks first least
-IsNoBetter-low w marks first least low marked [] some path = absurd (omega arith)
-IsNoBetter-low w marks first least low marked (h ∷ hops) some path = omega arith
+pub IsNoBetter-low : (w : Wiring) (first least : ℕ) → least ≤ 3 → IsNoBetter w first least
+IsNoBetter-low w first least low [] some path = absurd (omega arith)
+IsNoBetter-low w first least low (h ∷ hops) some path = omega arith
 
-pub IsNoBetter-unmarked : (w : Wiring) (marks : List Bool) (first least : ℕ) → slice_index_or marks (lane_of w first) false ≡ false → IsNoBetter w marks first least
-IsNoBetter-unmarked w marks first least unmarked marked hops some path = absurd (false≢true (sym unmarked ∙ marked))
-
-pub IsNoBetter-searched : (w : Wiring) (marks : List Bool) (first least : ℕ) (s : Reach) → IsSearched w first least s → least ≤ slice_index s.costs first → IsNoBetter w marks first least
-IsNoBetter-searched w marks first least s searched enough marked hops some path = omega (arith, searched.least hops some path, enough)
+pub IsNoBetter-searched : (w : Wiring) (first least : ℕ) (s : Reach) → IsSearched w first least s → least ≤ slice_index s.costs first → IsNoBetter w first least
+IsNoBetter-searched w first least s searched enough hops some path = omega (arith, searched.least hops some path, enough)
 
 pub IsBetter-searched : (w : Wiring) (first least : ℕ) (s : Reach) (hops : List Hop) → IsSearched w first least s → slice_index s.costs first < least → IsRound w hops → hops_cost hops ≤ slice_index s.costs first
     → IsBetter w first least (slice_index s.costs first) hops
@@ -78,47 +75,56 @@ IsBetter-searched w first least s hops searched less round cost = record { less 
 
 -- ---- after all searches
 
--- each round comes to a marked lane, so it is no cheaper
-all_rounds : (w : Wiring) (numbers : List ℕ) (marks : List Bool) (limit n least : ℕ) (found : Option (List Hop)) → AreMarked w numbers marks → items w ≤ n → IsBest w marks limit n least found
+-- each round passes one of the items, so it is no cheaper
+all_rounds : (w : Wiring) (passed tried : List ℕ) (limit least : ℕ) (found : Option (List Hop)) → ArePassed w passed → ((i : ℕ) → Contains passed i → Contains tried i) → IsBest w limit tried least found
     → (hops : List Hop) → IsRound w hops → least ≤ hops_cost hops
-all_rounds w numbers marks limit n least found marked enough best hops round =
+all_rounds w passed tried limit least found are enough best hops round =
+    let at = are hops round in
+    omega (arith, best.all at.2 at.0 at.3 at.4 (enough at.0 at.1), at.5)
+
+IsLeastRound-best : (w : Wiring) (passed tried : List ℕ) (limit least : ℕ) (hops : List Hop) → ArePassed w passed → ((i : ℕ) → Contains passed i → Contains tried i) → IsBest w limit tried least (Some hops) → IsLeastRound w limit hops
+IsLeastRound-best w passed tried limit least hops are enough best = record {
+  round = best.found.0;
+  less = omega (arith, best.found.1, best.found.2);
+  least = λ others round. omega (arith, best.found.1, all_rounds w passed tried limit least (Some hops) are enough best others round);
+}
+
+no_round-best : (w : Wiring) (passed tried : List ℕ) (limit least : ℕ) → ArePassed w passed → ((i : ℕ) → Contains passed i → Contains tried i) → IsBest w limit tried least None → (hops : List Hop) → IsRound w hops → limit ≤ hops_cost hops
+no_round-best w passed tried limit least are enough best hops round = omega (arith, best.found, all_rounds w passed tried limit least None are enough best hops round)
+
+-- the same where a round is held in some way
+pub IsBest-some : {V : Type 0} (found now : Option V) (v : V) (hops : V → List Hop) (w : Wiring) (limit : ℕ) (tried later : List ℕ) (i least cost after : ℕ) → IsBest w limit tried least (option_map hops found)
+    → ((j : ℕ) → Contains later j → Contains tried j ⊎ (i ≡ j)) → IsBetter w i least cost (hops v) → after ≡ cost → now ≡ Some v → IsBest w limit later after (option_map hops now)
+IsBest-some {V} found now v hops w limit tried later i least cost after best more better same is =
+    subst (λ (o : Option V). IsBest w limit later after (option_map hops o)) (sym is) (subst (λ (k : ℕ). IsBest w limit later k (Some (hops v))) (sym same) (IsBest-better w limit tried later i least (option_map hops found) best more cost (hops v) better))
+
+pub IsBest-kept : {V : Type 0} (found now : Option V) (hops : V → List Hop) (w : Wiring) (limit : ℕ) (tried later : List ℕ) (i least after : ℕ) → IsBest w limit tried least (option_map hops found)
+    → ((j : ℕ) → Contains later j → Contains tried j ⊎ (i ≡ j)) → IsNoBetter w i least → after ≡ least → now ≡ found → IsBest w limit later after (option_map hops now)
+IsBest-kept {V} found now hops w limit tried later i least after best more none same is =
+    subst (λ (o : Option V). IsBest w limit later after (option_map hops o)) (sym is) (subst (λ (k : ℕ). IsBest w limit later k (option_map hops found)) (sym same) (IsBest-same w limit tried later i least (option_map hops found) best more none))
+
+pub IfSome-best : {V : Type 0} (found : Option V) (hops : V → List Hop) (w : Wiring) (passed tried : List ℕ) (limit least : ℕ) → ArePassed w passed → ((i : ℕ) → Contains passed i → Contains tried i) → IsBest w limit tried least (option_map hops found)
+    → IfSome found (λ v. IsLeastRound w limit (hops v))
+IfSome-best None hops w passed tried limit least are enough best = tt
+IfSome-best (Some v) hops w passed tried limit least are enough best = IsLeastRound-best w passed tried limit least (hops v) are enough best
+
+pub IfNone-best : {V : Type 0} (found : Option V) (hops : V → List Hop) (w : Wiring) (passed tried : List ℕ) (limit least : ℕ) → ArePassed w passed → ((i : ℕ) → Contains passed i → Contains tried i) → IsBest w limit tried least (option_map hops found)
+    → IfNone found ((others : List Hop) → IsRound w others → limit ≤ hops_cost others)
+IfNone-best None hops w passed tried limit least are enough best = no_round-best w passed tried limit least are enough best
+IfNone-best (Some v) hops w passed tried limit least are enough best = tt
+
+-- ---- which items are passed
+
+-- each round comes to a marked lane by one of its items there
+pub ArePassed-marked : (w : Wiring) (numbers : List ℕ) (marks : List Bool) (passed : List ℕ) → AreMarked w numbers marks
+    → ((i : ℕ) → i < items w → HasRescuer w (lane_of w i) → slice_index_or marks (lane_of w i) false ≡ true → Contains passed i) → ArePassed w passed
+ArePassed-marked w numbers marks passed marked all hops round =
     let turn = round_turned w (slice_index numbers) round.first hops round.some round.path in
     let h : Hop = turn.hop in
     let falls : slice_index numbers (lane_of w h.flush.item) ≤ slice_index numbers (lane_of w h.item) = subst (λ (q : ℕ). slice_index numbers q ≤ slice_index numbers (lane_of w h.item)) turn.on turn.falls in
     let there : slice_index_or marks (lane_of w h.next) false ≡ true = ap (λ (q : ℕ). slice_index_or marks q false) turn.on ∙ marked h turn.is_hop falls in
-    let below : h.next < items w = (path_rescuer w h.next h.next turn.turned turn.some turn.path).0 in
-    omega (arith, best.all turn.turned h.next turn.some turn.path there (omega (arith, enough, below)), turn.cost)
-
-pub IsLeastRound-best : (w : Wiring) (numbers : List ℕ) (marks : List Bool) (limit n least : ℕ) (hops : List Hop) → AreMarked w numbers marks → items w ≤ n → IsBest w marks limit n least (Some hops) → IsLeastRound w limit hops
-IsLeastRound-best w numbers marks limit n least hops marked enough best = record {
-  round = best.found.0;
-  less = omega (arith, best.found.1, best.found.2);
-  least = λ others round. omega (arith, best.found.1, all_rounds w numbers marks limit n least (Some hops) marked enough best others round);
-}
-
-pub no_round-best : (w : Wiring) (numbers : List ℕ) (marks : List Bool) (limit n least : ℕ) → AreMarked w numbers marks → items w ≤ n → IsBest w marks limit n least None → (hops : List Hop) → IsRound w hops → limit ≤ hops_cost hops
-no_round-best w numbers marks limit n least marked enough best hops round = omega (arith, best.found, all_rounds w numbers marks limit n least None marked enough best hops round)
-
--- the same where a round is held in some way
-pub IsBest-some : {V : Type 0} (found now : Option V) (v : V) (hops : V → List Hop) (w : Wiring) (marks : List Bool) (limit n least cost after : ℕ) → IsBest w marks limit n least (option_map hops found) → IsBetter w n least cost (hops v)
-    → after ≡ cost → now ≡ Some v → IsBest w marks limit (n + 1) after (option_map hops now)
-IsBest-some {V} found now v hops w marks limit n least cost after best better same is =
-    subst (λ (o : Option V). IsBest w marks limit (n + 1) after (option_map hops o)) (sym is) (subst (λ (k : ℕ). IsBest w marks limit (n + 1) k (Some (hops v))) (sym same) (IsBest-better w marks limit n least (option_map hops found) best cost (hops v) better))
-
-pub IsBest-kept : {V : Type 0} (found now : Option V) (hops : V → List Hop) (w : Wiring) (marks : List Bool) (limit n least after : ℕ) → IsBest w marks limit n least (option_map hops found) → IsNoBetter w marks n least
-    → after ≡ least → now ≡ found → IsBest w marks limit (n + 1) after (option_map hops now)
-IsBest-kept {V} found now hops w marks limit n least after best none same is =
-    subst (λ (o : Option V). IsBest w marks limit (n + 1) after (option_map hops o)) (sym is) (subst (λ (k : ℕ). IsBest w marks limit (n + 1) k (option_map hops found)) (sym same) (IsBest-same w marks limit n least (option_map hops found) best none))
-
-pub IfSome-best : {V : Type 0} (found : Option V) (hops : V → List Hop) (w : Wiring) (numbers : List ℕ) (marks : List Bool) (limit n least : ℕ) → AreMarked w numbers marks → items w ≤ n → IsBest w marks limit n least (option_map hops found)
-    → IfSome found (λ v. IsLeastRound w limit (hops v))
-IfSome-best None hops w numbers marks limit n least marked enough best = tt
-IfSome-best (Some v) hops w numbers marks limit n least marked enough best = IsLeastRound-best w numbers marks limit n least (hops v) marked enough best
-
-pub IfNone-best : {V : Type 0} (found : Option V) (hops : V → List Hop) (w : Wiring) (numbers : List ℕ) (marks : List Bool) (limit n least : ℕ) → AreMarked w numbers marks → items w ≤ n → IsBest w marks limit n least (option_map hops found)
-    → IfNone found ((others : List Hop) → IsRound w others → limit ≤ hops_cost others)
-IfNone-best None hops w numbers marks limit n least marked enough best = no_round-best w numbers marks limit n least marked enough best
-IfNone-best (Some v) hops w numbers marks limit n least marked enough best = tt
+    let first = path_rescuer w h.next h.next turn.turned turn.some turn.path in
+    (h.next, all h.next first.0 first.1 there, turn.turned, turn.some, turn.path, turn.cost)
 
 -- ---- the least walk
 
@@ -137,6 +143,13 @@ IsLeastWalk-round w limit hops beside bare is same = record { walk = inl (is.rou
     least others more (inl (round, with_targets)) = omega (arith, cost, is.least others round, ap (walk_cost others) with_targets, walk_cost-hops others)
     least others more (inr (h, hop, leads, one, other)) = omega (arith, cost, is.less, bare h hop leads, bare_cost w others more h one other)
 
+-- it costs less than 4 where a flush leads to a bare lane
+pub IsRoundOrFirst-round : (w : Wiring) (limit : ℕ) (hops : List Hop) (beside : List ℕ) → ((h : Hop) → IsHop w h → (¬ HasRescuer w (lane_of w h.flush.item)) → limit ≤ 4) → IsLeastRound w limit hops → beside ≡ flat_map target_beside hops → IsRoundOrFirst w hops beside
+IsRoundOrFirst-round w limit hops beside bare is same = inl (is.round, λ g hop leads. omega (arith, is.less, bare g hop leads, cost))
+  where
+    cost : walk_cost hops beside ≡ hops_cost hops
+    cost = ap (walk_cost hops) same ∙ walk_cost-hops hops
+
 pub IsLeastWalk-bare : (w : Wiring) (h : Hop) (hops : List Hop) (beside : List ℕ) → IsHop w h → (¬ HasRescuer w (lane_of w h.flush.item)) → ((others : List Hop) → IsRound w others → 4 ≤ hops_cost others)
     → hops ≡ h ∷ [] → beside ≡ h.flush.item ∷ [] → IsLeastWalk w hops beside
 IsLeastWalk-bare w h hops beside hop bare rounds one other = record { walk = inr (h, hop, bare, one, other); least = least }
@@ -153,7 +166,7 @@ IsSafe-no_round w limit wiring few rescued rounds = IsSafe-no_cheap_walk w wirin
     cheap hops beside (inr (h, hop, bare, one, other)) = absurd (bare (rescued h hop))
 
 -- the limit is 4 where a flush leads to a bare lane
-pub limit-enough : (w : Wiring) (bare : Option Hop) (limit : ℕ) → MatchOption bare (limit ≡ 16385) (λ _. limit ≡ 4) → IfNone bare ((h : Hop) → IsHop w h → HasRescuer w (lane_of w h.flush.item))
+pub limit-enough : (w : Wiring) (bare : Option Hop) (limit : ℕ) → MatchOption bare (limit ≡ 16388) (λ _. limit ≡ 4) → IfNone bare ((h : Hop) → IsHop w h → HasRescuer w (lane_of w h.flush.item))
     → (h : Hop) → IsHop w h → (¬ HasRescuer w (lane_of w h.flush.item)) → limit ≤ 4
 limit-enough w None limit is none h hop bare = absurd (bare (none h hop))
 limit-enough w (Some x) limit is none h hop bare = omega (arith, is)
@@ -166,7 +179,7 @@ IsSafe-no_lane w wiring none = IsSafe-no_cheap_walk w wiring cheap
     cheap hops beside (inl (round, with_targets)) = omega (arith, none, round.some)
     cheap hops beside (inr (h, hop, bare, one, other)) = omega (arith, none, bare_cost w hops beside h one other)
 
-pub limit-low : (bare : Option Hop) (limit : ℕ) → MatchOption bare (limit ≡ 16385) (λ _. limit ≡ 4) → limit ≤ 16385
+pub limit-low : (bare : Option Hop) (limit : ℕ) → MatchOption bare (limit ≡ 16388) (λ _. limit ≡ 4) → limit ≤ 16388
 limit-low None limit is = omega (arith, is)
 limit-low (Some h) limit is = omega (arith, is)
 

@@ -7,7 +7,7 @@ use Rattle.wq_hang.specs.Walk.{IsPath, IsRound, IsWalk, IsLeastWalk, target_besi
 use Rattle.wq_hang.specs.Search.{hops_cost}
 use Rattle.wq_hang.proofs.Apart.{Avoids, Apart}
 use Rattle.wq_hang.proofs.Declared.{target_beside-most}
-use Rattle.wq_hang.proofs.Rounds.{walk_cost-hops}
+use Rattle.wq_hang.proofs.StuckRounds.{walk_cost-hops}
 
 -- the lanes of the items that wait
 abbrev pub lanes_from : Wiring → List Hop → List ℕ

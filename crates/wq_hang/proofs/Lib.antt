@@ -3,7 +3,7 @@ pub mod Taken
 pub mod Apart
 pub mod Weights
 pub mod StuckLanes
-pub mod Rounds
+pub mod StuckRounds
 pub mod LeastWalks
 pub mod WalkRuns
 pub mod Shortest
@@ -14,3 +14,5 @@ pub mod LaneItems
 pub mod RoundsFound
 pub mod Rotations
 pub mod LeastFound
+pub mod FirstHops
+pub mod SomeLanes

@@ -15,7 +15,7 @@ use Rattle.wq_hang.specs.Shortest.{EndsStuck, NeedsWorker, IsShortestHang}
 use Rattle.wq_hang.specs.Walk.{IsHop, IsPath, IsRound, IsWalk, IsLeastWalk, target_beside, walk_cost, moves_of, run_of_walk}
 use Rattle.wq_hang.proofs.Apart.{Avoids, Apart, In, not_in, Avoids-from, In-append_left, In-append_right, Apart-append}
 use Rattle.wq_hang.proofs.Declared.{declared-item, declared-target, beside_cases}
-use Rattle.wq_hang.proofs.Rounds.{lanes_to, IsWalk-stuck}
+use Rattle.wq_hang.proofs.StuckRounds.{lanes_to, IsWalk-stuck}
 use Rattle.wq_hang.proofs.LeastWalks.{lanes_from, Apart-least}
 use Rattle.wq_hang.proofs.WalkRuns.{items_of, queued, lane_In, In_item, HoldUp, IsRun-walk, IsStuck-walk}
 

@@ -4,6 +4,7 @@ pub use Rattle.wq_graph.specs.Graph
 pub use Rattle.wq_core.specs.Deadlock
 pub mod Shortest
 pub mod Walk
+pub mod Bare
 pub mod Search
 pub mod Numbering
 pub mod Answer

@@ -133,11 +133,10 @@ pub record IsLeastRound (w : Wiring) (limit : ℕ) (hops : List Hop) : Type 0 wh
   pub less : hops_cost hops < limit
   pub least : (others : List Hop) → IsRound w others → hops_cost hops ≤ hops_cost others
 
--- by these numbers of lanes, each lane is marked to which a flush leads from a lane that has a rescuer and whose number
--- isn't lower
-abbrev pub AreMarked : Wiring → List ℕ → List Bool → Type 0
-AreMarked w numbers marks = (h : Hop) → IsHop w h → slice_index numbers (lane_of w h.flush.item) ≤ slice_index numbers (lane_of w h.item)
-    → slice_index_or marks (lane_of w h.flush.item) false ≡ true
+-- each round passes one of these items: it can begin there, at the same cost
+abbrev pub ArePassed : Wiring → List ℕ → Type 0
+ArePassed w passed = (hops : List Hop) → IsRound w hops
+    → (i : ℕ) × Contains passed i × (turned : List Hop) × (0 < length turned) × IsPath w i turned i × (hops_cost turned ≡ hops_cost hops)
 
 -- a round from the item costs at most this, which is less than the least so far; and none from it costs less
 pub record IsBetter (w : Wiring) (first least cost : ℕ) (hops : List Hop) : Type 0 where
@@ -146,6 +145,26 @@ pub record IsBetter (w : Wiring) (first least cost : ℕ) (hops : List Hop) : Ty
   pub costs : hops_cost hops ≤ cost
   pub all : (others : List Hop) → 0 < length others → IsPath w first others first → cost ≤ hops_cost others
 
--- if the item's lane is marked, no round from it costs less than the least so far
-abbrev pub IsNoBetter : Wiring → List Bool → ℕ → ℕ → Type 0
-IsNoBetter w marks first least = slice_index_or marks (lane_of w first) false ≡ true → (hops : List Hop) → 0 < length hops → IsPath w first hops first → least ≤ hops_cost hops
+-- no round from the item costs less than the least so far
+abbrev pub IsNoBetter : Wiring → ℕ → ℕ → Type 0
+IsNoBetter w first least = (hops : List Hop) → 0 < length hops → IsPath w first hops first → least ≤ hops_cost hops
+
+-- ---- where rounds are looked for
+
+-- by these numbers of lanes, each lane is marked to which a flush leads from a lane that has a rescuer and whose number
+-- isn't lower
+abbrev pub AreMarked : Wiring → List ℕ → List Bool → Type 0
+AreMarked w numbers marks = (h : Hop) → IsHop w h → slice_index numbers (lane_of w h.flush.item) ≤ slice_index numbers (lane_of w h.item)
+    → slice_index_or marks (lane_of w h.flush.item) false ≡ true
+
+-- the items on those of these lanes that are marked, and no others
+pub record AreMarkedOf (on : List (List ℕ)) (marks : List Bool) (lanes items : List ℕ) : Type 0 where
+  pub within : (i : ℕ) → Contains items i → (q : ℕ) × Contains (slice_index_or on q []) i
+  pub all : (q i : ℕ) → Contains lanes q → slice_index_or marks q false ≡ true → Contains (slice_index_or on q []) i → Contains items i
+
+-- what is made of a wiring once: the items on each lane, and marks of lanes by some numbers
+pub record AreMade (w : Wiring) (on : List (List ℕ)) (marks : List Bool) : Type 0 where
+  pub items_on : AreItemsOn w on
+  pub one_each : length marks ≡ w.lanes
+  pub numbers : List ℕ
+  pub marked : AreMarked w numbers marks

@@ -48,6 +48,38 @@ pub record IsLeastWalk (w : Wiring) (hops : List Hop) (beside : List ℕ) : Type
   pub walk : IsWalk w hops beside
   pub least : (others : List Hop) (more : List ℕ) → IsWalk w others more → walk_cost hops beside ≤ walk_cost others more
 
+-- ---- rounds on some lanes
+
+-- a round all of whose items that wait are on these lanes
+pub record IsRoundOn (w : Wiring) (lanes : List ℕ) (hops : List Hop) : Type 0 where
+  pub round : IsRound w hops
+  pub stays : (h : Hop) → Contains hops h → Contains lanes (lane_of w h.item)
+
+-- no round on these lanes costs less
+pub record IsLeastRoundOn (w : Wiring) (lanes : List ℕ) (hops : List Hop) : Type 0 where
+  pub stays : IsRoundOn w lanes hops
+  pub least : (others : List Hop) → IsRoundOn w lanes others → walk_cost hops (flat_map target_beside hops) ≤ walk_cost others (flat_map target_beside others)
+
+-- ---- hops to a bare lane
+
+-- a hop from a lane that has a rescuer to a bare lane, where its target waits next
+pub record IsToBare (w : Wiring) (h : Hop) : Type 0 where
+  pub hop : IsHop w h
+  pub bare : ¬ HasRescuer w (lane_of w h.flush.item)
+  pub next : h.next ≡ h.flush.item
+
+-- no flush that leads from a lane that has a rescuer to a bare lane is declared before this one
+pub record IsFirstToBare (w : Wiring) (h : Hop) : Type 0 where
+  pub to_bare : IsToBare w h
+  pub first : (g : Hop) → IsHop w g → (¬ HasRescuer w (lane_of w g.flush.item)) → h.flush.place ≤ g.flush.place
+
+-- the hops lead round, for less than 4 if some flush leads to a bare lane; or there is one hop, the one to a bare lane
+-- whose flush is declared first
+abbrev pub IsRoundOrFirst : Wiring → List Hop → List ℕ → Type 0
+IsRoundOrFirst w hops beside =
+    (IsRound w hops × ((g : Hop) → IsHop w g → (¬ HasRescuer w (lane_of w g.flush.item)) → walk_cost hops beside < 4))
+    ⊎ ((h : Hop) × (hops ≡ h ∷ []) × IsFirstToBare w h)
+
 -- ---- the run of a walk
 
 -- the item is started, and begins its wait

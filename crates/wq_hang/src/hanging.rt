@@ -3,29 +3,32 @@
 //! Where lanes and flushes end and runs begin: a least walk is found, and the run is that of the walk. It takes the
 //! time of the search for a least walk.
 
-ghost use Rattle.std.specs.Prelude.{◌≡◌, ◌<◌, length, IfOk, OnErr, IfSome, IfNone, MatchOption};
+ghost use Rattle.std.specs.Prelude.{◌≡◌, ◌<◌, ◌≤◌, List, length, IfOk, OnErr, IfSome, IfNone, MatchOption};
 ghost use Rattle.wq_core.specs.Deadlock.{IsSafe};
 ghost use Rattle.wq_groups.specs.Declaration.{declaration_of};
 ghost use Rattle.wq_hang.specs.Answer.{IsAnswer};
-ghost use Rattle.wq_hang.specs.Walk.{IsLeastWalk};
+ghost use Rattle.wq_hang.specs.declared.hop.Hop.{Hop};
+ghost use Rattle.wq_hang.specs.Walk.{IsRound, IsLeastWalk, IsRoundOrFirst};
+ghost use Rattle.wq_hang.specs.Search.{IsLeastRound, hops_cost};
 
 use crate::answer::Answer;
+use crate::bare::first_to_bare;
 use crate::hop::Hop;
-use crate::least::{hop_to_bare, least_round};
-use crate::numbering::vertex_numbers;
+use crate::least::{MOST, least_round};
+use crate::marks::marked_lanes;
+use crate::numbering::lane_numbers;
+use crate::on_lanes::{items_on_lanes, marked_items};
 use crate::running::{run_of_walk, targets_beside};
+use crate::search::Search;
+use crate::waits::Waits;
 use std::alloc::{AllocError, Allocator};
 use wq_core::{Core, Workqueues};
-use wq_graph::WaitGraph;
 use wq_groups::Groups;
 use wq_items::{ItemId, ItemTable};
 
-/// No walk costs as much that meets no lane twice: there are at most 4,096 lanes, and each costs 3 or 4.
-const MOST: u16 = 16385;
-
 /// What a round has to cost less than: 4, if there is a flush that leads to a bare lane.
 fn limit(bare: &Option<Hop>) -> u16
-    ensures { MatchOption bare.now (result ≡ 16385) (λ _. result ≡ 4) }
+    ensures { MatchOption bare.now (result ≡ 16388) (λ _. result ≡ 4) }
 {
     match bare {
         Some(_) => 4,
@@ -33,19 +36,39 @@ fn limit(bare: &Option<Hop>) -> u16
     }
 }
 
+/// A least round that costs less than the limit, if there is one.
+fn least_of_all<A: Allocator + Copy>(
+    alloc: A,
+    waits: &Waits<'_, A>,
+    numbers: &[u16],
+    limit: u16,
+) -> Result<Option<Vec<Hop, A>>, AllocError>
+    requires numbers { length numbers.now ≡ waits.now.lanes }
+    requires low { limit ≤ 16388 }
+    ensures some { IfOk result (λ found. IfSome found (λ hops. IsLeastRound waits.now limit hops.items)) }
+    ensures none { IfOk result (λ found. IfNone found ((hops : List Hop) → IsRound waits.now hops → limit ≤ hops_cost hops)) }
+{
+    let on = items_on_lanes(alloc, waits)?;
+    let marks = marked_lanes(alloc, waits, numbers)?;
+    let passed = marked_items(alloc, waits, &marks)?;
+    let mut search = Search::new(alloc);
+    least_round(alloc, waits, &on, &mut search, &passed, limit)
+}
+
 /// A least walk, with the items that are queued beside those that wait.
 fn least_walk<A: Allocator + Copy>(
     alloc: A,
-    core: &Core<A>,
+    waits: &Waits<'_, A>,
     numbers: &[u16],
 ) -> Result<Option<(Vec<Hop, A>, Vec<ItemId, A>)>, AllocError>
-    requires { length numbers.now ≡ core.now.wiring.lanes }
-    ensures some { IfOk result (λ found. IfSome found (λ walk. IsLeastWalk core.now.wiring walk.0.items walk.1.items)) }
-    ensures none { IfOk result (λ found. IfNone found (IsSafe core.now.wiring)) }
+    requires { length numbers.now ≡ waits.now.lanes }
+    ensures some { IfOk result (λ found. IfSome found (λ walk. IsLeastWalk waits.now walk.0.items walk.1.items)) }
+    ensures first { IfOk result (λ found. IfSome found (λ walk. IsRoundOrFirst waits.now walk.0.items walk.1.items)) }
+    ensures none { IfOk result (λ found. IfNone found (IsSafe waits.now)) }
 {
-    let _items = core.items();
-    let bare = hop_to_bare(core);
-    let found = least_round(alloc, core, numbers, limit(&bare))?;
+    let _items = waits.items();
+    let bare = first_to_bare(waits);
+    let found = least_of_all(alloc, waits, numbers, limit(&bare))?;
     if let Some(hops) = found {
         let beside = targets_beside(alloc, hops.as_slice())?;
         return Ok(Some((hops, beside)));
@@ -79,12 +102,13 @@ pub fn hang<A: Allocator + Copy>(
     if workqueues.assignment().lanes() == 0 {
         return Ok(Answer::Safe);
     }
+    // The wait graph, which these are made of, is let go before the machine takes memory.
+    let numbers = lane_numbers(alloc, table, groups, workqueues)?;
     let core = Core::on_workqueues(alloc, table, groups, workqueues)?;
-    let graph = WaitGraph::of_lanes(alloc, table, groups, workqueues.assignment())?;
-    let numbers = vertex_numbers(alloc, &graph.without(alloc, workqueues.bare())?)?;
-    match least_walk(alloc, &core, &numbers)? {
+    let waits = Waits::new(&core, workqueues.bare());
+    match least_walk(alloc, &waits, &numbers)? {
         Some((hops, beside)) => {
-            let steps = run_of_walk(alloc, &core, hops.as_slice(), beside.as_slice())?;
+            let steps = run_of_walk(alloc, &waits, hops.as_slice(), beside.as_slice())?;
             Ok(Answer::Hang(hops, steps))
         }
         None => Ok(Answer::Safe),

@@ -9,15 +9,20 @@
 #![tactic(auto)]
 
 mod answer;
+mod bare;
 mod hanging;
 mod hop;
 pub mod laws;
 mod least;
 mod marks;
 mod numbering;
+mod on_lanes;
+mod rounds;
 mod running;
 mod search;
+mod waits;
 
 pub use answer::Answer;
 pub use hanging::hang;
 pub use hop::Hop;
+pub use rounds::Rounds;

@@ -8,25 +8,25 @@ ghost use Rattle.wq_items.specs.declared.target.Target.{Target};
 ghost use Rattle.wq_core.specs.Wiring.{items, lane_of, declared_by};
 ghost use Rattle.wq_hang.specs.Search.{AreMarked};
 
+use crate::waits::Waits;
 use std::alloc::{AllocError, Allocator};
-use wq_core::Core;
 use wq_items::ItemId;
 
 /// Marks each lane to which a flush of an item leads, if its number isn't greater than that of the item's lane.
-fn mark_from<A: Allocator>(core: &Core<A>, numbers: &[u16], item: ItemId, marks: &mut [bool])
-    requires item { item < items core.now.wiring }
-    requires numbers { length numbers.now ≡ core.now.wiring.lanes }
-    requires marks { length marks.old ≡ core.now.wiring.lanes }
+fn mark_from<A: Allocator>(waits: &Waits<'_, A>, numbers: &[u16], item: ItemId, marks: &mut [bool])
+    requires item { item < items waits.now }
+    requires numbers { length numbers.now ≡ waits.now.lanes }
+    requires marks { length marks.old ≡ waits.now.lanes }
     ensures kept { (q : ℕ) → slice_index_or marks.old q false ≡ true → slice_index_or marks.new q false ≡ true }
-    ensures marked { (t : Target) → Contains (declared_by core.now.wiring item) t →
-        slice_index numbers.now (lane_of core.now.wiring t.item) ≤ slice_index numbers.now (lane_of core.now.wiring item) →
-        slice_index_or marks.new (lane_of core.now.wiring t.item) false ≡ true }
+    ensures marked { (t : Target) → Contains (declared_by waits.now item) t →
+        slice_index numbers.now (lane_of waits.now t.item) ≤ slice_index numbers.now (lane_of waits.now item) →
+        slice_index_or marks.new (lane_of waits.now t.item) false ≡ true }
     ensures len { length marks.new ≡ length marks.old }
 {
-    let _items = core.items();
-    let own = numbers[usize::from(core.lane_of(item).get())];
-    for flush in core.waits(item) {
-        let lane = usize::from(core.lane_of(flush.item).get());
+    let _items = waits.items();
+    let own = numbers[usize::from(waits.lane_of(item).get())];
+    for flush in waits.flushes(item) {
+        let lane = usize::from(waits.lane_of(flush.item).get());
         if numbers[lane] <= own {
             marks[lane] = true;
         }
@@ -36,16 +36,16 @@ fn mark_from<A: Allocator>(core: &Core<A>, numbers: &[u16], item: ItemId, marks:
 /// For each lane whether it is marked.
 pub(crate) fn marked_lanes<A: Allocator + Copy>(
     alloc: A,
-    core: &Core<A>,
+    waits: &Waits<'_, A>,
     numbers: &[u16],
 ) -> Result<Vec<bool, A>, AllocError>
-    requires { length numbers.now ≡ core.now.wiring.lanes }
-    ensures len { IfOk result (λ marks. length marks.items ≡ core.now.wiring.lanes) }
-    ensures marked { IfOk result (λ marks. AreMarked core.now.wiring numbers.now marks.items) }
+    requires { length numbers.now ≡ waits.now.lanes }
+    ensures len { IfOk result (λ marks. length marks.items ≡ waits.now.lanes) }
+    ensures marked { IfOk result (λ marks. AreMarked waits.now numbers.now marks.items) }
 {
-    let mut marks = vec![in alloc; false; core.lanes()]?;
-    for i in 0..core.items() as u16 {
-        mark_from(core, numbers, ItemId::new(i), marks.as_mut_slice());
+    let mut marks = vec![in alloc; false; waits.lanes()]?;
+    for i in 0..waits.items() as u16 {
+        mark_from(waits, numbers, ItemId::new(i), marks.as_mut_slice());
     }
     Ok(marks)
 }

@@ -11,8 +11,9 @@ ghost use Rattle.wq_hang.specs.declared.hop.Hop.{Hop};
 ghost use Rattle.wq_hang.specs.Walk.{target_beside, moves_of, run_of_walk};
 
 use crate::hop::Hop;
+use crate::waits::Waits;
 use std::alloc::{AllocError, Allocator};
-use wq_core::{Core, Step};
+use wq_core::Step;
 use wq_items::ItemId;
 
 /// The targets that have to be queued themselves where hops lead round.
@@ -52,15 +53,15 @@ fn queueings<A: Allocator + Copy>(
 /// The starts of the items that wait, each with the beginning of its wait.
 fn moves<A: Allocator + Copy>(
     alloc: A,
-    core: &Core<A>,
+    waits: &Waits<'_, A>,
     hops: &[Hop],
 ) -> Result<Vec<Step, A>, AllocError>
-    requires { All (λ h. h.item < items core.now.wiring) hops.now }
-    ensures { IfOk result (λ steps. steps.items ≡ flat_map (moves_of core.now.wiring) hops.now) }
+    requires { All (λ h. h.item < items waits.now) hops.now }
+    ensures { IfOk result (λ steps. steps.items ≡ flat_map (moves_of waits.now) hops.now) }
 {
     let mut steps = Vec::new(alloc);
     for hop in hops {
-        let lane = core.lane_of(hop.item);
+        let lane = waits.lane_of(hop.item);
         steps.push(Step::Start(lane, hop.item))?;
         steps.push(Step::wait_of(hop.flush.whole, lane, hop.flush.item))?;
     }
@@ -70,15 +71,15 @@ fn moves<A: Allocator + Copy>(
 /// The run of a walk.
 pub(crate) fn run_of_walk<A: Allocator + Copy>(
     alloc: A,
-    core: &Core<A>,
+    waits: &Waits<'_, A>,
     hops: &[Hop],
     beside: &[ItemId],
 ) -> Result<Vec<Step, A>, AllocError>
-    requires { All (λ h. h.item < items core.now.wiring) hops.now }
-    ensures { IfOk result (λ steps. steps.items ≡ run_of_walk core.now.wiring hops.now beside.now) }
+    requires { All (λ h. h.item < items waits.now) hops.now }
+    ensures { IfOk result (λ steps. steps.items ≡ run_of_walk waits.now hops.now beside.now) }
 {
     let mut steps = queueings(alloc, hops, beside)?;
-    let moves = moves(alloc, core, hops)?;
+    let moves = moves(alloc, waits, hops)?;
     steps.extend_from_slice(moves.as_slice())?;
     Ok(steps)
 }

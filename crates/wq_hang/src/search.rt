@@ -7,18 +7,18 @@
 //! out, so what it costs in the end is the cheapest way round. What costs as much as the limit isn't gone on from. It
 //! takes time in the number of items, lanes and flushes.
 
-ghost use Rattle.std.specs.Prelude.{◌≡◌, ◌<◌, ◌≤◌, ◌⊎◌, [], false, length, replicate, slice_index, slice_index_or, IfOk, IfSome, IfNone, IsTrue};
+ghost use Rattle.std.specs.Prelude.{◌≡◌, ◌<◌, ◌≤◌, ◌⊎◌, [], false, length, replicate, slice_index, slice_index_or, IfOk, OnOk, IfSome, IfNone, IsTrue};
 ghost use Rattle.std.specs.List.{All};
 ghost use Rattle.wq_core.specs.Wiring.{HasRescuer, items, lane_of};
 ghost use Rattle.wq_hang.specs.declared.hop.Hop.{Hop};
 ghost use Rattle.wq_hang.specs.Search.{AreItemsOn, IsTaken, IsSearched, reach, reach_all, reach_lane, follow, expand};
 
 use crate::hop::Hop;
+use crate::waits::Waits;
 use std::alloc::{AllocError, Allocator};
 use std::collections::VecDeque;
 use std::marker::Model;
 use wq_buckets::Buckets;
-use wq_core::Core;
 use wq_items::{ItemId, Target};
 
 /// What was found so far.
@@ -39,32 +39,47 @@ impl<A: Allocator> Model for Search<A> {
     ghost view = { λ s. record { costs = s.costs.items; lane_costs = s.lane_costs.items; by = s.by.items; near = s.near.items; far = s.far.items } };
 }
 
+/// Makes a list this long, each number of which is this one.
+fn set_all<A: Allocator>(list: &mut Vec<u16, A>, len: usize, number: u16) -> Result<(), AllocError>
+    ensures { OnOk result (list.new.items ≡ replicate len number) }
+{
+    list.resize(len, number)?;
+    list.fill(number);
+    Ok(())
+}
+
 impl<A: Allocator + Copy> Search<A> {
-    /// Each of this many items costs as much as the limit.
-    pub(crate) fn new(alloc: A, items: usize, lanes: usize, limit: u16) -> Result<Self, AllocError>
-        ensures costs { IfOk result (λ s. s.costs ≡ replicate items limit) }
-        ensures lane_costs { IfOk result (λ s. s.lane_costs ≡ replicate lanes limit) }
-        ensures by { IfOk result (λ s. length s.by ≡ items) }
-        ensures near { IfOk result (λ s. s.near ≡ []) }
-        ensures far { IfOk result (λ s. s.far ≡ []) }
+    /// Nothing is searched for yet. No memory is taken.
+    pub(crate) fn new(alloc: A) -> Self {
+        Search {
+            costs: Vec::new(alloc),
+            lane_costs: Vec::new(alloc),
+            by: Vec::new(alloc),
+            near: VecDeque::new(alloc),
+            far: VecDeque::new(alloc),
+        }
+    }
+
+    /// Begins anew: each of this many items costs as much as the limit. Memory is taken only the first time.
+    fn begin(&mut self, items: usize, lanes: usize, limit: u16) -> Result<(), AllocError>
+        ensures costs { OnOk result (self.new.costs ≡ replicate items limit) }
+        ensures lane_costs { OnOk result (self.new.lane_costs ≡ replicate lanes limit) }
+        ensures by { OnOk result (length self.new.by ≡ items) }
+        ensures near { OnOk result (self.new.near ≡ []) }
+        ensures far { OnOk result (self.new.far ≡ []) }
     {
         let none = ItemId::new(0);
         let unset = Hop {
             item: none,
-            flush: Target {
-                item: none,
-                place: 0,
-                whole: false,
-            },
+            flush: Target::default(),
             next: none,
         };
-        Ok(Search {
-            costs: vec![in alloc; limit; items]?,
-            lane_costs: vec![in alloc; limit; lanes]?,
-            by: vec![in alloc; unset; items]?,
-            near: VecDeque::new(alloc),
-            far: VecDeque::new(alloc),
-        })
+        set_all(&mut self.costs, items, limit)?;
+        set_all(&mut self.lane_costs, lanes, limit)?;
+        self.by.resize(items, unset)?;
+        self.near.clear();
+        self.far.clear();
+        Ok(())
     }
 
     /// A hop leads to its item at this cost.
@@ -137,23 +152,23 @@ impl<A: Allocator + Copy> Search<A> {
     /// A flush of an item, which costs so much, leads on.
     fn follow(
         &mut self,
-        core: &Core<A>,
+        waits: &Waits<'_, A>,
         on: &Buckets<A>,
         item: ItemId,
         cost: u16,
         flush: &Target,
     ) -> Result<(), AllocError>
-        requires on { AreItemsOn core.now.wiring on.now }
-        requires one_each { length self.old.costs ≡ items core.now.wiring }
-        requires by_each { length self.old.by ≡ items core.now.wiring }
-        requires lanes_each { length self.old.lane_costs ≡ core.now.wiring.lanes }
-        requires target { flush.now.item < items core.now.wiring }
+        requires on { AreItemsOn waits.now on.now }
+        requires one_each { length self.old.costs ≡ items waits.now }
+        requires by_each { length self.old.by ≡ items waits.now }
+        requires lanes_each { length self.old.lane_costs ≡ waits.now.lanes }
+        requires target { flush.now.item < items waits.now }
         requires low { cost ≤ 32767 }
-        ensures { IfOk result (λ _. self.new ≡ follow core.now.wiring on.now item cost self.old flush.now) }
+        ensures { IfOk result (λ _. self.new ≡ follow waits.now on.now item cost self.old flush.now) }
     {
-        let _items = core.items();
-        let lane = core.lane_of(flush.item);
-        if !core.has_rescuer(lane) {
+        let _items = waits.items();
+        let lane = waits.lane_of(flush.item);
+        if !waits.has_rescuer(lane) {
             return Ok(());
         }
         let direct = Hop {
@@ -176,22 +191,22 @@ impl<A: Allocator + Copy> Search<A> {
     /// The flushes of an item, which costs so much, lead on.
     fn expand(
         &mut self,
-        core: &Core<A>,
+        waits: &Waits<'_, A>,
         on: &Buckets<A>,
         item: ItemId,
         cost: u16,
     ) -> Result<(), AllocError>
-        requires on { AreItemsOn core.now.wiring on.now }
-        requires one_each { length self.old.costs ≡ items core.now.wiring }
-        requires by_each { length self.old.by ≡ items core.now.wiring }
-        requires lanes_each { length self.old.lane_costs ≡ core.now.wiring.lanes }
-        requires item { item < items core.now.wiring }
+        requires on { AreItemsOn waits.now on.now }
+        requires one_each { length self.old.costs ≡ items waits.now }
+        requires by_each { length self.old.by ≡ items waits.now }
+        requires lanes_each { length self.old.lane_costs ≡ waits.now.lanes }
+        requires item { item < items waits.now }
         requires low { cost ≤ 32767 }
-        ensures { IfOk result (λ _. self.new ≡ expand core.now.wiring on.now item cost self.old) }
+        ensures { IfOk result (λ _. self.new ≡ expand waits.now on.now item cost self.old) }
     {
-        let _items = core.items();
-        for flush in core.waits(item) {
-            self.follow(core, on, item, cost, flush)?;
+        let _items = waits.items();
+        for flush in waits.flushes(item) {
+            self.follow(waits, on, item, cost, flush)?;
         }
         Ok(())
     }
@@ -247,29 +262,29 @@ impl<A: Allocator + Copy> Search<A> {
     }
 }
 
-/// The search from an item, which has a rescuer, for rounds that cost less than the limit.
+/// The search from an item, whose lane has a rescuer, for rounds that cost less than the limit.
 pub(crate) fn search_from<A: Allocator + Copy>(
-    alloc: A,
-    core: &Core<A>,
+    waits: &Waits<'_, A>,
     on: &Buckets<A>,
+    search: &mut Search<A>,
     first: ItemId,
     limit: u16,
-) -> Result<Search<A>, AllocError>
-    requires on { AreItemsOn core.now.wiring on.now }
-    requires first { first < items core.now.wiring }
-    requires rescuer { HasRescuer core.now.wiring (lane_of core.now.wiring first) }
-    requires low { limit ≤ 16385 }
-    ensures { IfOk result (IsSearched core.now.wiring first limit) }
+) -> Result<(), AllocError>
+    requires on { AreItemsOn waits.now on.now }
+    requires first { first < items waits.now }
+    requires rescuer { HasRescuer waits.now (lane_of waits.now first) }
+    requires low { limit ≤ 16388 }
+    ensures { OnOk result (IsSearched waits.now first limit search.new) }
 {
-    let mut search = Search::new(alloc, core.items(), core.lanes(), limit)?;
-    search.expand(core, on, first, 0)?;
+    search.begin(waits.items(), waits.lanes(), limit)?;
+    search.expand(waits, on, first, 0)?;
     while let Some(item) = search.take() {
         let cost = search.cost(item);
         // Each hop from here leads to what costs as much as the limit.
         if limit.saturating_sub(cost) <= 3 {
             continue;
         }
-        search.expand(core, on, item, cost)?;
+        search.expand(waits, on, item, cost)?;
     }
-    Ok(search)
+    Ok(())
 }

@@ -4,7 +4,9 @@ use Rattle.wq_groups.specs.Assignment.{IsAssignment}
 use Rattle.wq_core.specs.declared.step.Step.{Step}
 use Rattle.wq_core.specs.Workqueues.{Workqueues, wiring_of}
 use Rattle.wq_core.specs.Deadlock.{IsSafe}
+use Rattle.wq_hang.specs.declared.hop.Hop.{Hop}
 use Rattle.wq_hang.specs.Shortest.{IsShortestHang}
+use Rattle.wq_hang.specs.Walk.{IsWalk, IsRoundOrFirst, run_of_walk}
 use Rattle.wq_cert.specs.RunText.{run_text}
 use Rattle.wq_cert.specs.Texts.{workqueues_of_text, cert_refusal}
 use Rattle.wq_meter.specs.Shell.{Given}
@@ -16,11 +18,17 @@ use Rattle.wq_commands.specs.Deadlocking.{safe_text}
 use Rattle.wq_commands.specs.Declaration.{Declared, declaration}
 use Rattle.wq_commands.specs.Why.{SaysAssigned}
 
--- the steps are printed of a shortest run of these workqueues that ends stuck
+-- the steps are printed of a shortest run of these workqueues that ends stuck. It is the run of a walk, and where that has 4
+-- steps, of the first flush that leads to a bare lane, if there is one
 pub record PrintsHang (s : Declared) (ws : Workqueues) (out : List ℕ) : Type 0 where
   pub steps : List Step
   pub assignment : IsAssignment s.partition.groups ws.assignment
   pub shortest : IsShortestHang (wiring_of (declared_waits s) ws) steps
+  pub hops : List Hop
+  pub beside : List ℕ
+  pub walk : IsWalk (wiring_of (declared_waits s) ws) hops beside
+  pub first : IsRoundOrFirst (wiring_of (declared_waits s) ws) hops beside
+  pub run : steps ≡ run_of_walk (wiring_of (declared_waits s) ws) hops beside
   pub text : out ≡ run_text s.table.names steps
 
 -- the answer to workqueues of a declaration's groups: `safe` if no run ends stuck, else a shortest run that does

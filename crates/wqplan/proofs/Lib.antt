@@ -3,3 +3,4 @@ mod CauseLemmas
 mod EndedLemmas
 mod NumberLemmas
 mod HelperLemmas
+mod PromiseLemmas

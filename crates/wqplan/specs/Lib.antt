@@ -3,3 +3,4 @@ pub mod Status
 pub mod Ended
 pub mod Numbers
 pub mod Cause
+pub mod Promised

@@ -13,6 +13,7 @@ ghost use Rattle.wq_commands.specs.Answer.{Answers};
 ghost use Rattle.wq_run.specs.Running.{RunsTexts};
 ghost use Rattle.wqplan.specs.CommandLine.{HasFewHelpers, plans, spelled};
 ghost use Rattle.wqplan.specs.Cause.{EndsAlone, EndsReady, IsCaused, IsReady, IsUnready, ReadsInput};
+ghost use Rattle.wqplan.specs.Promised.{PromisesAsAsked};
 ghost use Rattle.wqplan.specs.Status.{end_or_common, explained_or_common, unheld};
 ghost use Rattle.wqplan.specs.Ended.{EndedBy, EndsAsAsked, EndsCheck, EndsCircles, EndsDeadlock, EndsDot, EndsExplain, EndsHang, EndsPlan, EndsReplay, EndsRun, Has, IsInputIf};
 
@@ -27,12 +28,12 @@ use wq_commands::{
     CheckCommand, Command, DeadlockCommand, End, Fault, Metered, Outcome, PlanCommand,
     ReplayCommand, Stopped, Voice, carry_out,
 };
-use wq_diagnosis::{CertificateKind, Diagnosing, Unrescued};
 use wq_dot::DotCommand;
 use wq_explain::{Explained, explain_cmd};
 use wq_hang_command::HangCommand;
 use wq_meter::write_text;
 use wq_run::{CommandFault, RunStop, carry_out_run, end_of_run};
+use wq_voice::{Beside, CertificateKind, Diagnosing};
 
 /// Carries out a command on these readers.
 fn carry_out_on<
@@ -166,7 +167,7 @@ fn plan_file<'a, O: World<'a>, W: Write, E: Write>(
     let ended = carry_out_on(
         alloc,
         &PlanCommand { seed },
-        &Diagnosing::one(seed, shown_name(file)),
+        &Diagnosing::one(seed, shown_name(file), Beside::Circle),
         declared,
         io::empty(),
         io::empty(),
@@ -198,7 +199,7 @@ fn plan_input<'a, O: World<'a>, I: Read, W: Write, E: Write>(
     let ended = carry_out(
         alloc,
         &PlanCommand { seed },
-        &Diagnosing::one(seed, STDIN),
+        &Diagnosing::one(seed, STDIN, Beside::Circle),
         input,
         &mut second,
         &mut third,
@@ -255,6 +256,7 @@ fn check<'a, O: World<'a>, W: Write, E: Write>(
             shown_name(declaration),
             CertificateKind::Answer,
             shown_name(certificate),
+            Beside::Other,
         ),
         declared,
         certified,
@@ -285,11 +287,12 @@ fn deadlock<'a, O: World<'a>, W: Write, E: Write>(
     let ended = carry_out_on(
         alloc,
         &DeadlockCommand { seed },
-        &Diagnosing::assigned(
+        &Diagnosing::two(
             seed,
             shown_name(declaration),
+            CertificateKind::Assignment,
             shown_name(assignment),
-            Unrescued::Explained,
+            Beside::Verdict,
         ),
         declared,
         assigned,
@@ -320,11 +323,12 @@ fn hang<'a, O: World<'a>, W: Write, E: Write>(
     let ended = carry_out_on(
         alloc,
         &HangCommand { seed },
-        &Diagnosing::assigned(
+        &Diagnosing::two(
             seed,
             shown_name(declaration),
+            CertificateKind::Assignment,
             shown_name(assignment),
-            Unrescued::Explained,
+            Beside::Verdict,
         ),
         declared,
         assigned,
@@ -364,7 +368,7 @@ fn replay<'a, O: World<'a>, W: Write, E: Write>(
             kind: CertificateKind::Assignment,
             certificate: shown_name(assignment),
             run: shown_name(run),
-            unrescued: Unrescued::Unsaid,
+            beside: Beside::RunEnd,
         },
         declared,
         assigned,
@@ -398,11 +402,12 @@ fn assigned_circles<'a, O: World<'a>, W: Write, E: Write>(
             seed,
             assigned: true,
         },
-        &Diagnosing::assigned(
+        &Diagnosing::two(
             seed,
             shown_name(declaration),
+            CertificateKind::Assignment,
             shown_name(assignment),
-            Unrescued::Noted,
+            Beside::Components,
         ),
         declared,
         assigned,
@@ -435,7 +440,7 @@ fn own_circles<'a, O: World<'a>, W: Write, E: Write>(
             seed,
             assigned: false,
         },
-        &Diagnosing::one(seed, shown_name(declaration)),
+        &Diagnosing::one(seed, shown_name(declaration), Beside::OwnComponents),
         declared,
         io::empty(),
         io::empty(),
@@ -494,6 +499,7 @@ fn assigned_dot<'a, O: World<'a>, W: Write, E: Write>(
             shown_name(declaration),
             CertificateKind::Assignment,
             shown_name(assignment),
+            Beside::Other,
         ),
         declared,
         assigned,
@@ -526,7 +532,7 @@ fn own_dot<'a, O: World<'a>, W: Write, E: Write>(
             seed,
             assigned: false,
         },
-        &Diagnosing::one(seed, shown_name(declaration)),
+        &Diagnosing::one(seed, shown_name(declaration), Beside::Other),
         declared,
         io::empty(),
         io::empty(),
@@ -601,7 +607,7 @@ fn run<'a, O: World<'a>, R: Threads + Wait + Sync, W: Write, E: Write>(
     let Some((seed, declared)) = one_file(world, declaration) else {
         return Err(CommandFault::Common(Fault::Read));
     };
-    let voice = Diagnosing::one(seed, shown_name(declaration));
+    let voice = Diagnosing::one(seed, shown_name(declaration), Beside::Other);
     let ended = run_on(rt, alloc, seed, helpers, &voice, declared, writer, teller);
     end_of_run(ended)
 }
@@ -621,7 +627,7 @@ fn explain<W: Write>(
 }
 
 /// Carries out the command that is asked for.
-pub(crate) fn perform<'a, O: World<'a>, R: Threads + Wait + Sync, I: Read, W: Write, E: Write>(
+fn carry_out_asked<'a, O: World<'a>, R: Threads + Wait + Sync, I: Read, W: Write, E: Write>(
     world: &O,
     rt: &R,
     alloc: Global,
@@ -672,6 +678,36 @@ pub(crate) fn perform<'a, O: World<'a>, R: Threads + Wait + Sync, I: Read, W: Wr
     }
 }
 
+/// Carries out the command that is asked for, and keeps what is promised of its answer.
+pub(crate) fn perform<'a, O: World<'a>, R: Threads + Wait + Sync, I: Read, W: Write, E: Write>(
+    world: &O,
+    rt: &R,
+    alloc: Global,
+    request: Request<'a>,
+    input: &mut Metered<I>,
+    writer: &mut Metered<W>,
+    teller: &mut Metered<E>,
+) -> Result<End, CommandFault>
+    requires few_helpers { HasFewHelpers (spelled request) }
+    ensures ended { EndedBy W.contents writer.old writer.new (EndsAsAsked (Has (O.opens world.now) O.File.Read.remaining)
+        (IsInput (I.remaining input.old.device)) (spelled request.entry)) result }
+
+    // The answer is true. Of `plan`: for every declaration text that is answered, either the printed assignment lets no run of
+    // queueings, cancellations and steps of rescuers and helpers end stuck, and every assignment to fewer workqueues has a run
+    // without helpers, with each item queued once and flushing as declared, that ends stuck; or a printed circle of groups is given
+    // and every assignment has such a run. Of `check`: its yes is true. Of `circles`: exactly the flushes on circles, and those to no
+    // rescuer, are printed, and `safe` exactly where no run ends stuck. The other commands end as they promise.
+    ensures promised { IfOk result (λ end. (out : List ℕ)
+        × PromisesAsAsked (Has (O.opens world.now) O.File.Read.remaining) (IsInput (I.remaining input.old.device)) (spelled request.entry) end out
+        × WritesWhole W.contents writer.old writer.new out) }
+
+    ensures caused { IsCaused (O.seeds world.now) (O.opens world.now) (HasFailed input.old input.new) (spelled request.entry) result }
+    ensures input { ReadsInput I.remaining input.old input.new (spelled request.entry) }
+    ensures unsaid { OnErr result (teller.new ≡ teller.old) }
+{
+    carry_out_asked(world, rt, alloc, request, input, writer, teller)
+}
+
 /// The same, but the answer is written once everything else is said: on a terminal a diagnosis is above it.
 pub(crate) fn perform_above<
     'a,
@@ -692,6 +728,9 @@ pub(crate) fn perform_above<
     requires few_helpers { HasFewHelpers (spelled request) }
     ensures ended { EndedBy W.contents writer.old writer.new (EndsAsAsked (Has (O.opens world.now) O.File.Read.remaining)
         (IsInput (I.remaining input.old.device)) (spelled request.entry)) result }
+    ensures promised { IfOk result (λ end. (out : List ℕ)
+        × PromisesAsAsked (Has (O.opens world.now) O.File.Read.remaining) (IsInput (I.remaining input.old.device)) (spelled request.entry) end out
+        × WritesWhole W.contents writer.old writer.new out) }
     ensures caused { IsCaused (O.seeds world.now) (O.opens world.now) (HasFailed input.old input.new) (spelled request.entry) result }
     ensures input { ReadsInput I.remaining input.old input.new (spelled request.entry) }
 {

@@ -5,6 +5,7 @@
 #
 # Each row is files, a command line, the answer, the exit status, and what is on standard error, each byte of which
 # was written by hand from tests/DIAGNOSES.md and docs/FORMAT.md, "Diagnoses". Each number of docs/tables has a row.
+# Some rows have several answers, or several things that may be said, each of which is right.
 # First the model must give each row, for which no program is needed. Then the program must, and where standard error
 # is closed or full its answer and its status must be the same. At last it must say what the model says of CASES
 # changed texts that SEED makes.
@@ -23,9 +24,11 @@ import diagnoses  # noqa: E402  (in tests/model)
 import further  # noqa: E402
 import places  # noqa: E402
 import unlawful_runs  # noqa: E402
-import unrescued  # noqa: E402
 import usual  # noqa: E402
+import why_hanging  # noqa: E402
+import without_rescuer  # noqa: E402
 from command_line import seed_and_counts  # noqa: E402
+from either import each  # noqa: E402
 from programs import counts_of, is_there  # noqa: E402  (in tests/lib)
 from records import records  # noqa: E402  (there, too)
 from tables import text_of  # noqa: E402
@@ -50,14 +53,22 @@ TABLES = [
     ("accepted texts", places.ACCEPTED),
     ("steps that may not be made", unlawful_runs.STEPS),
     ("places of steps", unlawful_runs.PLACES),
-    ("mistakes with `norescuer`", unrescued.MISTAKES),
-    ("names of workqueues", unrescued.NAMES),
-    ("what `safe` doesn't say", unrescued.NOTES),
-    ("by which flush a run hangs", unrescued.REASONS),
+    ("mistakes with `norescuer`", without_rescuer.MISTAKES),
+    ("names of workqueues", without_rescuer.NAMES),
+    ("what `safe` doesn't say", without_rescuer.NOTES),
+    ("flushes that lead to no rescuer", without_rescuer.REASONS),
+    ("why workqueues hang", why_hanging.ON_WORKQUEUES),
+    ("why groups hang", why_hanging.IN_GROUPS),
+    ("which reason is said", why_hanging.WHICH),
+    ("reasons of components", why_hanging.COMPONENTS),
+    ("reasons below a no", why_hanging.BELOW_NO),
+    ("reasons of replayed runs", why_hanging.REPLAYED),
+    ("lines of reasons", why_hanging.LINES),
 ]
 
 # Of each of these tables the rows whose standard error is closed or full: of each command some.
-STREAMS = [places.FILES, places.LIMITS, places.NOES, places.ACCEPTED, unlawful_runs.PLACES, unrescued.NOTES, unrescued.REASONS]
+STREAMS = [places.FILES, places.LIMITS, places.NOES, places.ACCEPTED, unlawful_runs.PLACES, without_rescuer.NOTES, without_rescuer.REASONS,
+           why_hanging.COMPONENTS, why_hanging.BELOW_NO, why_hanging.REPLAYED]
 
 
 class Row:
@@ -67,16 +78,18 @@ class Row:
         self.texts = {file: text_of(text) for file, text in files.items()}
         self.words = words.split() if isinstance(words, str) else words
         self.command = self.words[0]
-        self.files = [word for word in self.words[1:] if word != "--"] or ["<stdin>"]
-        self.wanted = (text_of(printed), status, "".join(line + "\n" for line in said).encode("ascii"))
+        self.files = ["<stdin>" if word == "-" else word for word in self.words[1:] if word != "--"] or ["<stdin>"]
+        # What is right: each of the answers with each of what may be said.
+        self.wanted = [(text_of(answer), status, "".join(line + "\n" for line in lines).encode("ascii"))
+                       for answer in each(printed) for lines in each(said)]
 
     def given(self):
         """The texts of the command, in the order of its arguments."""
         return [self.texts[os.path.normpath(file)] for file in self.files]
 
-    def model(self):
-        """What the model gives."""
-        return diagnoses.answer(self.command, [os.fsencode(file) for file in self.files], self.given())
+    def asked(self):
+        """The command, the names of the files as bytes, and the texts."""
+        return self.command, [os.fsencode(file) for file in self.files], self.given()
 
     def failed(self, what, wanted, found):
         """Says how what was found differs."""
@@ -104,38 +117,43 @@ def rows_of(table):
 
 def without_row(tables):
     """The numbers of which there is no row."""
-    first = [row.wanted[0].split()[:2] for _, rows in tables for row in rows]
+    first = [row.wanted[0][0].split()[:2] for _, rows in tables for row in rows]
     found = {words[1].decode() for words in first if words[:1] in ([b"refused"], [b"no"])}
     return [row["number"] for row in records("numbers.txt") if "number" in row and row["number"] not in found]
 
 
 def model_gives(row):
-    found = row.model()
-    # (the model has no words for further mistakes, and so says less)
-    agrees = diagnoses.agree(row.given(), found, row.wanted)
-    if not agrees:
-        row.failed("the model", row.wanted, found)
-    return agrees
+    """Whether the model's answer is right, and each that is right is so by the model."""
+    found = diagnoses.answer(*row.asked())
+    for wanted in row.wanted:
+        # (the model has no words for further mistakes, and so says less)
+        if not diagnoses.agree(*row.asked(), found, wanted):
+            row.failed("the model", wanted, found)
+            return False
+    if found not in row.wanted and len(row.wanted[0][2]) <= len(found[2]):
+        row.failed("the model has another one", row.wanted[0], found)
+        return False
+    return True
 
 
 def program_gives(program, row, streams="", wanted=None):
     """Whether the program gives what is wanted, which is the row where nothing else is, and leaves the files alone."""
     wanted = wanted or row.wanted
     found, same = diagnoses.ask(program, row.words, row.texts, streams)
-    if found != wanted or not same:
-        row.failed(f"program {streams}" + ("" if same else " (a file was changed)"), wanted, found)
-    return found == wanted and same
+    if found not in wanted or not same:
+        row.failed(f"program {streams}" + ("" if same else " (a file was changed)"), wanted[0], found)
+    return found in wanted and same
 
 
 def stream_outcomes(program, row):
     """Standard error that is closed or full, one pipe for both streams, and standard output that is full or closed."""
-    printed, status, said = row.wanted
-    yield program_gives(program, row, "2>&-", (printed, status, b""))
-    yield program_gives(program, row, "2>/dev/full", (printed, status, b""))
-    yield program_gives(program, row, "2>&1", (printed + said, status, b""))
+    silent = [(printed, status, b"") for printed, status, _ in row.wanted]
+    yield program_gives(program, row, "2>&-", silent)
+    yield program_gives(program, row, "2>/dev/full", silent)
+    yield program_gives(program, row, "2>&1", [(printed + said, status, b"") for printed, status, said in row.wanted])
     # Where the refusal can't be written, nothing is said of it.
-    yield program_gives(program, row, ">/dev/full", (b"", 3, b"wqplan: <stdout>: no space left\nfault write\n"))
-    yield program_gives(program, row, ">&-", (b"", 3, b"wqplan: <stdout>: can't be written\nfault write\n"))
+    yield program_gives(program, row, ">/dev/full", [(b"", 3, b"wqplan: <stdout>: no space left\nfault write\n")])
+    yield program_gives(program, row, ">&-", [(b"", 3, b"wqplan: <stdout>: can't be written\nfault write\n")])
 
 
 def main(arguments):

@@ -282,6 +282,9 @@ NOES = [
         "p:2:6: `a` flushes `b`, so it should be on a higher workqueue [no 50, `wqplan explain 50`]",
         "    wq 0 a b",
         "         ^ `b` is on workqueue 0",
+        "d:3:9: can hang: `a`, on workqueue 0, waits for `b`, which is behind it",
+        "    flush a b",
+        "            ^",
     ]),
     ({"d": AB, "p": "plan 2 / wq 0 a / wq 1 b # below / chain 2 / arc a b"}, "check d p", "no 50 a b", 1, [
         "p:2:6: `a` flushes `b`, so it should be on a higher workqueue [no 50, `wqplan explain 50`]",
@@ -293,17 +296,26 @@ NOES = [
         "p:2:6: `a` flushes the workqueue of `b`, so it should be on a higher workqueue [no 50, `wqplan explain 50`]",
         "    wq 0 a b",
         "         ^ `b` is on workqueue 0",
+        "d:3:11: can hang: `a`, on workqueue 0, waits for all of its workqueue",
+        "    flushwq a b",
+        "              ^",
     ]),
     ({"d": AB + " / flushwq a b", "p": "plan 1 / wq 0 a b / chain 1"}, "check d p", "no 50 a b", 1, [
         "p:2:6: `a` flushes `b`, so it should be on a higher workqueue [no 50, `wqplan explain 50`]",
         "    wq 0 a b",
         "         ^ `b` is on workqueue 0",
+        "d:4:11: can hang: `a`, on workqueue 0, waits for all of its workqueue",
+        "    flushwq a b",
+        "              ^",
     ]),
-    ({"d": "item a / item b / item c / flush b c / flushwq a b / flush a b", "p": "plan 2 / wq 0 a c / wq 1 b / chain 1"},
+    ({"d": "item a / item b / item c / flush b c / flushwq a b / flush a b / flush c c", "p": "plan 2 / wq 0 a c / wq 1 b / chain 1"},
      "check d p", "no 50 a b", 1, [
         "p:2:6: `a` flushes the workqueue of `b`, so it should be on a higher workqueue [no 50, `wqplan explain 50`]",
         "    wq 0 a c",
         "         ^ `b` is on workqueue 1",
+        "d:7:9: can hang: `c`, on workqueue 0, waits for itself",
+        "    flush c c",
+        "            ^",
     ]),
     ({"d": AB, "p": "plan 2 / wq 0 b / wq 1 a / chain 1"}, "check d p", "no 52", 1, [
         "p:4:7: the chain should have as many groups as there are workqueues [no 52, `wqplan explain 52`]",
@@ -344,7 +356,7 @@ def drawn(title):
     ])
 
 
-# What isn't refused: nothing is said of it, but that there is no item.
+# What isn't refused: nothing is said of it, but that there is no item, and why workqueues can hang.
 ACCEPTED = [
     ({"d.wq": AB}, "plan d.wq", "plan 2 / wq 0 b / wq 1 a / chain 2 / arc a b", 0, []),
     ({"<stdin>": AB}, "plan", "plan 2 / wq 0 b / wq 1 a / chain 2 / arc a b", 0, []),
@@ -375,12 +387,24 @@ ACCEPTED = [
     ({"d": ""}, "run d", "workqueues 0 / faults 0", 0, [
         "d: note: no item is declared: is this the right file?",
     ]),
-    ({"d.wq": "item a / flush a a"}, "plan d.wq", "circle 1 / arc a a / run 3 / queue a / start 0 a / wait 0 a", 1, []),
+    ({"d.wq": "item a / flush a a"}, "plan d.wq", "circle 1 / arc a a / run 3 / queue a / start 0 a / wait 0 a", 1, [
+        "d.wq:2:9: can hang on any workqueues: `a` waits for itself",
+        "    flush a a",
+        "            ^",
+    ]),
     ({"d": AB, "p": "plan 2 / wq 0 b / wq 1 a / chain 2 / arc a b"}, "check d p", "yes 2", 0, []),
     ({"d": AB, "a": WQS}, "deadlock d a", "safe", 0, []),
-    ({"d": AB, "a": "wq 0 a b"}, "deadlock d a", "run 4 / queue a / queue b / start 0 a / wait 0 b", 1, []),
+    ({"d": AB, "a": "wq 0 a b"}, "deadlock d a", "run 4 / queue a / queue b / start 0 a / wait 0 b", 1, [
+        "d:3:9: can hang: `a`, on workqueue 0, waits for `b`, which is behind it",
+        "    flush a b",
+        "            ^",
+    ]),
     ({"d": AB}, "circles d", "safe", 0, []),
-    ({"d": AB, "a": "wq 0 a b"}, "circles d a", "components 1 / component 1 / arc a b", 1, []),
+    ({"d": AB, "a": "wq 0 a b"}, "circles d a", "components 1 / component 1 / arc a b", 1, [
+        "d:3:9: can hang: `a`, on workqueue 0, waits for `b`, which is behind it",
+        "    flush a b",
+        "            ^",
+    ]),
     ({"d": ""}, "dot d", drawn("plan of 0 workqueues"), 0, [
         "d: note: no item is declared: is this the right file?",
     ]),

@@ -80,7 +80,7 @@ def judged(program, command, texts, folder):
         return found.status, f"status {found.status}, {short(found.printed)}; the model has status {status}, {short(printed)}"
     if found.status not in (0, 1, 2):
         return found.status, f"status {found.status}"
-    return found.status, None if fits(found.printed, found.errors, places) else f"standard error {short(found.errors)}"
+    return found.status, None if fits(found.printed, found.errors, places, command) else f"standard error {short(found.errors)}"
 
 
 def ask_chunk(program, numbers):

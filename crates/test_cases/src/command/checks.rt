@@ -23,6 +23,9 @@ pub(crate) const CHECKS: &[Case] = &[
 c:2:6: `a` flushes `b`, so it should be on a higher workqueue [no 50, `wqplan explain 50`]
     wq 0 a b
          ^ `b` is on workqueue 0
+d:3:9: can hang: `a`, on workqueue 0, waits for `b`, which is behind it
+    flush a b
+            ^
 ",
     },
     Case {

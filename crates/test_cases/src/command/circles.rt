@@ -11,7 +11,14 @@ pub(crate) const CIRCLES: &[Case] = &[
         texts: &[CHAIN, LANES],
         end: End::Bad,
         answer: "components 1\ncomponent 2\narc a b\narc b c\n",
-        said: "",
+        said: "\
+d:4:9: can hang: `a`, on workqueue 0, waits for `b`, which waits on workqueue 1
+    flush a b
+            ^
+d:5:9: and `b`, on workqueue 1, waits for `c`, which is behind `a` on workqueue 0
+    flush b c
+            ^
+",
     },
     Case {
         name: "safe lanes without a circle",
@@ -49,7 +56,14 @@ d:1:5: a name is missing [refused 5, `wqplan explain 5`]
         texts: &[GROUPED],
         end: End::Bad,
         answer: "components 1\ncomponent 2\narc a b\narc c d\n",
-        said: "",
+        said: "\
+d:7:9: can hang: `a` waits for `b`, which is behind `c`: they are `ordered`
+    flush a b
+            ^
+d:8:9: and `c` waits for `d`, which is behind `a`: they are `ordered`
+    flush c d
+            ^
+",
     },
     Case {
         name: "two components",
@@ -57,7 +71,17 @@ d:1:5: a name is missing [refused 5, `wqplan explain 5`]
         texts: &["item a\nitem b\nitem c\nflush c c\nflush a b\nflush b a c\n"],
         end: End::Bad,
         answer: "components 2\ncomponent 2\narc a b\narc b a\ncomponent 1\narc c c\n",
-        said: "",
+        said: "\
+d:5:9: can hang: `a` waits for `b`, which waits
+    flush a b
+            ^
+d:6:9: and `b` waits for `a`, which waits
+    flush b a c
+            ^
+d:4:9: can hang: `c` waits for itself
+    flush c c
+            ^
+",
     },
     Case {
         name: "groups without a circle",

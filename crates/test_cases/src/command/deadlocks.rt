@@ -13,7 +13,14 @@ pub(crate) const DEADLOCKS: &[Case] = &[
         texts: &[CHAIN, LANES],
         end: End::Bad,
         answer: HANGS,
-        said: "",
+        said: "\
+d:4:9: can hang: `a`, on workqueue 0, waits for `b`, which waits on workqueue 1
+    flush a b
+            ^
+d:5:9: and `b`, on workqueue 1, waits for `c`, which is behind `a` on workqueue 0
+    flush b c
+            ^
+",
     },
     Case {
         name: "two lanes that hang",
@@ -21,7 +28,14 @@ pub(crate) const DEADLOCKS: &[Case] = &[
         texts: &[TWO_FLUSHES, CROSSED],
         end: End::Bad,
         answer: CROSSED_HANGS,
-        said: "",
+        said: "\
+d:5:9: can hang: `a`, on workqueue 0, waits for `b`, which is behind `c` on workqueue 1
+    flush a b
+            ^
+d:6:9: and `c`, on workqueue 1, waits for `d`, which is behind `a` on workqueue 0
+    flush c d
+            ^
+",
     },
     Case {
         name: "safe lanes",

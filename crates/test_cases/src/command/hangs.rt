@@ -11,7 +11,11 @@ pub(crate) const HANGS: &[Case] = &[
         texts: &[ITSELF, "wq 0 a\n"],
         end: End::Bad,
         answer: "run 3\nqueue a\nstart 0 a\nwait 0 a\n",
-        said: "",
+        said: "\
+d:2:9: can hang: `a`, on workqueue 0, waits for itself
+    flush a a
+            ^
+",
     },
     Case {
         name: "a wait for what has no rescuer, shortest",
@@ -20,7 +24,7 @@ pub(crate) const HANGS: &[Case] = &[
         end: End::Bad,
         answer: "run 4\nqueue b\nqueue c\nstart 1 b\nwait 1 c\n",
         said: "\
-d:5:9: `b`, on workqueue 1, waits for `c`, which nothing guarantees to run: workqueue 2 has no rescuer
+d:5:9: can hang: `b`, on workqueue 1, waits for `c`, which nothing guarantees to run: workqueue 2 has no rescuer
     flush b c
             ^
 c:3:1: workqueue 2 has no rescuer

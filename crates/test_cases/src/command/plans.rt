@@ -45,7 +45,11 @@ d: note: no item is declared: is this the right file?
         texts: &[ITSELF],
         end: End::Bad,
         answer: CIRCLE,
-        said: "",
+        said: "\
+d:2:9: can hang on any workqueues: `a` waits for itself
+    flush a a
+            ^
+",
     },
     Case {
         name: "a circle of two items",
@@ -53,7 +57,14 @@ d: note: no item is declared: is this the right file?
         texts: &[EACH_OTHER],
         end: End::Bad,
         answer: "circle 2\narc a b\narc b a\nrun 6\nqueue a\nqueue b\nstart 0 a\nwait 0 b\nstart 1 b\nwait 1 a\n",
-        said: "",
+        said: "\
+d:4:9: can hang on any workqueues: `a` waits for `b`, which waits
+    flush a b
+            ^
+d:3:9: and `b` waits for `a`, which waits
+    flush b a
+            ^
+",
     },
     Case {
         name: "a circle of groups",
@@ -61,7 +72,14 @@ d: note: no item is declared: is this the right file?
         texts: &[GROUPED],
         end: End::Bad,
         answer: "circle 2\narc a b\narc c d\nrun 8\nqueue a\nqueue c\nqueue b\nqueue d\nstart 0 a\nwait 0 b\nstart 1 c\nwait 1 d\n",
-        said: "",
+        said: "\
+d:7:9: can hang on any workqueues: `a` waits for `b`, which is behind `c`: they are `ordered`
+    flush a b
+            ^
+d:8:9: and `c` waits for `d`, which is behind `a`: they are `ordered`
+    flush c d
+            ^
+",
     },
     Case {
         name: "a circle within a group",
@@ -69,7 +87,11 @@ d: note: no item is declared: is this the right file?
         texts: &["item a\nitem b\nitem c\nordered c b\nflush a c\nflush c b\n"],
         end: End::Bad,
         answer: "circle 1\narc c b\nrun 7\nqueue c\nqueue a\nqueue b\nstart 0 a\nwait 0 c\nstart 1 c\nwait 1 b\n",
-        said: "",
+        said: "\
+d:6:9: can hang on any workqueues: `c` waits for `b`, which is behind it: they are `ordered`
+    flush c b
+            ^
+",
     },
     Case {
         name: "a line that is none",

@@ -11,7 +11,14 @@ pub(crate) const REPLAYS: &[Case] = &[
         texts: &[CHAIN, LANES, HANGS],
         end: End::Bad,
         answer: "deadlock\n",
-        said: "",
+        said: "\
+d:4:9: can hang: `a`, on workqueue 0, waits for `b`, which waits on workqueue 1
+    flush a b
+            ^
+d:5:9: and `b`, on workqueue 1, waits for `c`, which is behind `a` on workqueue 0
+    flush b c
+            ^
+",
     },
     Case {
         name: "a run within a workqueue that hangs",
@@ -23,7 +30,11 @@ pub(crate) const REPLAYS: &[Case] = &[
         ],
         end: End::Bad,
         answer: "deadlock\n",
-        said: "",
+        said: "\
+d:3:9: can hang: `a`, on workqueue 0, waits for `b`, which is behind it
+    flush a b
+            ^
+",
     },
     Case {
         name: "a run that goes on",

@@ -11,9 +11,10 @@ use Rattle.wq_core.proofs.Results.{OnErr-holds}
 use Rattle.wq_core.proofs.Wirings.{IsWiring-wiring, IsWiring-with_bare}
 use Rattle.wq_hang.specs.declared.hop.Hop.{Hop}
 use Rattle.wq_hang.specs.Shortest.{IsShortestHang}
-use Rattle.wq_hang.specs.Walk.{IsLeastWalk, run_of_walk}
+use Rattle.wq_hang.specs.Walk.{IsLeastWalk, IsRoundOrFirst, run_of_walk}
 use Rattle.wq_hang.proofs.LeastFound.{IsSafe-no_lane, walk_items}
 use Rattle.wq_hang.proofs.Shortest.{IsShortestHang-least}
+use Rattle.wq_hang.proofs.SomeLanes.{same_bare}
 use Rattle.wq_hang.proofs.hanging.hang.Goals as goal
 
 pub returns-then-lanes-eq0-clause-answer : goal.returns-then-lanes-eq0-clause-answer
@@ -31,7 +32,7 @@ returns-then-lanes-eq0-clause-answer g c =
 
 pub run_of_walk-requires : goal.run_of_walk-requires
 run_of_walk-requires g c =
-    let w = c.in_ok-core.core.wiring in
+    let w = c.new-waits.result in
     let least : IsLeastWalk w c.in-Some.hops.items c.in-Some.beside.items = rw c.in-Some.is at c.in_ok-hops.ensures.some in
     subst (λ (l : List Hop). All (λ (h : Hop). h.item < items w) l) (sym c.as_slice.ensures.value) (walk_items w c.in-Some.hops.items c.in-Some.beside.items least.walk)
 
@@ -52,8 +53,10 @@ returns-in-Some-clause-answer g c =
     let sound : IsWiring v = IsWiring-with_bare (wiring d ws.assignment) ws.bare (IsWiring-wiring d ws.assignment declaration assignment) in
     let hops = c.in-Some.hops.items in
     let beside = c.in-Some.beside.items in
-    let same : c.in_ok-core.core.wiring ≡ v = ap (λ (m : Machine). m.wiring) c.in_ok-core.ensures.machine in
-    let found : IsLeastWalk c.in_ok-core.core.wiring hops beside = rw c.in-Some.is at c.in_ok-hops.ensures.some in
+    let of : c.in_ok-core.core.wiring ≡ v = ap (λ (m : Machine). m.wiring) c.in_ok-core.ensures.machine in
+    let same : c.new-waits.result ≡ v = c.new-waits.ensures ∙ same_bare c.in_ok-core.core.wiring d ws c.bare.result.now of c.bare.ensures ∙ of in
+    let found : IsLeastWalk c.new-waits.result hops beside = rw c.in-Some.is at c.in_ok-hops.ensures.some in
+    let chosen : IsRoundOrFirst c.new-waits.result hops beside = rw c.in-Some.is at c.in_ok-hops.ensures.first in
     let least : IsLeastWalk v hops beside = subst (λ (x : Wiring). IsLeastWalk x hops beside) same found in
     let run : c.in_ok-steps-in-Some.steps.items ≡ run_of_walk v hops beside =
     c.in_ok-steps-in-Some.ensures
@@ -65,6 +68,7 @@ returns-in-Some-clause-answer g c =
       shortest = subst (IsShortestHang v) (sym run) (IsShortestHang-least v hops beside sound least);
       beside = beside;
       walk = least.walk;
+      first = subst (λ (x : Wiring). IsRoundOrFirst x hops beside) same chosen;
       run = run;
     }
 
@@ -76,6 +80,7 @@ returns-clause-answer g c =
     let d = declaration_of t p in
     let assignment : IsAssignment d.groups ws.assignment =
     subst (IsAssignment d.groups) c.assignment.ensures (record { one_each = ap (λ (a : Assignment). length a.lane_of_group) c.assignment.ensures ∙ c.requires.assigned; within = c.lanes.ensures.within }) in
-    let same : c.in_ok-core.core.wiring ≡ wiring_of d ws = ap (λ (m : Machine). m.wiring) c.in_ok-core.ensures.machine in
-    let safe : IsSafe c.in_ok-core.core.wiring = rw c.in-None.is at c.in_ok-hops.ensures.none in
+    let of : c.in_ok-core.core.wiring ≡ wiring_of d ws = ap (λ (m : Machine). m.wiring) c.in_ok-core.ensures.machine in
+    let same : c.new-waits.result ≡ wiring_of d ws = c.new-waits.ensures ∙ same_bare c.in_ok-core.core.wiring d ws c.bare.result.now of c.bare.ensures ∙ of in
+    let safe : IsSafe c.new-waits.result = rw c.in-None.is at c.in_ok-hops.ensures.none in
     (assignment, subst IsSafe same safe)

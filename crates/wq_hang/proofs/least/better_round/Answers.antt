@@ -1,40 +1,33 @@
-use Rattle.std.proofs.Common.{◌<◌, ℕ, false, ap, ◌∙◌, sym, subst, arith, get_or}
+use Rattle.std.proofs.Common.{◌<◌, ℕ, ◌∙◌, sym, subst, arith}
 use Rattle.std.specs.Prelude.{slice_index}
 use Rattle.std.proofs.lemmas.Bool.{false≢true}
 use Rattle.wq_core.specs.Wiring.{HasRescuer}
 use Rattle.wq_hang.specs.Search.{IsBetter}
-use Rattle.wq_hang.proofs.LeastFound.{IsNoBetter-low, IsNoBetter-bare, IsNoBetter-unmarked, IsNoBetter-searched, IsBetter-searched}
+use Rattle.wq_hang.proofs.LeastFound.{IsNoBetter-low, IsNoBetter-bare, IsNoBetter-searched, IsBetter-searched}
 use Rattle.wq_hang.proofs.least.better_round.Goals as goal
 
 pub returns-then-least-le3 : goal.returns-then-least-le3
-returns-then-least-le3 g c = record { some = tt; none = IsNoBetter-low c.args.core.now.wiring c.args.marks.now c.args.first c.args.least c.if-least-le3.true }
+returns-then-least-le3 g c = record { some = tt; none = IsNoBetter-low c.args.waits.now c.args.first c.args.least c.if-least-le3.true }
 
 pub returns-then-not-has_rescuer : goal.returns-then-not-has_rescuer
 returns-then-not-has_rescuer g c =
-    let w = c.args.core.now.wiring in
+    let w = c.args.waits.now in
     record {
       some = tt;
-      none = IsNoBetter-bare w c.args.marks.now c.args.first c.args.least (λ rescuer.
-          false≢true (sym c.if-not-has_rescuer.true ∙ c.has_rescuer.ensures.1 (subst (HasRescuer w) (sym c.lane_of-lane.ensures.lane) rescuer))
+      none = IsNoBetter-bare w c.args.first c.args.least (λ rescuer.
+          false≢true (sym c.if-not-has_rescuer.true ∙ c.has_rescuer.ensures.1 (subst (HasRescuer w) (sym c.lane_of.ensures.lane) rescuer))
           );
     }
 
-pub returns-then-not-marks-from-clause-none : goal.returns-then-not-marks-from-clause-none
-returns-then-not-marks-from-clause-none g c =
-    let w = c.args.core.now.wiring in
-    let marks = c.args.marks.now in
-    let lane = c.from.ensures ∙ c.get.ensures ∙ c.lane_of-lane.ensures.lane in
-    IsNoBetter-unmarked w marks c.args.first c.args.least (ap (λ (q : ℕ). get_or marks q false) (sym lane) ∙ c.if-not-marks-from.true)
-
 pub returns-then-cost-least-clause-none : goal.returns-then-cost-least-clause-none
 returns-then-cost-least-clause-none g c =
-    IsNoBetter-searched c.args.core.now.wiring c.args.marks.now c.args.first c.args.least c.in_ok-search.search c.in_ok-search.ensures (omega (arith, c.if-cost-least.true, c.cost-cost.ensures))
+    IsNoBetter-searched c.args.waits.now c.args.first c.args.least c.search_from.new.search c.in_ok-search_from.ensures (omega (arith, c.if-cost-least.true, c.cost-cost.ensures))
 
 pub returns : goal.returns
 returns g c =
-    let w = c.args.core.now.wiring in
-    let s = c.in_ok-search.search in
+    let w = c.args.waits.now in
+    let s = c.search_from.new.search in
     let hops = c.in_ok-hops.hops.items in
     let less : slice_index s.costs c.args.first < c.args.least = omega (arith, c.if-cost-least.false, c.cost-cost.ensures) in
-    let better = IsBetter-searched w c.args.first c.args.least s hops c.in_ok-search.ensures less c.in_ok-hops.ensures.round c.in_ok-hops.ensures.cost in
+    let better = IsBetter-searched w c.args.first c.args.least s hops c.in_ok-search_from.ensures less c.in_ok-hops.ensures.round c.in_ok-hops.ensures.cost in
     record { some = subst (λ (n : ℕ). IsBetter w c.args.first c.args.least n hops) (sym c.cost-cost.ensures) better; none = tt }

@@ -9,7 +9,7 @@ use Rattle.wq_hang.proofs.least.round.Goals as goal
 
 pub loop-first-init : goal.loop-first-init
 loop-first-init g c =
-    let w = c.args.core.now.wiring in
+    let w = c.args.waits.now in
     let first = c.args.first in
     let s = c.args.search.now in
     let h : Hop = c.hop_to-hop.result in
@@ -19,7 +19,7 @@ loop-first-init g c =
 
 pub loop-first-preserved : goal.loop-first-preserved
 loop-first-preserved g c =
-    let w = c.args.core.now.wiring in
+    let w = c.args.waits.now in
     let first = c.args.first in
     let s = c.args.search.now in
     let h : Hop = c.loop-first.hop in
@@ -31,7 +31,7 @@ loop-first-preserved g c =
 
 pub loop-first-smaller : goal.loop-first-smaller
 loop-first-smaller g c =
-    let w = c.args.core.now.wiring in
+    let w = c.args.waits.now in
     let first = c.args.first in
     let s = c.args.search.now in
     let h : Hop = c.loop-first.hop in
@@ -43,14 +43,14 @@ loop-first-smaller g c =
 
 pub returns-clause-round : goal.returns-clause-round
 returns-clause-round g c =
-    let w = c.args.core.now.wiring in
+    let w = c.args.waits.now in
     let same : c.loop-first.hop.item ≡ c.args.first = eqb-true c.loop-first.hop.item c.args.first (not-false (eqb c.loop-first.hop.item c.args.first) (sym c.ne.ensures ∙ c.loop-first-test.false)) in
     let traced = IsRound-traced w c.args.first c.args.limit c.args.search.now c.requires.reach c.loop-first.hop c.loop-first.hops.items c.loop-first.invariant same in
     subst (IsRound w) (sym c.reverse.ensures.items) traced.0
 
 pub returns-clause-cost : goal.returns-clause-cost
 returns-clause-cost g c =
-    let w = c.args.core.now.wiring in
+    let w = c.args.waits.now in
     let same : c.loop-first.hop.item ≡ c.args.first = eqb-true c.loop-first.hop.item c.args.first (not-false (eqb c.loop-first.hop.item c.args.first) (sym c.ne.ensures ∙ c.loop-first-test.false)) in
     let traced = IsRound-traced w c.args.first c.args.limit c.args.search.now c.requires.reach c.loop-first.hop c.loop-first.hops.items c.loop-first.invariant same in
     subst (λ (l : List Hop). hops_cost l ≤ slice_index c.args.search.now.costs c.args.first) (sym c.reverse.ensures.items) traced.1

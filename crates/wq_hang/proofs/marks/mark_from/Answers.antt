@@ -9,9 +9,9 @@ use Rattle.wq_hang.proofs.marks.mark_from.Goals.{then-numbers-lane, else-numbers
 
 pub loop-flush-preserved : goal.loop-flush-preserved
 loop-flush-preserved g c =
-    let v = c.args.core.now.wiring in
+    let v = c.args.waits.now in
     let q : ℕ = c.from-lane.result in
-    let items = c.waits-flush-items.result.now in
+    let items = c.flushes-flush-items.result.now in
     let i : ℕ = c.loop-flush.flush-index in
     let x : Target = c.flush-item.result in
     let marks = c.loop-flush.marks in
@@ -45,9 +45,9 @@ loop-flush-preserved g c =
 
 pub returns-clause-marked : goal.returns-clause-marked
 returns-clause-marked g c t there low =
-    let v = c.args.core.now.wiring in
+    let v = c.args.waits.now in
     let numbers = c.args.numbers.now in
     let own = c.from.ensures ∙ c.get.ensures ∙ c.lane_of.ensures.lane in
-    let here : Contains c.waits-flush-items.result.now t = subst (λ (l : List Target). Contains l t) (sym c.waits-flush-items.ensures) there in
-    c.loop-flush.invariant.marked t (contains_all c.waits-flush-items.result.now c.loop-flush.flush-index t c.loop-flush-test.false here)
+    let here : Contains c.flushes-flush-items.result.now t = subst (λ (l : List Target). Contains l t) (sym c.flushes-flush-items.ensures) there in
+    c.loop-flush.invariant.marked t (contains_all c.flushes-flush-items.result.now c.loop-flush.flush-index t c.loop-flush-test.false here)
     (subst (λ (n : ℕ). slice_index numbers (lane_of v t.item) ≤ slice_index numbers n) (sym own) low)

@@ -8,5 +8,5 @@ abbrev pub invariant-loop-flush : goal.invariant-loop-flush
 invariant-loop-flush g l = record {
   len : length l.marks ≡ length l.initial.marks;
   kept : (q : ℕ) → slice_index_or l.initial.marks q false ≡ true → slice_index_or l.marks q false ≡ true;
-  marked : (t : Target) → Contains (take l.flush-index l.flush-items) t → slice_index l.numbers (lane_of l.core.wiring t.item) ≤ l.own → slice_index_or l.marks (lane_of l.core.wiring t.item) false ≡ true;
+  marked : (t : Target) → Contains (take l.flush-index l.flush-items) t → slice_index l.numbers (lane_of l.waits t.item) ≤ l.own → slice_index_or l.marks (lane_of l.waits t.item) false ≡ true;
 }

@@ -6,7 +6,7 @@ use Rattle.wq_hang.proofs.marks.marked_lanes.Goals as goal
 
 pub loop-i-preserved : goal.loop-i-preserved
 loop-i-preserved g c =
-    let v = c.args.core.now.wiring in
+    let v = c.args.waits.now in
     let numbers = c.args.numbers.now in
     let new = c.mark_from.new.marks in
     let size = c.mark_from.ensures.len ∙ c.as_mut_slice.ensures.len in

@@ -6,7 +6,7 @@ use Rattle.wq_hang.proofs.marks.marked_lanes.Given as goal
 
 abbrev pub invariant-loop-i : goal.invariant-loop-i
 invariant-loop-i g l = record {
-  len : length l.marks.items ≡ l.core.wiring.lanes;
-  marked : (h : Hop) → IsHop l.core.wiring h → h.item < l.i → slice_index l.numbers (lane_of l.core.wiring h.flush.item) ≤ slice_index l.numbers (lane_of l.core.wiring h.item)
-      → slice_index_or l.marks.items (lane_of l.core.wiring h.flush.item) false ≡ true;
+  len : length l.marks.items ≡ l.waits.lanes;
+  marked : (h : Hop) → IsHop l.waits h → h.item < l.i → slice_index l.numbers (lane_of l.waits h.flush.item) ≤ slice_index l.numbers (lane_of l.waits h.item)
+      → slice_index_or l.marks.items (lane_of l.waits h.flush.item) false ≡ true;
 }

@@ -1,28 +1,10 @@
-use Rattle.std.proofs.Common.{refl, subst, sym}
 use Rattle.wq_meter.specs.Input.{IsInput}
-use Rattle.wqplan.specs.CommandLine.{HasFewHelpers, spelled}
-use Rattle.wqplan.specs.Ended.{EndedBy, EndsAsAsked, Has}
+use Rattle.wqplan.specs.CommandLine.{spelled}
+use Rattle.wqplan.specs.Ended.{Has}
+use Rattle.wqplan.proofs.PromiseLemmas.{promised_by}
 use Rattle.wqplan.proofs.performing.perform.Goals as goal
 
-pub returns-in-Check-clause-ended : goal.returns-in-Check-clause-ended
-returns-in-Check-clause-ended g c =
-    subst (λ r. EndedBy g.W.Write.contents c.args.writer.now c.check.new.writer (EndsAsAsked (Has (g.O.World.opens c.args.world.now) g.O.File.Read.remaining) (IsInput (g.I.Read.remaining c.args.input.now.device)) (spelled r)) c.check.result)
-    (sym c.in-Check.is) c.check.ensures.ended
-
-pub returns-in-Deadlock-clause-ended : goal.returns-in-Deadlock-clause-ended
-returns-in-Deadlock-clause-ended g c =
-    subst (λ r. EndedBy g.W.Write.contents c.args.writer.now c.deadlock.new.writer (EndsAsAsked (Has (g.O.World.opens c.args.world.now) g.O.File.Read.remaining) (IsInput (g.I.Read.remaining c.args.input.now.device)) (spelled r)) c.deadlock.result)
-    (sym c.in-Deadlock.is) c.deadlock.ensures.ended
-
-pub returns-in-Hang-clause-ended : goal.returns-in-Hang-clause-ended
-returns-in-Hang-clause-ended g c =
-    subst (λ r. EndedBy g.W.Write.contents c.args.writer.now c.hang.new.writer (EndsAsAsked (Has (g.O.World.opens c.args.world.now) g.O.File.Read.remaining) (IsInput (g.I.Read.remaining c.args.input.now.device)) (spelled r)) c.hang.result)
-    (sym c.in-Hang.is) c.hang.ensures.ended
-
-pub returns-in-Replay-clause-ended : goal.returns-in-Replay-clause-ended
-returns-in-Replay-clause-ended g c =
-    subst (λ r. EndedBy g.W.Write.contents c.args.writer.now c.replay.new.writer (EndsAsAsked (Has (g.O.World.opens c.args.world.now) g.O.File.Read.remaining) (IsInput (g.I.Read.remaining c.args.input.now.device)) (spelled r)) c.replay.result)
-    (sym c.in-Replay.is) c.replay.ensures.ended
-
-pub run-requires : goal.run-requires
-run-requires g c = λ κs. (c.type_bounds.sync-R, ((refl, tt), subst (λ r. HasFewHelpers (spelled r)) c.in-Run.is c.requires.few_helpers))
+pub returns-clause-promised : goal.returns-clause-promised
+returns-clause-promised g c =
+    promised_by g.W.Write.contents c.args.writer.now c.carry_out_asked.new.writer (Has (g.O.World.opens c.args.world.now) g.O.File.Read.remaining)
+    (IsInput (g.I.Read.remaining c.args.input.now.device)) (spelled c.args.request) c.carry_out_asked.result c.carry_out_asked.ensures.ended

@@ -10,23 +10,23 @@ use Rattle.wq_hang.proofs.search.Search.expand.Goals as goal
 pub follow-requires-clause-target : goal.follow-requires-clause-target
 follow-requires-clause-target g c =
     let t : Target = c.flush-item.result in
-    let here : Contains c.waits-flush-items.result.now t = (c.loop-flush.flush-index, c.loop-flush-test.true, sym c.flush-item.is) in
-    declared-target c.args.core.now.wiring c.args.item t c.items-items.ensures.machine.wiring (subst (λ (l : List Target). Contains l t) c.waits-flush-items.ensures here)
+    let here : Contains c.flushes-flush-items.result.now t = (c.loop-flush.flush-index, c.loop-flush-test.true, sym c.flush-item.is) in
+    declared-target c.args.waits.now c.args.item t c.items-items.ensures.wiring (subst (λ (l : List Target). Contains l t) c.flushes-flush-items.ensures here)
 
 pub follow-requires-clause-one_each : goal.follow-requires-clause-one_each
 follow-requires-clause-one_each g c =
-    let w = c.args.core.now.wiring in
+    let w = c.args.waits.now in
     let large = AsLarge-follows w c.args.on.now c.args.item c.args.cost (take c.loop-flush.flush-index (declared_by w c.args.item)) c.args.self.now in
     ap (λ (r : Reach). length r.costs) c.loop-flush.invariant ∙ large.one_each ∙ c.requires.one_each
 
 pub follow-requires-clause-by_each : goal.follow-requires-clause-by_each
 follow-requires-clause-by_each g c =
-    let w = c.args.core.now.wiring in
+    let w = c.args.waits.now in
     let large = AsLarge-follows w c.args.on.now c.args.item c.args.cost (take c.loop-flush.flush-index (declared_by w c.args.item)) c.args.self.now in
     ap (λ (r : Reach). length r.by) c.loop-flush.invariant ∙ large.by_each ∙ c.requires.by_each
 
 pub follow-requires-clause-lanes_each : goal.follow-requires-clause-lanes_each
 follow-requires-clause-lanes_each g c =
-    let w = c.args.core.now.wiring in
+    let w = c.args.waits.now in
     let large = AsLarge-follows w c.args.on.now c.args.item c.args.cost (take c.loop-flush.flush-index (declared_by w c.args.item)) c.args.self.now in
     ap (λ (r : Reach). length r.lane_costs) c.loop-flush.invariant ∙ large.lanes_each ∙ c.requires.lanes_each

@@ -1,9 +1,0 @@
-use Rattle.std.proofs.Common.{◌≡◌}
-use Rattle.std.specs.Prelude.{filter}
-use Rattle.std.specs.List.{range_with_len}
-use Rattle.wq_deadlock.specs.Judging.{is_on_bare}
-use Rattle.wq_diagnosis.proofs.bare.bare_items.Given as goal
-
--- those of the items so far
-abbrev pub invariant-loop-number : goal.invariant-loop-number
-invariant-loop-number g l = l.items.items ≡ filter (is_on_bare l.workqueues l.declared.groups.group_of) (range_with_len 0 l.number)

@@ -1,0 +1,82 @@
+//! Lines as they are shown in a diagnosis, and what is shown of a text.
+//!
+//! Each byte is shown as "Diagnoses" in docs/FORMAT.md says. A call takes time and memory in the length of what is shown.
+
+ghost use Rattle.std.specs.Prelude.{◌≡◌, ◌++◌, ◌∷◌, [], map, IfOk, OnOk};
+ghost use Rattle.wq_findings.specs.Shown.{shown};
+ghost use Rattle.wq_diagnosis.specs.Diagnosis.{shown_lines};
+
+use std::alloc::{AllocError, Allocator};
+use wq_findings::{Excerpt, Hint, Mark, Marks, shown};
+use wq_text::Text;
+
+/// The bytes as they are shown.
+fn shown_bytes<A: Allocator + Copy>(alloc: A, bytes: &[u8]) -> Result<Vec<u8, A>, AllocError>
+    ensures { IfOk result (λ line. line.items ≡ map shown bytes.now) }
+{
+    let mut line = Vec::new(alloc);
+    for byte in bytes {
+        line.push(shown(*byte))?;
+    }
+    Ok(line)
+}
+
+/// Adds a line as it is shown.
+pub fn put_line<A: Allocator + Copy>(
+    alloc: A,
+    out: &mut Vec<u8, A>,
+    line: &[u8],
+) -> Result<(), AllocError>
+    ensures { OnOk result (out.new.items ≡ out.old.items ++ (map shown line.now ++ (10 ∷ []))) }
+{
+    let line = shown_bytes(alloc, line)?;
+    out.extend_from_slice(&line)?;
+    out.push(b'\n')?;
+    Ok(())
+}
+
+/// Adds lines as they are shown.
+pub fn put_lines<A: Allocator + Copy>(
+    alloc: A,
+    out: &mut Vec<u8, A>,
+    lines: &[Vec<u8, A>],
+) -> Result<(), AllocError>
+    ensures { OnOk result (out.new.items ≡ out.old.items ++ shown_lines (map (λ line. line.items) lines.now)) }
+{
+    for line in lines {
+        put_line(alloc, out, line)?;
+    }
+    Ok(())
+}
+
+/// Adds a line and its marks.
+pub fn push_excerpt<A: Allocator + Copy>(
+    alloc: A,
+    details: &mut Vec<Vec<u8, A>, A>,
+    bytes: &[u8],
+    mark: Mark,
+    hint: Hint<'_>,
+) -> Result<(), AllocError> {
+    let marks = Marks::of(bytes.len(), mark, hint);
+    details.push(Excerpt::of(bytes, mark).to_string(alloc)?.into_bytes())?;
+    details.push(marks.to_string(alloc)?.into_bytes())?;
+    Ok(())
+}
+
+/// The column of a mark, from 1.
+pub fn column(mark: Mark) -> u32 {
+    u32::try_from(mark.at).unwrap_or(u32::MAX).saturating_add(1)
+}
+
+/// The lines of a text, however long they are. A text of more than 4,294,967,295 bytes, which no command reads, has none.
+pub fn lines_of(text: &[u8]) -> Text<'_> {
+    match Text::new(text, u32::MAX, u32::MAX) {
+        Ok(text) => text,
+        Err(_) => no_text(),
+    }
+}
+
+/// A text without lines.
+fn no_text<'a>() -> Text<'a> {
+    Text::new(b"", 0, 0).unwrap()
+}

@@ -1,0 +1,129 @@
+//! Rounds on some lanes.
+//!
+//! What doesn't depend on the lanes is made once, and the memory of one search serves all. So each answer takes the
+//! time of a search for each item of its lanes, and memory for its own hops alone.
+
+ghost use Rattle.std.specs.Prelude.{◌≡◌, ◌<◌, ℕ, List, length, replicate, slice_index_or, true, false, Contains, ◌↔◌, IfOk, OnOk, IfSome, IfNone};
+ghost use Rattle.wq_groups.specs.Declaration.{declaration_of};
+ghost use Rattle.wq_core.specs.Wiring.{HasRescuer};
+ghost use Rattle.wq_core.specs.Workqueues.{wiring_of, with_bare};
+ghost use Rattle.wq_hang.specs.declared.hop.Hop.{Hop};
+ghost use Rattle.wq_hang.specs.Walk.{IsRoundOn, IsLeastRoundOn};
+
+use crate::hop::Hop;
+use crate::least::{MOST, least_round};
+use crate::marks::marked_lanes;
+use crate::numbering::lane_numbers;
+use crate::on_lanes::{items_on_lanes, marked_items_of};
+use crate::search::Search;
+use crate::waits::Waits;
+use std::alloc::{AllocError, Allocator};
+use std::marker::Model;
+use wq_buckets::Buckets;
+use wq_core::{Core, Workqueues};
+use wq_groups::{Groups, LaneId};
+use wq_items::ItemTable;
+
+/// The rounds of workqueues, of which a least one is found for any lanes. Contracts see the wiring.
+#[derive(Drop)]
+pub struct Rounds<A: Allocator> {
+    core: Core<A>,
+    on: Buckets<A>,
+    marks: Vec<bool, A>,
+    bare: Vec<bool, A>,
+    passed: Vec<u32, A>,
+    search: Search<A>,
+}
+
+impl<A: Allocator> Model for Rounds<A> {
+    ghost use Rattle.wq_core.specs.Wiring.{Wiring};
+    ghost use Rattle.wq_hang.specs.Search.{AreMade};
+
+    ghost Value = { Wiring };
+
+    ghost view = { λ r. r.core.wiring };
+
+    ghost invariant = { λ r. AreMade r.core.wiring r.on r.marks.items };
+}
+
+/// Leaves out all of this many lanes.
+fn leave_all_out<A: Allocator>(bare: &mut Vec<bool, A>, lanes: usize) -> Result<(), AllocError>
+    ensures { OnOk result (bare.new.items ≡ replicate lanes true) }
+{
+    bare.resize(lanes, true)?;
+    bare.fill(true);
+    Ok(())
+}
+
+/// Leaves out all lanes but these: for each lane whether it is bare or isn't one of them.
+fn leave_others_out<A: Allocator>(
+    core: &Core<A>,
+    lanes: &[u32],
+    bare: &mut Vec<bool, A>,
+) -> Result<(), AllocError>
+    ensures { OnOk result ((q : ℕ) → q < core.now.wiring.lanes →
+        (HasRescuer (with_bare core.now.wiring bare.new.items) q ↔ (HasRescuer core.now.wiring q × Contains lanes.now q))) }
+{
+    let count = core.lanes();
+    leave_all_out(bare, count)?;
+    for q in lanes {
+        let at = *q as usize;
+        if at < count {
+            bare[at] = !core.has_rescuer(LaneId::new(at as u16));
+        }
+    }
+    Ok(())
+}
+
+impl<A: Allocator + Copy> Rounds<A> {
+    /// Those of workqueues of a table's items. The groups are those of this table, and each has a workqueue.
+    ///
+    /// The only error is out of memory (20).
+    pub fn new(
+        alloc: A,
+        table: &ItemTable<'_, A>,
+        groups: &Groups<A>,
+        workqueues: &Workqueues<A>,
+    ) -> Result<Self, AllocError>
+        requires grouped { length groups.now.group_of ≡ length table.now.names }
+        requires assigned { length workqueues.now.assignment.lane_of_group ≡ groups.now.groups }
+        ensures { IfOk result (λ r. r ≡ wiring_of (declaration_of table.now groups.now) workqueues.now) }
+    {
+        let numbers = lane_numbers(alloc, table, groups, workqueues)?;
+        let core = Core::on_workqueues(alloc, table, groups, workqueues)?;
+        let waits = Waits::new(&core, workqueues.bare());
+        let on = items_on_lanes(alloc, &waits)?;
+        let marks = marked_lanes(alloc, &waits, &numbers)?;
+        Ok(Rounds {
+            core,
+            on,
+            marks,
+            bare: Vec::new(alloc),
+            passed: Vec::new(alloc),
+            search: Search::new(alloc),
+        })
+    }
+
+    /// A least one of the rounds all of whose waiting items are on these lanes, if there is one. A number that is no
+    /// lane's is passed over.
+    ///
+    /// The only error is out of memory (20).
+    pub fn least_on(&mut self, alloc: A, lanes: &[u32]) -> Result<Option<Vec<Hop, A>>, AllocError>
+        ensures some { IfOk result (λ found. IfSome found (λ hops. IsLeastRoundOn self.old lanes.now hops.items)) }
+        ensures none { IfOk result (λ found. IfNone found ((hops : List Hop) → ¬ IsRoundOn self.old lanes.now hops)) }
+        ensures wiring { self.new ≡ self.old }
+    {
+        let _lanes = self.core.lanes();
+        leave_others_out(&self.core, lanes, &mut self.bare)?;
+        marked_items_of(&self.on, &self.marks, lanes, &mut self.passed)?;
+        let waits = Waits::new(&self.core, self.bare.as_slice());
+        least_round(
+            alloc,
+            &waits,
+            &self.on,
+            &mut self.search,
+            self.passed.as_slice(),
+            MOST,
+        )
+    }
+}

@@ -1,0 +1,4 @@
+pub mod BareNotes
+pub mod Blocks
+pub mod Rounded
+pub mod Walked

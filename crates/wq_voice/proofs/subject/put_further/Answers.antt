@@ -1,0 +1,28 @@
+use Rattle.std.proofs.Common.{ℕ, List, ◌++◌, map, subst, arith}
+use Rattle.std.specs.Prelude.{codes}
+use Rattle.std.proofs.lemmas.List.{take_all}
+use Rattle.wq_hang.specs.declared.hop.Hop.{Hop}
+use Rattle.wq_commands.specs.Declaration.{Declared}
+use Rattle.wq_voice.specs.Reasons.{AddsSaid}
+use Rattle.wq_voice.specs.Waits.{words_of}
+use Rattle.wq_voice.proofs.Blocks.{AddsSaid-none, AddsSaid-next}
+use Rattle.wq_voice.proofs.subject.put_further.Goals as goal
+
+pub loop-hop-init : goal.loop-hop-init
+loop-hop-init g c = AddsSaid-none c.args.subject.now.declaration.file.now c.args.out.now.items
+
+pub loop-hop-preserved : goal.loop-hop-preserved
+loop-hop-preserved g c =
+    let subject = c.args.subject.now in
+    let s : Declared = record { table = subject.declared.now.table; partition = subject.declared.now.groups } in
+    AddsSaid-next subject.declaration.file.now (λ (h : Hop). codes "and " ++ words_of subject.wording s subject.workqueues.now (map (λ n. n.now) subject.names.now) h)
+    c.args.hops.now c.loop-hop.hop-index c.hop-item.result c.args.out.now.items c.loop-hop.out.items c.put_wait.new.out.items
+    c.loop-hop-test.true c.hop-item.is c.loop-hop.invariant c.in_ok-put_wait.ensures
+
+pub returns : goal.returns
+returns g c =
+    let subject = c.args.subject.now in
+    let s : Declared = record { table = subject.declared.now.table; partition = subject.declared.now.groups } in
+    subst (λ (hops : List Hop). AddsSaid subject.declaration.file.now
+    (map (λ (h : Hop). codes "and " ++ words_of subject.wording s subject.workqueues.now (map (λ n. n.now) subject.names.now) h) hops) c.args.out.now.items c.loop-hop.out.items)
+    (take_all c.loop-hop.hop-index c.args.hops.now c.loop-hop-test.false) c.loop-hop.invariant

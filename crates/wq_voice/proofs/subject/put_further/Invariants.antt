@@ -1,0 +1,13 @@
+use Rattle.std.proofs.Common.{◌++◌, map, take}
+use Rattle.std.specs.Prelude.{codes}
+use Rattle.wq_voice.specs.Reasons.{AddsSaid}
+use Rattle.wq_voice.specs.Waits.{words_of}
+use Rattle.wq_voice.proofs.subject.put_further.Given as goal
+
+-- the blocks of the waits so far were added
+abbrev pub invariant-loop-hop : goal.invariant-loop-hop
+invariant-loop-hop g l =
+    AddsSaid l.subject.declaration.file.now
+    (map (λ h. codes "and " ++ words_of l.subject.wording (record { table = l.subject.declared.now.table; partition = l.subject.declared.now.groups }) l.subject.workqueues.now (map (λ n. n.now) l.subject.names.now) h)
+    (take l.hop-index l.hops))
+    l.fn.out.items l.out.items

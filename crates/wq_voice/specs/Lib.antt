@@ -1,0 +1,6 @@
+pub mod Words
+pub mod Note
+pub mod Waits
+pub mod Reasons
+pub mod Components
+pub mod Voice

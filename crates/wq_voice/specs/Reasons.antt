@@ -1,0 +1,81 @@
+-- What is said where workqueues can hang: by which waits, one after another.
+use Rattle.std.specs.Prelude.{◌≡◌, ℕ, List, [], ◌∷◌, ◌++◌, Option, Some, None, MatchResult, codes, map}
+use Rattle.wq_groups.specs.Declaration.{Declaration}
+use Rattle.wq_core.specs.declared.step.Step.{Step}
+use Rattle.wq_core.specs.Wiring.{own_lanes}
+use Rattle.wq_core.specs.Workqueues.{Workqueues, all_rescued, wiring_of}
+use Rattle.wq_core.specs.Deadlock.{IsSafe}
+use Rattle.wq_hang.specs.declared.hop.Hop.{Hop}
+use Rattle.wq_hang.specs.Answer.{IsHangOf}
+use Rattle.wq_cert.specs.Texts.{workqueues_of_text}
+use Rattle.wq_names.specs.Names.{names_of}
+use Rattle.wq_commands.specs.Answer.{declared_waits}
+use Rattle.wq_commands.specs.Declaration.{Declared, declaration}
+use Rattle.wq_findings.specs.Shown.{place_text}
+use Rattle.wq_diagnosis.specs.Diagnosis.{IsPlain, shown_lines}
+use Rattle.wq_voice.specs.Waits.{words_of}
+use Rattle.wq_voice.specs.declared.waits.Wording.TheVariants.{OfGroups, OnWorkqueues}
+
+-- ---- blocks of lines
+
+-- a first line without the number of an answer: the file, the place in it, and what there is to say
+abbrev pub plain_head : List ℕ → List ℕ → List ℕ → List ℕ
+plain_head file place what = ((file ++ place_text place) ++ codes ": ") ++ what
+
+-- lines of which the first has this file, and says this; and they are plain
+pub record IsSaidOf (file what text : List ℕ) : Type 0 where
+  pub place : List ℕ
+  pub more : List (List ℕ)
+  pub lines : text ≡ shown_lines (plain_head file place what ∷ more)
+  pub plain : IsPlain text
+
+-- one block of lines for each of these, in this order: it has this file, and says that
+abbrev pub AreSaid : List ℕ → List (List ℕ) → List ℕ → Type 0
+AreSaid file [] text = text ≡ []
+AreSaid file (what ∷ more) text = (block : List ℕ) × (rest : List ℕ) × (text ≡ block ++ rest) × IsSaidOf file what block × AreSaid file more rest
+
+-- these blocks were added to a text
+abbrev pub AddsSaid : List ℕ → List (List ℕ) → List ℕ → List ℕ → Type 0
+AddsSaid file whats old new = (added : List ℕ) × (new ≡ old ++ added) × AreSaid file whats added
+
+-- ---- walks
+
+-- what is said of the waits of a walk, one after another: this comes before the first, and `and ` before each further one
+abbrev pub told : List ℕ → (Hop → List ℕ) → List Hop → List (List ℕ)
+told lead words [] = []
+told lead words (h ∷ hops) = (lead ++ words h) ∷ map (λ (g : Hop). codes "and " ++ words g) hops
+
+-- before the waits by which workqueues hang
+abbrev pub can_hang : List ℕ
+can_hang = codes "can hang: "
+
+-- before those by which groups hang whatever their workqueues
+abbrev pub can_hang_on_any : List ℕ
+can_hang_on_any = codes "can hang on any workqueues: "
+
+-- how these workqueues hang soonest is said in this file: the waits of a walk whose run is a shortest of all that end stuck; nothing
+-- is said if no run does
+abbrev pub GivesReason : List ℕ → List ℕ → (Hop → List ℕ) → Declaration → Workqueues → Option (List ℕ) → Type 0
+GivesReason file lead words d ws None = IsSafe (wiring_of d ws)
+GivesReason file lead words d ws (Some text) = (hops : List Hop) × (steps : List Step) × IsHangOf d ws hops steps × AreSaid file (told lead words hops) text
+
+-- the same of the workqueues with this text; nothing if it is refused
+abbrev pub GivesReasonOf : List ℕ → List ℕ → Declared → Option (List ℕ) → Type 0
+GivesReasonOf first lanes s said =
+    MatchResult (workqueues_of_text s.table.names s.partition lanes)
+    (λ ws. GivesReason first can_hang (λ h. words_of OnWorkqueues s ws (names_of lanes) h) (declared_waits s) ws said)
+    (λ _. said ≡ None)
+
+-- the same where each group has a workqueue of its own, in words of groups
+abbrev pub GivesReasonOfGroups : List ℕ → Declared → Option (List ℕ) → Type 0
+GivesReasonOfGroups first s said =
+    let ws = all_rescued (own_lanes s.partition.groups) in
+    GivesReason first can_hang_on_any (λ h. words_of OfGroups s ws [] h) (declared_waits s) ws said
+
+-- the same of the texts of a declaration and of workqueues; nothing if one is refused
+abbrev pub GivesReasonOfTexts : List ℕ → List ℕ → List ℕ → Option (List ℕ) → Type 0
+GivesReasonOfTexts first text lanes said = MatchResult (declaration text) (λ s. GivesReasonOf first lanes s said) (λ _. said ≡ None)
+
+-- the same of the text of a declaration whose groups wait in a circle; nothing if it is refused
+abbrev pub GivesReasonOfCircle : List ℕ → List ℕ → Option (List ℕ) → Type 0
+GivesReasonOfCircle first text said = MatchResult (declaration text) (λ s. GivesReasonOfGroups first s said) (λ _. said ≡ None)

@@ -1,0 +1,109 @@
+//! Blocks of lines that say something of a line of a text: the place in it, what there is to say, and the line with its marks.
+//!
+//! The form is that of "Diagnoses" in docs/FORMAT.md. A line is sought in the time of reading the text, and a block takes time and memory
+//! in its length.
+
+ghost use Rattle.std.specs.Prelude.{◌≡◌, ◌++◌, ◌∷◌, IfOk, codes, map};
+ghost use Rattle.wq_findings.specs.Shown.{place_text};
+ghost use Rattle.wq_diagnosis.specs.Diagnosis.{shown_lines};
+ghost use Rattle.wq_voice.specs.Reasons.{plain_head, IsSaidOf};
+
+use std::alloc::{AllocError, Allocator};
+use wq_diagnosis::{column, lines_of, push_excerpt, put_line, put_lines};
+use wq_findings::{Hint, Mark, flush_at, put_place, workqueue_at};
+use wq_groups::LaneId;
+use wq_lines::put;
+
+/// A first line without the number of an answer.
+pub(crate) fn plain_head<A: Allocator + Copy>(
+    alloc: A,
+    file: &str,
+    place: &[u32],
+    what: &[u8],
+) -> Result<Vec<u8, A>, AllocError>
+    ensures { IfOk result (λ line. line.items ≡ plain_head file.now place.now what.now) }
+{
+    let mut line = Vec::new(alloc);
+    put(&mut line, file.as_bytes())?;
+    put_place(alloc, &mut line, place)?;
+    put(&mut line, b": ")?;
+    put(&mut line, what)?;
+    Ok(line)
+}
+
+/// The bytes of a line that are meant.
+#[derive(Clone, Copy)]
+pub(crate) struct Spot<'a> {
+    /// The number of the line, and the column of the first byte that is meant.
+    pub(crate) place: [u32; 2],
+    /// The bytes of the line.
+    bytes: &'a [u8],
+    /// The bytes that are meant.
+    mark: Mark,
+}
+
+impl<'a> Spot<'a> {
+    /// These bytes of a line with this number.
+    fn new(no: u32, bytes: &'a [u8], mark: Mark) -> Spot<'a> {
+        Spot {
+            place: [no, column(mark)],
+            bytes,
+            mark,
+        }
+    }
+
+    /// The target of the flush at this place, in the text of a declaration.
+    pub(crate) fn of_flush(text: &'a [u8], place: u32) -> Spot<'a> {
+        match flush_at(&lines_of(text), place) {
+            Some((line, mark)) => Spot::new(line.no(), line.bytes(), mark),
+            None => Spot::new(0, b"", Mark { at: 0, len: 1 }),
+        }
+    }
+
+    /// The first word of the line of a workqueue, in the text of an assignment.
+    pub(crate) fn of_workqueue(text: &'a [u8], q: LaneId) -> Spot<'a> {
+        match workqueue_at(&lines_of(text), q.get()) {
+            Some((line, mark)) => Spot::new(line.no(), line.bytes(), mark),
+            None => Spot::new(0, b"", Mark { at: 0, len: 1 }),
+        }
+    }
+
+    /// Adds the line and its marks.
+    pub(crate) fn push<A: Allocator + Copy>(
+        self,
+        alloc: A,
+        lines: &mut Vec<Vec<u8, A>, A>,
+    ) -> Result<(), AllocError> {
+        push_excerpt(alloc, lines, self.bytes, self.mark, Hint::Nothing)
+    }
+}
+
+/// Lines of which the first says this, and then these.
+fn whole_text<A: Allocator + Copy>(
+    alloc: A,
+    file: &str,
+    place: &[u32],
+    what: &[u8],
+    more: &[Vec<u8, A>],
+) -> Result<Vec<u8, A>, AllocError>
+    ensures { IfOk result (λ said. said.items ≡ shown_lines (plain_head file.now place.now what.now ∷ map (λ line. line.items) more.now)) }
+{
+    let head = plain_head(alloc, file, place, what)?;
+    let mut out = Vec::new(alloc);
+    put_line(alloc, &mut out, &head)?;
+    put_lines(alloc, &mut out, more)?;
+    Ok(out)
+}
+
+/// The same, at this place.
+pub(crate) fn said_at<A: Allocator + Copy>(
+    alloc: A,
+    file: &str,
+    place: &[u32],
+    what: &[u8],
+    more: &[Vec<u8, A>],
+) -> Result<Vec<u8, A>, AllocError>
+    ensures { IfOk result (λ said. IsSaidOf file.now what.now said.items) }
+{
+    whole_text(alloc, file, place, what, more)
+}

@@ -1,0 +1,93 @@
+//! How the workqueues of each component can hang: by a round of waits on them that takes the fewest steps.
+//!
+//! The rule is that of "Reasons" in docs/FORMAT.md. A component takes the time of a search from each of its items.
+
+ghost use Rattle.std.specs.Prelude.{◌≡◌, ◌∷◌, [], ◌<◌, IfOk, OnOk, length, map};
+ghost use Rattle.std.specs.List.{All};
+ghost use Rattle.wq_groups.specs.Declaration.{declaration_of};
+ghost use Rattle.wq_core.specs.Workqueues.{wiring_of};
+ghost use Rattle.wq_circles.specs.ComponentsText.{AreBetween};
+ghost use Rattle.wq_voice.specs.Components.{lanes_of, AddsRounds};
+ghost use Rattle.wq_voice.specs.Waits.{words_of};
+
+use crate::reason::CAN_HANG;
+use crate::subject::{Subject, put_walk};
+use crate::words::workqueue_of;
+use std::alloc::{AllocError, Allocator};
+use wq_commands::Declaration;
+use wq_core::Workqueues;
+use wq_graph::WaitArc;
+use wq_hang::Rounds;
+
+/// The workqueues of the items of flushes.
+fn lanes_of<A: Allocator + Copy>(
+    alloc: A,
+    declared: &Declaration<'_, A>,
+    workqueues: &Workqueues<A>,
+    arcs: &[WaitArc],
+) -> Result<Vec<u32, A>, AllocError>
+    requires between { AreBetween (length declared.now.groups.group_of) arcs.now }
+    requires assigned { length workqueues.now.assignment.lane_of_group ≡ declared.now.groups.groups }
+    ensures { IfOk result (λ lanes. lanes.items ≡ lanes_of (record { table = declared.now.table; partition = declared.now.groups }) workqueues.now arcs.now) }
+{
+    let mut lanes = Vec::new(alloc);
+    for arc in arcs {
+        let lane = workqueue_of(declared, workqueues, arc.src);
+        lanes.push(u32::from(lane.get()))?;
+    }
+    Ok(lanes)
+}
+
+/// Adds the waits of a least round on the workqueues of a component, where there is one.
+fn put_round<A: Allocator + Copy>(
+    alloc: A,
+    out: &mut Vec<u8, A>,
+    subject: &Subject<'_, '_, '_, '_, A>,
+    rounds: &mut Rounds<A>,
+    arcs: &[WaitArc],
+) -> Result<(), AllocError>
+    requires between { AreBetween (length subject.now.declared.now.groups.group_of) arcs.now }
+    requires grouped { length subject.now.declared.now.groups.group_of ≡ length subject.now.declared.now.table.names }
+    requires assigned { length subject.now.workqueues.now.assignment.lane_of_group ≡ subject.now.declared.now.groups.groups }
+    requires rounds { rounds.old ≡ wiring_of (declaration_of subject.now.declared.now.table subject.now.declared.now.groups) subject.now.workqueues.now }
+    ensures added { OnOk result (AddsRounds subject.now.declaration.file.now (λ h. words_of subject.now.wording
+        (record { table = subject.now.declared.now.table; partition = subject.now.declared.now.groups })
+        subject.now.workqueues.now (map (λ n. n.now) subject.now.names.now) h)
+        (record { table = subject.now.declared.now.table; partition = subject.now.declared.now.groups }) subject.now.workqueues.now
+        (arcs.now ∷ []) out.old.items out.new.items) }
+    ensures rounds { rounds.new ≡ rounds.old }
+{
+    // What holds of every table, of all groups and of every assignment.
+    let _items = subject.declared.table.len();
+    let _groups = subject.declared.groups.len();
+    let _lanes = subject.workqueues.assignment().lanes();
+    let lanes = lanes_of(alloc, subject.declared, subject.workqueues, arcs)?;
+    match rounds.least_on(alloc, &lanes)? {
+        Some(hops) => put_walk(alloc, out, subject, CAN_HANG, &hops),
+        None => Ok(()),
+    }
+}
+
+/// Adds those of each component in turn.
+pub(crate) fn put_rounds<A: Allocator + Copy>(
+    alloc: A,
+    out: &mut Vec<u8, A>,
+    subject: &Subject<'_, '_, '_, '_, A>,
+    rounds: &mut Rounds<A>,
+    components: &[Vec<WaitArc, A>],
+) -> Result<(), AllocError>
+    requires between { All (AreBetween (length subject.now.declared.now.groups.group_of)) (map (λ l. l.items) components.now) }
+    requires grouped { length subject.now.declared.now.groups.group_of ≡ length subject.now.declared.now.table.names }
+    requires assigned { length subject.now.workqueues.now.assignment.lane_of_group ≡ subject.now.declared.now.groups.groups }
+    requires rounds { rounds.old ≡ wiring_of (declaration_of subject.now.declared.now.table subject.now.declared.now.groups) subject.now.workqueues.now }
+    ensures { OnOk result (AddsRounds subject.now.declaration.file.now (λ h. words_of subject.now.wording
+        (record { table = subject.now.declared.now.table; partition = subject.now.declared.now.groups })
+        subject.now.workqueues.now (map (λ n. n.now) subject.now.names.now) h)
+        (record { table = subject.now.declared.now.table; partition = subject.now.declared.now.groups }) subject.now.workqueues.now
+        (map (λ l. l.items) components.now) out.old.items out.new.items) }
+{
+    for arcs in components {
+        put_round(alloc, out, subject, rounds, arcs)?;
+    }
+    Ok(())
+}

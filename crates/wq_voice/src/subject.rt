@@ -1,0 +1,187 @@
+//! What is spoken of, and what is said of a walk: a block of lines for each wait, in its order.
+//!
+//! The words are those of "Where workqueues can hang" in tests/DIAGNOSES.md. A wait takes the time of reading the text that declares its flush, and the
+//! memory of its lines.
+
+ghost use Rattle.std.specs.Prelude.{◌≡◌, ◌++◌, ◌∷◌, [], ◌<◌, IfOk, OnOk, codes, length, map};
+ghost use Rattle.std.specs.List.{All};
+ghost use Rattle.wq_voice.specs.Reasons.{told, AddsSaid, IsSaidOf};
+ghost use Rattle.wq_voice.specs.Waits.{words_of};
+
+use crate::block::{Spot, plain_head, said_at};
+use crate::waits::{Wording, bare_words, words_of};
+use crate::words::workqueue_of;
+use std::alloc::{AllocError, Allocator};
+use wq_commands::Declaration;
+use wq_core::Workqueues;
+use wq_deadlock::is_on_bare;
+use wq_diagnosis::Source;
+use wq_hang::Hop;
+use wq_lines::put;
+
+/// Workqueues of the groups of a declaration, and the texts that say so.
+#[derive(Clone, Copy)]
+pub(crate) struct Subject<'a, 'b, 'c, 'd, A: Allocator> {
+    /// The text of the declaration.
+    pub(crate) declaration: Source<'a>,
+    /// The text of the workqueues; without a byte where each group has one of its own.
+    pub(crate) assignment: Source<'a>,
+    /// Which of the two it is.
+    pub(crate) wording: Wording,
+    /// What is declared.
+    pub(crate) declared: &'b Declaration<'a, A>,
+    /// The workqueues.
+    pub(crate) workqueues: &'c Workqueues<A>,
+    /// Their names.
+    pub(crate) names: &'d [&'a [u8]],
+}
+
+/// Adds the line of the workqueue of a wait's target, which has no rescuer, and says so.
+fn push_bare<A: Allocator + Copy>(
+    alloc: A,
+    lines: &mut Vec<Vec<u8, A>, A>,
+    subject: &Subject<'_, '_, '_, '_, A>,
+    hop: &Hop,
+) -> Result<(), AllocError>
+    requires target { hop.now.flush.item < length subject.now.declared.now.groups.group_of }
+    requires assigned { length subject.now.workqueues.now.assignment.lane_of_group ≡ subject.now.declared.now.groups.groups }
+{
+    let Subject {
+        assignment,
+        declared,
+        workqueues,
+        names,
+        ..
+    } = *subject;
+    let what = bare_words(alloc, declared, workqueues, names, hop.flush.item)?;
+    let q = workqueue_of(declared, workqueues, hop.flush.item);
+    let spot = Spot::of_workqueue(assignment.text, q);
+    lines.push(plain_head(alloc, assignment.file, &spot.place, &what)?)?;
+    spot.push(alloc, lines)
+}
+
+/// The lines below the first one: that of the flush, and, where its target is on a workqueue without a rescuer, that of this workqueue.
+fn below<A: Allocator + Copy>(
+    alloc: A,
+    subject: &Subject<'_, '_, '_, '_, A>,
+    spot: Spot<'_>,
+    hop: &Hop,
+) -> Result<Vec<Vec<u8, A>, A>, AllocError>
+    requires target { hop.now.flush.item < length subject.now.declared.now.groups.group_of }
+    requires assigned { length subject.now.workqueues.now.assignment.lane_of_group ≡ subject.now.declared.now.groups.groups }
+{
+    let mut lines = Vec::new(alloc);
+    spot.push(alloc, &mut lines)?;
+    if is_on_bare(&subject.declared.groups, subject.workqueues, hop.flush.item) {
+        push_bare(alloc, &mut lines, subject, hop)?;
+    }
+    Ok(lines)
+}
+
+/// The block of lines that says this of a wait.
+fn block_of<A: Allocator + Copy>(
+    alloc: A,
+    subject: &Subject<'_, '_, '_, '_, A>,
+    hop: &Hop,
+    what: &[u8],
+) -> Result<Vec<u8, A>, AllocError>
+    requires target { hop.now.flush.item < length subject.now.declared.now.groups.group_of }
+    requires assigned { length subject.now.workqueues.now.assignment.lane_of_group ≡ subject.now.declared.now.groups.groups }
+    ensures { IfOk result (λ said. IsSaidOf subject.now.declaration.file.now what.now said.items) }
+{
+    let spot = Spot::of_flush(subject.declaration.text, hop.flush.place);
+    let lines = below(alloc, subject, spot, hop)?;
+    said_at(alloc, subject.declaration.file, &spot.place, what, &lines)
+}
+
+/// What there is to say of a wait, behind this.
+fn what_of<A: Allocator + Copy>(
+    alloc: A,
+    subject: &Subject<'_, '_, '_, '_, A>,
+    lead: &[u8],
+    hop: &Hop,
+) -> Result<Vec<u8, A>, AllocError>
+    requires item { hop.now.item < length subject.now.declared.now.groups.group_of }
+    requires target { hop.now.flush.item < length subject.now.declared.now.groups.group_of }
+    requires assigned { length subject.now.workqueues.now.assignment.lane_of_group ≡ subject.now.declared.now.groups.groups }
+    ensures { IfOk result (λ what. what.items ≡ lead.now ++ words_of subject.now.wording
+        (record { table = subject.now.declared.now.table; partition = subject.now.declared.now.groups })
+        subject.now.workqueues.now (map (λ n. n.now) subject.now.names.now) hop.now) }
+{
+    let Subject {
+        wording,
+        declared,
+        workqueues,
+        names,
+        ..
+    } = *subject;
+    let words = words_of(alloc, wording, declared, workqueues, names, hop)?;
+    let mut what = Vec::new(alloc);
+    put(&mut what, lead)?;
+    put(&mut what, &words)?;
+    Ok(what)
+}
+
+/// Adds the block of lines of a wait, with this before its words.
+fn put_wait<A: Allocator + Copy>(
+    alloc: A,
+    out: &mut Vec<u8, A>,
+    subject: &Subject<'_, '_, '_, '_, A>,
+    lead: &[u8],
+    hop: &Hop,
+) -> Result<(), AllocError>
+    requires item { hop.now.item < length subject.now.declared.now.groups.group_of }
+    requires target { hop.now.flush.item < length subject.now.declared.now.groups.group_of }
+    requires assigned { length subject.now.workqueues.now.assignment.lane_of_group ≡ subject.now.declared.now.groups.groups }
+    ensures { OnOk result (AddsSaid subject.now.declaration.file.now ((lead.now ++ words_of subject.now.wording
+        (record { table = subject.now.declared.now.table; partition = subject.now.declared.now.groups })
+        subject.now.workqueues.now (map (λ n. n.now) subject.now.names.now) hop.now) ∷ []) out.old.items out.new.items) }
+{
+    let what = what_of(alloc, subject, lead, hop)?;
+    let block = block_of(alloc, subject, hop, &what)?;
+    put(out, &block)
+}
+
+/// Adds the blocks of lines of further waits of a walk.
+fn put_further<A: Allocator + Copy>(
+    alloc: A,
+    out: &mut Vec<u8, A>,
+    subject: &Subject<'_, '_, '_, '_, A>,
+    hops: &[Hop],
+) -> Result<(), AllocError>
+    requires items { All (λ h. h.item < length subject.now.declared.now.groups.group_of) hops.now }
+    requires targets { All (λ h. h.flush.item < length subject.now.declared.now.groups.group_of) hops.now }
+    requires assigned { length subject.now.workqueues.now.assignment.lane_of_group ≡ subject.now.declared.now.groups.groups }
+    ensures { OnOk result (AddsSaid subject.now.declaration.file.now (map (λ h. codes "and " ++ words_of subject.now.wording
+        (record { table = subject.now.declared.now.table; partition = subject.now.declared.now.groups })
+        subject.now.workqueues.now (map (λ n. n.now) subject.now.names.now) h) hops.now) out.old.items out.new.items) }
+{
+    for hop in hops {
+        put_wait(alloc, out, subject, b"and ", hop)?;
+    }
+    Ok(())
+}
+
+/// Adds the blocks of lines of a walk, in the order of its waits, with this before the words of the first.
+pub(crate) fn put_walk<A: Allocator + Copy>(
+    alloc: A,
+    out: &mut Vec<u8, A>,
+    subject: &Subject<'_, '_, '_, '_, A>,
+    lead: &[u8],
+    hops: &[Hop],
+) -> Result<(), AllocError>
+    requires items { All (λ h. h.item < length subject.now.declared.now.groups.group_of) hops.now }
+    requires targets { All (λ h. h.flush.item < length subject.now.declared.now.groups.group_of) hops.now }
+    requires assigned { length subject.now.workqueues.now.assignment.lane_of_group ≡ subject.now.declared.now.groups.groups }
+    ensures { OnOk result (AddsSaid subject.now.declaration.file.now (told lead.now (λ h. words_of subject.now.wording
+        (record { table = subject.now.declared.now.table; partition = subject.now.declared.now.groups })
+        subject.now.workqueues.now (map (λ n. n.now) subject.now.names.now) h) hops.now) out.old.items out.new.items) }
+{
+    match hops {
+        [] => Ok(()),
+        [first, more @ ..] => {
+            put_wait(alloc, out, subject, lead, first)?;
+            put_further(alloc, out, subject, more)
+        }
+    }
+}

@@ -1,0 +1,306 @@
+# A model of the reasons: what standard error says where workqueues can hang, by docs/FORMAT.md, "Diagnoses", and tests/DIAGNOSES.md,
+# "Where workqueues can hang". Which of several least circular waits is said, and with which of its waits it begins, is left open. So
+# `said_of` has the model's own words, and `wrong_with` judges those of the program: it reads from their places which flushes are said,
+# asks whether they are a circular wait than which none takes fewer steps, or the flush to no rescuer of least place, and then the words,
+# the order, the lines and the marks must be those that belong to these flushes, to the byte.
+
+import dataclasses
+import functools
+import re
+
+import certificate
+import circles
+from deadlock import led_to_no_rescuer
+from declaration import FLUSHES, FLUSHES_WHOLE, read_declaration, split_lines
+from hang import among_rescuers, is_circle, run_of_places, shortest_circle, wait_of
+from marks import Word, about, excerpt, shown, words_of
+from unlawful import workqueue
+
+# The fewest steps of a circular wait: of one item.
+OF_ITSELF = 3
+
+FRONT = b"can hang: "
+FRONT_OF_PLAN = b"can hang on any workqueues: "
+FURTHER = b"and "
+# The lines of a block, and those that stand before the reasons: a `no` has its own block.
+BLOCK = 3
+
+# The rows of the tables of tests/DIAGNOSES.md: how WHAT of each ends, or what is in it.
+ROWS = {
+    "to no rescuer": rb"waits for `[^`\n]+`, which nothing guarantees to run: ",
+    "to no rescuer, by flushwq": rb"waits for the workqueue of `[^`\n]+`, which nothing guarantees to run: ",
+    "B is N": rb"waits for `[^`\n]+`, which waits on workqueue [0-9]+",
+    "B and N are A": rb"on workqueue [^\n]*, waits for itself\n",
+    "B isn't N": rb"waits for `[^`\n]+`, which is behind `[^`\n]+` on workqueue [0-9]+",
+    "B isn't N, and N is A": rb"waits for `[^`\n]+`, which is behind it\n",
+    "by flushwq": rb"waits for all of workqueue [0-9]+[^\n]*, where `[^`\n]+` waits\n",
+    "by flushwq, and N is A": rb"waits for all of its workqueue\n",
+    "groups: B is N": rb"` waits for `[^`\n]+`, which waits\n",
+    "groups: B and N are A": rb"` waits for itself\n",
+    "groups: B isn't N": rb"` waits for `[^`\n]+`, which is behind `[^`\n]+`: they are `ordered`\n",
+    "groups: B isn't N, and N is A": rb"` waits for `[^`\n]+`, which is behind it: they are `ordered`\n",
+    "groups: by flushwq": rb"` waits for the workqueue of `[^`\n]+`, where `[^`\n]+` waits\n",
+    "groups: by flushwq, and N is A": rb"` waits for its workqueue\n",
+    "a name of a workqueue": rb"can hang: [^\n]*on workqueue [0-9]+ \(",
+    "several parts": rb"can hang: [^\0]*can hang: ",
+    "beside a circle of plan": rb": can hang on any workqueues: ",
+}
+ROWS = {name: re.compile(form) for name, form in ROWS.items()}
+
+
+def rows_in(said):
+    """Which rows these reasons have."""
+    return [name for name, form in ROWS.items() if form.search(said)] if b"can hang" in said else []
+
+
+@dataclasses.dataclass
+class Line:
+    """Where a flush stands: the number of the line, the line, and the target."""
+
+    number: int
+    line: bytes
+    target: Word
+
+
+@functools.lru_cache(maxsize=16)
+def lines_of_flushes(text):
+    """By place, where each flush of a declaration stands."""
+    found = []
+    for number, line in enumerate(split_lines(text), start=1):
+        words = words_of(line)
+        if words and words[0].word in FLUSHES:
+            found += [Line(number, line, target) for target in words[2:]]
+    return found
+
+
+@functools.lru_cache(maxsize=16)
+def places_of_targets(text):
+    """The same, the other way: by the number of the line and the column, the place."""
+    return {(at.number, at.target.first + 1): place for place, at in enumerate(lines_of_flushes(text))}
+
+
+def line_of_workqueue(text, number):
+    """The number of the line of this workqueue, the line, and its first word."""
+    found = []
+    for at, line in enumerate(split_lines(text), start=1):
+        words = words_of(line)
+        if words and words[0].word in certificate.HAS_RESCUER:
+            found.append((at, line, words[0]))
+    return found[number]
+
+
+def marked(file, number, line, word, what):
+    """A block: what is said of a word of this line, and the line with its marks."""
+    return [b"%s:%d:%d: %s" % (file, number, word.first + 1, what), *(b"    " + part for part in excerpt(line, about(word, what)))]
+
+
+# What is said of one flush -----------------------------------------------------------------------
+
+
+@dataclasses.dataclass
+class Case:
+    """Workqueues that may hang, those of an assignment or one for each group, and the files of which that is said."""
+
+    files: list
+    texts: list
+    declared: object
+    assignment: certificate.Assignment
+    in_groups: bool = False  # in words of groups: there is one workqueue for each
+    front: bytes = FRONT
+
+    def flush(self, place):
+        """The flush of this place: its item, its target, and whether it is one of a whole workqueue."""
+        return *self.declared.flushes[place], self.declared.directive_of[place] in FLUSHES_WHOLE
+
+    def words(self, item):
+        """How the workqueue of this item is spoken of."""
+        return workqueue(self.assignment, self.assignment.workqueue_of[item])
+
+    def why(self, place, following):
+        """WHAT of a wait of a circular wait in which this item waits next."""
+        item, target, whole = self.flush(place)
+        waits = b"`%s` waits for " % item if self.in_groups else b"`%s`, on %s, waits for " % (item, self.words(item))
+        if whole and following == item:
+            return waits + (b"its workqueue" if self.in_groups else b"all of its workqueue")
+        if whole and self.in_groups:
+            return waits + b"the workqueue of `%s`, where `%s` waits" % (target, following)
+        if whole:
+            return waits + b"all of %s, where `%s` waits" % (self.words(target), following)
+        if target == following:
+            if target == item:
+                return waits + b"itself"
+            return waits + b"`%s`, which waits" % target + (b"" if self.in_groups else b" on " + self.words(target))
+        behind = b"it" if following == item else b"`%s`" % following
+        if self.in_groups:
+            return waits + b"`%s`, which is behind %s: they are `ordered`" % (target, behind)
+        return waits + b"`%s`, which is behind %s" % (target, behind) + (b"" if following == item else b" on " + self.words(target))
+
+    def why_to_none(self, place):
+        """WHAT of a flush that leads to no rescuer, and of the workqueue to which it leads."""
+        item, target, whole = self.flush(place)
+        none = b"%s has no rescuer" % self.words(target)
+        to = b"the workqueue of `%s`" % target if whole else b"`%s`" % target
+        return b"`%s`, on %s, waits for %s, which nothing guarantees to run: %s" % (item, self.words(item), to, none), none
+
+    def block(self, place, what):
+        """The block of the flush of this place."""
+        at = lines_of_flushes(self.texts[0])[place]
+        return marked(self.files[0], at.number, at.line, at.target, what)
+
+    def to_none(self, place):
+        """The lines of a flush that leads to no rescuer."""
+        what, none = self.why_to_none(place)
+        number = self.assignment.workqueue_of[self.declared.flushes[place][1]]
+        return self.block(place, self.front + what) + marked(self.files[1], *line_of_workqueue(self.texts[1], number), none)
+
+    def round(self, places):
+        """The lines of a circular wait of these flushes."""
+        items = [self.declared.flushes[place][0] for place in places]
+        lines = []
+        for at, (place, following) in enumerate(zip(places, items[1:] + items[:1])):
+            lines += self.block(place, (FURTHER if at else self.front) + self.why(place, following))
+        return lines
+
+    def printed(self, reasons):
+        """The bytes of these reasons, each as the places of its flushes."""
+        lines = []
+        for places in reasons:
+            lines += self.to_none(places[0]) if self.leads_to_none(places) else self.round(places)
+        return b"".join(shown(line) + b"\n" for line in lines)
+
+    def leads_to_none(self, places):
+        """Whether this is a flush that leads to no rescuer, and not a circular wait."""
+        return len(places) == 1 and places[0] in led_to_no_rescuer(self.declared, self.assignment)
+
+    def steps(self, places):
+        """How many steps the run of this circular wait has."""
+        return len(run_of_places(self.declared, self.assignment, places))
+
+    def is_round(self, places):
+        """Whether these flushes are a circular wait."""
+        return is_circle([wait_of(self.declared, place) for place in places], self.assignment)
+
+    # Which flushes are said ----------------------------------------------------------------------
+
+    def least(self, places, found=None):
+        """A circular wait by these flushes than which none takes fewer steps: this one that was found, where it is one; or None where
+        there is none.
+        """
+        bound = None if found is None else self.steps(found)
+        if bound == OF_ITSELF:
+            return found
+        return shortest_circle(self.declared, self.assignment, places, bound) or found
+
+
+# Which reasons there are ---------------------------------------------------------------------------
+# A part of what is said is here the places among which a circular wait is to be said, or the place alone of a flush that leads to no
+# rescuer.
+
+
+def one_part(case):
+    """The part of a command that says one: a circular wait of 3 steps, else the flush to no rescuer, else a circular wait."""
+    every = among_rescuers(case.declared, case.assignment)
+    to_none = led_to_no_rescuer(case.declared, case.assignment)
+    if not to_none:
+        return [every]
+    of_itself = [place for place in every if case.is_round([place]) and case.steps([place]) == OF_ITSELF]
+    return [of_itself] if of_itself else [to_none[0]]
+
+
+def parts_of_circles(case):
+    """The parts of `circles`: one for each component, and one for flushes to no rescuer."""
+    return circles.arcs_on_circles(case.declared, case.assignment) + led_to_no_rescuer(case.declared, case.assignment)[:1]
+
+
+def case_of(command, files, texts, printed):
+    """The case of an answer beside which reasons are said, and the parts; else None."""
+    first = printed.split(None, 1)[0] if printed.strip() else b""
+    if (command, first) not in BESIDE:
+        return None
+    declared = read_declaration(texts[0])
+    if command == "check":
+        if not printed.startswith(b"no 50 "):
+            return None
+        case = Case(files, texts, declared, certificate.read_answer(texts[1], declared).assignment)
+    elif len(texts) == 1:
+        front = FRONT_OF_PLAN if command == "plan" else FRONT
+        case = Case(files, texts, declared, circles.own_workqueues(declared), True, front)
+    else:
+        case = Case(files, texts, declared, certificate.read_assignment(texts[1], declared))
+    return case, parts_of_circles(case) if command == "circles" else one_part(case)
+
+
+# Of each command the first words of the answers beside which reasons are said. A plan to which `check` says no may be safe.
+BESIDE = {
+    ("deadlock", b"run"), ("hang", b"run"), ("replay", b"deadlock"), ("replay", b"stuck"), ("check", b"no"),
+    ("circles", b"components"), ("plan", b"circle"),
+}
+
+
+def said_of(command, files, texts, printed):
+    """The reasons that the model says beside this answer, of several right ones one."""
+    found = case_of(command, files, texts, printed)
+    if found is None:
+        return b""
+    case, parts = found
+    reasons = [[part] if isinstance(part, int) else case.least(part) for part in parts]
+    return case.printed([places for places in reasons if places])
+
+
+# Whether others are as right -------------------------------------------------------------------------
+
+
+def flushes_said(case, said):
+    """The places of the flushes of each reason, as the first lines of the blocks have them; None where a line isn't one of those."""
+    heads = said.split(b"\n")[:-1:BLOCK]
+    file = re.escape(shown(case.files[0]))
+    form = re.compile(file + rb":([1-9][0-9]*):([1-9][0-9]*): (%s|%s)?" % (re.escape(case.front), re.escape(FURTHER)))
+    reasons = []
+    is_second = False
+    for head in heads:
+        if is_second:  # the block of the workqueue without a rescuer
+            is_second = False
+            continue
+        found = form.match(head)
+        place = found and places_of_targets(case.texts[0]).get((int(found[1]), int(found[2])))
+        if place is None or found[3] is None or found[3] == FURTHER and not reasons:
+            return None
+        if found[3] == FURTHER:
+            reasons[-1].append(place)
+        else:
+            reasons.append([place])
+            is_second = case.leads_to_none([place])
+    return reasons
+
+
+def wrong_with_part(case, part, places):
+    """What is wrong with the flushes that are said of a part, or None."""
+    if isinstance(part, int):
+        return None if places == [part] else f"the flush to no rescuer of least place is that of place {part}, and not {places}"
+    if not set(places) <= set(part):
+        return f"these flushes aren't among those of the part: {places}"
+    if not case.is_round(places):
+        return f"these flushes aren't a circular wait: {places}"
+    shorter = case.least(part, places)
+    if case.steps(shorter) < case.steps(places):
+        return f"{places} takes {case.steps(places)} steps, and {shorter} takes {case.steps(shorter)}"
+    return None
+
+
+def wrong_with(command, files, texts, printed, said):
+    """What is wrong with the reasons that are said beside this answer, or None. Where there is to be none, none may be said."""
+    found = case_of(command, files, texts, printed)
+    if found is None:
+        return "no reasons belong here" if said else None
+    case, parts = found
+    if command == "check" and not case.least(parts[0]):
+        return "no reasons belong here" if said else None
+    reasons = flushes_said(case, said)
+    if reasons is None:
+        return "a line isn't the first of a block"
+    if len(reasons) != len(parts):
+        return f"there are {len(reasons)} reasons in place of {len(parts)}"
+    wrong = next(filter(None, (wrong_with_part(case, part, places) for part, places in zip(parts, reasons))), None)
+    if wrong is None and case.printed(reasons) != said:
+        wrong = f"of these flushes this is to be said: {case.printed(reasons)!r}"
+    return wrong
