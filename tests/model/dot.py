@@ -129,7 +129,11 @@ def steps_of(declared, shown, places):
         if following is None or following in circle:
             return None
         circle.append(following)
-    return len(hang.run_of_circle(circle, shown)) if hang.is_circle(circle, shown) else None
+    if not hang.is_circle(circle, shown):
+        return None
+    steps = len(hang.run_of_circle(circle, shown))
+    # Of those of 4 steps a flush that leads to no rescuer comes first.
+    return steps if steps < 4 or not led_to_no_rescuer(declared, shown) else None
 
 
 class Drawn:

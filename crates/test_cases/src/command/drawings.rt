@@ -47,8 +47,8 @@ digraph wqplan {
       \"c\";
     }
   }
-  \"a\" -> \"b\" [color=red, style=bold];
-  \"c\" -> \"d\" [color=red, style=bold];
+  \"a\" -> \"b\" [color=red, penwidth=4];
+  \"c\" -> \"d\" [color=red, penwidth=4];
 }
 ";
 
@@ -90,25 +90,30 @@ digraph wqplan {
     graph [label=\"\", style=filled, color=gray92]; \"wq 1\" [shape=plaintext, style=\"\", fontsize=14];
     \"b\";
   }
-  \"a\" -> \"b\" [color=red, style=bold];
-  \"b\" -> \"c\" [color=red, style=bold];
+  \"a\" -> \"b\" [color=red, penwidth=4];
+  \"b\" -> \"c\" [color=red, penwidth=4];
 }
 ";
 
-/// The drawing of an item that waits for itself twice, on lines with comments.
+/// The drawing of a group whose first item waits for the second, and for both, on lines with comments.
 const DRAWN_COMMENTS: &str = "\
 digraph wqplan {
-  graph [label=\"every assignment can hang, 2 waits in red\
+  graph [label=\"every assignment can hang, 2 waits in red, 1 in bold\
 \\lRed: while memory is short, a worker may wait for work\\lthat only it, or one that waits for it, can do.\
+\\lBold: enough to hang it, in the fewest steps.\
 \\l\", labelloc=t, labeljust=l, rankdir=LR, nodesep=0.15, ranksep=1, fontname=\"sans-serif\"];
   node [shape=box, style=filled, fillcolor=white, height=0.3, fontname=\"sans-serif\", fontsize=12];
   edge [arrowsize=0.7];
   subgraph \"cluster wq 0\" {
     graph [label=\"\", style=filled, color=gray92]; \"wq 0\" [shape=plaintext, style=\"\", fontsize=14];
-    \"a\";
+    subgraph \"cluster ordered a\" {
+      graph [label=\"\", style=dashed, color=black]; \"ordered a\" [label=\"ordered\", shape=plaintext, style=\"\"];
+      \"a\";
+      \"b\";
+    }
   }
-  \"a\" -> \"a\" [color=red, style=bold] [edgetooltip=\"file.c:1 \\\"why\\\" \\\\ &amp; ??\"];
-  \"a\" -> \"a\" [color=red, style=bold] [arrowhead=odiamond] [edgetooltip=\"another\"];
+  \"a\" -> \"b\" [color=red, style=bold] [edgetooltip=\"file.c:1 \\\"why\\\" \\\\ &amp; ??\"];
+  \"a\" -> \"a\" [color=red, penwidth=4] [arrowhead=odiamond] [edgetooltip=\"another\"];
 }
 ";
 
@@ -132,7 +137,9 @@ pub(crate) const DRAWINGS: &[Case] = &[
     Case {
         name: "a drawing with comments",
         command: PlainCommand::OwnDot,
-        texts: &["item a # an item\nflush a a # file.c:1 \"why\" \\ & é\nflushwq a a #another\n"],
+        texts: &[
+            "item a # an item\nitem b\nordered a b\nflush a b # file.c:1 \"why\" \\ & é\nflushwq a a #another\n",
+        ],
         end: End::Good,
         answer: DRAWN_COMMENTS,
         said: "",
