@@ -8,12 +8,14 @@ use Rattle.wq_hang.specs.declared.hop.Hop.{Hop}
 use Rattle.wq_voice.specs.Reasons.{plain_head, told, AddsSaid, AreSaid, IsSaidOf}
 
 -- lines that begin with that one say this
-pub said_of : (file what : List ℕ) (place : List ℕ) (more : List (List ℕ)) (text : List ℕ) → text ≡ shown_lines (plain_head file place what ∷ more) → IsSaidOf file what text
-said_of file what place more text lines = record {
-  place = place;
+pub said_of : (file what : List ℕ) (line column : ℕ) (more : List (List ℕ)) (text : List ℕ) → text ≡ shown_lines (plain_head file (line ∷ column ∷ []) what ∷ more)
+    → IsSaidOf file what text
+said_of file what line column more text lines = record {
+  line = line;
+  column = column;
   more = more;
   lines = lines;
-  plain = subst IsPlain (sym lines) (plain-lines (plain_head file place what ∷ more));
+  plain = subst IsPlain (sym lines) (plain-lines (plain_head file (line ∷ column ∷ []) what ∷ more));
 }
 
 -- blocks, and then those

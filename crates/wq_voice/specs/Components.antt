@@ -1,6 +1,6 @@
 -- What is said beside components of workqueues: how those of each can hang, and then by which flush to no rescuer.
-use Rattle.std.specs.Prelude.{◌≡◌, ◌⊎◌, ◌==◌, ◌&&◌, ℕ, Bool, List, [], ◌∷◌, ◌++◌, Option, Some, None, MatchResult, flat_map, map}
-use Rattle.std.specs.List.{list_any}
+use Rattle.std.specs.Prelude.{◌≡◌, ◌⊎◌, ◌==◌, ◌&&◌, ℕ, Bool, List, [], ◌∷◌, ◌++◌, Option, Some, None, MatchResult, filter, flat_map}
+use Rattle.std.specs.List.{list_any, range_with_len}
 use Rattle.wq_items.specs.declared.target.Target.{Target}
 use Rattle.wq_items.specs.Table.{targets_of}
 use Rattle.wq_graph.specs.declared.arc.WaitArc.{WaitArc}
@@ -21,9 +21,13 @@ use Rattle.wq_voice.specs.declared.waits.Wording.TheVariants.{OfGroups, OnWorkqu
 
 -- ---- circular waits
 
--- the workqueues of the items of flushes
+-- an item of one of these flushes is on workqueue q
+abbrev pub begins_on : Declared → Workqueues → List WaitArc → ℕ → Bool
+begins_on s ws arcs q = list_any (λ (a : WaitArc). workqueue_of s ws a.src == q) arcs
+
+-- the workqueues of the items of flushes, each once
 abbrev pub lanes_of : Declared → Workqueues → List WaitArc → List ℕ
-lanes_of s ws arcs = map (λ (a : WaitArc). workqueue_of s ws a.src) arcs
+lanes_of s ws arcs = filter (begins_on s ws arcs) (range_with_len 0 ws.assignment.lanes)
 
 -- for each component in turn a round of waits on its workqueues, such that no other round on them takes fewer steps; of a component
 -- without one, none

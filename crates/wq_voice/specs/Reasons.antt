@@ -22,11 +22,12 @@ use Rattle.wq_voice.specs.declared.waits.Wording.TheVariants.{OfGroups, OnWorkqu
 abbrev pub plain_head : List ℕ → List ℕ → List ℕ → List ℕ
 plain_head file place what = ((file ++ place_text place) ++ codes ": ") ++ what
 
--- lines of which the first has this file, and says this; and they are plain
+-- lines of which the first has this file, a line and a column of it, and says this; and they are plain
 pub record IsSaidOf (file what text : List ℕ) : Type 0 where
-  pub place : List ℕ
+  pub line : ℕ
+  pub column : ℕ
   pub more : List (List ℕ)
-  pub lines : text ≡ shown_lines (plain_head file place what ∷ more)
+  pub lines : text ≡ shown_lines (plain_head file (line ∷ column ∷ []) what ∷ more)
   pub plain : IsPlain text
 
 -- one block of lines for each of these, in this order: it has this file, and says that

@@ -34,8 +34,10 @@ pub(crate) fn plain_head<A: Allocator + Copy>(
 /// The bytes of a line that are meant.
 #[derive(Clone, Copy)]
 pub(crate) struct Spot<'a> {
-    /// The number of the line, and the column of the first byte that is meant.
-    pub(crate) place: [u32; 2],
+    /// The number of the line.
+    pub(crate) line: u32,
+    /// The column of the first byte that is meant.
+    pub(crate) column: u32,
     /// The bytes of the line.
     bytes: &'a [u8],
     /// The bytes that are meant.
@@ -46,7 +48,8 @@ impl<'a> Spot<'a> {
     /// These bytes of a line with this number.
     fn new(no: u32, bytes: &'a [u8], mark: Mark) -> Spot<'a> {
         Spot {
-            place: [no, column(mark)],
+            line: no,
+            column: column(mark),
             bytes,
             mark,
         }
@@ -95,15 +98,16 @@ fn whole_text<A: Allocator + Copy>(
     Ok(out)
 }
 
-/// The same, at this place.
+/// The same, of this line and column.
 pub(crate) fn said_at<A: Allocator + Copy>(
     alloc: A,
     file: &str,
-    place: &[u32],
+    line: u32,
+    column: u32,
     what: &[u8],
     more: &[Vec<u8, A>],
 ) -> Result<Vec<u8, A>, AllocError>
     ensures { IfOk result (λ said. IsSaidOf file.now what.now said.items) }
 {
-    whole_text(alloc, file, place, what, more)
+    whole_text(alloc, file, &[line, column], what, more)
 }

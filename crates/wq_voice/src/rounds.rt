@@ -1,13 +1,14 @@
 //! How the workqueues of each component can hang: by a round of waits on them that takes the fewest steps.
 //!
-//! The rule is that of "Reasons" in docs/FORMAT.md. A component takes the time of a search from each of its items.
+//! The rule is that of "Reasons" in docs/FORMAT.md. A component takes the time of a search from each of its items, and that of going through
+//! its flushes for each workqueue.
 
 ghost use Rattle.std.specs.Prelude.{◌≡◌, ◌∷◌, [], ◌<◌, IfOk, OnOk, length, map};
 ghost use Rattle.std.specs.List.{All};
 ghost use Rattle.wq_groups.specs.Declaration.{declaration_of};
 ghost use Rattle.wq_core.specs.Workqueues.{wiring_of};
 ghost use Rattle.wq_circles.specs.ComponentsText.{AreBetween};
-ghost use Rattle.wq_voice.specs.Components.{lanes_of, AddsRounds};
+ghost use Rattle.wq_voice.specs.Components.{begins_on, lanes_of, AddsRounds};
 ghost use Rattle.wq_voice.specs.Waits.{words_of};
 
 use crate::reason::CAN_HANG;
@@ -17,9 +18,30 @@ use std::alloc::{AllocError, Allocator};
 use wq_commands::Declaration;
 use wq_core::Workqueues;
 use wq_graph::WaitArc;
+use wq_groups::LaneId;
 use wq_hang::Rounds;
 
-/// The workqueues of the items of flushes.
+/// Whether an item of one of these flushes is on a workqueue.
+fn begins_on<A: Allocator + Copy>(
+    declared: &Declaration<'_, A>,
+    workqueues: &Workqueues<A>,
+    arcs: &[WaitArc],
+    q: LaneId,
+) -> bool
+    requires between { AreBetween (length declared.now.groups.group_of) arcs.now }
+    requires assigned { length workqueues.now.assignment.lane_of_group ≡ declared.now.groups.groups }
+    ensures { result ≡ begins_on (record { table = declared.now.table; partition = declared.now.groups }) workqueues.now arcs.now q }
+{
+    for arc in arcs {
+        let lane = workqueue_of(declared, workqueues, arc.src);
+        if lane == q {
+            return true;
+        }
+    }
+    false
+}
+
+/// The workqueues of the items of flushes, each once.
 fn lanes_of<A: Allocator + Copy>(
     alloc: A,
     declared: &Declaration<'_, A>,
@@ -31,9 +53,10 @@ fn lanes_of<A: Allocator + Copy>(
     ensures { IfOk result (λ lanes. lanes.items ≡ lanes_of (record { table = declared.now.table; partition = declared.now.groups }) workqueues.now arcs.now) }
 {
     let mut lanes = Vec::new(alloc);
-    for arc in arcs {
-        let lane = workqueue_of(declared, workqueues, arc.src);
-        lanes.push(u32::from(lane.get()))?;
+    for number in 0..workqueues.assignment().lanes() {
+        if begins_on(declared, workqueues, arcs, LaneId::new(number)) {
+            lanes.push(u32::from(number))?;
+        }
     }
     Ok(lanes)
 }

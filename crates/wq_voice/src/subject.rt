@@ -56,7 +56,8 @@ fn push_bare<A: Allocator + Copy>(
     let what = bare_words(alloc, declared, workqueues, names, hop.flush.item)?;
     let q = workqueue_of(declared, workqueues, hop.flush.item);
     let spot = Spot::of_workqueue(assignment.text, q);
-    lines.push(plain_head(alloc, assignment.file, &spot.place, &what)?)?;
+    let place = [spot.line, spot.column];
+    lines.push(plain_head(alloc, assignment.file, &place, &what)?)?;
     spot.push(alloc, lines)
 }
 
@@ -91,7 +92,14 @@ fn block_of<A: Allocator + Copy>(
 {
     let spot = Spot::of_flush(subject.declaration.text, hop.flush.place);
     let lines = below(alloc, subject, spot, hop)?;
-    said_at(alloc, subject.declaration.file, &spot.place, what, &lines)
+    said_at(
+        alloc,
+        subject.declaration.file,
+        spot.line,
+        spot.column,
+        what,
+        &lines,
+    )
 }
 
 /// What there is to say of a wait, behind this.

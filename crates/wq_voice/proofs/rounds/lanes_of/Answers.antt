@@ -1,7 +1,22 @@
-use Rattle.std.proofs.Common.{◌<◌, length, sym, subst}
-use Rattle.wq_graph.specs.declared.arc.WaitArc.{WaitArc}
+use Rattle.std.proofs.Common.{◌≡◌, ◌++◌, ◌∷◌, [], ℕ, List, sym, ap, ◌∙◌, arith}
+use Rattle.std.specs.Prelude.{filter}
+use Rattle.std.specs.List.{range_with_len}
+use Rattle.wq_commands.specs.Declaration.{Declared}
+use Rattle.wq_voice.specs.Components.{begins_on}
+use Rattle.wq_voice.proofs.BareNotes.{kept, left}
 use Rattle.wq_voice.proofs.rounds.lanes_of.Goals as goal
+use Rattle.wq_voice.proofs.rounds.lanes_of.Goals.{then-begins_on+in_ok-push, else-begins_on}
 
-pub workqueue_of-lane-requires-clause-item : goal.workqueue_of-lane-requires-clause-item
-workqueue_of-lane-requires-clause-item g c =
-    subst (λ (a : WaitArc). a.src < length c.args.declared.now.groups.group_of) (sym c.arc-item.is) (c.requires.between.1 c.loop-arc.arc-index c.arc-item.result c.loop-arc-test.true).0
+pub loop-number-preserved : goal.loop-number-preserved
+loop-number-preserved g c =
+    let s : Declared = record { table = c.args.declared.now.table; partition = c.args.declared.now.groups } in
+    let p = begins_on s c.args.workqueues.now c.args.arcs.now in
+    let n = c.loop-number.number in
+    let bare = rw c.new.ensures at c.begins_on.ensures in
+    elim c.if-begins_on.branch [
+      | then-begins_on+in_ok-push w ↦
+          rw w.lanes-is
+          (kept p n c.loop-number.lanes.items w.push.new.self.items c.loop-number.invariant (sym bare ∙ w.if-begins_on.true)
+          (w.in_ok-push.ensures.items ∙ ap (λ (i : ℕ). c.loop-number.lanes.items ++ (i ∷ [])) w.from.ensures))
+      | else-begins_on w ↦ rw w.lanes-is (left p n c.loop-number.lanes.items c.loop-number.invariant (sym bare ∙ w.if-begins_on.false))
+    ]

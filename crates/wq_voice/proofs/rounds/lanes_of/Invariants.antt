@@ -1,7 +1,9 @@
-use Rattle.std.proofs.Common.{◌≡◌, take}
-use Rattle.wq_voice.specs.Components.{lanes_of}
+use Rattle.std.proofs.Common.{◌≡◌}
+use Rattle.std.specs.Prelude.{filter}
+use Rattle.std.specs.List.{range_with_len}
+use Rattle.wq_voice.specs.Components.{begins_on}
 use Rattle.wq_voice.proofs.rounds.lanes_of.Given as goal
 
--- those so far
-abbrev pub invariant-loop-arc : goal.invariant-loop-arc
-invariant-loop-arc g l = l.lanes.items ≡ lanes_of (record { table = l.declared.table; partition = l.declared.groups }) l.workqueues (take l.arc-index l.arcs)
+-- those of the workqueues so far
+abbrev pub invariant-loop-number : goal.invariant-loop-number
+invariant-loop-number g l = l.lanes.items ≡ filter (begins_on (record { table = l.declared.table; partition = l.declared.groups }) l.workqueues l.arcs) (range_with_len 0 l.number)
