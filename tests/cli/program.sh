@@ -38,9 +38,22 @@ says() {
     local files=('<stdin>' "${given[@]:1}")
     case $1 in
         'of '*) python3 -B "$rule" out err "${files[${1#of }]}" ;;
-        why) [ -s err ] && python3 -B "$rule" out err of "${given[@]/#-/<stdin>}" ;;
+        why) [ -s err ] && belongs ;;
         *) holds err "$1" ;;
     esac
+}
+
+# belongs: whether standard error has what belongs to the answer of the last run, of all files of its command.
+belongs() {
+    local word words=()
+    for word in "${given[@]}"; do
+        case $word in
+            --) ;;
+            -) words+=('<stdin>') ;;
+            *) words+=("$word") ;;
+        esac
+    done
+    python3 -B "$rule" out err of "${words[@]}"
 }
 
 # check NAME STATUS OUT ERR: counts whether the last run ended so.
@@ -426,13 +439,23 @@ declare -A subjects_of=([FILE]='declaration,standard input' [DECL]=declaration [
 declare -A longer_than=([1048576]=too_large [8388608]=too_large_certificate)
 declare -A refusal_of=([1048576]='refused 1 line 0\n' [8388608]='refused 40 line 0\n')
 
-# as NAME: counts whether the last run ended as the one whose answer is in the file `answer`.
+# as NAME: counts whether the last run ended as the one whose answer is in the file `answer`, and said what belongs to it.
 as() {
-    if [ "$status" -eq "$answered" ] && cmp -s out answer && [ ! -s err ]; then
+    if [ "$status" -eq "$answered" ] && cmp -s out answer && belongs; then
         ok "$1"
     else
         fail "$1: status $status, standard output '$(head -c 200 out)', standard error '$(head -c 200 err)'"
     fi
+}
+
+# as_typed NAME: the same where all was written to a terminal: what is said is above the answer.
+as_typed() {
+    local size=$(($(stat -c %s out) - $(stat -c %s answer)))
+    if [ "$size" -gt 0 ]; then
+        head -c "$size" out >err
+        tail -c +$((size + 1)) out >below && mv below out
+    fi
+    as "$1"
 }
 
 # piped COMMAND FILE..: runs a command whose files are pipes with these texts.
@@ -548,7 +571,7 @@ in_place() {
     other[at]=/dev/stdin
     bounded "$limit" "$command" "${other[@]}"
     type_text "${files[at]}" "$command" "${other[@]}"
-    as "$form: one end of $argument is enough"
+    as_typed "$form: one end of $argument is enough"
     cat "${files[at]}" <(yes '') 2>/dev/null | head -c "$limit" >as_long
     other[at]=as_long
     run "$command" "${other[@]}" </dev/null
@@ -582,7 +605,8 @@ while read -r form; do
     run "$command" "${files[@]}" </dev/null
     cp out answer
     answered=$status
-    has "$form: an answer" '^[01]:$' "$status:$(cat err)"
+    has "$form: an answer" '^[01]$' "$status"
+    as "$form: what is said of it"
     as_whole "$form" "$command" "${files[@]}"
     for at in "${!files[@]}"; do
         in_place "$form" "$at" "${arguments[at]}" "$command" "${files[@]}"

@@ -1,6 +1,7 @@
 # A model of `wqplan hang DECL ASSIGN`. It says that an assignment is safe, or else prints a run that ends stuck and has the fewest
-# steps, as docs/FORMAT.md asks for in "The command `hang`". Where several runs have that few, the page doesn't say which one is
-# printed: `wrong_with` says whether another run is as good. See plan.py for what the model is.
+# steps, as docs/FORMAT.md asks for in "The command `hang`". Where several runs have that few, and none of them is of a flush that leads
+# to no rescuer, the page doesn't say which one is printed: `wrong_with` says whether another run is as good. See plan.py for what the
+# model is.
 
 import heapq
 import itertools
@@ -171,9 +172,16 @@ def shortest_circle(declared, assignment, places, bound=None):
     return found
 
 
+def runs_to_no_rescuer(declared, assignment):
+    """The run of the flush of least place that leads to no rescuer, or none."""
+    return [run_to_no_rescuer(wait_of(declared, place), assignment) for place in led_to_no_rescuer(declared, assignment)[:1]]
+
+
 def shortest_run(declared, assignment):
-    """The steps of a run than which none that ends stuck has fewer, or None where the assignment is safe."""
-    runs = [run_to_no_rescuer(wait_of(declared, place), assignment) for place in led_to_no_rescuer(declared, assignment)[:1]]
+    """The steps of a run than which none that ends stuck has fewer, or None where the assignment is safe. Of several it is that of a
+    flush that leads to no rescuer.
+    """
+    runs = runs_to_no_rescuer(declared, assignment)
     circle = shortest_circle(declared, assignment, among_rescuers(declared, assignment))
     runs += [run_of_places(declared, assignment, circle)] if circle else []
     return min(runs, key=len, default=None)
@@ -237,6 +245,8 @@ def wrong_with(declared, assignment, fewest, printed):
             return f"it isn't lawful, or doesn't end stuck, with {helpers} helpers"
     if not has_form(declared, assignment, steps):
         return "it is neither the run of a circular wait nor of a flush that leads to no rescuer"
+    if any(len(run) == fewest and steps != run for run in runs_to_no_rescuer(declared, assignment)):
+        return "it isn't the run of the flush of least place that leads to no rescuer"
     if end_of_run(declared, assignment, steps) != ("deadlock" if ends_as_declared(declared, steps) else "stuck"):
         return "`replay` answers the other of `deadlock` and `stuck`"
     return None

@@ -694,10 +694,14 @@ def look_at_hang(declaration_text, assignment_text):
         runs = [run for run, _ in second_runs(declared, assignment)]
         demand(min(map(len, runs)) == fewest, "of all circular waits none has fewer steps")
         demand(lines[1:] in runs, "the run is one of all of these")
+        to_none = [place for place, ends in enumerate(declared.flushes)
+                   if [assignment.workqueue_of[name] in assignment.bare for name in ends] == [False, True]]
+        least = next((run for run, places in second_runs(declared, assignment) if places == to_none[:1]), [])
         for run in runs:
             text = joined([b"run %d" % len(run), *run])
-            is_as_short = len(run) == fewest
-            demand((hang.wrong_with(declared, assignment, fewest, text) is None) == is_as_short, "each as short may be printed")
+            is_right = len(run) == fewest and (len(least) != fewest or run == least)
+            demand((hang.wrong_with(declared, assignment, fewest, text) is None) == is_right,
+                   "each as short may be printed, but where a flush to no rescuer takes as few")
             changed = joined([b"run %d" % len(run), *run[:-2], *run[:-3:-1]])
             demand(hang.wrong_with(declared, assignment, fewest, changed) is not None, "the last steps have their order")
 

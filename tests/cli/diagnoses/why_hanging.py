@@ -269,9 +269,8 @@ WHICH = [
          "    flushwq b a",
          "              ^",
      ]),
-    # 4 steps on one workqueue, of lower place: the flush to no rescuer is said, whichever run is printed.
-    ({"d": ABC + "flush a b / flush b c", "a": AND_NONE}, "hang d a",
-     Either("run 4 / queue b / queue c / start 0 b / wait 0 c", QUEUED), 1, [
+    # 4 steps on one workqueue, of lower place: the flush to no rescuer is said, and its run is printed.
+    ({"d": ABC + "flush a b / flush b c", "a": AND_NONE}, "hang d a", "run 4 / queue b / queue c / start 0 b / wait 0 c", 1, [
          "d:5:9: can hang: `b`, on workqueue 0, waits for `c`, which nothing guarantees to run: workqueue 1 (log) has no rescuer",
          "    flush b c",
          "            ^",
@@ -281,7 +280,7 @@ WHICH = [
      ]),
     # Of several flushes to no rescuer the one of least place, which isn't that of the lowest item or workqueue.
     ({"d": ABCD + "flushwq b d / flush a c", "a": "wq 0 a / wq 1 b / norescuer 2 c / norescuer 3 d"}, "hang d a",
-     Either("run 4 / queue b / queue d / start 1 b / waitwq 1 d", "run 4 / queue a / queue c / start 0 a / wait 0 c"), 1, [
+     "run 4 / queue b / queue d / start 1 b / waitwq 1 d", 1, [
          "d:5:11: can hang: `b`, on workqueue 1, waits for the workqueue of `d`, which nothing guarantees to run: workqueue 3 has no rescuer",
          "    flushwq b d",
          "              ^",
