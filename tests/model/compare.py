@@ -17,7 +17,8 @@
 # What the program prints is then given back to it: the plans and circles to `PROGRAM check`, the
 # plans as assignments to `PROGRAM deadlock`, and the runs, those behind circles too, to `PROGRAM
 # replay`. It must stand by its answers: `yes`, `safe` and `deadlock`; of what `hang` prints the model says
-# which of `deadlock` and `stuck`. Where it prints `safe` by `circles`, it must print it by `deadlock` too.
+# which of `deadlock` and `stuck`, and `PROGRAM dot` must draw the waits of that run bold red. Where it prints
+# `safe` by `circles`, it must print it by `deadlock` too.
 # What `hang` prints may be another run than the model's, if it is as good (hang.py), and what `dot` draws the waits of one (dot.py).
 #
 # With --only the program is asked for these commands alone; with `--only none` it isn't run at all.
@@ -38,7 +39,8 @@ import traceback
 
 sys.dont_write_bytecode = True
 sys.path.append(str(pathlib.Path(__file__).resolve().parents[1] / "lib"))
-import examples  # noqa: E402  (beside this file)
+import dot  # noqa: E402  (beside this file)
+import examples  # noqa: E402
 import make_assignments  # noqa: E402
 import make_certificates  # noqa: E402
 import make_circles  # noqa: E402
@@ -293,6 +295,7 @@ def questions(command, texts, printed):
         yield "replay", [*texts, printed], (b"deadlock\n", 1)
     if command == "hang" and head.startswith(b"run "):
         yield "replay", [*texts, printed], ANSWERS["replay"](*texts, printed)
+        yield "dot", texts, (dot.text_with_waits_of(printed, *texts), 0)
     if command == "circles" and head == b"safe" and len(texts) == 2:
         yield "deadlock", texts, (b"safe\n", 0)
 

@@ -264,6 +264,13 @@ def is_right(texts, wanted, found):
     return found[0] == dot_text(declared, drawn(declared, assignment, texts[0], bold), comments(texts[0]))
 
 
+def text_with_waits_of(printed, declaration_text, assignment_text):
+    """What is drawn where the waits of this run, which `hang` printed, are bold red."""
+    declared, assignment = read_texts(declaration_text, assignment_text)
+    bold = places_of(declared, waits_of(certificate.read_run(printed, declared)))
+    return dot_text(declared, drawn(declared, assignment, declaration_text, bold), comments(declaration_text))
+
+
 def answer(declaration_text, assignment_text=None):
     """The bytes of the answer, and the exit status (Faults and exit statuses)."""
     try:

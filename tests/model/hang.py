@@ -264,6 +264,19 @@ def is_right(texts, wanted, found):
 # The answer --------------------------------------------------------------------------------------
 
 
+def text_of(steps):
+    """The text of a run."""
+    return b"".join(line + b"\n" for line in run_text(steps))
+
+
+def text_of_places(declared, assignment, places):
+    """The text of the run that waits in the flushes of these places: of a circular wait, or of one that leads to no rescuer."""
+    first = wait_of(declared, places[0])
+    if len(places) == 1 and leads_to_none(first, assignment):
+        return text_of(run_to_no_rescuer(first, assignment))
+    return text_of(run_of_places(declared, assignment, places))
+
+
 def answer(declaration_text, assignment_text):
     """The bytes of the answer, and the exit status (Faults and exit statuses)."""
     try:
@@ -274,7 +287,7 @@ def answer(declaration_text, assignment_text):
     steps = shortest_run(declared, assignment)
     if steps is None:
         return b"safe\n", 0
-    return b"".join(line + b"\n" for line in run_text(steps)), 1
+    return text_of(steps), 1
 
 
 def main(arguments):

@@ -12,7 +12,7 @@ import certificate
 import circles
 from deadlock import led_to_no_rescuer
 from declaration import FLUSHES, FLUSHES_WHOLE, read_declaration, split_lines
-from hang import among_rescuers, is_circle, run_of_places, shortest_circle, wait_of
+from hang import among_rescuers, is_circle, run_of_places, shortest_circle, text_of_places, wait_of
 from marks import Word, about, excerpt, shown, words_of
 from unlawful import workqueue
 
@@ -303,4 +303,6 @@ def wrong_with(command, files, texts, printed, said):
     wrong = next(filter(None, (wrong_with_part(case, part, places) for part, places in zip(parts, reasons))), None)
     if wrong is None and case.printed(reasons) != said:
         wrong = f"of these flushes this is to be said: {case.printed(reasons)!r}"
+    if wrong is None and command == "hang" and text_of_places(case.declared, case.assignment, reasons[0]) != printed:
+        wrong = "the reason isn't that of the run"
     return wrong
