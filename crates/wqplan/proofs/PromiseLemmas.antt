@@ -14,19 +14,19 @@ use Rattle.wqplan.specs.Promised.{PromisesAsAsked, PromisesCircles, PromisesPlan
 
 module _ (Holds : List ℕ → List ℕ → Type 0) (Input : List ℕ → Type 0) (end : End) (out : List ℕ) where
   of_plan : (file : Option (List ℕ)) → EndsPlan Holds Input file end out → PromisesPlan Holds Input file end out
-  of_plan None h = (h.0, h.1, KeepsPromise-answers h.0 end out h.2)
-  of_plan (Some file) h = (h.0, h.1, KeepsPromise-answers h.0 end out h.2)
+  of_plan None h = (h.0, h.1, h.2, KeepsPromise-answers h.0 end out h.2)
+  of_plan (Some file) h = (h.0, h.1, h.2, KeepsPromise-answers h.0 end out h.2)
 
   of_circles : (declaration : List ℕ) (assignment : Option (List ℕ)) → EndsCircles Holds declaration assignment end out → PromisesCircles Holds declaration assignment end out
-  of_circles declaration None h = (h.0, h.1, KeepsOwnCircles-answers h.0 end out h.2)
-  of_circles declaration (Some assignment) h = (h.0, h.1, h.2, h.3, KeepsCircles-answers h.0 h.1 end out h.4)
+  of_circles declaration None h = (h.0, h.1, h.2, KeepsOwnCircles-answers h.0 end out h.2)
+  of_circles declaration (Some assignment) h = (h.0, h.1, h.2, h.3, h.4, KeepsCircles-answers h.0 h.1 end out h.4)
 
   yes : (text claim : List ℕ) → Checks text claim end out → end ≡ Good → _
   yes text claim h is = YesIsTrue-checks text claim out (subst (λ e. Checks text claim e out) is h)
 
   pub PromisesAsAsked-ends : (asked : Asked) → EndsAsAsked Holds Input asked end out → PromisesAsAsked Holds Input asked end out
   PromisesAsAsked-ends (plans file) h = of_plan file h
-  PromisesAsAsked-ends (checks declaration certificate) h = (h.0, h.1, h.2, h.3, yes h.0 h.1 h.4)
+  PromisesAsAsked-ends (checks declaration certificate) h = (h.0, h.1, h.2, h.3, h.4, yes h.0 h.1 h.4)
   PromisesAsAsked-ends (finds declaration assignment) h = of_circles declaration assignment h
   PromisesAsAsked-ends (judges declaration assignment) h = h
   PromisesAsAsked-ends (hangs declaration assignment) h = h
