@@ -5,6 +5,7 @@ use Rattle.wq_meter.specs.Meter.{Meter, WritesWhole}
 use Rattle.wq_commands.specs.declared.end.End.{End}
 use Rattle.wq_commands.specs.declared.end.End.TheVariants.{Good}
 use Rattle.wq_commands.specs.Checking.{Checks}
+use Rattle.wq_commands.specs.YesIsTrue.{YesIsTrue}
 use Rattle.wq_commands.proofs.PromiseLemmas.{KeepsPromise-answers, YesIsTrue-checks}
 use Rattle.wq_circles.proofs.Promised.{KeepsCircles-answers, KeepsOwnCircles-answers}
 use Rattle.wq_run.specs.declared.fault.CommandFault.{CommandFault}
@@ -21,7 +22,7 @@ module _ (Holds : List ℕ → List ℕ → Type 0) (Input : List ℕ → Type 0
   of_circles declaration None h = (h.0, h.1, h.2, KeepsOwnCircles-answers h.0 end out h.2)
   of_circles declaration (Some assignment) h = (h.0, h.1, h.2, h.3, h.4, KeepsCircles-answers h.0 h.1 end out h.4)
 
-  yes : (text claim : List ℕ) → Checks text claim end out → end ≡ Good → _
+  yes : (text claim : List ℕ) → Checks text claim end out → end ≡ Good → YesIsTrue text claim out
   yes text claim h is = YesIsTrue-checks text claim out (subst (λ e. Checks text claim e out) is h)
 
   pub PromisesAsAsked-ends : (asked : Asked) → EndsAsAsked Holds Input asked end out → PromisesAsAsked Holds Input asked end out
