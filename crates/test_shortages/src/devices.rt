@@ -132,18 +132,18 @@ pub(crate) fn run_over<R: Threads + Wait + Sync, A: Allocator + Copy + Send + Sy
     }
 }
 
-/// How a command ends over devices that don't fail, and what it writes.
+/// How a command ends over devices that don't fail, and what it writes and says.
 pub(crate) fn answered<R: Threads + Wait + Sync>(
     rt: &R,
     alloc: Global,
     order: AnyCommand,
     texts: [&[u8]; 3],
-) -> Result<(End, Vec<u8>), CommandFault> {
-    let DeviceRun { end, written, .. } = run_over(
-        rt,
-        alloc,
-        order,
-        Devices::new(alloc, texts, WHOLE),
-    );
-    Ok((end?, written))
+) -> Result<(End, Vec<u8>, Vec<u8>), CommandFault> {
+    let DeviceRun {
+        end,
+        written,
+        said,
+        ..
+    } = run_over(rt, alloc, order, Devices::new(alloc, texts, WHOLE));
+    Ok((end?, written, said))
 }

@@ -20,7 +20,7 @@ fn put_word<R: Print + AllocGlobal + Threads + Wait + Sync>(
     word: Option<&'static str>,
 ) -> io::Result<bool> {
     let (order, texts) = (AnyCommand::Explain(word), no_texts());
-    let Ok((end, answer)) = answered(rt, rt.alloc(), order, texts) else {
+    let Ok((end, answer, _)) = answered(rt, rt.alloc(), order, texts) else {
         return Ok(false);
     };
     let asked = Wanted {

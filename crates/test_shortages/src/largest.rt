@@ -1,5 +1,5 @@
-//! Each command on the largest declaration of examples/. What it answers with enough memory is what it should answer, and
-//! is the certificate of the commands after it. No text is refused, so nothing is said. It takes the time of all runs.
+//! Each command on the largest declaration of examples/. What it answers and says with enough memory is what it should, and
+//! the answer is the certificate of the commands after it. It takes the time of all runs.
 
 use crate::asked::{AnyCommand, Wanted};
 use crate::devices::answered;
@@ -19,7 +19,7 @@ fn put_largest<'t, R: Print + AllocGlobal + Threads + Wait + Sync>(
     third: &'t [u8],
 ) -> io::Result<Option<Vec<u8>>> {
     let texts = [first, second, third];
-    let Ok((end, answer)) = answered(rt, rt.alloc(), order, texts) else {
+    let Ok((end, answer, said)) = answered(rt, rt.alloc(), order, texts) else {
         return Ok(None);
     };
     let asked = Wanted {
@@ -27,7 +27,7 @@ fn put_largest<'t, R: Print + AllocGlobal + Threads + Wait + Sync>(
         texts,
         end,
         answer: &answer,
-        said: b"",
+        said: &said,
     };
     let is_right = put_memory(rt, name, asked)?;
     Ok(if is_right { Some(answer) } else { None })
