@@ -6,6 +6,7 @@ pub use Rattle.wq_core.specs.Deadlock
 pub mod Changes
 pub mod Needed
 pub mod Repair
-pub mod Joined
 pub mod Marks
+pub mod Joined
+pub mod Together
 pub mod Steps

@@ -1,10 +1,9 @@
 -- What the steps of a repair leave. Which groups may move and which need a rescuer is known here by lists.
-use Rattle.std.specs.Prelude.{◌≡◌, ℕ, ◌<◌, ◌≤◌, ◌⊎◌, List, Bool, IsTrue, length, slice_index, slice_set, max}
+use Rattle.std.specs.Prelude.{◌≡◌, ℕ, ◌<◌, ◌≤◌, ◌⊎◌, List, Bool, length, slice_index, max}
 use Rattle.wq_groups.specs.Declaration.{Declaration, GroupWaits}
 use Rattle.wq_core.specs.Workqueues.{Workqueues}
 use Rattle.wq_repair.specs.Changes.{IsRescued, IsBare, IsNamed, lane_in}
-use Rattle.wq_repair.specs.Needed.{NeedsRescuerOf}
-use Rattle.wq_repair.specs.Joined.{HangsRound, IsTriedInVain}
+use Rattle.wq_repair.specs.Joined.{IsTriedInVain}
 use Rattle.wq_repair.specs.Marks.{IsMarked}
 
 -- one of the marked groups is on lane q
@@ -47,17 +46,7 @@ pub record IsStartBy (old : Workqueues) (movable given : List Bool) (start : Wor
   pub only : (g : ℕ) → g < length movable → (¬ IsMarked movable g) → IsRescued start (lane_in old g)
       → IsRescued old (lane_in old g) ⊎ IsMarked given (lane_in old g)
 
--- ---- putting together
-
--- the workqueues on which the groups are on these lanes
-abbrev pub placed_at : Workqueues → List ℕ → Workqueues
-placed_at ws at = record { assignment = record { lanes = ws.assignment.lanes; lane_of_group = at }; bare = ws.bare }
-
--- group g came to vertex v, and there is still no circle; or it would make one, and nothing was changed
-pub record IsJoined (d : Declaration) (start : Workqueues) (g v : ℕ) (at : List ℕ) (joined : Bool) (new : List ℕ)
-    : Type 0 where
-  pub yes : IsTrue joined → (new ≡ slice_set at g v) × (¬ HangsRound d (placed_at start new))
-  pub no : (¬ IsTrue joined) → (new ≡ at) × HangsRound d (placed_at start (slice_set at g v))
+-- ---- placing
 
 -- where groups go: those that leave go to lanes that have a rescuer, all others stay; who shares a lane and needs a
 -- rescuer has the same rank
@@ -80,12 +69,14 @@ pub record ArePlacedBy (old : Workqueues) (given stays leaves : List Bool) (rank
 -- what is known of those that leave when groups are placed: each may move and needs a rescuer, and either its lane has
 -- none and gets none, or it was tried in vain. Who needs a rescuer and doesn't leave has one on its lane. Ranks fall
 -- along all waits of those that need one
-pub record AreLeaving (d : Declaration) (old : Workqueues) (names : List ℕ) (given leaves : List Bool) (ranks : List ℕ)
+pub record AreLeaving (d : Declaration) (old : Workqueues) (names : List ℕ) (needed given leaves : List Bool) (ranks : List ℕ)
     (new : Workqueues) : Type 0 where
   pub one_each : length leaves ≡ d.groups
-  pub movable : (g : ℕ) → g < d.groups → IsMarked leaves g → IsNamed d names g × NeedsRescuerOf d old names g
+  pub first : (g : ℕ) → g < d.groups → IsRescued old (lane_in old g) → IsMarked needed g
+  pub next : (g h : ℕ) → GroupWaits d g h → IsMarked needed g → IsMarked needed h
+  pub movable : (g : ℕ) → g < d.groups → IsMarked leaves g → IsNamed d names g × IsMarked needed g
   pub why : (g : ℕ) → g < d.groups → IsMarked leaves g
-      → (IsBare old (lane_in old g) × (¬ IsMarked given (lane_in old g))) ⊎ IsTriedInVain d old names new g
-  pub others : (g : ℕ) → g < d.groups → NeedsRescuerOf d old names g → (¬ IsMarked leaves g)
+      → (IsBare old (lane_in old g) × (¬ IsMarked given (lane_in old g))) ⊎ IsTriedInVain d old new needed g
+  pub others : (g : ℕ) → g < d.groups → IsMarked needed g → (¬ IsMarked leaves g)
       → IsRescued old (lane_in old g) ⊎ IsMarked given (lane_in old g)
-  pub fall : (g h : ℕ) → GroupWaits d g h → NeedsRescuerOf d old names g → slice_index ranks h < slice_index ranks g
+  pub fall : (g h : ℕ) → GroupWaits d g h → IsMarked needed g → slice_index ranks h < slice_index ranks g
