@@ -1,5 +1,5 @@
 -- Numbers of lanes that fall along all waits of those that need a rescuer.
-use Rattle.std.proofs.Common.{◌≡◌, ℕ, ◌<◌, inl, List, length, sym, subst}
+use Rattle.std.proofs.Common.{◌≡◌, ℕ, ◌<◌, Bool, List, length, sym, subst}
 use Rattle.std.specs.Prelude.{slice_index}
 use Rattle.wq_items.specs.Table.{ItemWaits}
 use Rattle.wq_groups.specs.Declaration.{Declaration, IsDeclaration, GroupWaits}
@@ -11,12 +11,11 @@ use Rattle.wq_core.specs.Workqueues.{Workqueues, wiring_of}
 use Rattle.wq_core.specs.Deadlock.{IsSafe}
 use Rattle.wq_core.proofs.Safety.{IsSafe-rescued}
 use Rattle.wq_repair.specs.Changes.{IsRescued, lane_in}
-use Rattle.wq_repair.specs.Needed.{BringsAlong}
 use Rattle.wq_repair.specs.Joined.{FallsAlongWaits}
-use Rattle.wq_repair.proofs.Rescuers.{IsLedTo-next, waiting-below, awaited-below}
+use Rattle.wq_repair.proofs.Rescuers.{waiting-below, awaited-below}
 
-module _ (d : Declaration) (old new : Workqueues) (names : List ℕ) (number : ℕ → ℕ) (declaration : IsDeclaration d) (assignment : IsAssignment d.groups new.assignment)
-    (falls : FallsAlongWaits d old names new number) where
+module _ (d : Declaration) (new : Workqueues) (needed : List Bool) (number : ℕ → ℕ) (declaration : IsDeclaration d) (assignment : IsAssignment d.groups new.assignment)
+    (falls : FallsAlongWaits d new needed number) where
   abbrev group : ℕ → ℕ
   group i = slice_index d.group_of i
 
@@ -25,9 +24,9 @@ module _ (d : Declaration) (old new : Workqueues) (names : List ℕ) (number : �
 
   group_falls : (g h : ℕ) → GroupWaits d g h → IsRescued new (lane_in new g) → IsRescued new (lane_in new h) × (number (lane_in new h) < number (lane_in new g))
   group_falls g h waits rescued =
-      let needed = falls.needed g (waiting-below d declaration g h waits) rescued in
-      let also = IsLedTo-next d old (BringsAlong d old names) g h needed (inl waits) in
-      (falls.rescued h (awaited-below d declaration g h waits) also, falls.falls g h waits needed)
+      let needs = falls.needed g (waiting-below d declaration g h waits) rescued in
+      let also = falls.next g h waits needs in
+      (falls.rescued h (awaited-below d declaration g h waits) also, falls.falls g h waits needs)
 
   item_falls : (i j : ℕ) → ItemWaits d.waits i j → HasRescuer (wiring_of d new) (lane_of (wiring_of d new) i)
       → HasRescuer (wiring_of d new) (lane_of (wiring_of d new) j) × (number (lane_of (wiring_of d new) j) < number (lane_of (wiring_of d new) i))

@@ -1,17 +1,19 @@
 -- No change can be left out.
-use Rattle.std.proofs.Common.{◌≡◌, ℕ, ◌<◌, ◌⊎◌, inl, inr, List, refl, sym, ap, subst, ◌∙◌}
+use Rattle.std.proofs.Common.{◌≡◌, ℕ, ◌<◌, ◌⊎◌, inl, inr, Bool, List, refl, sym, ap, subst, ◌∙◌}
 use Rattle.std.proofs.lemmas.Bool.{false≢true}
 use Rattle.wq_groups.specs.Declaration.{Declaration, IsDeclaration}
 use Rattle.wq_groups.specs.Assignment.{IsAssignment}
 use Rattle.wq_core.specs.Workqueues.{Workqueues, wiring_of}
 use Rattle.wq_core.specs.Deadlock.{Deadlocks}
 use Rattle.wq_repair.specs.Changes.{IsRescued, HasMoved, IsGiven, IsToBeCompared, HasFewerChanges, lane_in}
-use Rattle.wq_repair.specs.Needed.{NeedsRescuerOf}
+use Rattle.wq_repair.specs.Marks.{IsMarked}
+use Rattle.std.specs.Prelude.{slice_index}
 use Rattle.wq_repair.specs.Joined.{HasToLeave, StaysOrIs, IsTriedInVain, AreChangesNeeded}
-use Rattle.wq_repair.proofs.Rescuers.{stays-not_moved, rescued-needed, Deadlocks-as_other}
+use Rattle.wq_repair.proofs.Rescuers.{stays-not_moved, Deadlocks-as_vertices}
 
-module _ (d : Declaration) (old new fewer : Workqueues) (names : List ℕ) (declaration : IsDeclaration d) (before : IsAssignment d.groups old.assignment)
-    (are : AreChangesNeeded d old names new) (compared : IsToBeCompared d old names fewer) (less : HasFewerChanges d old fewer new) where
+module _ (d : Declaration) (old new fewer : Workqueues) (names : List ℕ) (needed : List Bool) (declaration : IsDeclaration d)
+    (has : (g : ℕ) → g < d.groups → IsMarked needed g → IsRescued fewer (lane_in fewer g) ⊎ Deadlocks (wiring_of d fewer))
+    (are : AreChangesNeeded d old new needed) (compared : IsToBeCompared d old names fewer) (less : HasFewerChanges d old fewer new) where
   abbrev D : Type 0
   D = Deadlocks (wiring_of d fewer)
 
@@ -24,17 +26,17 @@ module _ (d : Declaration) (old new fewer : Workqueues) (names : List ℕ) (decl
   stays-or_is g h below stays (inr also) = stays-too h below also
 
   -- a group that moved in the new ones alone
-  tried_in_vain : (g : ℕ) → lane_in fewer g ≡ lane_in old g → IsTriedInVain d old names new g → D
-  tried_in_vain g stays vain = Deadlocks-as_other d old fewer names declaration before compared vain.tried vain.needed together vain.circle
+  tried_in_vain : (g : ℕ) → lane_in fewer g ≡ lane_in old g → IsTriedInVain d old new needed g → D
+  tried_in_vain g stays vain = Deadlocks-as_vertices d fewer declaration compared.assignment needed vain.at has together vain.circle
     where
-      together : (h k : ℕ) → h < d.groups → k < d.groups → IsRescued vain.tried (lane_in vain.tried h) → lane_in vain.tried h ≡ lane_in vain.tried k → lane_in fewer h ≡ lane_in fewer k
-      together h k h_below k_below rescued same = elim (vain.together h k h_below k_below rescued same) [
+      together : (h k : ℕ) → h < d.groups → k < d.groups → IsMarked needed h → IsMarked needed k → slice_index vain.at h ≡ slice_index vain.at k → lane_in fewer h ≡ lane_in fewer k
+      together h k h_below k_below h_needs k_needs same = elim (vain.together h k h_below k_below h_needs k_needs same) [
         | inl one ↦ ap (lane_in fewer) one
         | inr both ↦ stays-or_is g h h_below stays both.0 ∙ both.2 ∙ sym (stays-or_is g k k_below stays both.1)
       ]
 
-  has_to_leave : (g : ℕ) → g < d.groups → lane_in fewer g ≡ lane_in old g → HasToLeave d old names new g → D
-  has_to_leave g below stays leaves = elim (rescued-needed d old fewer names declaration before compared g leaves.needed) [
+  has_to_leave : (g : ℕ) → g < d.groups → lane_in fewer g ≡ lane_in old g → HasToLeave old new needed g → D
+  has_to_leave g below stays leaves = elim (has g below leaves.needed) [
     | inr dead ↦ dead
     | inl rescued ↦ absurd (
         let own : IsRescued fewer (lane_in old g) = subst (IsRescued fewer) stays rescued in
@@ -55,8 +57,8 @@ module _ (d : Declaration) (old new fewer : Workqueues) (names : List ℕ) (decl
       let g : ℕ = given.group in
       let stays : lane_in new g ≡ lane_in old g = given.stays ∙ sym given.was in
       let also : lane_in fewer g ≡ q = stays-too g given.is_group stays ∙ given.was in
-      let needed : NeedsRescuerOf d old names g = are.given g given.is_group (subst (IsGiven d old new) (sym given.was) given) in
-      elim (rescued-needed d old fewer names declaration before compared g needed) [
+      let needs : IsMarked needed g = are.given g given.is_group (subst (IsGiven d old new) (sym given.was) given) in
+      elim (has g given.is_group needs) [
         | inr dead ↦ dead
         | inl rescued ↦ absurd (not (record {
           bare = given.bare;

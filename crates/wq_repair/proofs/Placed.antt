@@ -7,18 +7,17 @@ use Rattle.wq_groups.specs.Declaration.{Declaration, IsDeclaration, GroupWaits}
 use Rattle.wq_groups.specs.Assignment.{IsAssignment}
 use Rattle.wq_core.specs.Workqueues.{Workqueues}
 use Rattle.wq_repair.specs.Changes.{IsRescued, IsBare, IsNamedLane, HasMoved, IsGiven, IsToBeCompared, lane_in}
-use Rattle.wq_repair.specs.Needed.{BringsAlong, NeedsRescuerOf}
 use Rattle.wq_repair.specs.Marks.{IsMarked, Marks}
 use Rattle.wq_repair.specs.Joined.{HasToLeave, IsTriedInVain, AreChangesNeeded, FallsAlongWaits}
 use Rattle.wq_repair.specs.Steps.{IsToBeGiven, ArePlacedBy, AreLeaving}
-use Rattle.wq_repair.proofs.Rescuers.{cases_rescued, IsLedTo-first, IsLedTo-next, waiting-below, awaited-below}
+use Rattle.wq_repair.proofs.Rescuers.{cases_rescued, waiting-below, awaited-below}
 use Rattle.wq_repair.proofs.StartsBy.{cases_marked}
 
 module _ (d : Declaration) (old new : Workqueues) (names : List ℕ) (named_lanes needed given stays leaves : List Bool) (ranks : List ℕ) (before : IsAssignment d.groups old.assignment)
     (are_lanes : Marks (IsNamedLane d old names) old.assignment.lanes named_lanes)
-    (are_needed : Marks (NeedsRescuerOf d old names) d.groups needed)
+    (one_each : length needed ≡ d.groups)
     (are_given : Marks (IsToBeGiven old named_lanes needed) old.assignment.lanes given)
-    (leaving : AreLeaving d old names given leaves ranks new)
+    (leaving : AreLeaving d old names needed given leaves ranks new)
     (by : ArePlacedBy old given stays leaves ranks new) where
   below : (g : ℕ) → g < d.groups → g < length leaves
   below g is = omega (arith, is, leaving.one_each)
@@ -29,8 +28,8 @@ module _ (d : Declaration) (old new : Workqueues) (names : List ℕ) (named_lane
   is_to_be_given : (g : ℕ) → g < d.groups → IsMarked given (lane_in old g) → IsToBeGiven old named_lanes needed (lane_in old g)
   is_to_be_given g is marked = (are_given.exactly (lane_in old g) (lane_below g is)).0 marked
 
-  given_needed : (g : ℕ) → g < d.groups → IsMarked given (lane_in old g) → NeedsRescuerOf d old names g
-  given_needed g is marked = (are_needed.exactly g is).0 ((is_to_be_given g is marked).all g (omega (arith, is, are_needed.one_each)) refl)
+  given_needed : (g : ℕ) → g < d.groups → IsMarked given (lane_in old g) → IsMarked needed g
+  given_needed g is marked = (is_to_be_given g is marked).all g (omega (arith, is, one_each)) refl
 
   moved_leaves : (g : ℕ) → g < d.groups → HasMoved old new g → IsMarked leaves g
   moved_leaves g is moved = elim (cases_marked leaves g) [ inl marked ↦ marked | inr not ↦ absurd (moved (by.stay g (below g is) not)) ]
@@ -61,7 +60,7 @@ module _ (d : Declaration) (old new : Workqueues) (names : List ℕ) (named_lane
     given_named = given_named;
   }
 
-  reason : (g : ℕ) → g < d.groups → IsMarked leaves g → HasToLeave d old names new g ⊎ IsTriedInVain d old names new g
+  reason : (g : ℕ) → g < d.groups → IsMarked leaves g → HasToLeave old new needed g ⊎ IsTriedInVain d old new needed g
   reason g is marked = elim (leaving.why g is marked) [
     | inr vain ↦ inr vain
     | inl bare ↦ inl (record {
@@ -74,22 +73,22 @@ module _ (d : Declaration) (old new : Workqueues) (names : List ℕ) (named_lane
     })
   ]
 
-  pub AreChangesNeeded-placed : AreChangesNeeded d old names new
+  pub AreChangesNeeded-placed : AreChangesNeeded d old new needed
   AreChangesNeeded-placed = record {
     moved = λ g is moved. reason g is (moved_leaves g is moved);
     given = λ g is one. given_needed g is (given_marked g is one.bare one.rescued);
   }
 
-  needed_only : (g : ℕ) → g < d.groups → IsRescued new (lane_in new g) → NeedsRescuerOf d old names g
+  needed_only : (g : ℕ) → g < d.groups → IsRescued new (lane_in new g) → IsMarked needed g
   needed_only g is rescued = elim (cases_marked leaves g) [
     | inl marked ↦ (leaving.movable g is marked).1
     | inr not ↦ elim (by.only g (below g is) (subst (IsRescued new) (by.stay g (below g is) not) rescued)) [
-      | inl had ↦ IsLedTo-first d old (BringsAlong d old names) g is had
+      | inl had ↦ leaving.first g is had
       | inr marked ↦ given_needed g is marked
     ]
   ]
 
-  has_rescuer : (g : ℕ) → g < d.groups → NeedsRescuerOf d old names g → IsRescued new (lane_in new g)
+  has_rescuer : (g : ℕ) → g < d.groups → IsMarked needed g → IsRescued new (lane_in new g)
   has_rescuer g is needs = elim (cases_marked leaves g) [
     | inl marked ↦ by.rescued g (below g is) marked
     | inr not ↦ subst (IsRescued new) (sym (by.stay g (below g is) not)) (elim (leaving.others g is needs not) [
@@ -98,14 +97,14 @@ module _ (d : Declaration) (old new : Workqueues) (names : List ℕ) (named_lane
     ])
   ]
 
-  module _ (declaration : IsDeclaration d) (number : ℕ → ℕ) (ranked : (g : ℕ) → g < d.groups → NeedsRescuerOf d old names g → number (lane_in new g) ≡ slice_index ranks g) where
-    lower : (g h : ℕ) → GroupWaits d g h → NeedsRescuerOf d old names g → number (lane_in new h) < number (lane_in new g)
+  module _ (declaration : IsDeclaration d) (number : ℕ → ℕ) (ranked : (g : ℕ) → g < d.groups → IsMarked needed g → number (lane_in new g) ≡ slice_index ranks g) where
+    lower : (g h : ℕ) → GroupWaits d g h → IsMarked needed g → number (lane_in new h) < number (lane_in new g)
     lower g h waits needs = omega (
       arith,
       ranked g (waiting-below d declaration g h waits) needs,
-      ranked h (awaited-below d declaration g h waits) (IsLedTo-next d old (BringsAlong d old names) g h needs (inl waits)),
+      ranked h (awaited-below d declaration g h waits) (leaving.next g h waits needs),
       leaving.fall g h waits needs,
     )
 
-    pub FallsAlongWaits-placed : FallsAlongWaits d old names new number
-    FallsAlongWaits-placed = record { needed = needed_only; rescued = has_rescuer; falls = lower }
+    pub FallsAlongWaits-placed : FallsAlongWaits d new needed number
+    FallsAlongWaits-placed = record { needed = needed_only; rescued = has_rescuer; next = leaving.next; falls = lower }

@@ -1,6 +1,6 @@
 -- Who needs a rescuer has one in whatever may be compared, or that deadlocks.
 use Rattle.std.proofs.Common.{◌≡◌, ℕ, ◌<◌, ◌⊎◌, inl, inr, false, List, [], ◌∷◌, ◌++◌, length, get_or, refl, sym, ap, subst, ◌∙◌, arith}
-use Rattle.std.specs.Prelude.{slice_get, slice_index, Some}
+use Rattle.std.specs.Prelude.{Bool, slice_get, slice_index, Some}
 use Rattle.std.proofs.lemmas.Bool.{cases_Bool, cases_eq}
 use Rattle.std.proofs.lemmas.Option.{get_or_from_slice_get, slice_get_within}
 use Rattle.wq_items.specs.Chain.{IsChain, last_of, Circle}
@@ -18,7 +18,8 @@ use Rattle.wq_core.proofs.Wirings.{cases_rescuer}
 use Rattle.wq_deadlock.proofs.BareLanes.{IsWiring-workqueues}
 use Rattle.wq_repair.specs.Changes.{IsRescued, IsBare, IsNamed, HasMoved, IsToBeCompared, lane_in}
 use Rattle.wq_repair.specs.Needed.{IsLedTo, NeedsRescuer, StaysBeside, BringsAlong, NeedsRescuerOf}
-use Rattle.wq_repair.specs.Joined.{NeededWaits, HangsRound}
+use Rattle.wq_repair.specs.Marks.{IsMarked}
+use Rattle.wq_repair.specs.Joined.{NeededWaits, HangsRound, VerticesWait}
 use Rattle.wq_repair.proofs.Identified.{Circle-identified}
 
 -- a lane has a rescuer, or has none
@@ -204,3 +205,45 @@ module _ (d : Declaration) (old new : Workqueues) (names : List ℕ) (declaratio
       | inr dead ↦ dead
       | inl round ↦ Deadlocks-round d new declaration compared.assignment round
     ]
+
+-- ---- where groups are at vertices
+
+-- a circle of vertices, of groups that need a rescuer, is one of these if who shares a vertex shares a lane
+module _ (d : Declaration) (new : Workqueues) (declaration : IsDeclaration d) (assignment : IsAssignment d.groups new.assignment) (needed : List Bool) (at : List ℕ)
+    (has : (g : ℕ) → g < d.groups → IsMarked needed g → IsRescued new (lane_in new g) ⊎ Deadlocks (wiring_of d new))
+    (together : (g h : ℕ) → g < d.groups → h < d.groups → IsMarked needed g → IsMarked needed h → slice_index at g ≡ slice_index at h → lane_in new g ≡ lane_in new h) where
+  -- a vertex, and the lane of a group at it
+  record IsLaneOf (v x : ℕ) : Type 0 where
+    group : ℕ
+    is_group : group < d.groups
+    needs : IsMarked needed group
+    there : slice_index at group ≡ v
+    here : lane_in new group ≡ x
+
+  same_lane : (v x y : ℕ) → IsLaneOf v x → IsLaneOf v y → x ≡ y
+  same_lane v x y b c = sym b.here ∙ together b.group c.group b.is_group c.is_group b.needs c.needs (b.there ∙ sym c.there) ∙ c.here
+
+  vertices_wait : (v w : ℕ) → VerticesWait d needed at v w → ((x : ℕ) × (y : ℕ) × IsLaneOf v x × IsLaneOf w y × RescuedWaits (wiring_of d new) x y) ⊎ Deadlocks (wiring_of d new)
+  vertices_wait v w is =
+      let below = waiting-below d declaration is.group is.awaited is.waits in
+      let also_below = awaited-below d declaration is.group is.awaited is.waits in
+      elim (has is.group below is.needs) [
+        | inr dead ↦ inr dead
+        | inl rescued ↦ elim (rescued-awaited d new declaration assignment is.group is.awaited is.waits rescued) [
+          | inr dead ↦ inr dead
+          | inl also ↦ inl (
+            lane_in new is.group,
+            lane_in new is.awaited,
+            record { group = is.group; is_group = below; needs = is.needs; there = is.from; here = refl },
+            record { group = is.awaited; is_group = also_below; needs = is.also; there = is.to; here = refl },
+            (rescued, also, LaneWaits-group_waits d new declaration assignment is.group is.awaited is.waits),
+          )
+        ]
+      ]
+
+  pub Deadlocks-as_vertices : Circle (VerticesWait d needed at) → Deadlocks (wiring_of d new)
+  Deadlocks-as_vertices circle =
+      elim (Circle-identified (VerticesWait d needed at) (RescuedWaits (wiring_of d new)) IsLaneOf (Deadlocks (wiring_of d new)) same_lane vertices_wait circle) [
+        | inr dead ↦ dead
+        | inl round ↦ Deadlocks-round d new declaration assignment round
+      ]

@@ -1,6 +1,6 @@
 //! Laws about repairs, as contracts of functions with empty bodies. No code runs here: the clauses are the laws.
 
-ghost use Rattle.std.specs.Prelude.{◌≡◌, ℕ, ◌<◌, ◌≤◌, ◌⊎◌, true, false, Bool, List, max, slice_index};
+ghost use Rattle.std.specs.Prelude.{◌≡◌, ℕ, ◌<◌, ◌≤◌, ◌⊎◌, true, false, Bool, List, length, max, slice_index};
 ghost use Rattle.wq_items.specs.Chain.{Circle};
 ghost use Rattle.wq_groups.specs.Declaration.{Declaration, IsDeclaration, GroupWaits};
 ghost use Rattle.wq_groups.specs.Assignment.{IsAssignment};
@@ -8,9 +8,9 @@ ghost use Rattle.wq_core.specs.Workqueues.{Workqueues, wiring_of};
 ghost use Rattle.wq_core.specs.Deadlock.{IsSafe, Deadlocks};
 ghost use Rattle.wq_repair.specs.Changes.{IsRescued, IsToBeCompared, HasFewerChanges, lane_in};
 ghost use Rattle.wq_repair.specs.Needed.{NeedsRescuerOf};
-ghost use Rattle.wq_repair.specs.Joined.{become, NeededWaits, HangsRound, IsStart, AreChangesNeeded, FallsAlongWaits};
+ghost use Rattle.wq_repair.specs.Joined.{become, NeededWaits, HangsRound, IsStart, NeedRescuers, AreChangesNeeded, FallsAlongWaits};
 ghost use Rattle.wq_repair.specs.Changes.{IsNamed, IsNamedLane};
-ghost use Rattle.wq_repair.specs.Marks.{Marks};
+ghost use Rattle.wq_repair.specs.Marks.{IsMarked, Marks};
 ghost use Rattle.wq_repair.specs.Repair.{IsRepair};
 ghost use Rattle.wq_repair.specs.Steps.{IsToBeGiven, IsMovable, IsStartBy, ArePlacedBy, AreLeaving};
 
@@ -44,17 +44,19 @@ pub fn names_are_too_few_where_the_start_deadlocks()
 {}
 
 /// Where each group that moved has to leave or was tried in vain, and each lane that is given a rescuer needs it, what
-/// has fewer changes deadlocks.
+/// has fewer changes deadlocks, if it gives a rescuer to all that need one.
 pub fn no_change_can_be_left_out()
-    ensures { (d : Declaration) (old new fewer : Workqueues) (names : List ℕ) → IsDeclaration d →
-        IsAssignment d.groups old.assignment → AreChangesNeeded d old names new → IsToBeCompared d old names fewer →
-        HasFewerChanges d old fewer new → Deadlocks (wiring_of d fewer) }
+    ensures { (d : Declaration) (old new fewer : Workqueues) (names : List ℕ) (needed : List Bool) → IsDeclaration d →
+        ((g : ℕ) → g < d.groups → IsMarked needed g →
+            IsRescued fewer (lane_in fewer g) ⊎ Deadlocks (wiring_of d fewer)) →
+        AreChangesNeeded d old new needed → IsToBeCompared d old names fewer → HasFewerChanges d old fewer new →
+        Deadlocks (wiring_of d fewer) }
 {}
 
 /// Numbers of lanes that fall along all waits of those that need a rescuer make workqueues safe.
 pub fn falling_numbers_of_needed_groups_are_safe()
-    ensures { (d : Declaration) (old new : Workqueues) (names : List ℕ) (number : ℕ → ℕ) → IsDeclaration d →
-        IsAssignment d.groups new.assignment → FallsAlongWaits d old names new number → IsSafe (wiring_of d new) }
+    ensures { (d : Declaration) (new : Workqueues) (needed : List Bool) (number : ℕ → ℕ) → IsDeclaration d →
+        IsAssignment d.groups new.assignment → FallsAlongWaits d new needed number → IsSafe (wiring_of d new) }
 {}
 
 /// Where numbers fall along each arc, two vertices become one, and neither leads to the other, there are numbers that
@@ -87,9 +89,9 @@ pub fn a_start_made_of_lists_is_the_start()
 
 /// What may be compared, all whose changes are needed, and in which numbers fall along all waits, is a repair.
 pub fn needed_changes_make_a_repair()
-    ensures { (d : Declaration) (old new : Workqueues) (names : List ℕ) (number : ℕ → ℕ) → IsDeclaration d →
-        IsAssignment d.groups old.assignment → Deadlocks (wiring_of d old) → IsToBeCompared d old names new →
-        AreChangesNeeded d old names new → FallsAlongWaits d old names new number →
+    ensures { (d : Declaration) (old new : Workqueues) (names : List ℕ) (needed : List Bool) (number : ℕ → ℕ) →
+        IsDeclaration d → Deadlocks (wiring_of d old) → IsToBeCompared d old names new →
+        NeedRescuers d old names new needed → AreChangesNeeded d old new needed → FallsAlongWaits d new needed number →
         new.assignment.lanes ≤ max old.assignment.lanes d.groups → IsRepair d old names new }
 {}
 
@@ -98,11 +100,10 @@ pub fn needed_changes_make_a_repair()
 pub fn what_is_placed_is_a_repair()
     ensures { (d : Declaration) (old new : Workqueues) (names : List ℕ) (named_lanes needed given stays leaves : List Bool)
         (ranks : List ℕ) (number : ℕ → ℕ) → IsDeclaration d → IsAssignment d.groups old.assignment →
-        Marks (IsNamedLane d old names) old.assignment.lanes named_lanes →
-        Marks (NeedsRescuerOf d old names) d.groups needed →
+        Marks (IsNamedLane d old names) old.assignment.lanes named_lanes → length needed ≡ d.groups →
         Marks (IsToBeGiven old named_lanes needed) old.assignment.lanes given →
-        AreLeaving d old names given leaves ranks new →
+        AreLeaving d old names needed given leaves ranks new →
         ArePlacedBy old given stays leaves ranks new →
-        ((g : ℕ) → g < d.groups → NeedsRescuerOf d old names g → number (lane_in new g) ≡ slice_index ranks g) →
-        IsToBeCompared d old names new × AreChangesNeeded d old names new × FallsAlongWaits d old names new number }
+        ((g : ℕ) → g < d.groups → IsMarked needed g → number (lane_in new g) ≡ slice_index ranks g) →
+        IsToBeCompared d old names new × AreChangesNeeded d old new needed × FallsAlongWaits d new needed number }
 {}
