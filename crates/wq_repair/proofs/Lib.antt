@@ -1,3 +1,4 @@
+pub mod Marks
 pub mod Identified
 pub mod Rescuers
 pub mod Starts

@@ -61,6 +61,10 @@ pub record ArePutTogether (graph : List (List WaitArc)) (lane_of : List ℕ) (ho
   pub home : (g h : ℕ) → g < length at → h < length at → IsAtHome lane_of homes at back g
       → IsAtHome lane_of homes at back h → slice_index lane_of g ≡ slice_index lane_of h
       → slice_index new g ≡ slice_index new h
+  pub was : (g : ℕ) → g < length at → (h : ℕ) × (h < length at) × (slice_index at h ≡ slice_index new g)
+      × ((h ≡ g) ⊎ IsAtHome lane_of homes at back h)
+  pub first : (g : ℕ) → Contains order g → (h : ℕ) × (h < length at) × (slice_index lane_of h ≡ slice_index lane_of g)
+      × IsAtHome lane_of homes at back h
   pub vain : (g : ℕ) → Contains order g → (¬ IsMarked back g) → WasInVain graph lane_of homes at back g
   pub alone : (g : ℕ) → g < length at → IsAlone at g → (¬ IsAtHome lane_of homes at back g) → IsAlone new g
 

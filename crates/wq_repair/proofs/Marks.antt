@@ -1,0 +1,93 @@
+-- Lists of marks, and what a write changes in them.
+use Rattle.std.proofs.Common.{◌≡◌, ◌≢◌, ℕ, ◌+◌, ◌<◌, inl, inr, Bool, true, false, List, [], ◌∷◌, ◌++◌, length, get_or, set, replicate, refl, sym, ap, subst, ◌∙◌, arith, get_or-set_same, get_or-set_other}
+use Rattle.std.specs.Prelude.{◌↔◌}
+use Rattle.std.proofs.Math.ListN.{length-set, length-replicate}
+use Rattle.std.proofs.lemmas.List.{get_or-replicate}
+use Rattle.std.proofs.lemmas.Bool.{cases_eq, false≢true}
+use Rattle.wq_repair.specs.Marks.{IsMarked, Marks}
+
+-- the same said in other words
+pub Marks-as : (P Q : ℕ → Type 0) (n : ℕ) (xs : List Bool) → ((k : ℕ) → k < n → P k ↔ Q k) → Marks P n xs → Marks Q n xs
+Marks-as P Q n xs same is = record {
+  one_each = is.one_each;
+  exactly = λ k lt. (λ marked. (same k lt).0 ((is.exactly k lt).0 marked), λ q. (is.exactly k lt).1 ((same k lt).1 q));
+}
+
+-- j is marked
+pub Marks-set : (P Q : ℕ → Type 0) (n j : ℕ) (xs : List Bool) → ((k : ℕ) → k < n → k ≢ j → P k ↔ Q k) → Q j → j < n → Marks P n xs → Marks Q n (set xs j true)
+Marks-set P Q n j xs others here below is = record {
+  one_each = length-set xs j true ∙ is.one_each;
+  exactly = at;
+}
+  where
+    own : IsMarked (set xs j true) j
+    own = get_or-set_same xs j true false (omega (arith, below, is.one_each))
+
+    at : (k : ℕ) → k < n → IsMarked (set xs j true) k ↔ Q k
+    at k lt = elim (cases_eq k j) [
+      | inl same ↦ (λ marked. subst Q (sym same) here, λ q. subst (IsMarked (set xs j true)) (sym same) own)
+      | inr other ↦
+          let kept : get_or (set xs j true) k false ≡ get_or xs k false = get_or-set_other xs j k true false other in
+          (λ marked. (others k lt other).0 ((is.exactly k lt).0 (sym kept ∙ marked)), λ q. kept ∙ (is.exactly k lt).1 ((others k lt other).1 q))
+    ]
+
+-- j is unmarked
+pub Marks-clear : (P Q : ℕ → Type 0) (n j : ℕ) (xs : List Bool) → ((k : ℕ) → k < n → k ≢ j → P k ↔ Q k) → (¬ Q j) → j < n → Marks P n xs → Marks Q n (set xs j false)
+Marks-clear P Q n j xs others here below is = record {
+  one_each = length-set xs j false ∙ is.one_each;
+  exactly = at;
+}
+  where
+    own : get_or (set xs j false) j false ≡ false
+    own = get_or-set_same xs j false false (omega (arith, below, is.one_each))
+
+    at : (k : ℕ) → k < n → IsMarked (set xs j false) k ↔ Q k
+    at k lt = elim (cases_eq k j) [
+      | inl same ↦ (
+        λ marked. absurd (false≢true (sym own ∙ subst (IsMarked (set xs j false)) same marked)),
+        λ q. absurd (here (subst Q same q)),
+      )
+      | inr other ↦
+          let kept : get_or (set xs j false) k false ≡ get_or xs k false = get_or-set_other xs j k false false other in
+          (λ marked. (others k lt other).0 ((is.exactly k lt).0 (sym kept ∙ marked)), λ q. kept ∙ (is.exactly k lt).1 ((others k lt other).1 q))
+    ]
+
+-- nothing is marked
+pub Marks-none : (P : ℕ → Type 0) (n : ℕ) (xs : List Bool) → xs ≡ replicate n false → ((k : ℕ) → k < n → ¬ P k) → Marks P n xs
+Marks-none P n xs is none = record {
+  one_each = ap length is ∙ length-replicate n false;
+  exactly = λ k lt. (
+    λ marked. absurd (false≢true (sym (get_or-replicate k n false lt) ∙ ap (λ (ys : List Bool). get_or ys k false) (sym is) ∙ marked)),
+    λ p. absurd (none k lt p),
+  );
+}
+
+-- a number below i stands in this relation to k
+abbrev pub SomeBelow : (ℕ → ℕ → Type 0) → ℕ → ℕ → Type 0
+SomeBelow R i k = (m : ℕ) × (m < i) × R m k
+
+-- i is looked at, and j is the only one to which it stands in the relation
+pub Marks-one_more : (R : ℕ → ℕ → Type 0) (n i j : ℕ) (xs : List Bool) → ((k : ℕ) → R i k → k ≡ j) → R i j → j < n → Marks (SomeBelow R i) n xs → Marks (SomeBelow R (i + 1)) n (set xs j true)
+Marks-one_more R n i j xs only here below is = Marks-set (SomeBelow R i) (SomeBelow R (i + 1)) n j xs others (i, omega arith, here) below is
+  where
+    others : (k : ℕ) → k < n → k ≢ j → SomeBelow R i k ↔ SomeBelow R (i + 1) k
+    others k lt other = (
+      λ some. (some.0, omega (arith, some.1), some.2),
+      λ some. elim (cases_eq some.0 i) [
+        | inl last ↦ absurd (other (only k (subst (λ (m : ℕ). R m k) last some.2)))
+        | inr before ↦ (some.0, omega (arith, some.1, before), some.2)
+      ],
+    )
+
+-- i is looked at, and stands in the relation to none
+pub Marks-no_more : (R : ℕ → ℕ → Type 0) (n i : ℕ) (xs : List Bool) → ((k : ℕ) → ¬ R i k) → Marks (SomeBelow R i) n xs → Marks (SomeBelow R (i + 1)) n xs
+Marks-no_more R n i xs none is = Marks-as (SomeBelow R i) (SomeBelow R (i + 1)) n xs same is
+  where
+    same : (k : ℕ) → k < n → SomeBelow R i k ↔ SomeBelow R (i + 1) k
+    same k lt = (
+      λ some. (some.0, omega (arith, some.1), some.2),
+      λ some. elim (cases_eq some.0 i) [
+        | inl last ↦ absurd (none k (subst (λ (m : ℕ). R m k) last some.2))
+        | inr before ↦ (some.0, omega (arith, some.1, before), some.2)
+      ],
+    )
