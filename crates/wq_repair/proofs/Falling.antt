@@ -24,7 +24,7 @@ module _ (d : Declaration) (new : Workqueues) (needed : List Bool) (number : ℕ
 
   group_falls : (g h : ℕ) → GroupWaits d g h → IsRescued new (lane_in new g) → IsRescued new (lane_in new h) × (number (lane_in new h) < number (lane_in new g))
   group_falls g h waits rescued =
-      let needs = falls.needed g (waiting-below d declaration g h waits) rescued in
+      let needs = falls.only g (waiting-below d declaration g h waits) rescued in
       let also = falls.next g h waits needs in
       (falls.rescued h (awaited-below d declaration g h waits) also, falls.falls g h waits needs)
 

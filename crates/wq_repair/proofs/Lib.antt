@@ -1,4 +1,5 @@
 pub mod Marks
+pub mod NeededFound
 pub mod Identified
 pub mod Rescuers
 pub mod Starts
@@ -8,3 +9,5 @@ pub mod Joining
 pub mod StartsBy
 pub mod Placed
 pub mod Repaired
+pub mod Judged
+pub mod Readied

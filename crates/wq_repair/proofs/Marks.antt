@@ -1,10 +1,13 @@
 -- Lists of marks, and what a write changes in them.
 use Rattle.std.proofs.Common.{◌≡◌, ◌≢◌, ℕ, ◌+◌, ◌<◌, inl, inr, Bool, true, false, List, [], ◌∷◌, ◌++◌, length, get_or, set, replicate, refl, sym, ap, subst, ◌∙◌, arith, get_or-set_same, get_or-set_other}
-use Rattle.std.specs.Prelude.{◌↔◌}
+use Rattle.std.specs.Prelude.{◌↔◌, ◌⊎◌, Contains, AllPairs}
+use Rattle.std.proofs.lemmas.List.Elements.{Contains-get_or, Contains-push, Contains-push_cases, Contains-append_left}
+use Rattle.std.proofs.lemmas.List.Quantifiers.{all_pairs_push}
 use Rattle.std.proofs.Math.ListN.{length-set, length-replicate}
 use Rattle.std.proofs.lemmas.List.{get_or-replicate}
 use Rattle.std.proofs.lemmas.Bool.{cases_eq, false≢true}
 use Rattle.wq_repair.specs.Marks.{IsMarked, Marks}
+use Rattle.wq_repair.specs.Together.{Lists}
 
 -- the same said in other words
 pub Marks-as : (P Q : ℕ → Type 0) (n : ℕ) (xs : List Bool) → ((k : ℕ) → k < n → P k ↔ Q k) → Marks P n xs → Marks Q n xs
@@ -91,3 +94,43 @@ Marks-no_more R n i xs none is = Marks-as (SomeBelow R i) (SomeBelow R (i + 1)) 
         | inr before ↦ (some.0, omega (arith, some.1, before), some.2)
       ],
     )
+
+-- ---- lists of what is marked
+
+-- one more is in the list
+pub list-one_more : (P Q : ℕ → Type 0) (xs : List ℕ) (g : ℕ) → ((k : ℕ) → Contains xs k ↔ P k) → ((k : ℕ) → Q k ↔ (P k ⊎ (k ≡ g))) → (k : ℕ) → Contains (xs ++ g ∷ []) k ↔ Q k
+list-one_more P Q xs g exactly more k = (
+  λ there. elim (Contains-push_cases xs g k there) [
+    | inl before ↦ (more k).1 (inl ((exactly k).0 before))
+    | inr last ↦ (more k).1 (inr (sym last))
+  ],
+  λ q. elim ((more k).0 q) [
+    | inl p ↦ Contains-append_left xs (g ∷ []) k ((exactly k).1 p)
+    | inr same ↦ subst (Contains (xs ++ g ∷ [])) (sym same) (Contains-push xs g)
+  ],
+)
+
+pub list-once_more : (P : ℕ → Type 0) (xs : List ℕ) (g : ℕ) → ((k : ℕ) → Contains xs k ↔ P k) → (¬ P g) → AllPairs (λ (j k : ℕ). j ≢ k) xs → AllPairs (λ (j k : ℕ). j ≢ k) (xs ++ g ∷ [])
+list-once_more P xs g exactly not once =
+    all_pairs_push (λ (j k : ℕ). j ≢ k) xs g once (λ k d lt same. not (subst P same ((exactly (get_or xs k d)).0 (Contains-get_or xs k d lt))))
+
+-- g is marked and listed
+pub Lists-add : (marks : List Bool) (xs : List ℕ) (g : ℕ) → g < length marks → (¬ IsMarked marks g) → Lists marks xs → Lists (set marks g true) (xs ++ g ∷ [])
+Lists-add marks xs g below not is = record {
+  exactly = list-one_more (IsMarked marks) (IsMarked (set marks g true)) xs g is.exactly more;
+  once = list-once_more (IsMarked marks) xs g is.exactly not is.once;
+}
+  where
+    own : IsMarked (set marks g true) g
+    own = get_or-set_same marks g true false below
+
+    more : (k : ℕ) → IsMarked (set marks g true) k ↔ (IsMarked marks k ⊎ (k ≡ g))
+    more k = elim (cases_eq k g) [
+      | inl same ↦ (λ marked. inr same, λ either. subst (IsMarked (set marks g true)) (sym same) own)
+      | inr other ↦
+          let kept : get_or (set marks g true) k false ≡ get_or marks k false = get_or-set_other marks g k true false other in
+          (
+            λ marked. inl (sym kept ∙ marked),
+            λ either. elim either [ inl marked ↦ kept ∙ marked | inr same ↦ absurd (other same) ],
+          )
+    ]

@@ -36,7 +36,7 @@ module _ (d : Declaration) (old new fewer : Workqueues) (names : List ℕ) (need
       ]
 
   has_to_leave : (g : ℕ) → g < d.groups → lane_in fewer g ≡ lane_in old g → HasToLeave old new needed g → D
-  has_to_leave g below stays leaves = elim (has g below leaves.needed) [
+  has_to_leave g below stays leaves = elim (has g below leaves.needs) [
     | inr dead ↦ dead
     | inl rescued ↦ absurd (
         let own : IsRescued fewer (lane_in old g) = subst (IsRescued fewer) stays rescued in

@@ -64,7 +64,7 @@ module _ (d : Declaration) (old new : Workqueues) (names : List ℕ) (named_lane
   reason g is marked = elim (leaving.why g is marked) [
     | inr vain ↦ inr vain
     | inl bare ↦ inl (record {
-      needed = (leaving.movable g is marked).1;
+      needs = (leaving.movable g is marked).1;
       bare = bare.0;
       still_bare = elim (cases_rescued new (lane_in old g)) [
         | inl rescued ↦ absurd (bare.1 (given_marked g is bare.0 rescued))
@@ -93,7 +93,7 @@ module _ (d : Declaration) (old new : Workqueues) (names : List ℕ) (named_lane
     | inl marked ↦ by.rescued g (below g is) marked
     | inr not ↦ subst (IsRescued new) (sym (by.stay g (below g is) not)) (elim (leaving.others g is needs not) [
       | inl had ↦ by.kept (lane_in old g) had
-      | inr marked ↦ by.given_one (lane_in old g) marked
+      | inr marked ↦ by.given_one g (below g is) not marked
     ])
   ]
 
@@ -107,4 +107,4 @@ module _ (d : Declaration) (old new : Workqueues) (names : List ℕ) (named_lane
     )
 
     pub FallsAlongWaits-placed : FallsAlongWaits d new needed number
-    FallsAlongWaits-placed = record { needed = needed_only; rescued = has_rescuer; next = leaving.next; falls = lower }
+    FallsAlongWaits-placed = record { only = needed_only; rescued = has_rescuer; next = leaving.next; falls = lower }

@@ -43,7 +43,7 @@ NeedRescuers d old names new needed = (fewer : Workqueues) → IsToBeCompared d 
 
 -- the group can't stay: it needs a rescuer, and its lane has none, neither before nor now
 pub record HasToLeave (old new : Workqueues) (needed : List Bool) (g : ℕ) : Type 0 where
-  pub needed : IsMarked needed g
+  pub needs : IsMarked needed g
   pub bare : IsBare old (lane_in old g)
   pub still_bare : IsBare new (lane_in old g)
 
@@ -80,7 +80,7 @@ pub record AreChangesNeeded (d : Declaration) (old new : Workqueues) (needed : L
 -- a number for each lane, which falls from lane to lane along each wait of a group that needs a rescuer. Who needs one
 -- is on a lane that has one, and nobody else is
 pub record FallsAlongWaits (d : Declaration) (new : Workqueues) (needed : List Bool) (number : ℕ → ℕ) : Type 0 where
-  pub needed : (g : ℕ) → g < d.groups → IsRescued new (lane_in new g) → IsMarked needed g
+  pub only : (g : ℕ) → g < d.groups → IsRescued new (lane_in new g) → IsMarked needed g
   pub rescued : (g : ℕ) → g < d.groups → IsMarked needed g → IsRescued new (lane_in new g)
   pub next : (g h : ℕ) → GroupWaits d g h → IsMarked needed g → IsMarked needed h
   pub falls : (g h : ℕ) → GroupWaits d g h → IsMarked needed g → number (lane_in new h) < number (lane_in new g)

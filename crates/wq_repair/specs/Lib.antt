@@ -10,3 +10,6 @@ pub mod Marks
 pub mod Joined
 pub mod Together
 pub mod Steps
+pub mod Lanes
+pub mod Following
+pub mod Ready

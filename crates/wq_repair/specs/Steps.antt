@@ -59,7 +59,8 @@ pub record ArePlacedBy (old : Workqueues) (given stays leaves : List Bool) (rank
   pub stay : (g : ℕ) → g < length leaves → (¬ IsMarked leaves g) → lane_in new g ≡ lane_in old g
   pub rescued : (g : ℕ) → g < length leaves → IsMarked leaves g → IsRescued new (lane_in new g)
   pub kept : (q : ℕ) → IsRescued old q → IsRescued new q
-  pub given_one : (q : ℕ) → IsMarked given q → IsRescued new q
+  pub given_one : (g : ℕ) → g < length leaves → (¬ IsMarked leaves g) → IsMarked given (lane_in old g)
+      → IsRescued new (lane_in old g)
   pub only : (g : ℕ) → g < length leaves → IsRescued new (lane_in old g)
       → IsRescued old (lane_in old g) ⊎ IsMarked given (lane_in old g)
   pub ranked : (g h : ℕ) → g < length leaves → h < length leaves → IsMarked stays g ⊎ IsMarked leaves g

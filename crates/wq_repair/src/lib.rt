@@ -11,6 +11,7 @@ mod answer;
 mod joined;
 mod lanes;
 pub mod laws;
+mod marks;
 mod named;
 mod needed;
 mod order;

@@ -42,10 +42,11 @@ pub(crate) fn named_lanes<A: Allocator + Copy>(
 {
     let mut lanes = vec![in alloc; false; usize::from(workqueues.assignment().lanes())]?;
     for (group, is_named) in named.iter().enumerate() {
-        if *is_named {
-            let lane = workqueues.assignment().lane(GroupId::new(group as u16));
-            lanes[usize::from(lane.get())] = true;
+        if !*is_named {
+            continue;
         }
+        let lane = workqueues.assignment().lane(GroupId::new(group as u16));
+        lanes[usize::from(lane.get())] = true;
     }
     Ok(lanes)
 }

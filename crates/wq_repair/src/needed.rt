@@ -4,54 +4,107 @@
 //! none, the lane has to be given one, if it may; so who else is on it needs one too. What is found is followed once,
 //! so it takes time and memory in the number of groups, lanes and flushes.
 
-ghost use Rattle.std.specs.Prelude.{◌≡◌, ◌<◌, length, IfOk};
-ghost use Rattle.std.specs.List.{All};
+ghost use Rattle.std.specs.Prelude.{◌≡◌, ◌<◌, ◌≤◌, ◌↔◌, ℕ, [], length, slice_index, slice_index_or, IfOk, Contains};
+ghost use Rattle.std.specs.List.{All, Any};
 ghost use Rattle.wq_groups.specs.Declaration.{declaration_of};
+ghost use Rattle.wq_repair.specs.Changes.{IsRescued, lane_in};
 ghost use Rattle.wq_repair.specs.Needed.{NeedsRescuerOf};
-ghost use Rattle.wq_repair.specs.Marks.{Marks};
+ghost use Rattle.wq_repair.specs.Following.{HasGrown, BringsAlongBy};
+ghost use Rattle.wq_repair.specs.Marks.{IsMarked, Marks};
+ghost use Rattle.wq_repair.specs.Together.{Lists};
 
 use crate::named::{named_groups, named_lanes};
 use std::alloc::{AllocError, Allocator};
+use std::marker::Model;
 use wq_buckets::Buckets;
 use wq_core::Workqueues;
-use wq_graph::WaitGraph;
+use wq_graph::{WaitArc, WaitGraph};
 use wq_groups::{Assignment, GroupId, Groups};
 use wq_items::{ItemId, ItemTable};
 
-/// What is known so far.
+/// Which groups are found, and in which order.
 #[derive(Drop)]
-struct Needed<A: Allocator> {
-    /// For each group, whether it is known to need a rescuer.
+struct Found<A: Allocator> {
     marks: Vec<bool, A>,
-    /// Those of them that weren't followed yet.
-    todo: Vec<u16, A>,
+    list: Vec<u16, A>,
 }
 
-impl<A: Allocator + Copy> Needed<A> {
-    /// A group needs a rescuer.
-    fn add(&mut self, group: u16) -> Result<(), AllocError> {
-        let known = &mut self.marks[usize::from(group)];
-        if !*known {
-            *known = true;
-            self.todo.push(group)?;
+impl<A: Allocator> Model for Found<A> {
+    ghost use Rattle.wq_repair.specs.Following.{FoundGroups};
+
+    ghost Value = { FoundGroups };
+
+    ghost view = { λ f. record { marks = f.marks.items; list = f.list.items } };
+}
+
+impl<A: Allocator + Copy> Found<A> {
+    /// A group is found.
+    fn add(&mut self, group: u16) -> Result<(), AllocError>
+        requires { group < length self.old.marks }
+        ensures { IfOk result (λ _. HasGrown self.old self.new (λ g. g ≡ group)) }
+    {
+        let at = usize::from(group);
+        if !self.marks[at] {
+            self.marks[at] = true;
+            self.list.push(group)?;
         }
         Ok(())
     }
 
-    /// Whom a group waits for.
-    fn add_awaited(&mut self, graph: &WaitGraph<A>, group: u16) -> Result<(), AllocError> {
-        for arc in graph.arcs(group) {
+    /// The heads of these arcs are found.
+    fn add_awaited(&mut self, arcs: &[WaitArc]) -> Result<(), AllocError>
+        requires { All (λ a. a.head < length self.old.marks) arcs.now }
+        ensures { IfOk result (λ _. HasGrown self.old self.new (λ h. Any (λ a. a.head ≡ h) arcs.now)) }
+    {
+        for arc in arcs {
             self.add(arc.head)?;
         }
         Ok(())
     }
 
-    /// Who is on a lane.
-    fn add_lane(&mut self, on: &[u32]) -> Result<(), AllocError> {
+    /// All that are on a lane are found.
+    fn add_lane(&mut self, on: &[u32]) -> Result<(), AllocError>
+        requires within { All (λ g. g < length self.old.marks) on.now }
+        requires few { length self.old.marks ≤ 4096 }
+        ensures { IfOk result (λ _. HasGrown self.old self.new (Contains on.now)) }
+    {
         for group in on {
             self.add(*group as u16)?;
         }
         Ok(())
+    }
+
+    /// Whom a group brings along is found.
+    fn follow(
+        &mut self,
+        graph: &WaitGraph<A>,
+        on: &Buckets<A>,
+        workqueues: &Workqueues<A>,
+        named: &[bool],
+        lanes: &[bool],
+        group: u16,
+    ) -> Result<(), AllocError>
+        requires group { group < length named.now }
+        requires few { length named.now ≤ 4096 }
+        requires marks { length self.old.marks ≡ length named.now }
+        requires graph { length graph.now ≡ length named.now }
+        requires assigned { length workqueues.now.assignment.lane_of_group ≡ length named.now }
+        requires lanes { length lanes.now ≡ workqueues.now.assignment.lanes }
+        requires on_each { length on.now ≡ workqueues.now.assignment.lanes }
+        requires on { (q g : ℕ) → Contains (slice_index_or on.now q []) g
+            ↔ ((g < length named.now) × (lane_in workqueues.now g ≡ q)) }
+        ensures { IfOk result (λ _.
+            HasGrown self.old self.new (BringsAlongBy graph.now workqueues.now named.now lanes.now group)) }
+    {
+        // Each arc leads to a group.
+        let _vertices = graph.vertices();
+        self.add_awaited(graph.arcs(group))?;
+        let lane = workqueues.assignment().lane(GroupId::new(group));
+        let is_open = workqueues.is_bare(lane) && lanes[usize::from(lane.get())];
+        if named[usize::from(group)] || !is_open {
+            return Ok(());
+        }
+        self.add_lane(on.places(lane.get()))
     }
 }
 
@@ -59,28 +112,40 @@ impl<A: Allocator + Copy> Needed<A> {
 fn on_rescuers<A: Allocator + Copy>(
     alloc: A,
     workqueues: &Workqueues<A>,
-) -> Result<Needed<A>, AllocError> {
-    let groups = workqueues.assignment().groups();
-    let mut needed = Needed {
-        marks: vec![in alloc; false; groups]?,
-        todo: Vec::new(alloc),
+    groups: u16,
+) -> Result<Found<A>, AllocError>
+    requires { length workqueues.now.assignment.lane_of_group ≡ groups }
+    ensures one_each { IfOk result (λ found. length found.marks ≡ groups) }
+    ensures exactly { IfOk result (λ found. (g : ℕ) → g < groups →
+        IsMarked found.marks g ↔ IsRescued workqueues.now (lane_in workqueues.now g)) }
+    ensures lists { IfOk result (λ found. Lists found.marks found.list) }
+{
+    let mut found = Found {
+        marks: vec![in alloc; false; usize::from(groups)]?,
+        list: Vec::new(alloc),
     };
-    for group in 0..groups as u16 {
+    for group in 0..groups {
         let lane = workqueues.assignment().lane(GroupId::new(group));
         if !workqueues.is_bare(lane) {
-            needed.add(group)?;
+            found.add(group)?;
         }
     }
-    Ok(needed)
+    Ok(found)
 }
 
 /// The groups on each lane.
 fn groups_on_lanes<A: Allocator + Copy>(
     alloc: A,
     assignment: &Assignment<A>,
-) -> Result<Buckets<A>, AllocError> {
-    let mut lanes = Vec::with_capacity(alloc, assignment.groups())?;
-    for group in 0..assignment.groups() as u16 {
+    groups: u16,
+) -> Result<Buckets<A>, AllocError>
+    requires { length assignment.now.lane_of_group ≡ groups }
+    ensures one_each { IfOk result (λ on. length on ≡ assignment.now.lanes) }
+    ensures on { IfOk result (λ on. (q g : ℕ) → Contains (slice_index_or on q []) g
+        ↔ ((g < groups) × (slice_index assignment.now.lane_of_group g ≡ q))) }
+{
+    let mut lanes = Vec::with_capacity(alloc, usize::from(groups))?;
+    for group in 0..groups {
         lanes.push(assignment.lane(GroupId::new(group)).get())?;
     }
     Buckets::new(alloc, lanes.as_slice(), assignment.lanes())
@@ -102,19 +167,15 @@ pub(crate) fn needed_groups<A: Allocator + Copy>(
         groups.now.groups needed.items) }
 {
     let graph = WaitGraph::of_groups(alloc, table, groups)?;
-    let on = groups_on_lanes(alloc, workqueues.assignment())?;
+    let on = groups_on_lanes(alloc, workqueues.assignment(), groups.len())?;
     let named = named_groups(alloc, groups, names)?;
     let lanes = named_lanes(alloc, workqueues, named.as_slice())?;
-    let mut needed = on_rescuers(alloc, workqueues)?;
-    while let Some(group) = needed.todo.pop() {
-        needed.add_awaited(&graph, group)?;
-        let lane = workqueues.assignment().lane(GroupId::new(group));
-        if !named[usize::from(group)]
-            && workqueues.is_bare(lane)
-            && lanes[usize::from(lane.get())]
-        {
-            needed.add_lane(on.places(lane.get()))?;
-        }
+    let mut found = on_rescuers(alloc, workqueues, groups.len())?;
+    let mut done = 0;
+    while done < found.list.len() {
+        let group = found.list[done];
+        done += 1;
+        found.follow(&graph, &on, workqueues, named.as_slice(), lanes.as_slice(), group)?;
     }
-    Ok(needed.marks)
+    Ok(found.marks)
 }

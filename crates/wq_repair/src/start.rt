@@ -3,11 +3,12 @@
 //! Whatever is compared with a repair comes from the start when lanes are put together. So where the start deadlocks,
 //! everything does. It takes time and memory in the number of groups and lanes.
 
-ghost use Rattle.std.specs.Prelude.{◌≡◌, length, IfOk};
+ghost use Rattle.std.specs.Prelude.{◌≡◌, ◌≤◌, length, IfOk};
 ghost use Rattle.wq_repair.specs.Marks.{Marks};
-ghost use Rattle.wq_repair.specs.Steps.{IsToBeGiven, IsMovable, IsStartBy};
+ghost use Rattle.wq_repair.specs.Steps.{HoldsOther, IsToBeGiven, IsMovable, IsStartBy};
 
-use crate::lanes::Lanes;
+use crate::lanes::{bare_now, lanes_with, own_lanes};
+use crate::marks::listed;
 use std::alloc::{AllocError, Allocator};
 use wq_core::Workqueues;
 use wq_groups::{Assignment, GroupId, LaneId};
@@ -21,6 +22,7 @@ pub(crate) fn given_lanes<A: Allocator + Copy>(
 ) -> Result<Vec<bool, A>, AllocError>
     requires lanes { length named_lanes.now ≡ workqueues.now.assignment.lanes }
     requires groups { length needed.now ≡ length workqueues.now.assignment.lane_of_group }
+    requires few { length needed.now ≤ 4096 }
     ensures { IfOk result (λ given.
         Marks (IsToBeGiven workqueues.now named_lanes.now needed.now) workqueues.now.assignment.lanes given.items) }
 {
@@ -29,10 +31,11 @@ pub(crate) fn given_lanes<A: Allocator + Copy>(
         given.push(*is_named && workqueues.is_bare(LaneId::new(lane as u16)))?;
     }
     for (group, is_needed) in needed.iter().enumerate() {
-        if !*is_needed {
-            let lane = workqueues.assignment().lane(GroupId::new(group as u16));
-            given[usize::from(lane.get())] = false;
+        if *is_needed {
+            continue;
         }
+        let lane = workqueues.assignment().lane(GroupId::new(group as u16));
+        given[usize::from(lane.get())] = false;
     }
     Ok(given)
 }
@@ -53,24 +56,24 @@ pub(crate) fn movable_groups<A: Allocator + Copy>(
     Ok(movable)
 }
 
-/// The lanes that hold no other groups than these, upwards.
+/// For each lane whether it holds no other groups than these.
 fn free_lanes<A: Allocator + Copy>(
     alloc: A,
     workqueues: &Workqueues<A>,
     movable: &[bool],
-) -> Result<Vec<u16, A>, AllocError> {
-    let mut is_free = vec![in alloc; true; usize::from(workqueues.assignment().lanes())]?;
+) -> Result<Vec<bool, A>, AllocError>
+    requires groups { length movable.now ≡ length workqueues.now.assignment.lane_of_group }
+    requires few { length movable.now ≤ 4096 }
+    ensures { IfOk result (λ free.
+        Marks (λ q. ¬ HoldsOther workqueues.now movable.now q) workqueues.now.assignment.lanes free.items) }
+{
+    let mut free = vec![in alloc; true; usize::from(workqueues.assignment().lanes())]?;
     for (group, is_movable) in movable.iter().enumerate() {
-        if !*is_movable {
-            let lane = workqueues.assignment().lane(GroupId::new(group as u16));
-            is_free[usize::from(lane.get())] = false;
+        if *is_movable {
+            continue;
         }
-    }
-    let mut free = Vec::new(alloc);
-    for (lane, is) in is_free.iter().enumerate() {
-        if *is {
-            free.push(lane as u16)?;
-        }
+        let lane = workqueues.assignment().lane(GroupId::new(group as u16));
+        free[usize::from(lane.get())] = false;
     }
     Ok(free)
 }
@@ -86,24 +89,15 @@ pub(crate) fn start<A: Allocator + Copy>(
 ) -> Result<Workqueues<A>, AllocError>
     requires groups { length movable.now ≡ length workqueues.now.assignment.lane_of_group }
     requires lanes { length given.now ≡ workqueues.now.assignment.lanes }
+    requires few { length movable.now ≤ 4096 }
     ensures { IfOk result (IsStartBy workqueues.now movable.now given.now) }
 {
     let assignment = workqueues.assignment();
-    let free = free_lanes(alloc, workqueues, movable)?;
-    let mut lanes = Lanes::new(free, assignment.lanes());
-    let mut bare = Vec::new(alloc);
-    bare.extend_from_slice(workqueues.bare())?;
-    let mut of_group = Vec::with_capacity(alloc, movable.len())?;
-    for (group, is_movable) in movable.iter().enumerate() {
-        let own = assignment.lane(GroupId::new(group as u16)).get();
-        let lane = if *is_movable { lanes.take() } else { own };
-        if *is_movable || given[usize::from(own)] {
-            if let Some(is_bare) = bare.get_mut(usize::from(lane)) {
-                *is_bare = false;
-            }
-        }
-        of_group.push(LaneId::new(lane))?;
-    }
-    let assignment = Assignment::new(lanes.count(), of_group).unwrap();
+    let is_free = free_lanes(alloc, workqueues, movable)?;
+    let free = listed(alloc, is_free.as_slice())?;
+    let (lane_of, taken) = own_lanes(alloc, assignment, movable, free.as_slice())?;
+    let lanes = lanes_with(free.as_slice(), assignment.lanes(), taken);
+    let bare = bare_now(alloc, workqueues, movable, given, lane_of.as_slice())?;
+    let assignment = Assignment::new(lanes, lane_of).unwrap();
     Ok(Workqueues::new(assignment, bare))
 }

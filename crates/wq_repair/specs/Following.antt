@@ -1,0 +1,35 @@
+-- Groups that are found one after the other.
+use Rattle.std.specs.Prelude.{◌≡◌, ℕ, ◌<◌, ◌≤◌, ◌⊎◌, List, Bool, length, slice_index}
+use Rattle.wq_graph.specs.declared.arc.WaitArc.{WaitArc}
+use Rattle.wq_graph.specs.Graph.{HasArc}
+use Rattle.wq_core.specs.Workqueues.{Workqueues}
+use Rattle.wq_repair.specs.Changes.{IsBare, lane_in}
+use Rattle.wq_repair.specs.Marks.{IsMarked}
+use Rattle.wq_repair.specs.Together.{Lists}
+
+-- which groups are found, and in which order
+pub record FoundGroups : Type 0 where
+  pub marks : List Bool
+  pub list : List ℕ
+
+-- all of which P holds are found now, and nobody else who wasn't before. The order of those goes on
+pub record HasGrown (old new : FoundGroups) (P : ℕ → Type 0) : Type 0 where
+  pub one_each : length new.marks ≡ length old.marks
+  pub kept : (g : ℕ) → IsMarked old.marks g → IsMarked new.marks g
+  pub longer : length old.list ≤ length new.list
+  pub as_before : (k : ℕ) → k < length old.list → slice_index new.list k ≡ slice_index old.list k
+  pub added : (g : ℕ) → IsMarked new.marks g → IsMarked old.marks g ⊎ P g
+  pub all : (g : ℕ) → P g → IsMarked new.marks g
+  pub lists : Lists old.marks old.list → Lists new.marks new.list
+
+-- group g brings h along, if these lists say which groups and lanes are named: an arc leads there, or g isn't named and
+-- its lane, which has no rescuer, is, and h is on it
+pub record IsBesideBy (old : Workqueues) (named lanes : List Bool) (g h : ℕ) : Type 0 where
+  pub unnamed : ¬ IsMarked named g
+  pub bare : IsBare old (lane_in old g)
+  pub named_lane : IsMarked lanes (lane_in old g)
+  pub is_group : h < length named
+  pub beside : lane_in old h ≡ lane_in old g
+
+abbrev pub BringsAlongBy : List (List WaitArc) → Workqueues → List Bool → List Bool → ℕ → ℕ → Type 0
+BringsAlongBy graph old named lanes g h = HasArc graph g h ⊎ IsBesideBy old named lanes g h

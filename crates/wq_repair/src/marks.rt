@@ -1,0 +1,25 @@
+//! Lists that say of each number whether something holds of it.
+//!
+//! It takes time in their length.
+
+ghost use Rattle.std.specs.Prelude.{◌≡◌, ◌≤◌, length, IfOk};
+ghost use Rattle.wq_repair.specs.Together.{Lists};
+
+use std::alloc::{AllocError, Allocator};
+
+/// The numbers that are marked, upwards.
+pub(crate) fn listed<A: Allocator + Copy>(
+    alloc: A,
+    marks: &[bool],
+) -> Result<Vec<u16, A>, AllocError>
+    requires { length marks.now ≤ 4096 }
+    ensures { IfOk result (λ listed. Lists marks.now listed.items) }
+{
+    let mut listed = Vec::new(alloc);
+    for (number, is_marked) in marks.iter().enumerate() {
+        if *is_marked {
+            listed.push(number as u16)?;
+        }
+    }
+    Ok(listed)
+}
