@@ -11,3 +11,7 @@ pub mod Placed
 pub mod Repaired
 pub mod Judged
 pub mod Readied
+pub mod Taking
+pub mod StartMade
+pub mod BareNow
+pub mod NeededGroups

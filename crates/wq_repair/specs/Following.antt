@@ -3,7 +3,9 @@ use Rattle.std.specs.Prelude.{◌≡◌, ℕ, ◌<◌, ◌≤◌, ◌⊎◌, Lis
 use Rattle.wq_graph.specs.declared.arc.WaitArc.{WaitArc}
 use Rattle.wq_graph.specs.Graph.{HasArc}
 use Rattle.wq_core.specs.Workqueues.{Workqueues}
-use Rattle.wq_repair.specs.Changes.{IsBare, lane_in}
+use Rattle.wq_groups.specs.Declaration.{Declaration}
+use Rattle.wq_repair.specs.Changes.{IsRescued, IsBare, lane_in}
+use Rattle.wq_repair.specs.Needed.{BringsAlong, NeedsRescuerOf}
 use Rattle.wq_repair.specs.Marks.{IsMarked}
 use Rattle.wq_repair.specs.Together.{Lists}
 
@@ -33,3 +35,12 @@ pub record IsBesideBy (old : Workqueues) (named lanes : List Bool) (g h : ℕ) :
 
 abbrev pub BringsAlongBy : List (List WaitArc) → Workqueues → List Bool → List Bool → ℕ → ℕ → Type 0
 BringsAlongBy graph old named lanes g h = HasArc graph g h ⊎ IsBesideBy old named lanes g h
+
+-- all found need a rescuer; those on lanes that have one are found, and whom the first `done` of the list bring along is
+pub record IsFollowed (d : Declaration) (old : Workqueues) (names : List ℕ) (f : FoundGroups) (done : ℕ) : Type 0 where
+  pub one_each : length f.marks ≡ d.groups
+  pub lists : Lists f.marks f.list
+  pub sound : (g : ℕ) → IsMarked f.marks g → NeedsRescuerOf d old names g
+  pub first : (g : ℕ) → g < d.groups → IsRescued old (lane_in old g) → IsMarked f.marks g
+  pub followed : (k h : ℕ) → k < done → BringsAlong d old names (slice_index f.list k) h → IsMarked f.marks h
+  pub within : done ≤ length f.list

@@ -4,7 +4,7 @@
 
 ghost use Rattle.std.specs.Prelude.{◌≡◌, ◌+◌, ◌-◌, ◌<◌, ◌≤◌, length, IfOk};
 ghost use Rattle.std.specs.List.{All};
-ghost use Rattle.wq_repair.specs.Lanes.{nth_lane, AreOwnLanes, AreBareNow};
+ghost use Rattle.wq_repair.specs.Lanes.{nth_lane, AreFree, AreOwnLanes, AreBareNow};
 
 use std::alloc::{AllocError, Allocator};
 use wq_core::Workqueues;
@@ -45,6 +45,7 @@ pub(crate) fn own_lanes<A: Allocator + Copy>(
 ) -> Result<(Vec<LaneId, A>, u16), AllocError>
     requires one_each { length marks.now ≡ length old.now.lane_of_group }
     requires few { length marks.now ≤ 4096 }
+    requires free { AreFree old.now.lanes free.now }
     ensures { IfOk result (λ own.
         AreOwnLanes old.now marks.now free.now (length marks.now) own.0.items own.1) }
 {
