@@ -1,0 +1,11 @@
+pub use Rattle.wq_groups.specs.Declaration
+pub use Rattle.wq_groups.specs.Assignment
+pub use Rattle.wq_graph.specs.Graph
+pub use Rattle.wq_core.specs.Workqueues
+pub use Rattle.wq_core.specs.Deadlock
+pub mod Changes
+pub mod Needed
+pub mod Repair
+pub mod Joined
+pub mod Marks
+pub mod Steps
