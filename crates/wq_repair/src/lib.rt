@@ -17,6 +17,8 @@ mod needed;
 mod order;
 mod placing;
 mod repairing;
+mod scope;
+mod search;
 mod start;
 
 pub use answer::Answer;

@@ -1,25 +1,31 @@
-//! Repairs: the steps from workqueues that deadlock to such that don't.
+//! Repairs: from workqueues that deadlock to such that don't.
 //!
 //! The groups that need a rescuer are found, and wait in no circle, or nothing helps. If each of them that may move has
 //! a lane for itself and there is still a deadlock, too few may move. Otherwise they are put back one by one where that
 //! makes no circle; those that can't be put back are kept together as far as possible, and go to lanes of their rank.
 
-ghost use Rattle.std.specs.Prelude.{◌≡◌, ◌<◌, ℕ, Bool, false, true, not, List, length, slice_index_or, IfOk, OnErr};
+ghost use Rattle.std.specs.Prelude.{◌≡◌, ◌↔◌, ◌<◌, ◌≤◌, ℕ, Bool, List, length, map, not, slice_index, IfOk, OnErr};
 ghost use Rattle.std.specs.List.{All};
 ghost use Rattle.wq_groups.specs.Declaration.{declaration_of};
 ghost use Rattle.wq_items.specs.Chain.{HasCircle};
 ghost use Rattle.wq_graph.specs.Graph.{HasArc, group_graph, without};
 ghost use Rattle.wq_levels.specs.Ranks.{AreRanks};
+ghost use Rattle.wq_repair.specs.Marks.{IsMarked};
+ghost use Rattle.wq_repair.specs.Together.{IsHomeOf};
+ghost use Rattle.wq_repair.specs.Ready.{HoldsNeeded, IsReady, IsMinimal};
 ghost use Rattle.wq_repair.specs.Repair.{IsAnswer};
 
 use crate::answer::Answer;
 use crate::joined::{Joined, put_together};
+use crate::marks::listed;
 use crate::named::{named_groups, named_lanes};
 use crate::needed::needed_groups;
 use crate::order::order_of_trial;
 use crate::placing::place;
-use crate::start::{given_lanes, movable_groups, start};
+use crate::scope::{Scope, all_but, but_not, scope_of, tried_groups};
+use crate::start::start;
 use std::alloc::{AllocError, Allocator};
+use wq_buckets::Buckets;
 use wq_core::Workqueues;
 use wq_deadlock::{Judged, judge, rescued_graph};
 use wq_graph::WaitGraph;
@@ -31,7 +37,11 @@ use wq_levels::{Ranked, rank};
 fn all_items<A: Allocator + Copy>(
     alloc: A,
     table: &ItemTable<'_, A>,
-) -> Result<Vec<ItemId, A>, AllocError> {
+) -> Result<Vec<ItemId, A>, AllocError>
+    ensures below { IfOk result (λ items. All (λ i. i < length table.now.names) items.items) }
+    ensures all { IfOk result (λ items. (i : ℕ) → i < length table.now.names → slice_index items.items i ≡ i) }
+    ensures one_each { IfOk result (λ items. length items.items ≡ length table.now.names) }
+{
     let mut items = Vec::with_capacity(alloc, usize::from(table.len()))?;
     for item in 0..table.len() {
         items.push(ItemId::new(item))?;
@@ -47,73 +57,52 @@ fn graph_of_needed<A: Allocator + Copy>(
     needed: &[bool],
 ) -> Result<WaitGraph<A>, AllocError>
     requires { length groups.now.group_of ≡ length table.now.names }
-    ensures { IfOk result (λ graph. (out : List Bool)
-        × ((g : ℕ) → slice_index_or out g false ≡ not (slice_index_or needed.now g true))
-        × (graph ≡ without out (group_graph (declaration_of table.now groups.now)))) }
+    ensures { IfOk result (λ graph.
+        graph ≡ without (map not needed.now) (group_graph (declaration_of table.now groups.now))) }
 {
-    let mut out = Vec::with_capacity(alloc, needed.len())?;
-    for is_needed in needed {
-        out.push(!*is_needed)?;
-    }
+    let out = all_but(alloc, needed)?;
     WaitGraph::of_groups(alloc, table, groups)?.without(alloc, out.as_slice())
 }
 
-/// The groups that are put to trial, lane by lane: those that may move and need a rescuer, but not those that have to
-/// leave.
-fn tried_groups<A: Allocator + Copy>(
-    alloc: A,
-    old: &Workqueues<A>,
-    movable: &[bool],
-    given: &[bool],
-) -> Result<Vec<Vec<u16, A>, A>, AllocError> {
-    let mut tried = Vec::with_capacity(alloc, given.len())?;
-    for _ in 0..given.len() {
-        tried.push(Vec::new(alloc))?;
-    }
-    for (group, is_movable) in movable.iter().enumerate() {
-        let lane = old.assignment().lane(GroupId::new(group as u16));
-        let at = usize::from(lane.get());
-        if *is_movable && (given[at] || !old.is_bare(lane)) {
-            tried[at].push(group as u16)?;
-        }
-    }
-    Ok(tried)
-}
-
-/// The vertex at which the groups of each lane are that need a rescuer and stay, if there are any.
+/// The vertex at which the groups of each lane are that need a rescuer and can't move, if there are any. It has the
+/// number of the lane.
 fn homes<A: Allocator + Copy>(
     alloc: A,
-    assignment: &Assignment<A>,
-    joined: &Joined<A>,
-    needed: &[bool],
-    movable: &[bool],
-) -> Result<Vec<Option<u16>, A>, AllocError> {
+    old: &Workqueues<A>,
+    scope: &Scope<A>,
+) -> Result<Vec<Option<u16>, A>, AllocError>
+    requires needed { length scope.now.needed ≡ length old.now.assignment.lane_of_group }
+    requires movable { length scope.now.movable ≡ length old.now.assignment.lane_of_group }
+    requires few { length scope.now.needed ≤ 4096 }
+    ensures one_each { IfOk result (λ homes. length homes.items ≡ old.now.assignment.lanes) }
+    ensures homes { IfOk result (λ homes. (q v : ℕ) →
+        IsHomeOf homes.items q v ↔ ((v ≡ q) × HoldsNeeded old.now scope.now q)) }
+{
+    let assignment = old.assignment();
     let mut homes: Vec<Option<u16>, A> = vec![in alloc; None; usize::from(assignment.lanes())]?;
-    for (group, is_needed) in needed.iter().enumerate() {
-        if *is_needed && !movable[group] {
-            let lane = assignment.lane(GroupId::new(group as u16));
-            homes[usize::from(lane.get())] = Some(joined.vertex(group as u16));
+    for (group, is_needed) in scope.needed.iter().enumerate() {
+        let stays = *is_needed && !scope.movable[group];
+        if !stays {
+            continue;
         }
+        let lane = assignment.lane(GroupId::new(group as u16)).get();
+        homes[usize::from(lane)] = Some(lane);
     }
     Ok(homes)
 }
 
-/// The groups that need a rescuer, those of lower rank first.
-fn by_rank<A: Allocator + Copy>(
-    alloc: A,
-    ranks: &[u16],
-    needed: &[bool],
-) -> Result<Vec<u16, A>, AllocError> {
-    let mut keys = Vec::new(alloc);
-    for (group, is_needed) in needed.iter().enumerate() {
-        if *is_needed {
-            keys.push(u32::from(ranks[group]) * 4096 + group as u32)?;
+/// All groups, those of lower rank first.
+fn by_rank<A: Allocator + Copy>(alloc: A, ranks: &[u16]) -> Result<Vec<u16, A>, AllocError>
+    requires few { length ranks.now ≤ 4096 }
+    requires below { All (λ r. r < length ranks.now) ranks.now }
+    ensures { IfOk result (λ groups. All (λ g. g < length ranks.now) groups.items) }
+{
+    let (places, _) = Buckets::new(alloc, ranks, ranks.len() as u16)?.into_parts();
+    let mut groups = Vec::with_capacity(alloc, ranks.len())?;
+    for place in &places {
+        if (*place as usize) < ranks.len() {
+            groups.push(*place as u16)?;
         }
-    }
-    keys.sort_unstable_by_key(|key| *key);
-    let mut groups = Vec::with_capacity(alloc, keys.len())?;
-    for key in &keys {
-        groups.push((*key % 4096) as u16)?;
     }
     Ok(groups)
 }
@@ -137,13 +126,20 @@ fn vertices_as_lanes<A: Allocator + Copy>(
 /// The rank of the vertex of each group.
 fn ranks_of_groups<A: Allocator + Copy>(
     alloc: A,
-    joined: &Joined<A>,
+    vertices: &Assignment<A>,
     ranks: &[u16],
     groups: u16,
-) -> Result<Vec<u16, A>, AllocError> {
+) -> Result<Vec<u16, A>, AllocError>
+    requires groups { length vertices.now.lane_of_group ≡ groups }
+    requires one_each { length ranks.now ≡ vertices.now.lanes }
+    ensures one_each { IfOk result (λ of_group. length of_group.items ≡ groups) }
+    ensures ranks { IfOk result (λ of_group. (g : ℕ) → g < groups →
+        slice_index of_group.items g ≡ slice_index ranks.now (slice_index vertices.now.lane_of_group g)) }
+{
     let mut of_group = Vec::with_capacity(alloc, usize::from(groups))?;
     for group in 0..groups {
-        of_group.push(ranks[usize::from(joined.vertex(group))])?;
+        let vertex = vertices.lane(GroupId::new(group)).get();
+        of_group.push(ranks[usize::from(vertex)])?;
     }
     Ok(of_group)
 }
@@ -159,65 +155,72 @@ fn ranks_of<A: Allocator + Copy>(alloc: A, graph: &WaitGraph<A>) -> Result<Vec<u
     }
 }
 
+/// The groups that are put back on their lanes, in the order of trial, as far as that makes no circle.
+fn put_back<A: Allocator + Copy>(
+    alloc: A,
+    graph: &WaitGraph<A>,
+    old: &Workqueues<A>,
+    scope: &Scope<A>,
+    joined: &mut Joined<A>,
+) -> Result<Vec<bool, A>, AllocError> {
+    let tried = tried_groups(alloc, old, scope)?;
+    let ranks = ranks_of(alloc, graph)?;
+    let by_rank = by_rank(alloc, ranks.as_slice())?;
+    let assignment = old.assignment();
+    let order = order_of_trial(alloc, graph, by_rank.as_slice(), assignment, tried.as_slice())?;
+    let mut homes = homes(alloc, old, scope)?;
+    put_together(alloc, joined, assignment, homes.as_mut_slice(), order.as_slice())
+}
+
+/// Keeps those together that leave the same lane, as far as that makes no circle.
+fn keep_together<A: Allocator + Copy>(
+    alloc: A,
+    old: &Assignment<A>,
+    leaves: &[bool],
+    joined: &mut Joined<A>,
+) -> Result<(), AllocError> {
+    let out = listed(alloc, leaves)?;
+    let mut none: Vec<Option<u16>, A> = vec![in alloc; None; usize::from(old.lanes())]?;
+    put_together(alloc, joined, old, none.as_mut_slice(), out.as_slice())?;
+    Ok(())
+}
+
 /// Of workqueues that can be repaired: the repair.
 fn repaired<A: Allocator + Copy>(
     alloc: A,
     table: &ItemTable<'_, A>,
     groups: &Groups<A>,
-    graph: &WaitGraph<A>,
     old: &Workqueues<A>,
     start: &Workqueues<A>,
-    needed: &[bool],
-    movable: &[bool],
-    given: &[bool],
-) -> Result<Workqueues<A>, AllocError> {
-    let assignment = old.assignment();
-    let mut joined = Joined::new(alloc, start.assignment(), needed)?;
-    let tried = tried_groups(alloc, old, movable, given)?;
-    let ranks = ranks_of(alloc, graph)?;
-    let by_rank = by_rank(alloc, ranks.as_slice(), needed)?;
-    let order = order_of_trial(alloc, graph, by_rank.as_slice(), tried.as_slice())?;
-    let mut homes = homes(alloc, assignment, &joined, needed, movable)?;
-    let back = put_together(
-        alloc,
-        &mut joined,
-        graph,
-        assignment,
-        homes.as_mut_slice(),
-        order.as_slice(),
-    )?;
-    let mut leaves = Vec::with_capacity(alloc, movable.len())?;
-    let mut stays = Vec::with_capacity(alloc, movable.len())?;
-    let mut out = Vec::new(alloc);
-    for group in 0..movable.len() {
-        let is_out = movable[group] && !back[group];
-        leaves.push(is_out)?;
-        stays.push(needed[group] && !is_out)?;
-        if is_out {
-            out.push(group as u16)?;
-        }
-    }
-    let mut none: Vec<Option<u16>, A> = vec![in alloc; None; usize::from(assignment.lanes())]?;
-    put_together(
-        alloc,
-        &mut joined,
-        graph,
-        assignment,
-        none.as_mut_slice(),
-        out.as_slice(),
-    )?;
+    scope: &Scope<A>,
+) -> Result<Workqueues<A>, AllocError>
+    requires grouped { length groups.now.group_of ≡ length table.now.names }
+    requires ready { (names : List ℕ)
+        × IsReady (declaration_of table.now groups.now) old.now names scope.now start.now }
+    ensures { IfOk result (λ new. (names : List ℕ) →
+        IsReady (declaration_of table.now groups.now) old.now names scope.now start.now →
+        IsMinimal (declaration_of table.now groups.now) old.now names scope.now.needed new) }
+{
+    let graph = graph_of_needed(alloc, table, groups, scope.needed.as_slice())?;
+    let start_graph = rescued_graph(alloc, table, groups, start)?;
+    let start_ranks = ranks_of(alloc, &start_graph)?;
+    let mut joined = Joined::new(alloc, &graph, start.assignment(), start_ranks.as_slice())?;
+    let back = put_back(alloc, &graph, old, scope, &mut joined)?;
+    let leaves = but_not(alloc, scope.movable.as_slice(), back.as_slice())?;
+    let stays = but_not(alloc, scope.needed.as_slice(), leaves.as_slice())?;
+    keep_together(alloc, old.assignment(), leaves.as_slice(), &mut joined)?;
     let merged = vertices_as_lanes(alloc, start, &joined)?;
     let merged_graph = rescued_graph(alloc, table, groups, &merged)?;
-    let merged_ranks = ranks_of(alloc, &merged_graph)?;
-    let of_group = ranks_of_groups(alloc, &joined, merged_ranks.as_slice(), groups.len())?;
+    let ranks = ranks_of(alloc, &merged_graph)?;
+    let ranks = ranks_of_groups(alloc, merged.assignment(), ranks.as_slice(), groups.len())?;
     place(
         alloc,
         old,
-        given,
+        scope.given.as_slice(),
         stays.as_slice(),
         leaves.as_slice(),
-        of_group.as_slice(),
-        joined.vertices(),
+        ranks.as_slice(),
+        usize::from(merged.assignment().lanes()),
     )
 }
 
@@ -253,23 +256,11 @@ pub fn repair<A: Allocator + Copy>(
     let needed = needed_groups(alloc, table, groups, workqueues, names)?;
     let named = named_groups(alloc, groups, names)?;
     let lanes = named_lanes(alloc, workqueues, named.as_slice())?;
-    let given = given_lanes(alloc, workqueues, lanes.as_slice(), needed.as_slice())?;
-    let movable = movable_groups(alloc, named.as_slice(), needed.as_slice())?;
-    let begin = start(alloc, workqueues, movable.as_slice(), given.as_slice())?;
+    let scope = scope_of(alloc, workqueues, named.as_slice(), lanes.as_slice(), needed)?;
+    let begin = start(alloc, workqueues, scope.movable.as_slice(), scope.given.as_slice())?;
     if let Judged::Deadlock(steps) = judge(alloc, table, groups, &begin)? {
         return Ok(Answer::TooFewNames(begin, steps));
     }
-    let graph = graph_of_needed(alloc, table, groups, needed.as_slice())?;
-    let new = repaired(
-        alloc,
-        table,
-        groups,
-        &graph,
-        workqueues,
-        &begin,
-        needed.as_slice(),
-        movable.as_slice(),
-        given.as_slice(),
-    )?;
+    let new = repaired(alloc, table, groups, workqueues, &begin, &scope)?;
     Ok(Answer::Repaired(new))
 }
