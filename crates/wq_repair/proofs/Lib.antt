@@ -15,3 +15,4 @@ pub mod Taking
 pub mod StartMade
 pub mod BareNow
 pub mod NeededGroups
+pub mod PlacedMade

@@ -13,3 +13,4 @@ pub mod Steps
 pub mod Lanes
 pub mod Following
 pub mod Ready
+pub mod Placing

@@ -11,7 +11,8 @@ mod answer;
 mod joined;
 mod lanes;
 pub mod laws;
-mod marks;
+mod listing;
+
 mod named;
 mod needed;
 mod order;

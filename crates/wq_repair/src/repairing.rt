@@ -17,7 +17,7 @@ ghost use Rattle.wq_repair.specs.Repair.{IsAnswer};
 
 use crate::answer::Answer;
 use crate::joined::{Joined, put_together};
-use crate::marks::listed;
+use crate::listing::listed;
 use crate::named::{named_groups, named_lanes};
 use crate::needed::needed_groups;
 use crate::order::order_of_trial;

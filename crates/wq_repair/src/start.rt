@@ -8,7 +8,7 @@ ghost use Rattle.wq_repair.specs.Marks.{Marks};
 ghost use Rattle.wq_repair.specs.Steps.{HoldsOther, IsToBeGiven, IsMovable, IsStartBy};
 
 use crate::lanes::{bare_now, lanes_with, own_lanes};
-use crate::marks::listed;
+use crate::listing::listed;
 use std::alloc::{AllocError, Allocator};
 use wq_core::Workqueues;
 use wq_groups::{Assignment, GroupId, LaneId};

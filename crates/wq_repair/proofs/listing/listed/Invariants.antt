@@ -1,7 +1,7 @@
 use Rattle.std.proofs.Common.{◌≢◌, ℕ, ◌<◌}
 use Rattle.std.specs.Prelude.{◌↔◌, Contains, AllPairs}
 use Rattle.wq_repair.specs.Marks.{IsMarked}
-use Rattle.wq_repair.proofs.marks.listed.Given as goal
+use Rattle.wq_repair.proofs.listing.listed.Given as goal
 
 -- those so far
 abbrev pub invariant-loop-number : goal.invariant-loop-number
