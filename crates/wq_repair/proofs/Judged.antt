@@ -28,6 +28,10 @@ use Rattle.wq_repair.specs.Joined.{HangsRound, IsStart}
 use Rattle.wq_repair.proofs.Rescuers.{rescued-awaited, Deadlocks-round, LaneWaits-group_waits}
 use Rattle.wq_repair.proofs.Starts.{Deadlocks-start_bare, Deadlocks-start_circle}
 
+leads : (src dst : Bool) → (not src && dst) ≡ true → (src ≡ false) × (dst ≡ true)
+leads true dst is = absurd (let never : false ≡ true = is in cc)
+leads false dst is = (refl, is)
+
 module _ (d : Declaration) (ws : Workqueues) (declaration : IsDeclaration d) (assignment : IsAssignment d.groups ws.assignment) where
   -- arcs between lanes that have a rescuer
   pub RescuedWaits-arc : (p q : ℕ) → HasArc (rescued_graph d ws) p q ↔ RescuedWaits (wiring_of d ws) p q
@@ -78,6 +82,15 @@ module _ (d : Declaration) (ws : Workqueues) (declaration : IsDeclaration d) (as
   pub IsGraph-rescued_graph : ws.assignment.lanes ≤ 4096 → IsGraph (rescued_graph d ws)
   IsGraph-rescued_graph few = IsGraph-without ws.bare (lane_graph d ws.assignment) (IsGraph-lane_graph d ws.assignment declaration assignment few)
 
+  -- a flush that leads to a lane without a rescuer
+  pub bare_group_waits : (x : WaitArc) → Contains (bare_waits d ws) x
+      → GroupWaits d (slice_index d.group_of x.src) (slice_index d.group_of x.dst) × IsRescued ws (lane_in ws (slice_index d.group_of x.src)) × (¬ IsRescued ws (lane_in ws (slice_index d.group_of x.dst)))
+  bare_group_waits x there =
+      let (arc, passes) = IsArc-bare_waits d ws declaration assignment x there in
+      let waits : ItemWaits d.waits x.src x.dst = (arc.declared.0, arc.declared.1, arc.declared.2, arc.declared.3, arc.declared.4.0) in
+      let ends = leads (is_on_bare ws d.group_of x.src) (is_on_bare ws d.group_of x.dst) passes in
+      (GroupWaits-items d declaration x.src x.dst waits, ends.0, λ rescued. false≢true (sym rescued ∙ ends.1))
+
   -- safe workqueues
   module _ (safe : IsSafe (wiring_of d ws)) where
     pub no_circle-safe : ¬ Circle (HasArc (rescued_graph d ws))
@@ -89,21 +102,12 @@ module _ (d : Declaration) (ws : Workqueues) (declaration : IsDeclaration d) (as
       | inr dead ↦ absurd (not_safe-deadlocks (wiring_of d ws) dead safe)
     ]
 
--- ---- a start that hangs
-
-leads : (src dst : Bool) → (not src && dst) ≡ true → (src ≡ false) × (dst ≡ true)
-leads true dst is = absurd (let never : false ≡ true = is in cc)
-leads false dst is = (refl, is)
-
 module _ (d : Declaration) (old start new : Workqueues) (names : List ℕ) (declaration : IsDeclaration d) (before : IsAssignment d.groups old.assignment)
     (is : IsStart d old names start) (few : start.assignment.lanes ≤ 4096) (compared : IsToBeCompared d old names new) where
   pub Deadlocks-hanging : (waits : List WaitArc) → waits ≡ bare_waits d start → (first : List ℕ) → AreFirst d start waits first → Deadlocks (wiring_of d new)
   Deadlocks-hanging (x ∷ more) all first are =
-      let (arc, passes) = IsArc-bare_waits d start declaration is.compared.assignment x (subst (λ (l : List WaitArc). Contains l x) all (Contains-here x more)) in
-      let waits : ItemWaits d.waits x.src x.dst = (arc.declared.0, arc.declared.1, arc.declared.2, arc.declared.3, arc.declared.4.0) in
-      let ends = leads (is_on_bare start d.group_of x.src) (is_on_bare start d.group_of x.dst) passes in
-      Deadlocks-start_bare d old start new names declaration before is compared (slice_index d.group_of x.src) (slice_index d.group_of x.dst)
-      (GroupWaits-items d declaration x.src x.dst waits) ends.0 (λ rescued. false≢true (sym rescued ∙ ends.1))
+      let bare = bare_group_waits d start declaration is.compared.assignment x (subst (λ (l : List WaitArc). Contains l x) all (Contains-here x more)) in
+      Deadlocks-start_bare d old start new names declaration before is compared (slice_index d.group_of x.src) (slice_index d.group_of x.dst) bare.0 bare.1 bare.2
   Deadlocks-hanging [] all first (circle, walked, same) =
       let graph = rescued_graph d start in
       let has = HasCircle-walked graph (IsGraph-rescued_graph d start declaration is.compared.assignment few) circle walked in

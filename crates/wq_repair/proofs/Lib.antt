@@ -1,4 +1,5 @@
 pub mod Marks
+pub mod LaneReads
 pub mod NeededFound
 pub mod Identified
 pub mod Rescuers
@@ -16,3 +17,4 @@ pub mod StartMade
 pub mod BareNow
 pub mod NeededGroups
 pub mod PlacedMade
+pub mod Answered

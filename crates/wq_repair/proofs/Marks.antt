@@ -1,10 +1,10 @@
 -- Lists of marks, and what a write changes in them.
-use Rattle.std.proofs.Common.{◌≡◌, ◌≢◌, ℕ, ◌+◌, ◌<◌, inl, inr, Bool, true, false, List, [], ◌∷◌, ◌++◌, length, get_or, set, replicate, refl, sym, ap, subst, ◌∙◌, arith, get_or-set_same, get_or-set_other}
+use Rattle.std.proofs.Common.{◌≡◌, ◌≢◌, ℕ, ◌+◌, ◌<◌, inl, inr, Bool, true, false, List, [], ◌∷◌, ◌++◌, length, get_or, set, replicate, refl, sym, ap, subst, ◌∙◌, arith, get_or-set_same, get_or-set_other, length-append}
 use Rattle.std.specs.Prelude.{◌↔◌, ◌⊎◌, Contains, AllPairs}
 use Rattle.std.proofs.lemmas.List.Elements.{Contains-get_or, Contains-push, Contains-push_cases, Contains-append_left}
 use Rattle.std.proofs.lemmas.List.Quantifiers.{all_pairs_push}
 use Rattle.std.proofs.Math.ListN.{length-set, length-replicate}
-use Rattle.std.proofs.lemmas.List.{get_or-replicate}
+use Rattle.std.proofs.lemmas.List.{get_or-replicate, get_or_push, get_or_append_left}
 use Rattle.std.proofs.lemmas.Bool.{cases_eq, false≢true}
 use Rattle.wq_repair.specs.Marks.{IsMarked, Marks}
 use Rattle.wq_repair.specs.Together.{Lists}
@@ -60,10 +60,36 @@ pub Marks-none : (P : ℕ → Type 0) (n : ℕ) (xs : List Bool) → xs ≡ repl
 Marks-none P n xs is none = record {
   one_each = ap length is ∙ length-replicate n false;
   exactly = λ k lt. (
-    λ marked. absurd (false≢true (sym (get_or-replicate k n false lt) ∙ ap (λ (ys : List Bool). get_or ys k false) (sym is) ∙ marked)),
+    λ marked. absurd (false≢true (sym (get_or-replicate n k false false lt) ∙ ap (λ (ys : List Bool). get_or ys k false) (sym is) ∙ marked)),
     λ p. absurd (none k lt p),
   );
 }
+
+-- all is marked
+pub Marks-all : (P : ℕ → Type 0) (n : ℕ) (xs : List Bool) → xs ≡ replicate n true → ((k : ℕ) → k < n → P k) → Marks P n xs
+Marks-all P n xs is all = record {
+  one_each = ap length is ∙ length-replicate n true;
+  exactly = λ k lt. (λ marked. all k lt, λ p. ap (λ (ys : List Bool). get_or ys k false) is ∙ get_or-replicate n k true false lt);
+}
+
+-- one more is told of
+pub Marks-push : (P : ℕ → Type 0) (n : ℕ) (xs : List Bool) (b : Bool) → Marks P n xs → (b ≡ true) ↔ P n → Marks P (n + 1) (xs ++ b ∷ [])
+Marks-push P n xs b is last = record { one_each = omega (arith, length-append xs (b ∷ []), is.one_each); exactly = at }
+  where
+    own : get_or (xs ++ b ∷ []) n false ≡ b
+    own = get_or_push xs b false n is.one_each
+
+    at : (k : ℕ) → k < n + 1 → IsMarked (xs ++ b ∷ []) k ↔ P k
+    at k lt = elim (cases_eq k n) [
+      | inl same ↦ (
+        λ marked. subst P (sym same) (last.0 (sym own ∙ ap (λ (x : ℕ). get_or (xs ++ b ∷ []) x false) (sym same) ∙ marked)),
+        λ p. ap (λ (x : ℕ). get_or (xs ++ b ∷ []) x false) same ∙ own ∙ last.1 (subst P same p),
+      )
+      | inr other ↦
+          let earlier : k < n = omega (arith, lt, other) in
+          let kept : get_or (xs ++ b ∷ []) k false ≡ get_or xs k false = get_or_append_left xs (b ∷ []) false k (omega (arith, earlier, is.one_each)) in
+          (λ marked. (is.exactly k earlier).0 (sym kept ∙ marked), λ p. kept ∙ (is.exactly k earlier).1 p)
+    ]
 
 -- a number below i stands in this relation to k
 abbrev pub SomeBelow : (ℕ → ℕ → Type 0) → ℕ → ℕ → Type 0

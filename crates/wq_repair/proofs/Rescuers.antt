@@ -107,7 +107,7 @@ module _ (d : Declaration) (old new : Workqueues) (names : List ℕ) (declaratio
   pub stays-unnamed : (g : ℕ) → g < d.groups → (¬ IsNamed d names g) → lane_in new g ≡ lane_in old g
   stays-unnamed g is unnamed = stays-not_moved old new g (λ moved. unnamed (compared.moved_named g is moved))
 
-  rescued-first : (g : ℕ) → g < d.groups → IsRescued old (lane_in old g) → IsRescued new (lane_in new g)
+  pub rescued-first : (g : ℕ) → g < d.groups → IsRescued old (lane_in old g) → IsRescued new (lane_in new g)
   rescued-first g is rescued = elim (cases_moved old new g) [
     | inl stays ↦
         let within : lane_in old g < old.assignment.lanes = before.within g 0 (omega (arith, is, before.one_each)) in

@@ -79,17 +79,21 @@ pub(crate) fn bare_now<A: Allocator + Copy>(
     ensures { IfOk result (λ bare.
         AreBareNow old.now comes.now given.now lane_of.now (length comes.now) bare.items) }
 {
+    let _lanes = old.assignment().lanes();
     let mut bare = Vec::new(alloc);
     bare.extend_from_slice(old.bare())?;
     for (group, does_come) in comes.iter().enumerate() {
         let own = old.assignment().lane(GroupId::new(group as u16));
-        if !*does_come && !given[usize::from(own.get())] {
+        let is_given = given[usize::from(own.get())];
+        let lane = usize::from(lane_of[group].get());
+        let gives = *does_come | is_given;
+        if !gives {
             continue;
         }
-        let lane = usize::from(lane_of[group].get());
-        if lane < bare.len() {
-            bare[lane] = false;
+        if bare.len() <= lane {
+            continue;
         }
+        bare[lane] = false;
     }
     Ok(bare)
 }

@@ -12,7 +12,6 @@ mod joined;
 mod lanes;
 pub mod laws;
 mod listing;
-
 mod named;
 mod needed;
 mod order;

@@ -17,9 +17,10 @@ pub(crate) fn listed<A: Allocator + Copy>(
 {
     let mut listed = Vec::new(alloc);
     for (number, is_marked) in marks.iter().enumerate() {
-        if *is_marked {
-            listed.push(number as u16)?;
+        if !*is_marked {
+            continue;
         }
+        listed.push(number as u16)?;
     }
     Ok(listed)
 }

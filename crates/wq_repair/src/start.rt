@@ -26,9 +26,11 @@ pub(crate) fn given_lanes<A: Allocator + Copy>(
     ensures { IfOk result (λ given.
         Marks (IsToBeGiven workqueues.now named_lanes.now needed.now) workqueues.now.assignment.lanes given.items) }
 {
+    let _lanes = workqueues.assignment().lanes();
     let mut given = Vec::with_capacity(alloc, named_lanes.len())?;
     for (lane, is_named) in named_lanes.iter().enumerate() {
-        given.push(*is_named && workqueues.is_bare(LaneId::new(lane as u16)))?;
+        let is_bare = workqueues.is_bare(LaneId::new(lane as u16));
+        given.push(*is_named & is_bare)?;
     }
     for (group, is_needed) in needed.iter().enumerate() {
         if *is_needed {
