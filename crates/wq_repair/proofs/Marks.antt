@@ -160,3 +160,24 @@ Lists-add marks xs g below not is = record {
             λ either. elim either [ inl marked ↦ kept ∙ marked | inr same ↦ absurd (other same) ],
           )
     ]
+
+-- ---- what no number below i stands in a relation to
+
+not_more : (R : ℕ → ℕ → Type 0) (i k : ℕ) → (¬ R i k) → (¬ SomeBelow R i k) ↔ (¬ SomeBelow R (i + 1) k)
+not_more R i k none = (
+  λ no some. elim (cases_eq some.0 i) [
+    | inl last ↦ none (subst (λ (m : ℕ). R m k) last some.2)
+    | inr before ↦ no (some.0, omega (arith, some.1, before), some.2)
+  ],
+  λ no some. no (some.0, omega (arith, some.1), some.2),
+)
+
+-- i is looked at, and stands in the relation to none
+pub Marks-none_less : (R : ℕ → ℕ → Type 0) (n i : ℕ) (xs : List Bool) → ((k : ℕ) → ¬ R i k) → Marks (λ (k : ℕ). ¬ SomeBelow R i k) n xs → Marks (λ (k : ℕ). ¬ SomeBelow R (i + 1) k) n xs
+Marks-none_less R n i xs none is = Marks-as (λ (k : ℕ). ¬ SomeBelow R i k) (λ (k : ℕ). ¬ SomeBelow R (i + 1) k) n xs (λ k lt. not_more R i k (none k)) is
+
+-- i is looked at, and j is the only one to which it stands in the relation
+pub Marks-one_less : (R : ℕ → ℕ → Type 0) (n i j : ℕ) (xs : List Bool) → ((k : ℕ) → R i k → k ≡ j) → R i j → j < n → Marks (λ (k : ℕ). ¬ SomeBelow R i k) n xs
+    → Marks (λ (k : ℕ). ¬ SomeBelow R (i + 1) k) n (set xs j false)
+Marks-one_less R n i j xs only here below is =
+    Marks-clear (λ (k : ℕ). ¬ SomeBelow R i k) (λ (k : ℕ). ¬ SomeBelow R (i + 1) k) n j xs (λ k lt other. not_more R i k (λ r. other (only k r))) (λ no. no (i, omega arith, here)) below is
