@@ -96,12 +96,18 @@ impl<A: Allocator + Copy> Found<A> {
         ensures { IfOk result (λ _.
             HasGrown self.old self.new (BringsAlongBy graph.now workqueues.now named.now lanes.now group)) }
     {
-        // Each arc leads to a group.
+        // Each arc leads to a group, and each lane is there.
         let _vertices = graph.vertices();
+        let _lanes = workqueues.assignment().lanes();
         self.add_awaited(graph.arcs(group))?;
         let lane = workqueues.assignment().lane(GroupId::new(group));
-        let is_open = workqueues.is_bare(lane) && lanes[usize::from(lane.get())];
-        if named[usize::from(group)] || !is_open {
+        if named[usize::from(group)] {
+            return Ok(());
+        }
+        if !workqueues.is_bare(lane) {
+            return Ok(());
+        }
+        if !lanes[usize::from(lane.get())] {
             return Ok(());
         }
         self.add_lane(on.places(lane.get()))
@@ -126,9 +132,10 @@ fn on_rescuers<A: Allocator + Copy>(
     };
     for group in 0..groups {
         let lane = workqueues.assignment().lane(GroupId::new(group));
-        if !workqueues.is_bare(lane) {
-            found.add(group)?;
+        if workqueues.is_bare(lane) {
+            continue;
         }
+        found.add(group)?;
     }
     Ok(found)
 }
