@@ -18,3 +18,6 @@ pub mod BareNow
 pub mod NeededGroups
 pub mod PlacedMade
 pub mod Answered
+pub mod OnLanes
+pub mod NeededRescuers
+pub mod Homes

@@ -79,10 +79,13 @@ fn homes<A: Allocator + Copy>(
         IsHomeOf homes.items q v ↔ ((v ≡ q) × HoldsNeeded old.now scope.now q)) }
 {
     let assignment = old.assignment();
+    let _lanes = assignment.lanes();
     let mut homes: Vec<Option<u16>, A> = vec![in alloc; None; usize::from(assignment.lanes())]?;
     for (group, is_needed) in scope.needed.iter().enumerate() {
-        let stays = *is_needed && !scope.movable[group];
-        if !stays {
+        if !*is_needed {
+            continue;
+        }
+        if scope.movable[group] {
             continue;
         }
         let lane = assignment.lane(GroupId::new(group as u16)).get();

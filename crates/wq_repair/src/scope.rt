@@ -68,11 +68,13 @@ pub(crate) fn tried_groups<A: Allocator + Copy>(
     requires few { length scope.now.movable ≤ 4096 }
     ensures { IfOk result (λ tried. Marks (IsTried old.now scope.now) (length scope.now.movable) tried.items) }
 {
+    let _lanes = old.assignment().lanes();
     let mut tried = Vec::with_capacity(alloc, scope.movable.len())?;
     for (group, is_movable) in scope.movable.iter().enumerate() {
         let lane = old.assignment().lane(GroupId::new(group as u16));
-        let may_stay = scope.given[usize::from(lane.get())] || !old.is_bare(lane);
-        tried.push(*is_movable && may_stay)?;
+        let is_given = scope.given[usize::from(lane.get())];
+        let is_rescued = !old.is_bare(lane);
+        tried.push(*is_movable & (is_given | is_rescued))?;
     }
     Ok(tried)
 }
