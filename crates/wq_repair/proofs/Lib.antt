@@ -21,3 +21,4 @@ pub mod Answered
 pub mod OnLanes
 pub mod NeededRescuers
 pub mod Homes
+pub mod PlacedSteps

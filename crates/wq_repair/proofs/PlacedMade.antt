@@ -33,7 +33,7 @@ module _ (old : Workqueues) (given stays leaves leave bare : List Bool) (ranks e
     (fine : (g : ℕ) → IsMarked stays g → IsRescued old (lane_in old g) ⊎ IsMarked given (lane_in old g))
     (apart : (g : ℕ) → IsMarked stays g → ¬ IsMarked leaves g)
     (held : (g : ℕ) → g < length leaves → IsMarked leaves g → (h : ℕ) × (h < length leaves) × (lane_in old h ≡ lane_in old g) × (¬ IsMarked leaves h))
-    (lanes : AreLanesOfRanks old stays ranks before)
+    (groups : ℕ) (lanes : AreLanesOfRanks old stays ranks most groups before)
     (leaving : Marks (HasRanked leaves ranks) most leave)
     (free : AreFree old.assignment.lanes empty)
     (are_empty : AreEmpty old empty)

@@ -19,10 +19,12 @@ pub record HoldsRanked (old : Workqueues) (marks : List Bool) (ranks : List ℕ)
   pub ranked : slice_index ranks group ≡ r
   pub on : lane_in old group ≡ q
 
--- for each rank a lane on which a marked group of this rank is, if there is one
-pub record AreLanesOfRanks (old : Workqueues) (marks : List Bool) (ranks : List ℕ) (of_rank : List (Option ℕ)) : Type 0 where
+-- for each of `most` ranks a lane on which a marked group of this rank is, if one of the first `groups` is
+pub record AreLanesOfRanks (old : Workqueues) (marks : List Bool) (ranks : List ℕ) (most groups : ℕ)
+    (of_rank : List (Option ℕ)) : Type 0 where
+  pub one_each : length of_rank ≡ most
   pub holds : (r q : ℕ) → IsLaneOfRank of_rank r q → HoldsRanked old marks ranks r q
-  pub all : (g : ℕ) → IsMarked marks g → ¬ HasNoLane of_rank (slice_index ranks g)
+  pub all : (g : ℕ) → g < groups → IsMarked marks g → ¬ HasNoLane of_rank (slice_index ranks g)
 
 -- a marked group has this rank
 pub record HasRanked (marks : List Bool) (ranks : List ℕ) (r : ℕ) : Type 0 where
@@ -48,6 +50,8 @@ pub record AreTaken (leave : List Bool) (empty : List ℕ) (there most : ℕ) (b
   pub kept : (r q : ℕ) → IsLaneOfRank before r q → IsLaneOfRank after r q
   pub took : (r : ℕ) → r < most → IsMarked leave r → HasNoLane before r
       → (n : ℕ) × (n < taken) × IsLaneOfRank after r (nth_lane empty there n)
+  pub only : (r q : ℕ) → HasNoLane before r → IsLaneOfRank after r q
+      → (n : ℕ) × (n < taken) × (q ≡ nth_lane empty there n)
   pub all : (n : ℕ) → n < taken → (r : ℕ) × (r < most) × IsMarked leave r × IsLaneOfRank after r (nth_lane empty there n)
   pub once : (r s n : ℕ) → HasNoLane before r → HasNoLane before s → IsLaneOfRank after r (nth_lane empty there n)
       → IsLaneOfRank after s (nth_lane empty there n) → n < taken → r ≡ s
