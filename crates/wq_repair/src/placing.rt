@@ -4,34 +4,55 @@
 //! lane on which a group of its rank stays, and else all of that rank go to an empty lane, or to a new one. It takes
 //! time and memory in the number of groups and lanes.
 
-ghost use Rattle.std.specs.Prelude.{◌≡◌, ◌<◌, ◌≤◌, ℕ, length, slice_index, IfOk};
-ghost use Rattle.wq_repair.specs.Changes.{lane_in};
-ghost use Rattle.wq_repair.specs.Marks.{IsMarked};
+ghost use Rattle.std.specs.Prelude.{◌≡◌, ◌<◌, ◌≤◌, ◌⊎◌, ℕ, false, length, slice_index, slice_index_or, IfOk, IsSome, IsTrue};
+ghost use Rattle.wq_repair.specs.Changes.{IsRescued, lane_in};
+ghost use Rattle.wq_repair.specs.Marks.{IsMarked, Marks};
 ghost use Rattle.wq_repair.specs.Steps.{ArePlacedBy};
+ghost use Rattle.wq_repair.specs.Lanes.{AreFree};
+ghost use Rattle.wq_repair.specs.Placing.{HasNoLane, AreLanesOfRanks, HasRanked, HoldsAny, AreEmpty, AreTaken, AreRankedLanes};
 
 use crate::lanes::{bare_now, lanes_with, nth_lane};
+use crate::listing::listed;
 use std::alloc::{AllocError, Allocator};
 use wq_core::Workqueues;
 use wq_groups::{Assignment, GroupId, LaneId};
 
+/// Whether there is a lane, and it isn't above another.
+fn is_at_most(lane: Option<u16>, other: u16) -> bool
+    ensures { IsTrue result → IsSome lane }
+{
+    match lane {
+        Some(lane) => lane <= other,
+        None => false,
+    }
+}
+
 /// The lowest lane of each rank, of the groups that need a rescuer and stay.
 fn lanes_by_rank<A: Allocator + Copy>(
     alloc: A,
-    old: &Assignment<A>,
+    old: &Workqueues<A>,
     stays: &[bool],
     ranks: &[u16],
     most: usize,
-) -> Result<Vec<Option<u16>, A>, AllocError> {
+) -> Result<Vec<Option<u16>, A>, AllocError>
+    requires stays { length stays.now ≡ length old.now.assignment.lane_of_group }
+    requires one_each { length ranks.now ≡ length old.now.assignment.lane_of_group }
+    requires few { length stays.now ≤ 4096 }
+    requires below { (g : ℕ) → g < length ranks.now → slice_index ranks.now g < most }
+    ensures { IfOk result (λ lanes.
+        AreLanesOfRanks old.now stays.now ranks.now most (length stays.now) lanes.items) }
+{
     let mut lanes: Vec<Option<u16>, A> = vec![in alloc; None; most]?;
     for (group, does_stay) in stays.iter().enumerate() {
-        if *does_stay {
-            let lane = old.lane(GroupId::new(group as u16)).get();
-            let lowest = &mut lanes[usize::from(ranks[group])];
-            match *lowest {
-                Some(other) if other <= lane => {}
-                _ => *lowest = Some(lane),
-            }
+        if !*does_stay {
+            continue;
         }
+        let lane = old.assignment().lane(GroupId::new(group as u16)).get();
+        let rank = usize::from(ranks[group]);
+        if is_at_most(lanes[rank], lane) {
+            continue;
+        }
+        lanes[rank] = Some(lane);
     }
     Ok(lanes)
 }
@@ -42,43 +63,78 @@ fn ranks_that_leave<A: Allocator + Copy>(
     leaves: &[bool],
     ranks: &[u16],
     most: usize,
-) -> Result<Vec<bool, A>, AllocError> {
+) -> Result<Vec<bool, A>, AllocError>
+    requires one_each { length ranks.now ≡ length leaves.now }
+    requires below { (g : ℕ) → g < length ranks.now → slice_index ranks.now g < most }
+    ensures { IfOk result (λ leave. Marks (HasRanked leaves.now ranks.now) most leave.items) }
+{
     let mut leave = vec![in alloc; false; most]?;
     for (group, does_leave) in leaves.iter().enumerate() {
-        if *does_leave {
-            leave[usize::from(ranks[group])] = true;
+        if !*does_leave {
+            continue;
         }
+        leave[usize::from(ranks[group])] = true;
     }
     Ok(leave)
+}
+
+/// For each lane whether it holds no group, of those that have a rescuer, or of those that have none.
+fn empty_marks<A: Allocator + Copy>(
+    alloc: A,
+    workqueues: &Workqueues<A>,
+    bare: bool,
+    groups: u16,
+) -> Result<Vec<bool, A>, AllocError>
+    requires { length workqueues.now.assignment.lane_of_group ≡ groups }
+    ensures { IfOk result (λ empty. Marks
+        (λ q. (¬ HoldsAny workqueues.now q) × (slice_index_or workqueues.now.bare q false ≡ bare))
+        workqueues.now.assignment.lanes empty.items) }
+{
+    let assignment = workqueues.assignment();
+    let mut empty = Vec::with_capacity(alloc, usize::from(assignment.lanes()))?;
+    for lane in 0..assignment.lanes() {
+        empty.push(workqueues.is_bare(LaneId::new(lane)) == bare)?;
+    }
+    for group in 0..groups {
+        let lane = assignment.lane(GroupId::new(group));
+        empty[usize::from(lane.get())] = false;
+    }
+    Ok(empty)
 }
 
 /// The lanes on which no group is, upwards: those that have a rescuer, and then those that have none.
 fn empty_lanes<A: Allocator + Copy>(
     alloc: A,
     workqueues: &Workqueues<A>,
-) -> Result<Vec<u16, A>, AllocError> {
-    let assignment = workqueues.assignment();
-    let mut is_empty = vec![in alloc; true; usize::from(assignment.lanes())]?;
-    for group in 0..assignment.groups() as u16 {
-        let lane = assignment.lane(GroupId::new(group));
-        is_empty[usize::from(lane.get())] = false;
-    }
-    let mut empty = Vec::new(alloc);
-    for bare in [false, true] {
-        for (lane, is) in is_empty.iter().enumerate() {
-            if *is && workqueues.is_bare(LaneId::new(lane as u16)) == bare {
-                empty.push(lane as u16)?;
-            }
-        }
-    }
+    groups: u16,
+) -> Result<Vec<u16, A>, AllocError>
+    requires { length workqueues.now.assignment.lane_of_group ≡ groups }
+    ensures free { IfOk result (λ empty. AreFree workqueues.now.assignment.lanes empty.items) }
+    ensures empty { IfOk result (λ empty. AreEmpty workqueues.now empty.items) }
+{
+    let _lanes = workqueues.assignment().lanes();
+    let rescued = empty_marks(alloc, workqueues, false, groups)?;
+    let bare = empty_marks(alloc, workqueues, true, groups)?;
+    let mut empty = listed(alloc, rescued.as_slice())?;
+    let last = listed(alloc, bare.as_slice())?;
+    empty.extend_from_slice(last.as_slice())?;
     Ok(empty)
 }
 
 /// Takes a lane for each rank of which a group leaves and none stays. The answer says how many are taken.
-fn take_lanes(of_rank: &mut [Option<u16>], leave: &[bool], empty: &[u16], there: u16) -> u16 {
+fn take_lanes(of_rank: &mut [Option<u16>], leave: &[bool], empty: &[u16], there: u16) -> u16
+    requires one_each { length of_rank.old ≡ length leave.now }
+    requires few { length leave.now ≤ 4096 }
+    requires there { there ≤ 4096 }
+    requires free { AreFree there empty.now }
+    ensures { AreTaken leave.now empty.now there (length leave.now) of_rank.old of_rank.new result }
+{
     let mut taken = 0;
     for (rank, does_leave) in leave.iter().enumerate() {
-        if !*does_leave || of_rank[rank].is_some() {
+        if !*does_leave {
+            continue;
+        }
+        if of_rank[rank].is_some() {
             continue;
         }
         of_rank[rank] = Some(nth_lane(empty, there, taken));
@@ -90,18 +146,27 @@ fn take_lanes(of_rank: &mut [Option<u16>], leave: &[bool], empty: &[u16], there:
 /// Each group that leaves on the lane of its rank, and all others on theirs.
 fn lanes_of_groups<A: Allocator + Copy>(
     alloc: A,
-    old: &Assignment<A>,
+    old: &Workqueues<A>,
     leaves: &[bool],
     ranks: &[u16],
     of_rank: &[Option<u16>],
-) -> Result<Vec<LaneId, A>, AllocError> {
+) -> Result<Vec<LaneId, A>, AllocError>
+    requires leaves { length leaves.now ≡ length old.now.assignment.lane_of_group }
+    requires one_each { length ranks.now ≡ length leaves.now }
+    requires few { length leaves.now ≤ 4096 }
+    requires below { (g : ℕ) → g < length ranks.now → slice_index ranks.now g < length of_rank.now }
+    requires some { (g : ℕ) → IsMarked leaves.now g → ¬ HasNoLane of_rank.now (slice_index ranks.now g) }
+    ensures { IfOk result (λ lane_of.
+        AreRankedLanes old.now leaves.now ranks.now of_rank.now (length leaves.now) lane_of.items) }
+{
     let mut lane_of = Vec::with_capacity(alloc, leaves.len())?;
     for (group, does_leave) in leaves.iter().enumerate() {
         if !*does_leave {
-            lane_of.push(old.lane(GroupId::new(group as u16)))?;
+            lane_of.push(old.assignment().lane(GroupId::new(group as u16)))?;
             continue;
         }
-        lane_of.push(LaneId::new(of_rank[usize::from(ranks[group])].unwrap()))?;
+        let lane = of_rank[usize::from(ranks[group])];
+        lane_of.push(LaneId::new(lane.unwrap()))?;
     }
     Ok(lane_of)
 }
@@ -129,19 +194,21 @@ pub(crate) fn place<A: Allocator + Copy>(
         slice_index ranks.now g ≡ slice_index ranks.now h }
     requires held { (g : ℕ) → g < length leaves.now → IsMarked leaves.now g →
         (h : ℕ) × (h < length leaves.now) × (lane_in old.now h ≡ lane_in old.now g) × (¬ IsMarked leaves.now h) }
+    requires fine { (g : ℕ) → IsMarked stays.now g →
+        IsRescued old.now (lane_in old.now g) ⊎ IsMarked given.now (lane_in old.now g) }
     ensures { IfOk result (ArePlacedBy old.now given.now stays.now leaves.now ranks.now) }
 {
     let assignment = old.assignment();
-    let mut of_rank = lanes_by_rank(alloc, assignment, stays, ranks, most)?;
+    let mut of_rank = lanes_by_rank(alloc, old, stays, ranks, most)?;
     let leave = ranks_that_leave(alloc, leaves, ranks, most)?;
-    let empty = empty_lanes(alloc, old)?;
+    let empty = empty_lanes(alloc, old, leaves.len() as u16)?;
     let taken = take_lanes(
         of_rank.as_mut_slice(),
         leave.as_slice(),
         empty.as_slice(),
         assignment.lanes(),
     );
-    let lane_of = lanes_of_groups(alloc, assignment, leaves, ranks, of_rank.as_slice())?;
+    let lane_of = lanes_of_groups(alloc, old, leaves, ranks, of_rank.as_slice())?;
     let bare = bare_now(alloc, old, leaves, given, lane_of.as_slice())?;
     let lanes = lanes_with(empty.as_slice(), assignment.lanes(), taken);
     let assignment = Assignment::new(lanes, lane_of).unwrap();
