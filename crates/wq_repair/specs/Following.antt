@@ -24,8 +24,7 @@ pub record HasGrown (old new : FoundGroups) (P : ℕ → Type 0) : Type 0 where
   pub all : (g : ℕ) → P g → IsMarked new.marks g
   pub lists : Lists old.marks old.list → Lists new.marks new.list
 
--- group g brings h along, if these lists say which groups and lanes are named: an arc leads there, or g isn't named and
--- its lane, which has no rescuer, is, and h is on it
+-- g isn't named and its lane, which has no rescuer, is, if these lists say so; and h is on it
 pub record IsBesideBy (old : Workqueues) (named lanes : List Bool) (g h : ℕ) : Type 0 where
   pub unnamed : ¬ IsMarked named g
   pub bare : IsBare old (lane_in old g)
@@ -33,6 +32,7 @@ pub record IsBesideBy (old : Workqueues) (named lanes : List Bool) (g h : ℕ) :
   pub is_group : h < length named
   pub beside : lane_in old h ≡ lane_in old g
 
+-- group g brings h along: an arc leads there, or h is beside it
 abbrev pub BringsAlongBy : List (List WaitArc) → Workqueues → List Bool → List Bool → ℕ → ℕ → Type 0
 BringsAlongBy graph old named lanes g h = HasArc graph g h ⊎ IsBesideBy old named lanes g h
 

@@ -9,6 +9,7 @@ use Rattle.wq_repair.specs.Lanes.{nth_lane}
 abbrev pub IsLaneOfRank : List (Option ℕ) → ℕ → ℕ → Type 0
 IsLaneOfRank of_rank r q = slice_index_or of_rank r None ≡ Some q
 
+-- there is none
 abbrev pub HasNoLane : List (Option ℕ) → ℕ → Type 0
 HasNoLane of_rank r = slice_index_or of_rank r None ≡ None
 
