@@ -15,8 +15,10 @@ use Rattle.wq_repair.specs.Changes.{IsRescued, IsNamed, IsNamedLane, lane_in}
 use Rattle.wq_repair.specs.Needed.{IsLedTo, StaysBeside, BringsAlong, NeedsRescuerOf}
 use Rattle.wq_repair.specs.Marks.{IsMarked, Marks}
 use Rattle.wq_repair.specs.Together.{Lists}
+use Rattle.wq_repair.specs.Steps.{HoldsMarked}
 use Rattle.wq_repair.specs.Following.{FoundGroups, HasGrown, IsBesideBy, BringsAlongBy, IsFollowed}
 use Rattle.wq_repair.proofs.Rescuers.{waiting-below, IsLedTo-first, IsLedTo-next}
+use Rattle.wq_repair.proofs.Marks.{Marks-as}
 use Rattle.wq_repair.proofs.StartMade.{IsMarked-below}
 
 -- a list of what is marked isn't longer than the list of marks
@@ -114,3 +116,21 @@ module _ (d : Declaration) (old : Workqueues) (names : List ℕ) (declaration : 
           λ led. subst (IsMarked f.marks) led.ends (chain_marked led.first led.others led.chain (is.first led.first led.is_group led.rescued)),
         );
       }
+
+-- a lane that holds a marked group is named
+pub Marks-named_lanes : (d : Declaration) (old : Workqueues) (names : List ℕ) (named lanes : List Bool) (n : ℕ) → Marks (IsNamed d names) d.groups named → Marks (HoldsMarked old named) n lanes
+    → Marks (IsNamedLane d old names) n lanes
+Marks-named_lanes d old names named lanes n are_named are_lanes = Marks-as (HoldsMarked old named) (IsNamedLane d old names) n lanes same are_lanes
+  where
+    same : (q : ℕ) → q < n → HoldsMarked old named q ↔ IsNamedLane d old names q
+    same q lt = (
+      λ holds.
+      let is : holds.group < d.groups = omega (arith, holds.is_group, are_named.one_each) in
+      record { group = holds.group; is_group = is; named = (are_named.exactly holds.group is).0 holds.marked; on = holds.on },
+      λ lane. record {
+        group = lane.group;
+        is_group = omega (arith, lane.is_group, are_named.one_each);
+        marked = (are_named.exactly lane.group lane.is_group).1 lane.named;
+        on = lane.on;
+      },
+    )

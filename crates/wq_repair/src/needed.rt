@@ -173,6 +173,10 @@ pub(crate) fn needed_groups<A: Allocator + Copy>(
         Marks (NeedsRescuerOf (declaration_of table.now groups.now) workqueues.now names.now)
         groups.now.groups needed.items) }
 {
+    // What holds of every table, of its groups and of every assignment.
+    let _items = table.len();
+    let _groups = groups.len();
+    let _lanes = workqueues.assignment().lanes();
     let graph = WaitGraph::of_groups(alloc, table, groups)?;
     let on = groups_on_lanes(alloc, workqueues.assignment(), groups.len())?;
     let named = named_groups(alloc, groups, names)?;
