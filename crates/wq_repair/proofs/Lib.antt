@@ -15,3 +15,12 @@ pub mod Taking
 pub mod StartMade
 pub mod BareNow
 pub mod NeededGroups
+pub mod Chains
+pub mod VertexLists
+pub mod Searched
+pub mod Levelled
+pub mod Moved
+pub mod Putting
+pub mod Listed
+pub mod Lowered
+pub mod Ordered

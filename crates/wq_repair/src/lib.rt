@@ -11,12 +11,14 @@ mod answer;
 mod joined;
 mod lanes;
 pub mod laws;
+mod levels;
 mod marks;
 mod named;
 mod needed;
 mod order;
 mod placing;
 mod repairing;
+mod search;
 mod start;
 
 pub use answer::Answer;

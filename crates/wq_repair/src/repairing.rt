@@ -58,24 +58,17 @@ fn graph_of_needed<A: Allocator + Copy>(
     WaitGraph::of_groups(alloc, table, groups)?.without(alloc, out.as_slice())
 }
 
-/// The groups that are put to trial, lane by lane: those that may move and need a rescuer, but not those that have to
-/// leave.
+/// For each group whether it is put to trial: it may move and needs a rescuer, but doesn't have to leave.
 fn tried_groups<A: Allocator + Copy>(
     alloc: A,
     old: &Workqueues<A>,
     movable: &[bool],
     given: &[bool],
-) -> Result<Vec<Vec<u16, A>, A>, AllocError> {
-    let mut tried = Vec::with_capacity(alloc, given.len())?;
-    for _ in 0..given.len() {
-        tried.push(Vec::new(alloc))?;
-    }
+) -> Result<Vec<bool, A>, AllocError> {
+    let mut tried = Vec::with_capacity(alloc, movable.len())?;
     for (group, is_movable) in movable.iter().enumerate() {
         let lane = old.assignment().lane(GroupId::new(group as u16));
-        let at = usize::from(lane.get());
-        if *is_movable && (given[at] || !old.is_bare(lane)) {
-            tried[at].push(group as u16)?;
-        }
+        tried.push(*is_movable && (given[usize::from(lane.get())] || !old.is_bare(lane)))?;
     }
     Ok(tried)
 }
@@ -172,16 +165,23 @@ fn repaired<A: Allocator + Copy>(
     given: &[bool],
 ) -> Result<Workqueues<A>, AllocError> {
     let assignment = old.assignment();
-    let mut joined = Joined::new(alloc, start.assignment(), needed)?;
+    let start_graph = rescued_graph(alloc, table, groups, start)?;
+    let start_ranks = ranks_of(alloc, &start_graph)?;
+    let mut joined = Joined::new(alloc, graph, start.assignment(), start_ranks.as_slice())?;
     let tried = tried_groups(alloc, old, movable, given)?;
     let ranks = ranks_of(alloc, graph)?;
     let by_rank = by_rank(alloc, ranks.as_slice(), needed)?;
-    let order = order_of_trial(alloc, graph, by_rank.as_slice(), tried.as_slice())?;
+    let order = order_of_trial(
+        alloc,
+        graph,
+        by_rank.as_slice(),
+        assignment,
+        tried.as_slice(),
+    )?;
     let mut homes = homes(alloc, assignment, &joined, needed, movable)?;
     let back = put_together(
         alloc,
         &mut joined,
-        graph,
         assignment,
         homes.as_mut_slice(),
         order.as_slice(),
@@ -201,7 +201,6 @@ fn repaired<A: Allocator + Copy>(
     put_together(
         alloc,
         &mut joined,
-        graph,
         assignment,
         none.as_mut_slice(),
         out.as_slice(),
