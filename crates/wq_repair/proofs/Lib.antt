@@ -22,3 +22,12 @@ pub mod OnLanes
 pub mod NeededRescuers
 pub mod Homes
 pub mod PlacedSteps
+pub mod Chains
+pub mod VertexLists
+pub mod Searched
+pub mod Levelled
+pub mod Moved
+pub mod Putting
+pub mod Listed
+pub mod Lowered
+pub mod Ordered

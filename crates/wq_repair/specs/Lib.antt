@@ -9,6 +9,7 @@ pub mod Repair
 pub mod Marks
 pub mod Joined
 pub mod Together
+pub mod Vertices
 pub mod Steps
 pub mod Lanes
 pub mod Following

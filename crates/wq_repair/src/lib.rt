@@ -11,6 +11,7 @@ mod answer;
 mod joined;
 mod lanes;
 pub mod laws;
+mod levels;
 mod listing;
 mod named;
 mod needed;
