@@ -19,7 +19,7 @@ pub no_home : (n : ℕ) (homes : List (Option ℕ)) → homes ≡ replicate n No
 no_home n homes is q v home =
     let none : slice_index_or homes q None ≡ None = elim (cases_lt q n) [
       | inl lt ↦ ap (λ (xs : List (Option ℕ)). get_or xs q None) is ∙ get_or-replicate n q None None lt
-      | inr past ↦ get_or_past homes q None (omega (arith, past, ap length is, length-replicate n {A = Option ℕ} None))
+      | inr past ↦ get_or_past homes q None (omega (arith, past, ap length is, length-replicate {A = Option ℕ} n None))
     ] in
     let bad : None ≡ Some v = sym none ∙ home in
     absurd cc

@@ -16,7 +16,7 @@ use Rattle.wq_repair.proofs.Taking.{nth_lane-apart}
 
 pub AreLanesOfRanks-none : (old : Workqueues) (marks : List Bool) (ranks : List ℕ) (most : ℕ) (of_rank : List (Option ℕ)) → of_rank ≡ replicate most None → AreLanesOfRanks old marks ranks most 0 of_rank
 AreLanesOfRanks-none old marks ranks most of_rank is = record {
-  one_each = ap length is ∙ length-replicate most {A = Option ℕ} None;
+  one_each = ap length is ∙ length-replicate {A = Option ℕ} most None;
   holds = λ r q lane. absurd (no_home most of_rank is r q lane);
   all = λ g lt. absurd (omega (arith, lt));
 }

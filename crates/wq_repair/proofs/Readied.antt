@@ -1,5 +1,5 @@
 -- From what is ready, what is put together and what is placed: the changes are needed, and numbers fall along all waits.
-use Rattle.std.proofs.Common.{◌≡◌, ◌≢◌, ℕ, suc, ◌+◌, ◌<◌, ◌≤◌, ◌⊎◌, inl, inr, Bool, List, length, refl, sym, ap, subst, ◌∙◌, arith}
+use Rattle.std.proofs.Common.{◌≡◌, ◌≢◌, ℕ, zero, suc, ◌+◌, ◌<◌, ◌≤◌, ◌⊎◌, inl, inr, Bool, List, length, refl, sym, ap, subst, ◌∙◌, arith}
 use Rattle.std.specs.Prelude.{◌↔◌, ◌==◌, ◌&&◌, if◌then◌else◌, true, false, Option, max, slice_index, slice_index_or, Contains}
 use Rattle.std.specs.List.{All}
 use Rattle.std.proofs.lemmas.Bool.{cases_eq, cases_lt, cases_Bool, false≢true, eqb-true, eq-eqb}
@@ -150,7 +150,7 @@ module _ (d : Declaration) (old : Workqueues) (names : List ℕ) (s : Scope) (st
         (are_staying : Marks (IsButNot s.needed leaves) d.groups stays)
         (out_lists : Lists leaves out)
         (second : ArePutTogether graph old.assignment.lane_of_group none out one two again) where
-      at_start : List ℕ
+      abbrev at_start : List ℕ
       at_start = start.assignment.lane_of_group
 
       marked_below : (marks : List Bool) (g : ℕ) → length marks ≡ d.groups → IsMarked marks g → g < d.groups
