@@ -31,3 +31,4 @@ pub mod Putting
 pub mod Listed
 pub mod Lowered
 pub mod Ordered
+pub mod GivenLanes

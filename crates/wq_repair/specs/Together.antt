@@ -7,6 +7,11 @@ use Rattle.wq_graph.specs.declared.arc.WaitArc.{WaitArc}
 use Rattle.wq_graph.specs.Graph.{HasArc}
 use Rattle.wq_repair.specs.Marks.{IsMarked}
 
+-- just the numbers of which P holds, each once
+pub record AreListed (P : ℕ → Type 0) (order : List ℕ) : Type 0 where
+  pub exactly : (k : ℕ) → Contains order k ↔ P k
+  pub once : AllPairs (λ (j k : ℕ). j ≢ k) order
+
 -- the marked numbers, each once
 pub record Lists (marks : List Bool) (order : List ℕ) : Type 0 where
   pub exactly : (k : ℕ) → Contains order k ↔ IsMarked marks k

@@ -4,15 +4,16 @@
 //! lane on which a group of its rank stays, and else all of that rank go to an empty lane, or to a new one. It takes
 //! time and memory in the number of groups and lanes.
 
-ghost use Rattle.std.specs.Prelude.{◌≡◌, ◌<◌, ◌≤◌, ◌⊎◌, ℕ, false, length, slice_index, slice_index_or, IfOk, IsSome, IsTrue};
+ghost use Rattle.std.specs.Prelude.{◌≡◌, ◌<◌, ◌≤◌, ◌⊎◌, ℕ, length, slice_index, IfOk, IsSome, IsTrue};
 ghost use Rattle.wq_repair.specs.Changes.{IsRescued, lane_in};
 ghost use Rattle.wq_repair.specs.Marks.{IsMarked, Marks};
 ghost use Rattle.wq_repair.specs.Steps.{ArePlacedBy};
+ghost use Rattle.wq_repair.specs.Together.{AreListed, Lists};
 ghost use Rattle.wq_repair.specs.Lanes.{AreFree};
-ghost use Rattle.wq_repair.specs.Placing.{HasNoLane, AreLanesOfRanks, HasRanked, HoldsAny, AreEmpty, AreTaken, AreRankedLanes};
+ghost use Rattle.wq_repair.specs.Placing.{HasNoLane, AreLanesOfRanks, HasRanked, AreEmpty, AreTaken, AreRankedLanes};
 
 use crate::lanes::{bare_now, lanes_with, nth_lane};
-use crate::listing::listed;
+use crate::start::free_lanes;
 use std::alloc::{AllocError, Allocator};
 use wq_core::Workqueues;
 use wq_groups::{Assignment, GroupId, LaneId};
@@ -78,28 +79,48 @@ fn ranks_that_leave<A: Allocator + Copy>(
     Ok(leave)
 }
 
-/// For each lane whether it holds no group, of those that have a rescuer, or of those that have none.
-fn empty_marks<A: Allocator + Copy>(
+/// Of these lanes, those that have a rescuer, upwards.
+fn rescued_of<A: Allocator + Copy>(
     alloc: A,
     workqueues: &Workqueues<A>,
-    bare: bool,
-    groups: u16,
-) -> Result<Vec<bool, A>, AllocError>
-    requires { length workqueues.now.assignment.lane_of_group ≡ groups }
-    ensures { IfOk result (λ empty. Marks
-        (λ q. (¬ HoldsAny workqueues.now q) × (slice_index_or workqueues.now.bare q false ≡ bare))
-        workqueues.now.assignment.lanes empty.items) }
+    lanes: &[bool],
+) -> Result<Vec<u16, A>, AllocError>
+    requires { length lanes.now ≤ 4096 }
+    ensures { IfOk result (λ listed. AreListed (λ q. IsMarked lanes.now q × IsRescued workqueues.now q) listed.items) }
 {
-    let assignment = workqueues.assignment();
-    let mut empty = Vec::with_capacity(alloc, usize::from(assignment.lanes()))?;
-    for lane in 0..assignment.lanes() {
-        empty.push(workqueues.is_bare(LaneId::new(lane)) == bare)?;
+    let mut listed = Vec::new(alloc);
+    for (lane, is_one) in lanes.iter().enumerate() {
+        if !*is_one {
+            continue;
+        }
+        if workqueues.is_bare(LaneId::new(lane as u16)) {
+            continue;
+        }
+        listed.push(lane as u16)?;
     }
-    for group in 0..groups {
-        let lane = assignment.lane(GroupId::new(group));
-        empty[usize::from(lane.get())] = false;
+    Ok(listed)
+}
+
+/// Puts those of these lanes behind that have no rescuer, upwards.
+fn with_bare_of<A: Allocator + Copy>(
+    workqueues: &Workqueues<A>,
+    lanes: &[bool],
+    mut listed: Vec<u16, A>,
+) -> Result<Vec<u16, A>, AllocError>
+    requires few { length lanes.now ≤ 4096 }
+    requires listed { AreListed (λ q. IsMarked lanes.now q × IsRescued workqueues.now q) listed.items }
+    ensures { IfOk result (λ all. Lists lanes.now all.items) }
+{
+    for (lane, is_one) in lanes.iter().enumerate() {
+        if !*is_one {
+            continue;
+        }
+        if !workqueues.is_bare(LaneId::new(lane as u16)) {
+            continue;
+        }
+        listed.push(lane as u16)?;
     }
-    Ok(empty)
+    Ok(listed)
 }
 
 /// The lanes on which no group is, upwards: those that have a rescuer, and then those that have none.
@@ -108,17 +129,16 @@ fn empty_lanes<A: Allocator + Copy>(
     workqueues: &Workqueues<A>,
     groups: u16,
 ) -> Result<Vec<u16, A>, AllocError>
-    requires { length workqueues.now.assignment.lane_of_group ≡ groups }
+    requires assigned { length workqueues.now.assignment.lane_of_group ≡ groups }
+    requires few { groups ≤ 4096 }
     ensures free { IfOk result (λ empty. AreFree workqueues.now.assignment.lanes empty.items) }
     ensures empty { IfOk result (λ empty. AreEmpty workqueues.now empty.items) }
 {
     let _lanes = workqueues.assignment().lanes();
-    let rescued = empty_marks(alloc, workqueues, false, groups)?;
-    let bare = empty_marks(alloc, workqueues, true, groups)?;
-    let mut empty = listed(alloc, rescued.as_slice())?;
-    let last = listed(alloc, bare.as_slice())?;
-    empty.extend_from_slice(last.as_slice())?;
-    Ok(empty)
+    let none = vec![in alloc; false; usize::from(groups)]?;
+    let is_empty = free_lanes(alloc, workqueues, none.as_slice())?;
+    let rescued = rescued_of(alloc, workqueues, is_empty.as_slice())?;
+    with_bare_of(workqueues, is_empty.as_slice(), rescued)
 }
 
 /// Takes a lane for each rank of which a group leaves and none stays. The answer says how many are taken.

@@ -59,7 +59,7 @@ pub(crate) fn movable_groups<A: Allocator + Copy>(
 }
 
 /// For each lane whether it holds no other groups than these.
-fn free_lanes<A: Allocator + Copy>(
+pub(crate) fn free_lanes<A: Allocator + Copy>(
     alloc: A,
     workqueues: &Workqueues<A>,
     movable: &[bool],
