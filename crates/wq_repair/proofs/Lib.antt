@@ -32,3 +32,4 @@ pub mod Listed
 pub mod Lowered
 pub mod Ordered
 pub mod GivenLanes
+pub mod PutBack

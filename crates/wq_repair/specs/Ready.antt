@@ -1,13 +1,14 @@
 -- What is known when groups are put back, and what comes of it.
-use Rattle.std.specs.Prelude.{◌≡◌, ◌↔◌, ℕ, ◌<◌, ◌≤◌, ◌⊎◌, max, List, Bool, length, slice_index}
+use Rattle.std.specs.Prelude.{◌≡◌, ◌↔◌, ℕ, ◌<◌, ◌≤◌, ◌⊎◌, max, List, Bool, Option, length, slice_index}
 use Rattle.wq_groups.specs.Declaration.{Declaration, GroupWaits}
-use Rattle.wq_groups.specs.Assignment.{IsAssignment}
+use Rattle.wq_groups.specs.Assignment.{Assignment, IsAssignment}
 use Rattle.wq_graph.specs.declared.arc.WaitArc.{WaitArc}
 use Rattle.wq_graph.specs.Graph.{HasArc}
 use Rattle.wq_core.specs.Workqueues.{Workqueues, wiring_of}
 use Rattle.wq_core.specs.Deadlock.{IsSafe}
 use Rattle.wq_repair.specs.Changes.{IsRescued, IsBare, IsNamed, IsNamedLane, IsToBeCompared, lane_in}
 use Rattle.wq_repair.specs.Marks.{IsMarked, Marks}
+use Rattle.wq_repair.specs.Together.{Lists, IsHomeOf, ArePutTogether}
 use Rattle.wq_repair.specs.Joined.{AreChangesNeeded, FallsAlongWaits}
 use Rattle.wq_repair.specs.Steps.{IsToBeGiven, IsMovable, IsStartBy}
 
@@ -60,3 +61,22 @@ pub record HoldsNeeded (old : Workqueues) (s : Scope) (q : ℕ) : Type 0 where
 -- the groups of one list that aren't in the other
 abbrev pub IsButNot : List Bool → List Bool → ℕ → Type 0
 IsButNot one other g = IsMarked one g × (¬ IsMarked other g)
+
+-- those that are put to trial were put together with those of their lane that need a rescuer and can't move
+pub record IsPutBack (graph : List (List WaitArc)) (old : Workqueues) (s : Scope) (at new : List ℕ) (back : List Bool) : Type 0 where
+  pub homes : List (Option ℕ)
+  pub tried : List Bool
+  pub order : List ℕ
+  pub are_homes : (q v : ℕ) → IsHomeOf homes q v ↔ ((v ≡ q) × HoldsNeeded old s q)
+  pub are_tried : Marks (IsTried old s) (length s.movable) tried
+  pub lists : Lists tried order
+  pub together : ArePutTogether graph old.assignment.lane_of_group homes order at new back
+
+-- those that leave were put together with those that leave the same lane
+pub record IsKeptTogether (graph : List (List WaitArc)) (old : Assignment) (leaves : List Bool) (at new : List ℕ) : Type 0 where
+  pub homes : List (Option ℕ)
+  pub order : List ℕ
+  pub again : List Bool
+  pub no_homes : (q v : ℕ) → ¬ IsHomeOf homes q v
+  pub lists : Lists leaves order
+  pub together : ArePutTogether graph old.lane_of_group homes order at new again

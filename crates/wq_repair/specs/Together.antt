@@ -72,12 +72,3 @@ pub record ArePutTogether (graph : List (List WaitArc)) (lane_of : List ℕ) (ho
       × IsAtHome lane_of homes at back h
   pub vain : (g : ℕ) → Contains order g → (¬ IsMarked back g) → WasInVain graph lane_of homes at back g
   pub alone : (g : ℕ) → g < length at → IsAlone at g → (¬ IsAtHome lane_of homes at back g) → IsAlone new g
-
--- which vertex each group is at, and a height for each vertex
-pub record Vertices : Type 0 where
-  pub at : List ℕ
-  pub heights : List ℕ
-
--- heights fall along each arc
-abbrev pub HeightsFall : List (List WaitArc) → Vertices → Type 0
-HeightsFall graph vs = (v w : ℕ) → ArcBetween graph vs.at v w → slice_index vs.heights w < slice_index vs.heights v

@@ -6,13 +6,16 @@
 
 ghost use Rattle.std.specs.Prelude.{◌≡◌, ◌↔◌, ◌<◌, ◌≤◌, ℕ, Bool, List, length, map, not, slice_index, IfOk, OnErr};
 ghost use Rattle.std.specs.List.{All};
-ghost use Rattle.wq_groups.specs.Declaration.{declaration_of};
+ghost use Rattle.wq_groups.specs.Declaration.{Declaration, IsDeclaration, declaration_of};
+ghost use Rattle.wq_graph.specs.declared.arc.WaitArc.{WaitArc};
+ghost use Rattle.wq_core.specs.Workqueues.{Workqueues};
 ghost use Rattle.wq_items.specs.Chain.{HasCircle};
 ghost use Rattle.wq_graph.specs.Graph.{HasArc, group_graph, without};
 ghost use Rattle.wq_levels.specs.Ranks.{AreRanks};
 ghost use Rattle.wq_repair.specs.Marks.{IsMarked};
-ghost use Rattle.wq_repair.specs.Together.{IsHomeOf};
-ghost use Rattle.wq_repair.specs.Ready.{HoldsNeeded, IsReady, IsMinimal};
+ghost use Rattle.wq_repair.specs.Together.{IsAlone, IsHomeOf};
+ghost use Rattle.wq_repair.specs.Vertices.{AreVertices, AreHeads};
+ghost use Rattle.wq_repair.specs.Ready.{HoldsNeeded, IsReady, IsGraphOfNeeded, IsPutBack, IsKeptTogether, IsMinimal};
 ghost use Rattle.wq_repair.specs.Repair.{IsAnswer};
 
 use crate::answer::Answer;
@@ -165,7 +168,16 @@ fn put_back<A: Allocator + Copy>(
     old: &Workqueues<A>,
     scope: &Scope<A>,
     joined: &mut Joined<A>,
-) -> Result<Vec<bool, A>, AllocError> {
+) -> Result<Vec<bool, A>, AllocError>
+    requires vertices { AreVertices joined.old }
+    requires heads { AreHeads graph.now joined.old.at joined.old.heads }
+    requires ready { (d : Declaration) × (names : List ℕ) × (start : Workqueues) × IsDeclaration d
+        × IsReady d old.now names scope.now start × IsGraphOfNeeded d scope.now.needed graph.now
+        × (joined.old.at ≡ start.assignment.lane_of_group) }
+    ensures vertices { IfOk result (λ _. AreVertices joined.new) }
+    ensures heads { IfOk result (λ _. AreHeads graph.now joined.new.at joined.new.heads) }
+    ensures back { IfOk result (λ back. IsPutBack graph.now old.now scope.now joined.old.at joined.new.at back.items) }
+{
     let tried = tried_groups(alloc, old, scope)?;
     let ranks = ranks_of(alloc, graph)?;
     let by_rank = by_rank(alloc, ranks.as_slice())?;
@@ -181,7 +193,17 @@ fn keep_together<A: Allocator + Copy>(
     old: &Assignment<A>,
     leaves: &[bool],
     joined: &mut Joined<A>,
-) -> Result<(), AllocError> {
+) -> Result<(), AllocError>
+    requires few { length leaves.now ≤ 4096 }
+    requires one_each { length joined.old.at ≡ length old.now.lane_of_group }
+    requires leaves { length leaves.now ≡ length old.now.lane_of_group }
+    requires vertices { AreVertices joined.old }
+    requires alone { (g : ℕ) → IsMarked leaves.now g → IsAlone joined.old.at g }
+    ensures vertices { IfOk result (λ _. AreVertices joined.new) }
+    ensures together { IfOk result (λ _. (graph : List (List WaitArc)) →
+        AreHeads graph joined.old.at joined.old.heads →
+        IsKeptTogether graph old.now leaves.now joined.old.at joined.new.at) }
+{
     let out = listed(alloc, leaves)?;
     let mut none: Vec<Option<u16>, A> = vec![in alloc; None; usize::from(old.lanes())]?;
     put_together(alloc, joined, old, none.as_mut_slice(), out.as_slice())?;
