@@ -33,3 +33,4 @@ pub mod Lowered
 pub mod Ordered
 pub mod GivenLanes
 pub mod PutBack
+pub mod RepairedBy

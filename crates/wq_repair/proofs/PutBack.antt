@@ -12,8 +12,8 @@ use Rattle.wq_core.proofs.LaneCircles.{Circle-map}
 use Rattle.wq_deadlock.specs.Judging.{rescued_graph}
 use Rattle.wq_repair.specs.Changes.{lane_in}
 use Rattle.wq_repair.specs.Marks.{IsMarked, Marks}
-use Rattle.wq_repair.specs.Together.{Lists, ArcBetween, IsAlone, IsHomeOf, AreHomes}
-use Rattle.wq_repair.specs.Ready.{Scope, IsReady, IsGraphOfNeeded, IsTried, HoldsNeeded}
+use Rattle.wq_repair.specs.Together.{Lists, ArcBetween, IsAlone, IsHomeOf, AreHomes, IsAtHome}
+use Rattle.wq_repair.specs.Ready.{Scope, IsReady, IsGraphOfNeeded, IsTried, HoldsNeeded, IsButNot, IsPutBack}
 use Rattle.wq_repair.proofs.Joining.{no_circle-falls}
 use Rattle.wq_repair.proofs.StartsBy.{cases_marked}
 use Rattle.wq_repair.proofs.StartMade.{IsMarked-below}
@@ -66,6 +66,24 @@ module _ (d : Declaration) (old : Workqueues) (names : List ℕ) (s : Scope) (st
               | inl movable ↦ absurd (known.1.stays (subst (IsMarked s.movable) (ready.by.alone g k g_is (group_is q known.1) movable lanes) movable))
               | inr not ↦ (sym (ready.by.stay g g_is not) ∙ same ∙ known.0, λ there. not (order_movable g there).1)
             ]
+
+  -- who leaves is alone when all are put back
+  module _ (graph : List (List WaitArc)) (one : List ℕ) (back leaves : List Bool) (put : IsPutBack graph old s start.assignment.lane_of_group one back)
+      (are_leaving : Marks (IsButNot s.movable back) (length s.movable) leaves) where
+    not_home : (g : ℕ) → g < length s.movable → IsMarked s.movable g → (¬ IsMarked back g) → ¬ IsAtHome old.assignment.lane_of_group put.homes start.assignment.lane_of_group back g
+    not_home g is movable never (inl marked) = never marked
+    not_home g is movable never (inr home) =
+        let known = (put.are_homes (lane_in old g) (lane_in start g)).0 home in
+        let k : ℕ = known.1.group in
+        let k_is : k < length s.movable = omega (arith, known.1.is_group, ready.one_each, long) in
+        let same : lane_in start g ≡ lane_in start k = known.0 ∙ sym known.1.on ∙ sym (ready.by.stay k k_is known.1.stays) in
+        known.1.stays (subst (IsMarked s.movable) (ready.by.alone g k is k_is movable same) movable)
+
+    pub alone-leaving : (g : ℕ) → IsMarked leaves g → IsAlone one g
+    alone-leaving g marked =
+        let is : g < length s.movable = omega (arith, IsMarked-below leaves g marked, are_leaving.one_each) in
+        let parts = (are_leaving.exactly g is).0 marked in
+        put.together.alone g (omega (arith, is, start_long)) (λ h h_lt same. sym (ready.by.alone g h is (omega (arith, h_lt, start_long)) parts.0 (sym same))) (not_home g is parts.0 parts.1)
 
 -- an arc of the graph of groups is one between their vertices
 pub Circle-between : (graph : List (List WaitArc)) (at : List ℕ) → Circle (HasArc graph) → Circle (ArcBetween graph at)

@@ -242,6 +242,19 @@ module _ (d : Declaration) (old : Workqueues) (names : List ℕ) (s : Scope) (st
             start_needed g is (subst (IsRescued start) (two_same ∙ one_same) rescued)
       ]
 
+      others : (g : ℕ) → g < d.groups → IsMarked s.needed g → (¬ IsMarked leaves g) → IsRescued old (lane_in old g) ⊎ IsMarked s.given (lane_in old g)
+      others g is needs not = elim (back-staying g is not) [
+        | inl marked ↦ elim (order_tried g (first.only g marked)).1.1 [ inl given ↦ inr given | inr rescued ↦ inl rescued ]
+        | inr unmovable ↦ ready.by.only g (below g is) unmovable (subst (IsRescued start) (ready.by.stay g (below g is) unmovable) (ready.rescued g is needs))
+      ]
+
+      -- who stays has a rescuer, or is given one
+      pub fine-staying : (g : ℕ) → IsMarked stays g → IsRescued old (lane_in old g) ⊎ IsMarked s.given (lane_in old g)
+      fine-staying g marked =
+          let is = marked_below stays g are_staying.one_each marked in
+          let parts = (are_staying.exactly g is).0 marked in
+          others g is parts.0 parts.1
+
       -- ---- the vertices in the end as lanes
 
       abbrev merged : Workqueues
@@ -399,12 +412,6 @@ module _ (d : Declaration) (old : Workqueues) (names : List ℕ) (s : Scope) (st
                     | inr bare ↦ inl (bare, not)
                   ]
                 ]
-
-            others : (g : ℕ) → g < d.groups → IsMarked s.needed g → (¬ IsMarked leaves g) → IsRescued old (lane_in old g) ⊎ IsMarked s.given (lane_in old g)
-            others g is needs not = elim (back-staying g is not) [
-              | inl marked ↦ elim (order_tried g (first.only g marked)).1.1 [ inl given ↦ inr given | inr rescued ↦ inl rescued ]
-              | inr unmovable ↦ ready.by.only g (below g is) unmovable (subst (IsRescued start) (ready.by.stay g (below g is) unmovable) (ready.rescued g is needs))
-            ]
 
             leaving : AreLeaving d old names s.needed s.given leaves ranks new
             leaving = record {
