@@ -1,13 +1,15 @@
 -- The lists of vertices, made group by group.
-use Rattle.std.proofs.Common.{◌≡◌, ◌≢◌, ℕ, ◌+◌, ◌<◌, ◌≤◌, ◌⊎◌, ◌↔◌, inl, inr, List, [], ◌∷◌, ◌++◌, length, map, get_or, set, replicate, refl, sym, subst, ap, ◌∙◌, arith}
+use Rattle.std.proofs.Common.{◌≡◌, ◌≢◌, ℕ, ◌+◌, ◌<◌, ◌≤◌, ◌⊎◌, ◌↔◌, inl, inr, List, [], ◌∷◌, ◌++◌, length, map, get_or, set, replicate, refl, sym, subst, ap, ◌∙◌, lit≤, arith}
 use Rattle.std.specs.Prelude.{Contains, All, slice_index}
-use Rattle.std.proofs.lemmas.Bool.{cases_eq}
-use Rattle.std.proofs.lemmas.List.{get_or-set_same, get_or-set_other, get_or-replicate}
-use Rattle.std.proofs.lemmas.List.Elements.{Contains-append_left, Contains-append_right, Contains-append_cases}
+use Rattle.std.proofs.lemmas.Bool.{cases_eq, cases_lt}
+use Rattle.std.proofs.lemmas.List.{get_or-set_same, get_or-set_other, get_or-replicate, length-replicate, get_or_default}
+use Rattle.std.proofs.lemmas.List.Elements.{All-contains, Contains-get_or, Contains-append_left, Contains-append_right, Contains-append_cases}
 use Rattle.wq_graph.specs.declared.arc.WaitArc.{WaitArc}
 use Rattle.wq_graph.specs.Graph.{HasArc, arcs_at}
 use Rattle.wq_graph.proofs.ListLemmas.{Contains-map, Contains-from_map}
-use Rattle.wq_repair.specs.Vertices.{AreHeads, heads_at}
+use Rattle.wq_graph.specs.Graph.{IsGraph}
+use Rattle.wq_repair.specs.Vertices.{AreVertices, AreHeads, LeadsOn, heads_at}
+use Rattle.wq_repair.proofs.VertexLists.{past_end}
 
 -- the heads of a group's arcs
 heads_of : List (List WaitArc) → ℕ → List ℕ
@@ -17,9 +19,15 @@ heads_of graph g = map (λ (a : WaitArc). a.head) (arcs_at graph g)
 abbrev pub AreHeadsUpTo : List (List WaitArc) → List ℕ → List (List ℕ) → ℕ → Type 0
 AreHeadsUpTo graph at heads i = (p h : ℕ) → Contains (heads_at heads p) h ↔ ((g : ℕ) × (g < i) × (slice_index at g ≡ p) × HasArc graph g h)
 
+none_at : (n p : ℕ) → get_or (replicate n []) p [] ≡ []
+none_at n p = elim (cases_lt p n) [
+  | inl lt ↦ get_or-replicate n p [] [] lt
+  | inr le ↦ past_end (replicate n []) p [] (omega (arith, le, length-replicate n []))
+]
+
 pub AreHeadsUpTo-none : (graph : List (List WaitArc)) (at : List ℕ) (n : ℕ) → AreHeadsUpTo graph at (replicate n []) 0
 AreHeadsUpTo-none graph at n p h = (
-  (λ has. absurd (let bad : Contains [] h = subst (λ (l : List ℕ). Contains l h) (get_or-replicate n p []) has in omega (arith, bad.1))),
+  (λ has. absurd (let bad : Contains [] h = subst (λ (l : List ℕ). Contains l h) (none_at n p) has in omega (arith, bad.1))),
   (λ (g, lt, is, arc). absurd (omega (arith, lt))),
 )
 
@@ -71,3 +79,33 @@ AreHeadsUpTo-more graph at heads i are within p h = elim (cases_eq p q) [
 
 pub AreHeads-all : (graph : List (List WaitArc)) (at : List ℕ) (heads : List (List ℕ)) (i : ℕ) → length graph ≡ length at → AreHeadsUpTo graph at heads i → i ≡ length at → AreHeads graph at heads
 AreHeads-all graph at heads i same are all = record { one_each = same; listed = subst (AreHeadsUpTo graph at heads) all are }
+
+-- an arc leads to a group
+HasArc-to : (graph : List (List WaitArc)) → IsGraph graph → (g h : ℕ) → HasArc graph g h → h < length graph
+HasArc-to graph is g h (k, a, lt, at, head) = elim (cases_lt g (length graph)) [
+  | inl inside ↦ subst (λ (x : ℕ). x < length graph) head (subst (λ (b : WaitArc). b.head < length graph) at (is.heads g [] inside k a lt))
+  | inr past ↦ absurd (omega (arith, lt, ap length (past_end graph g [] past)))
+]
+
+-- the vertices at first
+pub AreVertices-first : (graph : List (List WaitArc)) (at : List ℕ) (heads : List (List ℕ)) (heights : List ℕ) → IsGraph graph → AreHeads graph at heads
+    → length heads ≤ 4096 → All (λ p. p < length heads) at → length heights ≡ length heads
+    → ((g h : ℕ) → HasArc graph g h → slice_index heights (slice_index at h) < slice_index heights (slice_index at g)) → All (λ r. r ≤ 65535) heights
+    → AreVertices (record { at = at; heads = heads; heights = heights; top = 65535 })
+AreVertices-first graph at heads heights is are few within one_each falls low = record {
+  few = few;
+  within = within;
+  heads_within = λ p d lt k e inside.
+      let h : ℕ = get_or (get_or heads p d) k e in
+      let same : get_or heads p d ≡ heads_at heads p = get_or_default heads p d [] lt in
+      let has : Contains (heads_at heads p) h = subst (λ (l : List ℕ). Contains l h) same (Contains-get_or (get_or heads p d) k e inside) in
+      let arc = (are.listed p h).0 has in
+      let below : h < length graph = HasArc-to graph is arc.0 h arc.3 in
+      omega (arith, below, are.one_each);
+  one_each = one_each;
+  falls = λ p q (h, has, to).
+      let arc = (are.listed p h).0 has in
+      subst (λ (x : ℕ). slice_index heights x < slice_index heights p) to (subst (λ (x : ℕ). slice_index heights (slice_index at h) < slice_index heights x) arc.2 (falls arc.0 h arc.3));
+  low = low;
+  top = lit≤ tt;
+}

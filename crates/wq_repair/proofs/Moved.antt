@@ -8,7 +8,7 @@ use Rattle.wq_items.specs.Chain.{Circle}
 use Rattle.wq_graph.specs.declared.arc.WaitArc.{WaitArc}
 use Rattle.wq_graph.specs.Graph.{HasArc}
 use Rattle.wq_repair.specs.Joined.{become}
-use Rattle.wq_repair.specs.Vertices.{Vertices, AreVertices, LeadsOn, LeadsTo, AreHeads, heads_at, heads_moved}
+use Rattle.wq_repair.specs.Vertices.{Vertices, AreVertices, LeadsOn, LeadsTo, AreHeads, IsJoined, IsLevelled, heads_at, heads_moved}
 use Rattle.wq_repair.specs.Together.{IsAlone}
 use Rattle.wq_repair.proofs.Joining.{Circle-closed}
 use Rattle.wq_repair.proofs.Levelled.{LeadsOn-from}
@@ -180,3 +180,43 @@ AreVertices-moved v g p are g_is p_is apart alone level = record {
       let one : slice_index v.heights x ≡ slice_index v.heights was.0 = ap (slice_index v.heights) (sym was.3) ∙ height was.0 in
       let two : slice_index v.heights y ≡ slice_index v.heights was.1 = ap (slice_index v.heights) (sym was.4) ∙ height was.1 in
       omega (arith, one, two, are.falls was.0 was.1 was.2)
+
+-- a group is to come to vertex p; `own` is its vertex
+module _ (v k m : Vertices) (g p own : ℕ) (are : AreVertices v) (g_is : g < length v.at) (p_is : p < length v.heads) (apart : slice_index v.at g ≢ p) (alone : IsAlone v.at g)
+    (at_k : k.at ≡ v.at) (heads_k : k.heads ≡ v.heads) (own_is : own ≡ slice_index k.at g) where
+  own_v : own ≡ slice_index v.at g
+  own_v = own_is ∙ ap (λ (l : List ℕ). slice_index l g) at_k
+
+  abbrev Either : List ℕ → List (List ℕ) → ℕ → Type 0
+  Either at heads o = LeadsTo (LeadsOn at heads) o p ⊎ LeadsTo (LeadsOn at heads) p o
+
+  -- one leads to the other
+  pub IsJoined-not : IsLevelled k own p false m → IsJoined v g p false m
+  IsJoined-not level =
+      let leads : Either v.at v.heads (slice_index v.at g) =
+      subst (Either v.at v.heads) own_v (subst (λ (h : List (List ℕ)). Either v.at h own) heads_k (subst (λ (a : List ℕ). Either a k.heads own) at_k (level.no refl))) in
+      record {
+        vertices = level.vertices;
+        yes = λ is. absurd (false≢true is);
+        no = λ is. (level.at ∙ at_k, level.heads ∙ heads_k, Circle-moved v.at v.heads g p g_is p_is are.within are.heads_within apart alone leads);
+      }
+
+  -- neither does
+  pub IsJoined-put : (new : Vertices) → IsLevelled k own p true m
+      → new ≡ record { at = set m.at g p; heads = heads_moved m.heads (slice_index m.at g) p; heights = m.heights; top = m.top } → IsJoined v g p true new
+  IsJoined-put new level is =
+      let at_m : m.at ≡ v.at = level.at ∙ at_k in
+      let heads_m : m.heads ≡ v.heads = level.heads ∙ heads_k in
+      let own_m : own ≡ slice_index m.at g = own_v ∙ ap (λ (l : List ℕ). slice_index l g) (sym at_m) in
+      let apart_m : slice_index m.at g ≢ p = λ same. apart (ap (λ (l : List ℕ). slice_index l g) (sym at_m) ∙ same) in
+      let alone_m : IsAlone m.at g = subst (λ (l : List ℕ). IsAlone l g) (sym at_m) alone in
+      let level_m : slice_index m.heights (slice_index m.at g) ≡ slice_index m.heights p = ap (slice_index m.heights) (sym own_m) ∙ level.yes refl in
+      let moved = AreVertices-moved m g p level.vertices (omega (arith, g_is, ap length at_m)) (omega (arith, p_is, ap length heads_m)) apart_m alone_m level_m in
+      subst (IsJoined v g p true) (sym is) (record {
+        vertices = moved;
+        yes = λ so. (
+          ap (λ (l : List ℕ). set l g p) at_m,
+          ap (λ (h : List (List ℕ)). heads_moved h (slice_index m.at g) p) heads_m ∙ ap (λ (l : List ℕ). heads_moved v.heads (slice_index l g) p) at_m,
+        );
+        no = λ not. absurd (false≢true (sym not));
+      })

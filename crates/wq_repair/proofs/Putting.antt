@@ -463,19 +463,19 @@ module _ (lane_of : List ℕ) (v : Vertices) (homes0 : List (Option ℕ)) (order
           go (Some p) at =
               let done = put.some p at in
               subst (λ (x : List (Option ℕ)). IsPutting (i + 1) (set marks g b) x new) (sym done.1) (elim (cases_Bool b) [
-                | inl yes ↦
-                    let so = done.0.yes yes in
+                | inl is_so ↦
+                    let so = done.0.yes is_so in
                     let same : new ≡ record { at = set j.at g p; heads = heads_moved j.heads (slice_index j.at g) p; heights = new.heights; top = new.top } =
                     ap (λ (l : List ℕ). record { at = l; heads = new.heads; heights = new.heights; top = new.top }) so.0
                     ∙ ap (λ (l : List (List ℕ)). record { at = set j.at g p; heads = l; heights = new.heights; top = new.top }) so.1 in
-                    subst (λ (x : Bool). IsPutting (i + 1) (set marks g x) homes new) (sym yes)
+                    subst (λ (x : Bool). IsPutting (i + 1) (set marks g x) homes new) (sym is_so)
                     (subst (IsPutting (i + 1) (set marks g true) homes) (sym same) (IsPutting-joined p at new.heights new.top (subst AreVertices same done.0.vertices)))
-                | inr no ↦
-                    let so = done.0.no no in
+                | inr is_not ↦
+                    let so = done.0.no is_not in
                     let same : new ≡ record { at = j.at; heads = j.heads; heights = new.heights; top = new.top } =
                     ap (λ (l : List ℕ). record { at = l; heads = new.heads; heights = new.heights; top = new.top }) so.0
                     ∙ ap (λ (l : List (List ℕ)). record { at = j.at; heads = l; heights = new.heights; top = new.top }) so.1 in
-                    subst (λ (x : Bool). IsPutting (i + 1) (set marks g x) homes new) (sym no)
+                    subst (λ (x : Bool). IsPutting (i + 1) (set marks g x) homes new) (sym is_not)
                     (subst (IsPutting (i + 1) (set marks g false) homes) (sym same) (IsPutting-in_vain p at new.heights new.top (subst AreVertices same done.0.vertices) so.2))
               ])
 

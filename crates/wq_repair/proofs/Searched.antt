@@ -178,7 +178,7 @@ module _ (at : List ℕ) (heads : List (List ℕ)) (from : ℕ) (before : List B
   IsSearching-at = All-contains (λ x. x < length before) s.found p is.below (subst (λ (l : List ℕ). Contains l p) (sym taken) (Contains-push t.found p))
 
   module _ (within : All (λ h. slice_index at h < length before) (heads_at heads p)) where
-    next : Search
+    abbrev next : Search
     next = with_all_found at t (heads_at heads p)
 
     long : length t.marks ≡ length before

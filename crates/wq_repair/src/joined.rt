@@ -130,7 +130,8 @@ fn lanes_of_groups<A: Allocator + Copy>(
 
 /// These numbers as heights.
 fn as_heights<A: Allocator + Copy>(alloc: A, ranks: &[u16]) -> Result<Vec<u64, A>, AllocError>
-    ensures { IfOk result (λ heights. heights.items ≡ ranks.now) }
+    ensures heights { IfOk result (λ heights. heights.items ≡ ranks.now) }
+    ensures low { IfOk result (λ heights. All (λ h. h ≤ 65535) heights.items) }
 {
     let mut heights = Vec::with_capacity(alloc, ranks.len())?;
     for rank in ranks {
