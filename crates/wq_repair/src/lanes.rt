@@ -6,6 +6,7 @@ ghost use Rattle.std.specs.Prelude.{◌≡◌, ◌+◌, ◌-◌, ◌<◌, ◌≤
 ghost use Rattle.std.specs.List.{All};
 ghost use Rattle.wq_repair.specs.Lanes.{nth_lane, AreFree, AreOwnLanes, AreBareNow};
 
+use crate::listing::either;
 use std::alloc::{AllocError, Allocator};
 use wq_core::Workqueues;
 use wq_groups::{Assignment, GroupId, LaneId};
@@ -86,8 +87,7 @@ pub(crate) fn bare_now<A: Allocator + Copy>(
         let own = old.assignment().lane(GroupId::new(group as u16));
         let is_given = given[usize::from(own.get())];
         let lane = usize::from(lane_of[group].get());
-        let gives = *does_come | is_given;
-        if !gives {
+        if !either(*does_come, is_given) {
             continue;
         }
         if bare.len() <= lane {

@@ -2,7 +2,7 @@
 //!
 //! It takes time in their length.
 
-ghost use Rattle.std.specs.Prelude.{◌≡◌, ◌≤◌, length, IfOk};
+ghost use Rattle.std.specs.Prelude.{◌≡◌, ◌≤◌, ◌↔◌, ◌⊎◌, true, length, IfOk, IsTrue};
 ghost use Rattle.wq_repair.specs.Together.{Lists};
 
 use std::alloc::{AllocError, Allocator};
@@ -23,4 +23,11 @@ pub(crate) fn listed<A: Allocator + Copy>(
         listed.push(number as u16)?;
     }
     Ok(listed)
+}
+
+/// Whether one of the two holds.
+pub(crate) fn either(one: bool, other: bool) -> bool
+    ensures { IsTrue result ↔ ((one ≡ true) ⊎ (other ≡ true)) }
+{
+    one || other
 }

@@ -44,10 +44,11 @@ impl<A: Allocator + Copy> Found<A> {
         ensures { IfOk result (λ _. HasGrown self.old self.new (λ g. g ≡ group)) }
     {
         let at = usize::from(group);
-        if !self.marks[at] {
-            self.marks[at] = true;
-            self.list.push(group)?;
+        if self.marks[at] {
+            return Ok(());
         }
+        self.marks[at] = true;
+        self.list.push(group)?;
         Ok(())
     }
 
@@ -110,7 +111,8 @@ impl<A: Allocator + Copy> Found<A> {
         if !lanes[usize::from(lane.get())] {
             return Ok(());
         }
-        self.add_lane(on.places(lane.get()))
+        self.add_lane(on.places(lane.get()))?;
+        Ok(())
     }
 }
 

@@ -8,6 +8,7 @@ ghost use Rattle.wq_repair.specs.Marks.{Marks};
 ghost use Rattle.wq_repair.specs.Steps.{IsToBeGiven, IsMovable};
 ghost use Rattle.wq_repair.specs.Ready.{IsTried, IsButNot};
 
+use crate::listing::either;
 use crate::start::{given_lanes, movable_groups};
 use std::alloc::{AllocError, Allocator};
 use std::marker::Model;
@@ -74,7 +75,7 @@ pub(crate) fn tried_groups<A: Allocator + Copy>(
         let lane = old.assignment().lane(GroupId::new(group as u16));
         let is_given = scope.given[usize::from(lane.get())];
         let is_rescued = !old.is_bare(lane);
-        tried.push(*is_movable & (is_given | is_rescued))?;
+        tried.push(*is_movable && either(is_given, is_rescued))?;
     }
     Ok(tried)
 }

@@ -30,7 +30,7 @@ pub(crate) fn given_lanes<A: Allocator + Copy>(
     let mut given = Vec::with_capacity(alloc, named_lanes.len())?;
     for (lane, is_named) in named_lanes.iter().enumerate() {
         let is_bare = workqueues.is_bare(LaneId::new(lane as u16));
-        given.push(*is_named & is_bare)?;
+        given.push(*is_named && is_bare)?;
     }
     for (group, is_needed) in needed.iter().enumerate() {
         if *is_needed {
