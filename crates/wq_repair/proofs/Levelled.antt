@@ -142,3 +142,18 @@ Marks-not_higher heights marks low low_is long done = record {
     )
   ];
 }
+
+-- the same, where the difference and the marks have other names
+pub AreVertices-raise : (v : Vertices) → AreVertices v → (high low : ℕ) → high < length v.heads → low < length v.heads → slice_index v.heights low < slice_index v.heights high
+    → (before marks shown : List Bool) → Marks (IsNotHigher v.heights low) (length v.heights) before → HasSearched v.at v.heads high low before marks → shown ≡ marks
+    → (heights : List ℕ) (d : ℕ) → d ≡ slice_index v.heights high - slice_index v.heights low → length heights ≡ length v.heights
+    → ((k : ℕ) → k < length v.heights → slice_index heights k ≡ raised v.heights shown high d k) → v.top ≤ 2 ^ 62
+    → AreVertices (record { at = v.at; heads = v.heads; heights = heights; top = v.top + d }) × (slice_index heights low ≡ slice_index heights high)
+AreVertices-raise v are high low high_is low_is higher before marks shown are_before searched same heights d d_is long is top =
+    let now : (k : ℕ) → k < length v.heights → slice_index heights k ≡ raised v.heights marks high (slice_index v.heights high - slice_index v.heights low) k = λ k lt.
+      is k lt ∙ ap (λ (m : List Bool). raised v.heights m high d k) same ∙ ap (λ (n : ℕ). raised v.heights marks high n k) d_is in
+    (
+      subst (λ (n : ℕ). AreVertices (record { at = v.at; heads = v.heads; heights = heights; top = v.top + n })) (sym d_is)
+      (AreVertices-raised v are high low high_is low_is higher before marks are_before searched heights long now top),
+      now low (omega (arith, low_is, are.one_each)) ∙ level-raised v are high low high_is low_is higher before marks are_before searched ∙ sym (now high (omega (arith, high_is, are.one_each))),
+    )

@@ -19,10 +19,10 @@ heads_of graph g = map (λ (a : WaitArc). a.head) (arcs_at graph g)
 abbrev pub AreHeadsUpTo : List (List WaitArc) → List ℕ → List (List ℕ) → ℕ → Type 0
 AreHeadsUpTo graph at heads i = (p h : ℕ) → Contains (heads_at heads p) h ↔ ((g : ℕ) × (g < i) × (slice_index at g ≡ p) × HasArc graph g h)
 
-none_at : (n p : ℕ) → get_or (replicate n []) p [] ≡ []
+none_at : (n p : ℕ) → heads_at (replicate n []) p ≡ []
 none_at n p = elim (cases_lt p n) [
-  | inl lt ↦ get_or-replicate n p [] [] lt
-  | inr le ↦ past_end (replicate n []) p [] (omega (arith, le, length-replicate n []))
+  | inl lt ↦ get_or-replicate {A = List ℕ} n p [] [] lt
+  | inr le ↦ past_end (replicate n []) p [] (omega (arith, le, length-replicate {A = List ℕ} n []))
 ]
 
 pub AreHeadsUpTo-none : (graph : List (List WaitArc)) (at : List ℕ) (n : ℕ) → AreHeadsUpTo graph at (replicate n []) 0

@@ -1,8 +1,8 @@
 -- Groups are put together one after the other: what holds after each.
-use Rattle.std.proofs.Common.{◌≡◌, ◌≢◌, ℕ, ◌+◌, ◌<◌, ◌≤◌, ◌⊎◌, inl, inr, Bool, true, false, List, [], ◌∷◌, ◌++◌, length, take, get_or, set, refl, sym, subst, ap, ◌∙◌, arith}
+use Rattle.std.proofs.Common.{◌≡◌, ◌≢◌, ℕ, ◌+◌, ◌<◌, ◌≤◌, ◌⊎◌, inl, inr, Bool, true, false, List, [], ◌∷◌, ◌++◌, length, take, replicate, get_or, set, refl, sym, subst, ap, ◌∙◌, arith}
 use Rattle.std.specs.Prelude.{Contains, All, Option, None, Some, slice_index, slice_index_or}
 use Rattle.std.proofs.lemmas.Bool.{cases_eq, cases_lt, cases_Bool, false≢true}
-use Rattle.std.proofs.lemmas.List.{length-set, get_or-set_same, get_or-set_other, get_or_default, length-take-le, get_or-take, take_more}
+use Rattle.std.proofs.lemmas.List.{length-set, get_or-set_same, get_or-set_other, get_or_default, length-take-le, get_or-take, take_more, get_or-replicate, length-replicate}
 use Rattle.std.proofs.Math.Seq.{take-length}
 use Rattle.std.proofs.lemmas.List.Elements.{Contains-get_or, Contains-append_left, Contains-push, Contains-push_cases}
 use Rattle.wq_items.specs.Chain.{IsChain, Circle, Repeats}
@@ -31,6 +31,14 @@ last_before order i lt = subst (λ (l : List ℕ). Contains l (slice_index order
 
 pub cases_before : (order : List ℕ) (i h : ℕ) → i < length order → Contains (take (i + 1) order) h → Contains (take i order) h ⊎ (slice_index order i ≡ h)
 cases_before order i h lt has = Contains-push_cases (take i order) (slice_index order i) h (subst (λ (l : List ℕ). Contains l h) (take_more order i 0 lt) has)
+
+-- nothing is marked at first
+pub marks-none : (marks : List Bool) (n : ℕ) → marks ≡ replicate n false → (g : ℕ) → ¬ IsMarked marks g
+marks-none marks n same g is = false≢true (sym (none (cases_lt g n)) ∙ ap (λ (l : List Bool). get_or l g false) (sym same) ∙ is)
+  where
+    none : ((g < n) ⊎ (n ≤ g)) → get_or (replicate n false) g false ≡ false
+    none (inl lt) = get_or-replicate n g false false lt
+    none (inr le) = past_end (replicate n false) g false (omega (arith, le, length-replicate n false))
 
 -- ---- arcs between vertices
 

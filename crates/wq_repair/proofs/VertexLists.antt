@@ -30,3 +30,10 @@ pub heads_at-read : {A : Type 0} (lists : List (Vec ℕ A)) (p n : ℕ) (read : 
 heads_at-read {A = A} lists p n read same is inside =
     let items : Vec ℕ A → List ℕ = λ (l : Vec ℕ A). l.items in
     ap items (is ∙ ap (λ (k : ℕ). get_or lists k read) same) ∙ sym (get_or-map items lists p read [] inside)
+
+-- what holds of all that is listed holds of what is in the vectors
+pub lists-all : {A : Type 0} (lists : List (Vec ℕ A)) (n : ℕ) → All (λ (list : List ℕ). All (λ h. h < n) list) (map (λ (l : Vec ℕ A). l.items) lists)
+    → All (λ (l : Vec ℕ A). All (λ h. h < n) l.items) lists
+lists-all {A = A} lists n within k d lt =
+    let items : Vec ℕ A → List ℕ = λ (l : Vec ℕ A). l.items in
+    subst (All (λ h. h < n)) (get_or-map items lists k d [] lt) (within k [] (omega (arith, lt, length-map lists items)))
