@@ -153,11 +153,13 @@ fn groups_on_lanes<A: Allocator + Copy>(
     ensures on { IfOk result (λ on. (q g : ℕ) → Contains (slice_index_or on q []) g
         ↔ ((g < groups) × (slice_index assignment.now.lane_of_group g ≡ q))) }
 {
+    let count = assignment.lanes();
     let mut lanes = Vec::with_capacity(alloc, usize::from(groups))?;
     for group in 0..groups {
         lanes.push(assignment.lane(GroupId::new(group)).get())?;
     }
-    Buckets::new(alloc, lanes.as_slice(), assignment.lanes())
+    let on = Buckets::new(alloc, lanes.as_slice(), count)?;
+    Ok(on)
 }
 
 /// For each group whether it needs a rescuer, if only the groups of these items may move.
