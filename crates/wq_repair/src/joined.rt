@@ -231,10 +231,11 @@ impl<A: Allocator + Copy> Joined<A> {
         requires own { slice_index self.old.at group < length self.old.heads }
         requires vertex { vertex < length self.old.heads }
         ensures { IfOk result (λ _. self.new ≡ record {
-            at = slice_set self.old.at group vertex;
-            heads = heads_moved self.old.heads (slice_index self.old.at group) vertex;
-            heights = self.old.heights;
-            top = self.old.top }) }
+          at = slice_set self.old.at group vertex;
+          heads = heads_moved self.old.heads (slice_index self.old.at group) vertex;
+          heights = self.old.heights;
+          top = self.old.top;
+        }) }
     {
         let own = self.vertex_of[usize::from(group)];
         move_heads(alloc, &mut self.heads, own, vertex)?;
