@@ -34,13 +34,13 @@ raised_cases heights marks high difference k = elim (cases_Bool (slice_index_or 
     | inl same ↦ inr (inl (
       eqb-true k high same,
       ap (λ (b : Bool). if b || (k == high) then slice_index heights k else slice_index heights k + difference) not
-      ∙ ap (λ (b : Bool). if b then slice_index heights k else slice_index heights k + difference) same,
+          ∙ ap (λ (b : Bool). if b then slice_index heights k else slice_index heights k + difference) same,
     ))
     | inr other ↦ inr (inr (
       (λ is. false≢true (sym not ∙ is)),
       (λ same. false≢true (sym other ∙ eq-eqb k high same)),
       ap (λ (b : Bool). if b || (k == high) then slice_index heights k else slice_index heights k + difference) not
-      ∙ ap (λ (b : Bool). if b then slice_index heights k else slice_index heights k + difference) other,
+          ∙ ap (λ (b : Bool). if b then slice_index heights k else slice_index heights k + difference) other,
     ))
   ]
 ]
@@ -151,9 +151,8 @@ pub AreVertices-raise : (v : Vertices) → AreVertices v → (high low : ℕ) �
     → AreVertices (record { at = v.at; heads = v.heads; heights = heights; top = v.top + d }) × (slice_index heights low ≡ slice_index heights high)
 AreVertices-raise v are high low high_is low_is higher before marks shown are_before searched same heights d d_is long is top =
     let now : (k : ℕ) → k < length v.heights → slice_index heights k ≡ raised v.heights marks high (slice_index v.heights high - slice_index v.heights low) k = λ k lt.
-      is k lt ∙ ap (λ (m : List Bool). raised v.heights m high d k) same ∙ ap (λ (n : ℕ). raised v.heights marks high n k) d_is in
-    (
+    is k lt ∙ ap (λ (m : List Bool). raised v.heights m high d k) same ∙ ap (λ (n : ℕ). raised v.heights marks high n k) d_is in (
       subst (λ (n : ℕ). AreVertices (record { at = v.at; heads = v.heads; heights = heights; top = v.top + n })) (sym d_is)
-      (AreVertices-raised v are high low high_is low_is higher before marks are_before searched heights long now top),
+          (AreVertices-raised v are high low high_is low_is higher before marks are_before searched heights long now top),
       now low (omega (arith, low_is, are.one_each)) ∙ level-raised v are high low high_is low_is higher before marks are_before searched ∙ sym (now high (omega (arith, high_is, are.one_each))),
     )

@@ -201,8 +201,7 @@ module _ (lane_of : List ℕ) (v : Vertices) (homes0 : List (Option ℕ)) (order
       pub home-next : (p : ℕ) → IsHomeOf homes q p → (p < length j.heads) × (slice_index j.at g ≢ p)
       home-next p at =
           let one = is.some q p at in
-          let one_in : one.0 < length j.at = omega (arith, one.1, is.groups_each) in
-          (
+          let one_in : one.0 < length j.at = omega (arith, one.1, is.groups_each) in (
             subst (λ (x : ℕ). x < length j.heads) one.2 (is.vertices.within one.0 0 one_in),
             (λ same. unsettled (subst (Home marks) (IsAlone-next one.0 one_in (one.2 ∙ sym same)) one.3)),
           )

@@ -5,9 +5,8 @@
 //! become one. Putting a group to a vertex takes time in the number of vertices, and of the waits between their heights;
 //! memory in the number of vertices.
 
-ghost use Rattle.std.specs.Prelude.{◌≡◌, ◌≢◌, ℕ, ◌+◌, ◌-◌, ◌*◌, ◌^◌, ◌<◌, ◌≤◌, ◌⊎◌, ◌++◌, [], length, map, replicate, List, slice_index, slice_index_or, slice_set, Contains, None, Some, IfOk};
+ghost use Rattle.std.specs.Prelude.{◌≡◌, ◌≢◌, ℕ, ◌+◌, ◌-◌, ◌*◌, ◌^◌, ◌<◌, ◌≤◌, ◌⊎◌, ◌++◌, [], length, map, replicate, List, slice_index, slice_index_or, slice_set, AllPairs, Contains, None, Some, IfOk};
 ghost use Rattle.std.specs.List.{All};
-ghost use Rattle.wq_items.specs.Chain.{Repeats};
 ghost use Rattle.wq_groups.specs.Assignment.{group_lane};
 ghost use Rattle.wq_graph.specs.Graph.{HasArc};
 ghost use Rattle.wq_graph.specs.declared.arc.WaitArc.{WaitArc};
@@ -232,10 +231,11 @@ impl<A: Allocator + Copy> Joined<A> {
         requires own { slice_index self.old.at group < length self.old.heads }
         requires vertex { vertex < length self.old.heads }
         ensures { IfOk result (λ _. self.new ≡ record {
-            at = slice_set self.old.at group vertex;
-            heads = heads_moved self.old.heads (slice_index self.old.at group) vertex;
-            heights = self.old.heights;
-            top = self.old.top }) }
+          at = slice_set self.old.at group vertex;
+          heads = heads_moved self.old.heads (slice_index self.old.at group) vertex;
+          heights = self.old.heights;
+          top = self.old.top;
+        }) }
     {
         let own = self.vertex_of[usize::from(group)];
         move_heads(alloc, &mut self.heads, own, vertex)?;
@@ -303,7 +303,7 @@ pub(crate) fn put_together<A: Allocator + Copy>(
     requires one_each { length joined.old.at ≡ length old.now.lane_of_group }
     requires lanes { length homes.old ≡ old.now.lanes }
     requires order { All (λ g. g < length joined.old.at) order.now }
-    requires once { ¬ Repeats order.now }
+    requires once { AllPairs (λ (j k : ℕ). j ≢ k) order.now }
     requires alone { (g : ℕ) → Contains order.now g → IsAlone joined.old.at g }
     requires homes { AreHomes old.now.lane_of_group homes.old order.now joined.old.at }
     ensures vertices { IfOk result (λ _. AreVertices joined.new) }

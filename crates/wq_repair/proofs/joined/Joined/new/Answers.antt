@@ -19,7 +19,7 @@ returns-clause-vertices g c =
     let are : AreHeads graph at heads = subst (λ (l : List ℕ). AreHeads graph l heads) c.deref.ensures.value c.in_ok-heads.ensures.heads in
     let within : All (λ p. p < length heads) at = subst (λ (l : List ℕ). All (λ p. p < length heads) l) (sym same) (subst (λ (n : ℕ). All (λ p. p < n) lanes) (sym count) c.lanes-lanes.ensures.within) in
     let falls : (x y : ℕ) → HasArc graph x y → slice_index heights (slice_index at y) < slice_index heights (slice_index at x) = λ x y arc.
-      subst (λ (l : List ℕ). slice_index heights (slice_index l y) < slice_index heights (slice_index l x)) (sym same)
-      (subst (λ (l : List ℕ). slice_index l (slice_index lanes y) < slice_index l (slice_index lanes x)) (sym c.in_ok-heights.ensures.heights) (c.requires.falls x y arc)) in
+    subst (λ (l : List ℕ). slice_index heights (slice_index l y) < slice_index heights (slice_index l x)) (sym same)
+    (subst (λ (l : List ℕ). slice_index l (slice_index lanes y) < slice_index l (slice_index lanes x)) (sym c.in_ok-heights.ensures.heights) (c.requires.falls x y arc)) in
     AreVertices-first graph at heads heights c.vertices-vertices.ensures.graph are (omega (arith, count, c.lanes-lanes.ensures.lanes, c.lanes-lanes.ensures.few)) within
     (ap length c.in_ok-heights.ensures.heights ∙ c.requires.ranks ∙ sym count) falls c.in_ok-heights.ensures.low
