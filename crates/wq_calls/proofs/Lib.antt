@@ -1,0 +1,5 @@
+pub mod Refusals
+pub mod Queueing
+pub mod Flushing
+pub mod Starting
+pub mod Waking

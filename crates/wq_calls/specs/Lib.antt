@@ -1,0 +1,3 @@
+pub use Rattle.wq_history.specs.Book
+pub use Rattle.wq_held.specs.Locked
+pub mod Calls
