@@ -41,11 +41,11 @@ start-some old new c i = (
   (λ now.
       let row : Row = now.0 in
       let same : now.2.0.0 ≡ i = same-started c.lane c.helper i now.2.0.0 (sym now.2.0.2 ∙ now.1) in
-      let as : Appends old new (start_event c.lane c.helper i) row.yes row.number =
+      let started : Appends old new (start_event c.lane c.helper i) row.yes row.number =
       appends-as old new row.event (start_event c.lane c.helper i) row.yes row.yes row.number row.number now.1 refl refl now.2.1 in
-      let yes : row.yes ≡ true = start-yes old.wiring old.rows c.lane c.helper i row.yes row.number as.may in (
+      let yes : row.yes ≡ true = start-yes old.wiring old.rows c.lane c.helper i row.yes row.number started.may in (
         subst (λ (k : ℕ). IsNext old c.lane k) same now.2.0.1,
-        (row.number, subst (λ (k : Bool). Appends old new (start_event c.lane c.helper i) k row.number) yes as),
+        (row.number, subst (λ (k : Bool). Appends old new (start_event c.lane c.helper i) k row.number) yes started),
       )),
 )
 

@@ -21,16 +21,16 @@ use Rattle.wq_history.specs.declared.sleepers.Sleepers.TheVariants.{Contexts, It
 use Rattle.wq_history.specs.declared.sleepers.Wake.{Wake}
 use Rattle.wq_history.specs.Events.{ask_event, told_event, start_event, wait_event, over_event, finish_event}
 use Rattle.wq_history.specs.History.{asks_waiting, IsThere}
-use Rattle.wq_history.specs.Book.{BookView, state, Appends, LacksRows, LaneRuns, IsAwake, IsWaitingBy, IsNext, HasNothingToStart, IsWrongToStart, IsNotAwake}
+use Rattle.wq_history.specs.Book.{BookView, state, free, Appends, LacksRows, LaneRuns, IsAwake, IsWaitingBy, IsNext, HasNothingToStart, IsWrongToStart, IsNotAwake}
 use Rattle.wq_history.specs.Waits.{IsMet, EndOf, nobody, one_context, every_context, WakesBy}
 use Rattle.wq_held.specs.declared.fault.CallError.{CallError}
 use Rattle.wq_held.specs.declared.fault.CallError.TheVariants.{HistoryFull, Closed, Undeclared, TooManyWaits, WrongLane, NotAsked, NoItem}
 use Rattle.wq_held.specs.Locked.{HeldView, SeatHasRoom, seat_rows, RunsItem, WaitsFor}
 use Rattle.wq_calls.specs.declared.call.Flush.{Flush}
 use Rattle.wq_calls.specs.declared.call.Call.{Call}
-use Rattle.wq_calls.specs.declared.call.Call.TheVariants.{Queue, Cancel, Ask, Told, Start, Wait, Over, Finish, Close, Drain}
+use Rattle.wq_calls.specs.declared.call.Call.TheVariants.{Queue, Cancel, Ask, Told, CancelSync, Start, Wait, Over, Finish, Close, Drain}
 use Rattle.wq_calls.specs.declared.call.Reply.{Reply}
-use Rattle.wq_calls.specs.declared.call.Reply.TheVariants.{Wrote, Done, NotYet}
+use Rattle.wq_calls.specs.declared.call.Reply.TheVariants.{Wrote, WroteTwo, Done, NotYet}
 
 -- ---- what calls are about
 
@@ -77,6 +77,12 @@ abbrev pub RefusesToTell : BookView → Subject → CallError → Type 0
 RefusesToTell b x NotAsked = asks_waiting x b.rows ≡ 0
 RefusesToTell b x _ = ⊥
 
+-- an ask and a cancellation: there is no such item (66); fewer than 3 rows are free (60)
+abbrev pub RefusesToCancelSync : BookView → ℕ → CallError → Type 0
+RefusesToCancelSync b i NoItem = items b.wiring ≤ i
+RefusesToCancelSync b i HistoryFull = (i < items b.wiring) × (free b < 3)
+RefusesToCancelSync b i _ = ⊥
+
 -- a wait: there is no such context, it runs nothing, or that waits (64); what runs declares no such flush (62); it has made as many
 -- waits as its item declares flushes, of both kinds (63)
 abbrev pub RefusesToWait : BookView → Context → Flush → CallError → Type 0
@@ -99,6 +105,7 @@ Refuses b (Queue i) e = RefusesToQueue b i e
 Refuses b (Cancel i) e = RefusesToCancel b i e
 Refuses b (Ask x) e = RefusesToAsk b x e
 Refuses b (Told x mark) e = RefusesToTell b x e
+Refuses b (CancelSync i) e = RefusesToCancelSync b i e
 Refuses b (Start c) e = RefusesIf (IsWrongToStart b c.lane c.helper) e
 Refuses b (Wait c f) e = RefusesToWait b c f e
 Refuses b (Over c f) e = RefusesIf (¬ WaitsFor b c.lane c.helper f.whole f.target) e
@@ -108,19 +115,30 @@ Refuses b Drain e = ⊥
 
 -- ---- what is replied, and the book after
 
--- the row that a call writes: what happened. Of a closed book nothing is queued; a start is of the first pending entry whose item
+-- the row that a call writes, if it writes just one: what happened. Of a closed book nothing is queued; a start is of the first pending entry whose item
 -- doesn't run; and who is told has the mark of its ask
 abbrev pub IsRowOf : BookView → Call → Row → Type 0
 IsRowOf b (Queue i) row = (row.event ≡ QueueEvent i) × (b.closed ≡ false)
 IsRowOf b (Cancel i) row = row.event ≡ CancelEvent i
 IsRowOf b (Ask x) row = row.event ≡ ask_event x
 IsRowOf b (Told x mark) row = (row.event ≡ told_event x) × (row.number ≡ mark)
+IsRowOf b (CancelSync i) row = ⊥
 IsRowOf b (Start c) row = (i : ℕ) × IsNext b c.lane i × (row.event ≡ start_event c.lane c.helper i)
 IsRowOf b (Wait c f) row = row.event ≡ wait_event f.whole c.lane c.helper f.target
 IsRowOf b (Over c f) row = row.event ≡ over_event f.whole c.lane c.helper f.target
 IsRowOf b (Finish c i) row = row.event ≡ finish_event c.lane c.helper i
 IsRowOf b Close row = ⊥
 IsRowOf b Drain row = ⊥
+
+-- the row may come, enough rows are free, and it is appended
+abbrev pub Writes : BookView → Row → BookView → Type 0
+Writes old row new = Appends old new row.event row.yes row.number
+
+-- the two rows of a call that writes two, an ask and a cancellation, for which 3 rows were free
+abbrev pub WritesTwo : BookView → Call → Row → Row → BookView → Type 0
+WritesTwo old (CancelSync i) ask taken new = (3 ≤ free old) × ((between : BookView)
+    × (ask.event ≡ AskEvent i) × Writes old ask between × (taken.event ≡ CancelEvent i) × Writes between taken new)
+WritesTwo old _ ask taken new = ⊥
 
 -- the call is done, and there is no row for it: a context has nothing to start, and its lane has ended; the book is closed; nothing
 -- is unfinished
@@ -146,7 +164,8 @@ IsEarly b _ = ⊥
 
 -- a book replies so, and this is the book after
 abbrev pub Replies : BookView → Call → Reply → BookView → Type 0
-Replies old call (Wrote row) new = IsRowOf old call row × Appends old new row.event row.yes row.number
+Replies old call (Wrote row) new = IsRowOf old call row × Writes old row new
+Replies old call (WroteTwo ask taken) new = WritesTwo old call ask taken new
 Replies old call Done new = IsDone old call × (new ≡ after old call)
 Replies old call NotYet new = IsEarly old call × (new ≡ old)
 
@@ -160,6 +179,7 @@ Answers old call (Err e) new = Refuses old call e × (new ≡ old)
 -- the counts of the caller's seat after such an answer: the row is counted, but that of a start
 abbrev pub counts_after : List ℕ → Result Reply CallError → List ℕ
 counts_after counts (Ok (Wrote row)) = noted counts row
+counts_after counts (Ok (WroteTwo ask taken)) = noted (noted counts ask) taken
 counts_after counts (Ok Done) = counts
 counts_after counts (Ok NotYet) = counts
 counts_after counts (Err e) = counts
@@ -177,6 +197,7 @@ woken_by_refusal _ = nobody
 -- whom an answer wakes, if this is the book after it
 abbrev pub WakesAfter : BookView → Call → Result Reply CallError → Wake → Type 0
 WakesAfter new call (Ok (Wrote row)) wake = WakesBy new row.event row.yes wake
+WakesAfter new call (Ok (WroteTwo ask taken)) wake = WakesBy new taken.event taken.yes wake
 WakesAfter new call (Ok Done) wake = wake ≡ woken_by_done call
 WakesAfter new call (Ok NotYet) wake = wake ≡ nobody
 WakesAfter new call (Err e) wake = wake ≡ woken_by_refusal call
@@ -200,6 +221,7 @@ abbrev pub IsNamed : Wiring → Call → Type 0
 IsNamed w (Queue i) = i < items w
 IsNamed w (Cancel i) = i < items w
 IsNamed w (Ask x) = IsThere w x
+IsNamed w (CancelSync i) = i < items w
 IsNamed w (Wait c f) = HasContext w c.lane c.helper
 IsNamed w _ = Unit {0}
 
@@ -208,6 +230,7 @@ abbrev pub missing : Call → CallError
 missing (Queue i) = NoItem
 missing (Cancel i) = NoItem
 missing (Ask (OfItem i)) = NoItem
+missing (CancelSync i) = NoItem
 missing _ = WrongLane
 
 -- a call that a full seat refuses: one that begins something, and writes a row
@@ -215,6 +238,7 @@ abbrev pub needs_room : Call → Bool
 needs_room (Queue i) = true
 needs_room (Cancel i) = true
 needs_room (Ask x) = true
+needs_room (CancelSync i) = true
 needs_room (Wait c f) = true
 needs_room _ = false
 

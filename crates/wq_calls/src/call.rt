@@ -27,6 +27,8 @@ pub enum Call {
     Ask(Subject),
     /// Looks whether such an ask, which has this mark, may be told that its wait is over.
     Told(Subject, u32),
+    /// Asks about the item, and then removes its pending entry, with nothing between the two (`cancel_work_sync`).
+    CancelSync(ItemId),
     /// Starts, in this context, the first pending entry of its lane whose item doesn't run.
     Start(Context),
     /// Makes what the context runs begin to wait (`flush_work`, `flush_workqueue` in a work function).
@@ -46,6 +48,8 @@ pub enum Call {
 pub enum Reply {
     /// This row was written.
     Wrote(Row),
+    /// These two rows were written, with none between them: the ask, and the cancellation.
+    WroteTwo(Row, Row),
     /// It is done, and there is no row for it: the book is closed, nothing is unfinished, or the context has nothing to start and
     /// never will have.
     Done,
