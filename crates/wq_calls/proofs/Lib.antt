@@ -1,5 +1,9 @@
 pub mod Refusals
 pub mod Queueing
+pub mod Cancelling
+pub mod Asking
 pub mod Flushing
 pub mod Starting
+pub mod Contexts
 pub mod Waking
+pub mod Sleeping

@@ -22,7 +22,7 @@ use Rattle.wq_history.specs.declared.sleepers.Wake.{Wake}
 use Rattle.wq_history.specs.Events.{ask_event, told_event, start_event, wait_event, over_event, finish_event}
 use Rattle.wq_history.specs.History.{asks_waiting, IsThere}
 use Rattle.wq_history.specs.Book.{BookView, state, free, Appends, LacksRows, LaneRuns, IsAwake, IsWaitingBy, IsNext, HasNothingToStart, IsWrongToStart, IsNotAwake}
-use Rattle.wq_history.specs.Waits.{IsMet, EndOf, nobody, one_context, every_context, WakesBy}
+use Rattle.wq_history.specs.Waits.{Condition, WorkOn, EndOf, ItemDone, LaneDone, AllDone, IsMet, nobody, one_context, every_context, WakesBy}
 use Rattle.wq_held.specs.declared.fault.CallError.{CallError}
 use Rattle.wq_held.specs.declared.fault.CallError.TheVariants.{HistoryFull, Closed, Undeclared, TooManyWaits, WrongLane, NotAsked, NoItem}
 use Rattle.wq_held.specs.Locked.{HeldView, SeatHasRoom, seat_rows, RunsItem, WaitsFor}
@@ -207,12 +207,25 @@ abbrev pub waiters_for : Subject → Sleepers
 waiters_for (OfItem i) = ItemWaiters i
 waiters_for (OfLane q) = LaneWaiters q
 
+-- no entry of the item, or of the lane, is unfinished below the mark
+abbrev pub done_below : Subject → ℕ → Condition
+done_below (OfItem i) mark = ItemDone i mark
+done_below (OfLane q) mark = LaneDone q mark
+
 -- among whom the caller of an early call sleeps
 abbrev pub sleepers_of : Wiring → Call → Sleepers
 sleepers_of w (Told x mark) = waiters_for x
 sleepers_of w (Start c) = Contexts c.lane
 sleepers_of w (Over c f) = waiters_for (subject_of w f.whole f.target)
 sleepers_of w _ = Destroyers
+
+-- the condition for which its caller sleeps. A context that has nothing to start sleeps for two: work, and the end of its lane
+abbrev pub Awaits : BookView → Call → Condition → Type 0
+Awaits b (Told x mark) condition = condition ≡ done_below x mark
+Awaits b (Start c) condition = (condition ≡ WorkOn c.lane) ⊎ (condition ≡ EndOf c.lane)
+Awaits b (Over c f) condition = (mark : ℕ) × WaitsWith b c f mark × (condition ≡ done_below (subject_of b.wiring f.whole f.target) mark)
+Awaits b Drain condition = condition ≡ AllDone
+Awaits b _ condition = ⊥
 
 -- ---- a call through a seat, under the lock
 

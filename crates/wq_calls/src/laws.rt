@@ -1,32 +1,37 @@
-//! Laws: what the contracts of `Book` and of `Held` say of three calls is what the relation says, both ways.
+//! Laws: what the contracts of `Book` and of `Held` say of each call is what the relation says, both ways.
 //!
 //! They are about books and counts alone, whatever code wrote these.
 
 ghost use Rattle.std.specs.Prelude.{◌≡◌, ℕ, ◌≤◌, ◌↔◌, ◌⊎◌, List, Bool, true, false, Some, None, Result, Ok};
 ghost use Rattle.wq_core.specs.declared.step.Context.{Context};
 ghost use Rattle.wq_core.specs.Wiring.{max_helpers};
-ghost use Rattle.wq_rows.specs.declared.event.Event.TheVariants.{Queue as QueueEvent};
+ghost use Rattle.wq_rows.specs.declared.event.Event.TheVariants.{Queue as QueueEvent, Cancel as CancelEvent, Ask as AskEvent};
 ghost use Rattle.wq_rows.specs.declared.event.Row.{Row};
-ghost use Rattle.wq_counts.specs.declared.kind.Kind.TheVariants.{Queue as QueueKind};
-ghost use Rattle.wq_counts.specs.Counting.{raised, raised_asked, raised_told};
+ghost use Rattle.wq_counts.specs.declared.kind.Kind.TheVariants.{Queue as QueueKind, Cancel as CancelKind, Ask as AskKind, Told as ToldKind, Finish as FinishKind};
+ghost use Rattle.wq_counts.specs.Counting.{raised, raised_asked, raised_told, wait_kind, over_kind};
+ghost use Rattle.wq_history.specs.declared.asking.Ask.TheVariants.{Idle as ItemIdle, Waiting as ItemWaiting};
+ghost use Rattle.wq_history.specs.declared.asking.Asked.{Asked};
+ghost use Rattle.wq_history.specs.declared.asking.Told.TheVariants.{Done as ItemTold, NotYet as ItemNotYet, NotAsked as ItemNotAsked};
 ghost use Rattle.wq_history.specs.declared.asking.LaneAsk.TheVariants.{Idle, Waiting};
 ghost use Rattle.wq_history.specs.declared.asking.LaneAsked.{LaneAsked};
 ghost use Rattle.wq_history.specs.declared.asking.LaneTold.TheVariants.{Done as ToldDone, NotYet as ToldNotYet, NotAsked as ToldNotAsked};
-ghost use Rattle.wq_history.specs.declared.asking.Subject.TheVariants.{Lane as OfLane};
+ghost use Rattle.wq_history.specs.declared.asking.Subject.TheVariants.{Item as OfItem, Lane as OfLane};
 ghost use Rattle.wq_history.specs.declared.fault.BookError.{BookError};
 ghost use Rattle.wq_history.specs.declared.sleepers.Wake.{Wake};
-ghost use Rattle.wq_history.specs.Events.{start_event};
-ghost use Rattle.wq_history.specs.Book.{BookView, IsBook, AppendsOne, IsWrongToStart, RefusesQueue, RefusesAskLane, RefusesLane};
-ghost use Rattle.wq_history.specs.Answers.{AnswersAskLane, AnswersToldLane, AnswersStart};
-ghost use Rattle.wq_history.specs.Waits.{WakesEnough};
+ghost use Rattle.wq_history.specs.Events.{start_event, wait_event, over_event, finish_event};
+ghost use Rattle.wq_history.specs.Book.{BookView, free, IsBook, AppendsOne, IsWrongToStart, RefusesQueue, RefusesItem, RefusesAskLane, RefusesLane, RefusesWait};
+ghost use Rattle.wq_history.specs.Answers.{AnswersAsk, AnswersTold, AnswersAskLane, AnswersToldLane, AnswersStart};
+ghost use Rattle.wq_history.specs.Waits.{Condition, IsMet, sleepers_for, WakesEnough};
 ghost use Rattle.wq_held.specs.declared.fault.CallError.{CallError};
-ghost use Rattle.wq_held.specs.declared.fault.CallError.TheVariants.{NotAsked};
+ghost use Rattle.wq_held.specs.declared.fault.CallError.TheVariants.{WrongLane, NotAsked};
 ghost use Rattle.wq_held.specs.Errors.{call_error, RefusedAs};
+ghost use Rattle.wq_held.specs.Locked.{AsksAndCancels, RefusesAskAndCancel, asked_and_cancelled, AnswersOverOf, IsWrongToGoOn, IsWrongToFinish};
+ghost use Rattle.wq_calls.specs.declared.call.Flush.{Flush};
 ghost use Rattle.wq_calls.specs.declared.call.Call.{Call};
-ghost use Rattle.wq_calls.specs.declared.call.Call.TheVariants.{Queue, Ask, Told, Start};
+ghost use Rattle.wq_calls.specs.declared.call.Call.TheVariants.{Queue, Cancel, Ask, Told, CancelSync, Start, Wait, Over, Finish, Close};
 ghost use Rattle.wq_calls.specs.declared.call.Reply.{Reply};
-ghost use Rattle.wq_calls.specs.declared.call.Reply.TheVariants.{Wrote, Done, NotYet};
-ghost use Rattle.wq_calls.specs.Calls.{Refuses, Replies, Answers, counts_after, WakesAfter};
+ghost use Rattle.wq_calls.specs.declared.call.Reply.TheVariants.{Wrote, WroteTwo, Done, NotYet};
+ghost use Rattle.wq_calls.specs.Calls.{Refuses, Replies, WritesTwo, IsEarly, Awaits, Answers, counts_after, WakesAfter, sleepers_of};
 
 /// A queueing: its answer is a row of an open book, its refusals are those of a book, as a runtime hands them on, and its row is
 /// counted for the item.
@@ -38,6 +43,56 @@ pub fn a_queueing_is_answered_as_a_call()
     ensures handed_on { (b : BookView) (i : ℕ) (e : CallError) → RefusedAs (RefusesQueue b i) e ↔ Refuses b (Queue i) e }
     ensures counted { (old new : BookView) (counts : List ℕ) (i : ℕ) (row : Row) → Replies old (Queue i) (Wrote row) new →
         counts_after counts (Ok (Wrote row)) ≡ raised counts i QueueKind row.yes }
+{}
+
+/// A cancellation.
+pub fn a_cancellation_is_answered_as_a_call()
+    ensures row { (old new : BookView) (i : ℕ) (said : Bool) → AppendsOne old new (CancelEvent i) said
+        ↔ ((row : Row) × (row.yes ≡ said) × Replies old (Cancel i) (Wrote row) new) }
+    ensures refused { (b : BookView) (i : ℕ) (x : BookError) (e : CallError) → call_error x ≡ Some e →
+        RefusesItem b i CancelEvent x ↔ Refuses b (Cancel i) e }
+    ensures handed_on { (b : BookView) (i : ℕ) (e : CallError) → RefusedAs (RefusesItem b i CancelEvent) e ↔ Refuses b (Cancel i) e }
+    ensures counted { (old new : BookView) (counts : List ℕ) (i : ℕ) (row : Row) → Replies old (Cancel i) (Wrote row) new →
+        counts_after counts (Ok (Wrote row)) ≡ raised counts i CancelKind row.yes }
+{}
+
+/// A cancellation that waits begins: an ask and a cancellation under one hold of the lock. Where something is unfinished, the number of
+/// the first row is the mark of the wait.
+pub fn a_cancellation_that_waits_is_answered_as_a_call()
+    ensures idle { (old new : BookView) (i : ℕ) (said : Bool) → (AsksAndCancels old new i ItemIdle said × (3 ≤ free old))
+        ↔ ((ask : Row) × (taken : Row) × (ask.yes ≡ false) × (taken.yes ≡ said) × WritesTwo old (CancelSync i) ask taken new) }
+    ensures waits { (old new : BookView) (i : ℕ) (asked : Asked) (said : Bool) → (AsksAndCancels old new i (ItemWaiting asked) said × (3 ≤ free old))
+        ↔ ((asked.item ≡ i) × ((ask : Row) × (taken : Row) × (ask.yes ≡ true) × (ask.number ≡ asked.mark) × (taken.yes ≡ said)
+        × WritesTwo old (CancelSync i) ask taken new)) }
+    ensures refused { (b : BookView) (i : ℕ) (e : CallError) → RefusesAskAndCancel b i e ↔ Refuses b (CancelSync i) e }
+    ensures counted { (old new : BookView) (counts : List ℕ) (i : ℕ) (ask taken : Row) → Replies old (CancelSync i) (WroteTwo ask taken) new →
+        counts_after counts (Ok (WroteTwo ask taken)) ≡ asked_and_cancelled counts i ask.yes taken.yes }
+{}
+
+/// A flush of an item begins.
+pub fn an_ask_of_an_item_is_answered_as_a_call()
+    ensures idle { (old new : BookView) (i : ℕ) → AnswersAsk old new i ItemIdle
+        ↔ ((row : Row) × (row.yes ≡ false) × Replies old (Ask (OfItem i)) (Wrote row) new) }
+    ensures waits { (old new : BookView) (i : ℕ) (asked : Asked) → AnswersAsk old new i (ItemWaiting asked)
+        ↔ ((asked.item ≡ i) × ((row : Row) × (row.yes ≡ true) × (row.number ≡ asked.mark) × Replies old (Ask (OfItem i)) (Wrote row) new)) }
+    ensures refused { (b : BookView) (i : ℕ) (x : BookError) (e : CallError) → call_error x ≡ Some e →
+        RefusesItem b i AskEvent x ↔ Refuses b (Ask (OfItem i)) e }
+    ensures handed_on { (b : BookView) (i : ℕ) (e : CallError) → RefusedAs (RefusesItem b i AskEvent) e ↔ Refuses b (Ask (OfItem i)) e }
+    ensures counted { (old new : BookView) (counts : List ℕ) (i : ℕ) (row : Row) → Replies old (Ask (OfItem i)) (Wrote row) new →
+        counts_after counts (Ok (Wrote row)) ≡ raised counts i AskKind row.yes }
+{}
+
+/// A flush of an item ends.
+pub fn the_end_of_a_flush_of_an_item_is_answered_as_a_call()
+    ensures done { (old new : BookView) (asked : Asked) → AnswersTold old new asked ItemTold
+        ↔ ((row : Row) × Replies old (Told (OfItem asked.item) asked.mark) (Wrote row) new) }
+    ensures not_yet { (old new : BookView) (asked same : Asked) → AnswersTold old new asked (ItemNotYet same)
+        ↔ ((same ≡ asked) × Replies old (Told (OfItem asked.item) asked.mark) NotYet new) }
+    ensures not_asked { (old new : BookView) (asked same : Asked) → AnswersTold old new asked (ItemNotAsked same)
+        ↔ ((same ≡ asked) × (new ≡ old) × Refuses old (Told (OfItem asked.item) asked.mark) NotAsked) }
+    ensures refused { (b : BookView) (i mark : ℕ) (e : CallError) → Refuses b (Told (OfItem i) mark) e → e ≡ NotAsked }
+    ensures counted { (old new : BookView) (counts : List ℕ) (i mark : ℕ) (row : Row) → Replies old (Told (OfItem i) mark) (Wrote row) new →
+        counts_after counts (Ok (Wrote row)) ≡ raised counts i ToldKind true }
 {}
 
 /// A flush of a workqueue begins: it asks, and may have to wait, with the number of its row as its mark.
@@ -83,4 +138,47 @@ pub fn a_start_is_answered_as_a_call()
 pub fn an_answer_wakes_enough()
     ensures { (old new : BookView) (call : Call) (answer : Result Reply CallError) (wake : Wake) → IsBook old →
         old.wiring.helpers ≤ max_helpers → Answers old call answer new → WakesAfter new call answer wake → WakesEnough old new wake }
+{}
+
+/// What a context runs begins to wait.
+pub fn a_wait_is_answered_as_a_call()
+    ensures row { (old new : BookView) (c : Context) (f : Flush) (said : Bool) → AppendsOne old new (wait_event f.whole c.lane c.helper f.target) said
+        ↔ ((row : Row) × (row.yes ≡ said) × Replies old (Wait c f) (Wrote row) new) }
+    ensures refused { (b : BookView) (c : Context) (f : Flush) (x : BookError) (e : CallError) → call_error x ≡ Some e →
+        RefusesWait b c.lane c.helper f.whole f.target x ↔ Refuses b (Wait c f) e }
+    ensures handed_on { (b : BookView) (c : Context) (f : Flush) (e : CallError) → RefusedAs (RefusesWait b c.lane c.helper f.whole f.target) e ↔ Refuses b (Wait c f) e }
+    ensures counted { (old new : BookView) (counts : List ℕ) (c : Context) (f : Flush) (row : Row) → Replies old (Wait c f) (Wrote row) new →
+        counts_after counts (Ok (Wrote row)) ≡ raised counts f.target (wait_kind f.whole) row.yes }
+{}
+
+/// Such a wait is over, or goes on.
+pub fn the_end_of_a_wait_is_answered_as_a_call()
+    ensures over { (old new : BookView) (c : Context) (f : Flush) → AnswersOverOf old new c.lane c.helper f.whole f.target true
+        ↔ ((row : Row) × Replies old (Over c f) (Wrote row) new) }
+    ensures goes_on { (old new : BookView) (c : Context) (f : Flush) → AnswersOverOf old new c.lane c.helper f.whole f.target false
+        ↔ Replies old (Over c f) NotYet new }
+    ensures refused { (b : BookView) (c : Context) (f : Flush) (e : CallError) → ((e ≡ WrongLane) × IsWrongToGoOn b c.lane c.helper f.whole f.target)
+        ↔ Refuses b (Over c f) e }
+    ensures counted { (old new : BookView) (counts : List ℕ) (c : Context) (f : Flush) (row : Row) → Replies old (Over c f) (Wrote row) new →
+        counts_after counts (Ok (Wrote row)) ≡ raised counts f.target (over_kind f.whole) row.yes }
+{}
+
+/// What a context runs finishes.
+pub fn a_finish_is_answered_as_a_call()
+    ensures row { (old new : BookView) (c : Context) (i : ℕ) → AppendsOne old new (finish_event c.lane c.helper i) true
+        ↔ ((row : Row) × Replies old (Finish c i) (Wrote row) new) }
+    ensures refused { (b : BookView) (c : Context) (i : ℕ) (e : CallError) → ((e ≡ WrongLane) × IsWrongToFinish b c.lane c.helper i) ↔ Refuses b (Finish c i) e }
+    ensures counted { (old new : BookView) (counts : List ℕ) (c : Context) (i : ℕ) (row : Row) → Replies old (Finish c i) (Wrote row) new →
+        counts_after counts (Ok (Wrote row)) ≡ raised counts i FinishKind row.yes }
+{}
+
+/// A book is closed.
+pub fn a_closing_is_answered_as_a_call()
+    ensures { (old new : BookView) → (new ≡ record old { closed = true }) ↔ Replies old Close Done new }
+{}
+
+/// A call that is early waits for something that isn't so yet, and its caller sleeps among those who are woken once it is.
+pub fn an_early_call_sleeps_among_its_own()
+    ensures { (b : BookView) (call : Call) (condition : Condition) → IsEarly b call → Awaits b call condition →
+        (¬ IsMet b condition) × (sleepers_for condition ≡ sleepers_of b.wiring call) }
 {}
