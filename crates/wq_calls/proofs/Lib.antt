@@ -7,3 +7,4 @@ pub mod Starting
 pub mod Contexts
 pub mod Waking
 pub mod Sleeping
+pub mod Uniqueness

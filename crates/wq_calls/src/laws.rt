@@ -31,7 +31,7 @@ ghost use Rattle.wq_calls.specs.declared.call.Call.{Call};
 ghost use Rattle.wq_calls.specs.declared.call.Call.TheVariants.{Queue, Cancel, Ask, Told, CancelSync, Start, Wait, Over, Finish, Close};
 ghost use Rattle.wq_calls.specs.declared.call.Reply.{Reply};
 ghost use Rattle.wq_calls.specs.declared.call.Reply.TheVariants.{Wrote, WroteTwo, Done, NotYet};
-ghost use Rattle.wq_calls.specs.Calls.{Refuses, Replies, WritesTwo, IsEarly, Awaits, Answers, counts_after, WakesAfter, sleepers_of};
+ghost use Rattle.wq_calls.specs.Calls.{Refuses, IsRowOf, Writes, Replies, WritesTwo, IsEarly, Awaits, Answers, counts_after, WakesAfter, sleepers_of};
 
 /// A queueing: its answer is a row of an open book, its refusals are those of a book, as a runtime hands them on, and its row is
 /// counted for the item.
@@ -181,4 +181,10 @@ pub fn a_closing_is_answered_as_a_call()
 pub fn an_early_call_sleeps_among_its_own()
     ensures { (b : BookView) (call : Call) (condition : Condition) → IsEarly b call → Awaits b call condition →
         (¬ IsMet b condition) × (sleepers_for condition ≡ sleepers_of b.wiring call) }
+{}
+
+/// A book writes one row for a call, at most: the call and the book say which.
+pub fn a_call_writes_one_row()
+    ensures { (b new next : BookView) (call : Call) (row other : Row) → IsBook b → IsRowOf b call row → Writes b row new →
+        IsRowOf b call other → Writes b other next → row ≡ other }
 {}
