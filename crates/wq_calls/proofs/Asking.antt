@@ -1,5 +1,5 @@
 -- A flush of an item: its ask, and the end of its wait.
-use Rattle.std.proofs.Common.{◌≡◌, ℕ, ◌<◌, Bool, true, false, List, refl, ap, subst, ◌∙◌, sym}
+use Rattle.std.proofs.Common.{◌≡◌, ℕ, Bool, true, false, List, refl, ap, subst, ◌∙◌}
 use Rattle.std.specs.Prelude.{Some, Ok, ◌↔◌}
 use Rattle.wq_rows.specs.declared.event.Event.{Event}
 use Rattle.wq_rows.specs.declared.event.Event.TheVariants.{Ask as AskEvent, Told as ToldEvent}

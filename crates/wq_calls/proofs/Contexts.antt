@@ -1,5 +1,5 @@
 -- What a context runs: it begins to wait, its wait is over, and it finishes. And a book is closed.
-use Rattle.std.proofs.Common.{◌≡◌, ℕ, zero, suc, ◌⊎◌, Bool, true, false, List, refl, ap, subst, ◌∙◌, sym}
+use Rattle.std.proofs.Common.{◌≡◌, ℕ, zero, suc, Bool, true, false, List, refl, ap, subst, ◌∙◌, sym}
 use Rattle.std.specs.Prelude.{Some, Ok, ◌↔◌}
 use Rattle.wq_core.specs.declared.step.Context.{Context}
 use Rattle.wq_core.specs.declared.entry.Waiting.{Waiting as WaitOf}

@@ -1,7 +1,6 @@
 -- A flush of a workqueue: its ask, and the end of its wait.
-use Rattle.std.proofs.Common.{◌≡◌, ℕ, ◌<◌, Bool, true, false, List, refl, ap, subst, ◌∙◌, sym}
+use Rattle.std.proofs.Common.{◌≡◌, ℕ, Bool, true, false, List, refl, ap, subst, ◌∙◌}
 use Rattle.std.specs.Prelude.{Some, Ok, ◌↔◌}
-use Rattle.wq_core.specs.State.{lane_at, IsBusyBelow}
 use Rattle.wq_rows.specs.declared.event.Event.{Event}
 use Rattle.wq_rows.specs.declared.event.Event.TheVariants.{AskLane as AskLaneEvent, ToldLane as ToldLaneEvent}
 use Rattle.wq_rows.specs.declared.event.Row.{Row}

@@ -1,5 +1,5 @@
 -- A queueing: what the contracts of a book and of what a lock protects say of it is what the relation says.
-use Rattle.std.proofs.Common.{◌≡◌, ℕ, Bool, false, List, refl, ap, subst, ◌∙◌, sym}
+use Rattle.std.proofs.Common.{◌≡◌, ℕ, Bool, false, List, refl, ap}
 use Rattle.std.specs.Prelude.{Some, Ok, ◌↔◌}
 use Rattle.wq_rows.specs.declared.event.Event.{Event}
 use Rattle.wq_rows.specs.declared.event.Event.TheVariants.{Queue as QueueEvent}

@@ -1,11 +1,10 @@
 -- Who sleeps, sleeps for something that isn't so yet, among those who are woken once it is.
-use Rattle.std.proofs.Common.{◌≡◌, ℕ, ◌⊎◌, inl, inr, Bool, true, false, refl, sym, ap, subst, ◌∙◌}
-use Rattle.std.specs.Prelude.{Option, Some, None}
-use Rattle.wq_core.specs.declared.entry.Entry.{Entry}
+use Rattle.std.proofs.Common.{◌≡◌, ℕ, inl, inr, refl, sym, ap, subst, ◌∙◌}
+use Rattle.std.specs.Prelude.{Some, None}
 use Rattle.wq_core.specs.declared.entry.Running.{Running}
 use Rattle.wq_core.specs.declared.entry.Waiting.{Waiting as WaitOf}
 use Rattle.wq_core.specs.declared.step.Context.{Context}
-use Rattle.wq_core.specs.State.{lane_at, run_by, next_of}
+use Rattle.wq_core.specs.State.{lane_at, next_of}
 use Rattle.wq_history.specs.declared.asking.Subject.{Subject}
 use Rattle.wq_history.specs.declared.asking.Subject.TheVariants.{Item as OfItem, Lane as OfLane}
 use Rattle.wq_history.specs.Book.{BookView, state, IsWaiting}

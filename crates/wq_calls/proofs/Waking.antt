@@ -13,7 +13,7 @@ use Rattle.wq_history.specs.declared.sleepers.Wake.{Wake}
 use Rattle.wq_history.specs.declared.sleepers.WokenContexts.{WokenContexts}
 use Rattle.wq_history.specs.declared.sleepers.WokenContexts.TheVariants.{Nobody, All as AllOf}
 use Rattle.wq_history.specs.Book.{BookView, state, IsBook, Appends}
-use Rattle.wq_history.specs.Waits.{IsMetIn, EndOf, every_context, WakesBy, WakesByCancel, WakesEnough}
+use Rattle.wq_history.specs.Waits.{IsMetIn, EndOf, WakesBy, WakesByCancel, WakesEnough}
 use Rattle.wq_history.proofs.Histories.{state_after-none, state_after-step}
 use Rattle.wq_history.proofs.LegalRows.{IsSoundState-legal}
 use Rattle.wq_history.proofs.Wakes.{Suffices, WakesWaitersIn, cancelled-suffices, same-suffices, event-enough, closing-enough, unchanged-enough}

@@ -21,7 +21,7 @@ use Rattle.wq_history.specs.declared.sleepers.Sleepers.TheVariants.{Contexts, It
 use Rattle.wq_history.specs.declared.sleepers.Wake.{Wake}
 use Rattle.wq_history.specs.Events.{ask_event, told_event, start_event, wait_event, over_event, finish_event}
 use Rattle.wq_history.specs.History.{asks_waiting, IsThere}
-use Rattle.wq_history.specs.Book.{BookView, state, free, Appends, LacksRows, LaneRuns, IsAwake, IsWaitingBy, IsNext, HasNothingToStart, IsWrongToStart, IsNotAwake}
+use Rattle.wq_history.specs.Book.{BookView, state, free, Appends, LacksRows, IsAwake, IsWaitingBy, IsNext, HasNothingToStart, IsWrongToStart, IsNotAwake}
 use Rattle.wq_history.specs.Waits.{Condition, WorkOn, EndOf, ItemDone, LaneDone, AllDone, IsMet, nobody, one_context, every_context, WakesBy}
 use Rattle.wq_held.specs.declared.fault.CallError.{CallError}
 use Rattle.wq_held.specs.declared.fault.CallError.TheVariants.{HistoryFull, Closed, Undeclared, TooManyWaits, WrongLane, NotAsked, NoItem}
