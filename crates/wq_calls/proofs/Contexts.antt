@@ -37,13 +37,19 @@ wrong-only wrong NoItem = ((λ why. let bad : NoItem ≡ WrongLane = why.0 in ab
 
 -- ---- a wait
 
-pub wait-replies : (old new : BookView) (c : Context) (f : Flush) (said : Bool) → AppendsOne old new (wait_event f.whole c.lane c.helper f.target) said
+pub wait-replies : (old new : BookView) (c : Context) (f : Flush) (said : Bool)
+    → AppendsOne old new (wait_event f.whole c.lane c.helper f.target) said
     ↔ ((row : Row) × (row.yes ≡ said) × Replies old (Wait c f) (Wrote row) new)
 wait-replies old new c f said = (
-  (λ today. (record { event = wait_event f.whole c.lane c.helper f.target; yes = said; number = today.0 }, refl, (refl, today.1))),
+  (λ today. (
+    record { event = wait_event f.whole c.lane c.helper f.target; yes = said; number = today.0 },
+    refl,
+    (refl, today.1),
+  )),
   (λ now. (
     now.0.number,
-    appends-as old new now.0.event (wait_event f.whole c.lane c.helper f.target) now.0.yes said now.0.number now.0.number now.2.0 now.1 refl now.2.1,
+    appends-as old new now.0.event
+        (wait_event f.whole c.lane c.helper f.target) now.0.yes said now.0.number now.0.number now.2.0 now.1 refl now.2.1,
   )),
 )
 
@@ -52,33 +58,42 @@ pub wait-refused : (b : BookView) (c : Context) (f : Flush) (x : BookError) (e :
 wait-refused b c f BookFull e is = moved (λ y. ⊥ ↔ RefusesToWait b c f y) HistoryFull e is (itself ⊥)
 wait-refused b c f BookClosed e is = moved (λ y. ⊥ ↔ RefusesToWait b c f y) Closed e is (itself ⊥)
 wait-refused b c f BookUndeclared e is =
-    moved (λ y. RefusesWait b c.lane c.helper f.whole f.target BookUndeclared ↔ RefusesToWait b c f y) Undeclared e is (itself (RefusesToWait b c f Undeclared))
+    moved (λ y. RefusesWait b c.lane c.helper f.whole f.target BookUndeclared ↔ RefusesToWait b c f y) Undeclared e is
+    (itself (RefusesToWait b c f Undeclared))
 wait-refused b c f BookTooManyWaits e is =
-    moved (λ y. RefusesWait b c.lane c.helper f.whole f.target BookTooManyWaits ↔ RefusesToWait b c f y) TooManyWaits e is (itself (RefusesToWait b c f TooManyWaits))
+    moved (λ y. RefusesWait b c.lane c.helper f.whole f.target BookTooManyWaits
+    ↔ RefusesToWait b c f y) TooManyWaits e is (itself (RefusesToWait b c f TooManyWaits))
 wait-refused b c f BookWrongLane e is =
-    moved (λ y. RefusesWait b c.lane c.helper f.whole f.target BookWrongLane ↔ RefusesToWait b c f y) WrongLane e is (itself (RefusesToWait b c f WrongLane))
+    moved (λ y. RefusesWait b c.lane c.helper f.whole f.target BookWrongLane ↔ RefusesToWait b c f y) WrongLane e is
+    (itself (RefusesToWait b c f WrongLane))
 wait-refused b c f BookNoItem e is = moved (λ y. ⊥ ↔ RefusesToWait b c f y) NoItem e is (itself ⊥)
 wait-refused b c f TooManyRows e is = absurd cc
 wait-refused b c f OutOfMemory e is = absurd cc
 
-pub wait-handed_on : (b : BookView) (c : Context) (f : Flush) (e : CallError) → RefusedAs (RefusesWait b c.lane c.helper f.whole f.target) e ↔ Refuses b (Wait c f) e
-wait-handed_on b c f e = handed_on (λ x. RefusesWait b c.lane c.helper f.whole f.target x) (λ y. Refuses b (Wait c f) y) (λ never. never) (wait-refused b c f) e
+pub wait-handed_on : (b : BookView) (c : Context) (f : Flush) (e : CallError)
+    → RefusedAs (RefusesWait b c.lane c.helper f.whole f.target) e ↔ Refuses b (Wait c f) e
+wait-handed_on b c f e = handed_on (λ x. RefusesWait b c.lane c.helper f.whole f.target x)
+    (λ y. Refuses b (Wait c f) y) (λ never. never) (wait-refused b c f) e
 
-wait-kind : (counts : List ℕ) (whole : Bool) (q c b : ℕ) (said : Bool) → noted_as counts (wait_event whole q c b) said ≡ raised counts b (wait_kind whole) said
+wait-kind : (counts : List ℕ) (whole : Bool) (q c b : ℕ) (said : Bool)
+    → noted_as counts (wait_event whole q c b) said ≡ raised counts b (wait_kind whole) said
 wait-kind counts false q zero b said = refl
 wait-kind counts false q (suc h) b said = refl
 wait-kind counts true q zero b said = refl
 wait-kind counts true q (suc h) b said = refl
 
-pub wait-counted : (old new : BookView) (counts : List ℕ) (c : Context) (f : Flush) (row : Row) → Replies old (Wait c f) (Wrote row) new
+pub wait-counted : (old new : BookView) (counts : List ℕ) (c : Context) (f : Flush) (row : Row)
+    → Replies old (Wait c f) (Wrote row) new
     → counts_after counts (Ok (Wrote row)) ≡ raised counts f.target (wait_kind f.whole) row.yes
 wait-counted old new counts c f row replies =
-    ap (λ (event : Event). noted_as counts event row.yes) replies.0 ∙ wait-kind counts f.whole c.lane c.helper f.target row.yes
+    ap (λ (event : Event). noted_as counts event row.yes) replies.0
+    ∙ wait-kind counts f.whole c.lane c.helper f.target row.yes
 
 -- ---- its end
 
 -- a row of the end of a wait says yes
-over-yes : (w : Wiring) (rows : List Row) (whole : Bool) (q c b : ℕ) (said : Bool) (n : ℕ) → MayCome w rows (over_event whole q c b) said n → said ≡ true
+over-yes : (w : Wiring) (rows : List Row) (whole : Bool) (q c b : ℕ) (said : Bool) (n : ℕ)
+    → MayCome w rows (over_event whole q c b) said n → said ≡ true
 over-yes w rows false q zero b said n may = may.0
 over-yes w rows false q (suc h) b said n may = may.0
 over-yes w rows true q zero b said n may = may.0
@@ -88,26 +103,37 @@ over-row : (old new : BookView) (c : Context) (f : Flush) (row : Row) → Replie
     → Appends old new (over_event f.whole c.lane c.helper f.target) true row.number
 over-row old new c f row replies =
     let over : Appends old new (over_event f.whole c.lane c.helper f.target) row.yes row.number =
-    appends-as old new row.event (over_event f.whole c.lane c.helper f.target) row.yes row.yes row.number row.number replies.0 refl refl replies.1 in
+    appends-as old new row.event
+    (over_event f.whole c.lane c.helper f.target) row.yes row.yes row.number row.number replies.0 refl refl replies.1 in
     let yes : row.yes ≡ true = over-yes old.wiring old.rows f.whole c.lane c.helper f.target row.yes row.number over.may in
     subst (λ (k : Bool). Appends old new (over_event f.whole c.lane c.helper f.target) k row.number) yes over
 
-pub over-true : (old new : BookView) (c : Context) (f : Flush) → AnswersOverOf old new c.lane c.helper f.whole f.target true
+pub over-true : (old new : BookView) (c : Context) (f : Flush)
+    → AnswersOverOf old new c.lane c.helper f.whole f.target true
     ↔ ((row : Row) × Replies old (Over c f) (Wrote row) new)
 over-true old new c f = (
-  (λ today. (record { event = over_event f.whole c.lane c.helper f.target; yes = true; number = today.0 }, (refl, today.1))),
+  (λ today. (
+    record { event = over_event f.whole c.lane c.helper f.target; yes = true; number = today.0 },
+    (refl, today.1),
+  )),
   (λ now. (now.0.number, over-row old new c f now.0 now.1)),
 )
 
 -- what holds a wait back is what is unfinished below its mark
-held-back : (w : Wiring) (s : State) (whole : Bool) (b mark : ℕ) → IsHeldBack w s whole b mark ↔ IsUnfinishedBelow s (subject_of w whole b) mark
+held-back : (w : Wiring) (s : State) (whole : Bool) (b mark : ℕ) → IsHeldBack w s whole b mark
+    ↔ IsUnfinishedBelow s (subject_of w whole b) mark
 held-back w s false b mark = itself (IsHeldBack w s false b mark)
 held-back w s true b mark = itself (IsHeldBack w s true b mark)
 
-pub over-false : (old new : BookView) (c : Context) (f : Flush) → AnswersOverOf old new c.lane c.helper f.whole f.target false ↔ Replies old (Over c f) NotYet new
+pub over-false : (old new : BookView) (c : Context) (f : Flush)
+    → AnswersOverOf old new c.lane c.helper f.whole f.target false ↔ Replies old (Over c f) NotYet new
 over-false old new c f = (
   (λ today. (
-    (today.0.mark, (today.0, today.1, today.2, refl), (held-back old.wiring (state old) f.whole f.target today.0.mark).0 today.3),
+    (
+      today.0.mark,
+      (today.0, today.1, today.2, refl),
+      (held-back old.wiring (state old) f.whole f.target today.0.mark).0 today.3,
+    ),
     today.4,
   )),
   (λ now.
@@ -121,23 +147,28 @@ over-false old new c f = (
       )),
 )
 
-pub over-refused : (b : BookView) (c : Context) (f : Flush) (e : CallError) → ((e ≡ WrongLane) × IsWrongToGoOn b c.lane c.helper f.whole f.target) ↔ Refuses b (Over c f) e
+pub over-refused : (b : BookView) (c : Context) (f : Flush) (e : CallError)
+    → ((e ≡ WrongLane) × IsWrongToGoOn b c.lane c.helper f.whole f.target) ↔ Refuses b (Over c f) e
 over-refused b c f e = wrong-only (IsWrongToGoOn b c.lane c.helper f.whole f.target) e
 
-over-kind : (counts : List ℕ) (whole : Bool) (q c b : ℕ) (said : Bool) → noted_as counts (over_event whole q c b) said ≡ raised counts b (over_kind whole) said
+over-kind : (counts : List ℕ) (whole : Bool) (q c b : ℕ) (said : Bool)
+    → noted_as counts (over_event whole q c b) said ≡ raised counts b (over_kind whole) said
 over-kind counts false q zero b said = refl
 over-kind counts false q (suc h) b said = refl
 over-kind counts true q zero b said = refl
 over-kind counts true q (suc h) b said = refl
 
-pub over-counted : (old new : BookView) (counts : List ℕ) (c : Context) (f : Flush) (row : Row) → Replies old (Over c f) (Wrote row) new
+pub over-counted : (old new : BookView) (counts : List ℕ) (c : Context) (f : Flush) (row : Row)
+    → Replies old (Over c f) (Wrote row) new
     → counts_after counts (Ok (Wrote row)) ≡ raised counts f.target (over_kind f.whole) row.yes
 over-counted old new counts c f row replies =
-    ap (λ (event : Event). noted_as counts event row.yes) replies.0 ∙ over-kind counts f.whole c.lane c.helper f.target row.yes
+    ap (λ (event : Event). noted_as counts event row.yes) replies.0
+    ∙ over-kind counts f.whole c.lane c.helper f.target row.yes
 
 -- ---- a finish
 
-finish-yes : (w : Wiring) (rows : List Row) (q c i : ℕ) (said : Bool) (n : ℕ) → MayCome w rows (finish_event q c i) said n → said ≡ true
+finish-yes : (w : Wiring) (rows : List Row) (q c i : ℕ) (said : Bool) (n : ℕ)
+    → MayCome w rows (finish_event q c i) said n → said ≡ true
 finish-yes w rows q zero i said n may = may.0
 finish-yes w rows q (suc h) i said n may = may.0
 
@@ -145,25 +176,30 @@ finish-row : (old new : BookView) (c : Context) (i : ℕ) (row : Row) → Replie
     → Appends old new (finish_event c.lane c.helper i) true row.number
 finish-row old new c i row replies =
     let finished : Appends old new (finish_event c.lane c.helper i) row.yes row.number =
-    appends-as old new row.event (finish_event c.lane c.helper i) row.yes row.yes row.number row.number replies.0 refl refl replies.1 in
+    appends-as old new row.event
+    (finish_event c.lane c.helper i) row.yes row.yes row.number row.number replies.0 refl refl replies.1 in
     let yes : row.yes ≡ true = finish-yes old.wiring old.rows c.lane c.helper i row.yes row.number finished.may in
     subst (λ (k : Bool). Appends old new (finish_event c.lane c.helper i) k row.number) yes finished
 
-pub finish-replies : (old new : BookView) (c : Context) (i : ℕ) → AppendsOne old new (finish_event c.lane c.helper i) true
+pub finish-replies : (old new : BookView) (c : Context) (i : ℕ)
+    → AppendsOne old new (finish_event c.lane c.helper i) true
     ↔ ((row : Row) × Replies old (Finish c i) (Wrote row) new)
 finish-replies old new c i = (
   (λ today. (record { event = finish_event c.lane c.helper i; yes = true; number = today.0 }, (refl, today.1))),
   (λ now. (now.0.number, finish-row old new c i now.0 now.1)),
 )
 
-pub finish-refused : (b : BookView) (c : Context) (i : ℕ) (e : CallError) → ((e ≡ WrongLane) × IsWrongToFinish b c.lane c.helper i) ↔ Refuses b (Finish c i) e
+pub finish-refused : (b : BookView) (c : Context) (i : ℕ) (e : CallError)
+    → ((e ≡ WrongLane) × IsWrongToFinish b c.lane c.helper i) ↔ Refuses b (Finish c i) e
 finish-refused b c i e = wrong-only (IsWrongToFinish b c.lane c.helper i) e
 
-finish-kind : (counts : List ℕ) (q c i : ℕ) (said : Bool) → noted_as counts (finish_event q c i) said ≡ raised counts i FinishKind said
+finish-kind : (counts : List ℕ) (q c i : ℕ) (said : Bool)
+    → noted_as counts (finish_event q c i) said ≡ raised counts i FinishKind said
 finish-kind counts q zero i said = refl
 finish-kind counts q (suc h) i said = refl
 
-pub finish-counted : (old new : BookView) (counts : List ℕ) (c : Context) (i : ℕ) (row : Row) → Replies old (Finish c i) (Wrote row) new
+pub finish-counted : (old new : BookView) (counts : List ℕ) (c : Context) (i : ℕ) (row : Row)
+    → Replies old (Finish c i) (Wrote row) new
     → counts_after counts (Ok (Wrote row)) ≡ raised counts i FinishKind row.yes
 finish-counted old new counts c i row replies =
     ap (λ (event : Event). noted_as counts event row.yes) replies.0 ∙ finish-kind counts c.lane c.helper i row.yes

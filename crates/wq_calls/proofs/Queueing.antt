@@ -18,24 +18,33 @@ use Rattle.wq_calls.specs.Calls.{RefusesToQueue, Refuses, Replies, counts_after}
 use Rattle.wq_calls.proofs.Refusals.{moved, itself, handed_on, appends-as}
 
 -- the answer: a row, of an open book
-pub queue-replies : (old new : BookView) (i : ℕ) (said : Bool) → (AppendsOne old new (QueueEvent i) said × (old.closed ≡ false))
+pub queue-replies : (old new : BookView) (i : ℕ) (said : Bool)
+    → (AppendsOne old new (QueueEvent i) said × (old.closed ≡ false))
     ↔ ((row : Row) × (row.yes ≡ said) × Replies old (Queue i) (Wrote row) new)
 queue-replies old new i said = (
   (λ today. (record { event = QueueEvent i; yes = said; number = today.0.0 }, refl, ((refl, today.1), today.0.1))),
   (λ now. (
-    (now.0.number, appends-as old new now.0.event (QueueEvent i) now.0.yes said now.0.number now.0.number now.2.0.0 now.1 refl now.2.1),
+    (
+      now.0.number,
+      appends-as old new now.0.event
+          (QueueEvent i) now.0.yes said now.0.number now.0.number now.2.0.0 now.1 refl now.2.1,
+    ),
     now.2.0.1,
   )),
 )
 
 -- the refusals of the book
-pub queue-refused : (b : BookView) (i : ℕ) (x : BookError) (e : CallError) → call_error x ≡ Some e → RefusesQueue b i x ↔ Refuses b (Queue i) e
-queue-refused b i BookFull e is = moved (λ y. RefusesQueue b i BookFull ↔ RefusesToQueue b i y) HistoryFull e is (itself (RefusesQueue b i BookFull))
-queue-refused b i BookClosed e is = moved (λ y. RefusesQueue b i BookClosed ↔ RefusesToQueue b i y) Closed e is (itself (RefusesQueue b i BookClosed))
+pub queue-refused : (b : BookView) (i : ℕ) (x : BookError) (e : CallError) → call_error x ≡ Some e
+    → RefusesQueue b i x ↔ Refuses b (Queue i) e
+queue-refused b i BookFull e is = moved (λ y. RefusesQueue b i BookFull ↔ RefusesToQueue b i y) HistoryFull e is
+    (itself (RefusesQueue b i BookFull))
+queue-refused b i BookClosed e is = moved (λ y. RefusesQueue b i BookClosed ↔ RefusesToQueue b i y) Closed e is
+    (itself (RefusesQueue b i BookClosed))
 queue-refused b i BookUndeclared e is = moved (λ y. ⊥ ↔ RefusesToQueue b i y) Undeclared e is (itself ⊥)
 queue-refused b i BookTooManyWaits e is = moved (λ y. ⊥ ↔ RefusesToQueue b i y) TooManyWaits e is (itself ⊥)
 queue-refused b i BookWrongLane e is = moved (λ y. ⊥ ↔ RefusesToQueue b i y) WrongLane e is (itself ⊥)
-queue-refused b i BookNoItem e is = moved (λ y. RefusesQueue b i BookNoItem ↔ RefusesToQueue b i y) NoItem e is (itself (RefusesQueue b i BookNoItem))
+queue-refused b i BookNoItem e is = moved (λ y. RefusesQueue b i BookNoItem ↔ RefusesToQueue b i y) NoItem e is
+    (itself (RefusesQueue b i BookNoItem))
 queue-refused b i TooManyRows e is = absurd cc
 queue-refused b i OutOfMemory e is = absurd cc
 

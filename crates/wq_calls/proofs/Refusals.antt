@@ -17,8 +17,10 @@ moved P x e is holds = let same : x ≡ e = cc in subst P same holds
 pub itself : (A : Type 0) → A ↔ A
 itself A = ((λ a. a), (λ a. a))
 
--- if a book refuses for a cause where a call is refused for the same, then what `Held` hands on is the refusal of the call
-pub handed_on : (cause : BookError → Type 0) (P : CallError → Type 0) → (P NotAsked → ⊥) → ((x : BookError) (e : CallError) → call_error x ≡ Some e → cause x ↔ P e)
+-- if a book refuses for a cause where a call is refused for the same, then what `Held` hands on is the refusal of the
+-- call
+pub handed_on : (cause : BookError → Type 0) (P : CallError → Type 0) → (P NotAsked → ⊥)
+    → ((x : BookError) (e : CallError) → call_error x ≡ Some e → cause x ↔ P e)
     → (e : CallError) → RefusedAs cause e ↔ P e
 handed_on cause P never same e = ((λ why. (same why.0 e why.2).0 why.1), back e) where
   back : (c : CallError) → P c → RefusedAs cause c
@@ -31,8 +33,10 @@ handed_on cause P never same e = ((λ why. (same why.0 e why.2).0 why.1), back e
   back NoItem p = (BookNoItem, (same BookNoItem NoItem refl).1 p, refl)
 
 -- the row of an event, as that of the same event
-pub appends-as : (old new : BookView) (event other : Event) (said answer : Bool) (n m : ℕ) → event ≡ other → said ≡ answer → n ≡ m
+pub appends-as : (old new : BookView) (event other : Event) (said answer : Bool) (n m : ℕ) → event ≡ other
+    → said ≡ answer → n ≡ m
     → Appends old new event said n → Appends old new other answer m
 appends-as old new event other said answer n m events answers numbers row =
     subst (λ (k : ℕ). Appends old new other answer k) numbers
-    (subst (λ (k : Bool). Appends old new other k n) answers (subst (λ (k : Event). Appends old new k said n) events row))
+    (subst (λ (k : Bool). Appends old new other k n) answers
+    (subst (λ (k : Event). Appends old new k said n) events row))

@@ -25,7 +25,8 @@ among-waiters (OfItem i) mark = refl
 among-waiters (OfLane q) mark = refl
 
 -- what holds for a condition holds for the same condition
-same-condition : (b : BookView) (call : Call) (one condition : Condition) → condition ≡ one → (¬ IsMet b one) × (sleepers_for one ≡ sleepers_of b.wiring call)
+same-condition : (b : BookView) (call : Call) (one condition : Condition) → condition ≡ one → (¬ IsMet b one)
+    × (sleepers_for one ≡ sleepers_of b.wiring call)
     → (¬ IsMet b condition) × (sleepers_for condition ≡ sleepers_of b.wiring call)
 same-condition b call one condition same holds =
     subst (λ (k : Condition). (¬ IsMet b k) × (sleepers_for k ≡ sleepers_of b.wiring call)) (sym same) holds
@@ -39,7 +40,8 @@ one-wait b q c g h one other =
     cc
 
 one-mark : (b : BookView) (c : Context) (f : Flush) (m n : ℕ) → WaitsWith b c f m → WaitsWith b c f n → m ≡ n
-one-mark b c f m n one other = sym one.3 ∙ (ap (λ (g : WaitOf). g.mark) (one-wait b c.lane c.helper one.0 other.0 one.1.0 other.1.0) ∙ other.3)
+one-mark b c f m n one other = sym one.3 ∙
+    (ap (λ (g : WaitOf). g.mark) (one-wait b c.lane c.helper one.0 other.0 one.1.0 other.1.0) ∙ other.3)
 
 -- a lane with nothing to start has no work
 no-work : (b : BookView) (q : ℕ) → next_of (lane_at (state b) q) ≡ None → ¬ IsMet b (WorkOn q)
@@ -48,9 +50,12 @@ no-work b q none = λ met. let bad : Some met.0 ≡ None = sym met.1 ∙ none in
 pub early-sleeps : (b : BookView) (call : Call) (condition : Condition) → IsEarly b call → Awaits b call condition
     → (¬ IsMet b condition) × (sleepers_for condition ≡ sleepers_of b.wiring call)
 early-sleeps b (Told x mark) condition early awaits =
-    same-condition b (Told x mark) (done_below x mark) condition awaits (not-done b x mark early.1, among-waiters x mark)
-early-sleeps b (Start c) condition early (inl work) = same-condition b (Start c) (WorkOn c.lane) condition work (no-work b c.lane early.0.2, refl)
-early-sleeps b (Start c) condition early (inr end) = same-condition b (Start c) (EndOf c.lane) condition end (early.1, refl)
+    same-condition b (Told x mark) (done_below x mark) condition awaits
+    (not-done b x mark early.1, among-waiters x mark)
+early-sleeps b (Start c) condition early (inl work) = same-condition b (Start c) (WorkOn c.lane) condition work
+    (no-work b c.lane early.0.2, refl)
+early-sleeps b (Start c) condition early (inr end) = same-condition b (Start c) (EndOf c.lane) condition end
+    (early.1, refl)
 early-sleeps b (Over c f) condition early awaits =
     let x : Subject = subject_of b.wiring f.whole f.target in
     let same : early.0 ≡ awaits.0 = one-mark b c f early.0 awaits.0 early.1 awaits.1 in

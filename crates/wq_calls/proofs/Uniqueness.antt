@@ -20,13 +20,16 @@ same-row : (r s : Row) → r.event ≡ s.event → r.yes ≡ s.yes → r.number 
 same-row r s events answers numbers = λ i. record { event = events i; yes = answers i; number = numbers i }
 
 -- a row that is written may come, as that of its event
-comes : (b new : BookView) (row : Row) (event : Event) → row.event ≡ event → Writes b row new → MayCome b.wiring b.rows event row.yes row.number
+comes : (b new : BookView) (row : Row) (event : Event) → row.event ≡ event → Writes b row new
+    → MayCome b.wiring b.rows event row.yes row.number
 comes b new row event is writes = subst (λ (e : Event). MayCome b.wiring b.rows e row.yes row.number) is writes.may
 
 -- two rows of one event, which isn't of one who is told
-same-event : (b new next : BookView) (r s : Row) (event : Event) → IsBook b → is_told event ≡ false → r.event ≡ event → s.event ≡ event → Writes b r new → Writes b s next → r ≡ s
+same-event : (b new next : BookView) (r s : Row) (event : Event) → IsBook b → is_told event ≡ false → r.event ≡ event
+    → s.event ≡ event → Writes b r new → Writes b s next → r ≡ s
 same-event b new next r s event book not_told one other first second =
-    let same = one_answer b.wiring b.rows event r.yes s.yes r.number s.number book.legal not_told (comes b new r event one first) (comes b next s event other second) in
+    let same = one_answer b.wiring b.rows event r.yes s.yes r.number s.number book.legal not_told
+    (comes b new r event one first) (comes b next s event other second) in
     same-row r s (one ∙ sym other) same.0 same.1
 
 -- ---- events of which nobody is told
@@ -58,7 +61,8 @@ finish-told q (suc h) i = refl
 -- ---- those who are told, and starts
 
 -- who is told, is told yes
-told-yes : (b : BookView) (x : Subject) (said : Bool) (n : ℕ) → MayCome b.wiring b.rows (told_event x) said n → said ≡ true
+told-yes : (b : BookView) (x : Subject) (said : Bool) (n : ℕ) → MayCome b.wiring b.rows (told_event x) said n
+    → said ≡ true
 told-yes b (OfItem i) said n may = may.0
 told-yes b (OfLane q) said n may = may.0
 
@@ -71,10 +75,14 @@ one-next b q i j one other =
 
 -- ---- one row
 
-pub one-row : (b new next : BookView) (call : Call) (r s : Row) → IsBook b → IsRowOf b call r → Writes b r new → IsRowOf b call s → Writes b s next → r ≡ s
-one-row b new next (Queue i) r s book one first other second = same-event b new next r s (QueueEvent i) book refl one.0 other.0 first second
-one-row b new next (Cancel i) r s book one first other second = same-event b new next r s (CancelEvent i) book refl one other first second
-one-row b new next (Ask x) r s book one first other second = same-event b new next r s (ask_event x) book (ask-told x) one other first second
+pub one-row : (b new next : BookView) (call : Call) (r s : Row) → IsBook b → IsRowOf b call r → Writes b r new
+    → IsRowOf b call s → Writes b s next → r ≡ s
+one-row b new next (Queue i) r s book one first other second = same-event b new next r s
+    (QueueEvent i) book refl one.0 other.0 first second
+one-row b new next (Cancel i) r s book one first other second = same-event b new next r s
+    (CancelEvent i) book refl one other first second
+one-row b new next (Ask x) r s book one first other second = same-event b new next r s (ask_event x) book
+    (ask-told x) one other first second
 one-row b new next (Told x mark) r s book one first other second =
     let yes : r.yes ≡ true = told-yes b x r.yes r.number (comes b new r (told_event x) one.0 first) in
     let also : s.yes ≡ true = told-yes b x s.yes s.number (comes b next s (told_event x) other.0 second) in
@@ -82,13 +90,18 @@ one-row b new next (Told x mark) r s book one first other second =
 one-row b new next (CancelSync i) r s book one first other second = absurd one
 one-row b new next (Start c) r s book one first other second =
     let same : other.0 ≡ one.0 = one-next b c.lane other.0 one.0 other.1 one.1 in
-    let event : s.event ≡ start_event c.lane c.helper one.0 = other.2 ∙ ap (λ (k : ℕ). start_event c.lane c.helper k) same in
-    same-event b new next r s (start_event c.lane c.helper one.0) book (start-told c.lane c.helper one.0) one.2 event first second
+    let event : s.event ≡ start_event c.lane c.helper one.0 = other.2 ∙ ap
+    (λ (k : ℕ). start_event c.lane c.helper k) same in
+    same-event b new next r s (start_event c.lane c.helper one.0) book
+    (start-told c.lane c.helper one.0) one.2 event first second
 one-row b new next (Wait c f) r s book one first other second =
-    same-event b new next r s (wait_event f.whole c.lane c.helper f.target) book (wait-told f.whole c.lane c.helper f.target) one other first second
+    same-event b new next r s (wait_event f.whole c.lane c.helper f.target) book
+    (wait-told f.whole c.lane c.helper f.target) one other first second
 one-row b new next (Over c f) r s book one first other second =
-    same-event b new next r s (over_event f.whole c.lane c.helper f.target) book (over-told f.whole c.lane c.helper f.target) one other first second
+    same-event b new next r s (over_event f.whole c.lane c.helper f.target) book
+    (over-told f.whole c.lane c.helper f.target) one other first second
 one-row b new next (Finish c i) r s book one first other second =
-    same-event b new next r s (finish_event c.lane c.helper i) book (finish-told c.lane c.helper i) one other first second
+    same-event b new next r s (finish_event c.lane c.helper i) book
+    (finish-told c.lane c.helper i) one other first second
 one-row b new next Close r s book one first other second = absurd one
 one-row b new next Drain r s book one first other second = absurd one

@@ -1,9 +1,9 @@
--- Calls: of a book and a call, why it is refused, what is replied, the book after, the counts after, whom it wakes, and among whom
--- its caller sleeps.
+-- Calls: of a book and a call, why it is refused, what is replied, the book after, the counts after, whom it wakes,
+-- and among whom its caller sleeps.
 --
--- What is replied is the row that the call writes. Whether that row may come, and with which `yes` and which number, is said by
--- MayCome; how many free rows it needs by rows_needed; and both by Appends. Where there is no row to write, the call is done; or it
--- is too early, and then nothing is changed, and its caller sleeps and calls again.
+-- What is replied is the row that the call writes. Whether that row may come, and with which `yes` and which number,
+-- is said by MayCome; how many free rows it needs by rows_needed; and both by Appends. Where there is no row to
+-- write, the call is done; or it is too early, and then nothing is changed, and its caller sleeps and calls again.
 use Rattle.std.specs.Prelude.{◌≡◌, ℕ, ◌<◌, ◌≤◌, ◌⊎◌, List, length, sum, Bool, true, false, Result, Ok, Err, IsTrue}
 use Rattle.wq_items.specs.Table.{ItemWaitsBy}
 use Rattle.wq_core.specs.declared.step.Context.{Context}
@@ -83,8 +83,8 @@ RefusesToCancelSync b i NoItem = items b.wiring ≤ i
 RefusesToCancelSync b i HistoryFull = (i < items b.wiring) × (free b < 3)
 RefusesToCancelSync b i _ = ⊥
 
--- a wait: there is no such context, it runs nothing, or that waits (64); what runs declares no such flush (62); it has made as many
--- waits as its item declares flushes, of both kinds (63)
+-- a wait: there is no such context, it runs nothing, or that waits (64); what runs declares no such flush (62); it
+-- has made as many waits as its item declares flushes, of both kinds (63)
 abbrev pub RefusesToWait : BookView → Context → Flush → CallError → Type 0
 RefusesToWait b c f WrongLane = IsNotAwake b c.lane c.helper
 RefusesToWait b c f Undeclared = (r : Running) × IsAwake b c.lane c.helper r
@@ -98,8 +98,8 @@ abbrev pub RefusesIf : Type 0 → CallError → Type 0
 RefusesIf wrong WrongLane = wrong
 RefusesIf wrong _ = ⊥
 
--- why a book refuses a call. A start: there is no such context, or it runs an entry. The end of a wait: the context doesn't wait so.
--- A finish: the context runs no entry of this item, or that waits
+-- why a book refuses a call. A start: there is no such context, or it runs an entry. The end of a wait: the context
+-- doesn't wait so. A finish: the context runs no entry of this item, or that waits
 abbrev pub Refuses : BookView → Call → CallError → Type 0
 Refuses b (Queue i) e = RefusesToQueue b i e
 Refuses b (Cancel i) e = RefusesToCancel b i e
@@ -115,8 +115,8 @@ Refuses b Drain e = ⊥
 
 -- ---- what is replied, and the book after
 
--- the row that a call writes, if it writes just one: what happened. Of a closed book nothing is queued; a start is of the first pending entry whose item
--- doesn't run; and who is told has the mark of its ask
+-- the row that a call writes, if it writes just one: what happened. Of a closed book nothing is queued; a start is of
+-- the first pending entry whose item doesn't run; and who is told has the mark of its ask
 abbrev pub IsRowOf : BookView → Call → Row → Type 0
 IsRowOf b (Queue i) row = (row.event ≡ QueueEvent i) × (b.closed ≡ false)
 IsRowOf b (Cancel i) row = row.event ≡ CancelEvent i
@@ -140,8 +140,8 @@ WritesTwo old (CancelSync i) ask taken new = (3 ≤ free old) × ((between : Boo
     × (ask.event ≡ AskEvent i) × Writes old ask between × (taken.event ≡ CancelEvent i) × Writes between taken new)
 WritesTwo old _ ask taken new = ⊥
 
--- the call is done, and there is no row for it: a context has nothing to start, and its lane has ended; the book is closed; nothing
--- is unfinished
+-- the call is done, and there is no row for it: a context has nothing to start, and its lane has ended; the book is
+-- closed; nothing is unfinished
 abbrev pub IsDone : BookView → Call → Type 0
 IsDone b (Start c) = HasNothingToStart b c.lane c.helper × IsMet b (EndOf c.lane)
 IsDone b Close = Unit {0}
@@ -153,12 +153,13 @@ abbrev pub after : BookView → Call → BookView
 after b Close = record b { closed = true }
 after b _ = b
 
--- it is too early: an entry below the mark is unfinished; a context has nothing to start, and its lane hasn't ended; an entry is
--- unfinished
+-- it is too early: an entry below the mark is unfinished; a context has nothing to start, and its lane hasn't ended;
+-- an entry is unfinished
 abbrev pub IsEarly : BookView → Call → Type 0
 IsEarly b (Told x mark) = (0 < asks_waiting x b.rows) × IsUnfinishedBelow (state b) x mark
 IsEarly b (Start c) = HasNothingToStart b c.lane c.helper × (¬ IsMet b (EndOf c.lane))
-IsEarly b (Over c f) = (mark : ℕ) × WaitsWith b c f mark × IsUnfinishedBelow (state b) (subject_of b.wiring f.whole f.target) mark
+IsEarly b (Over c f) = (mark : ℕ) × WaitsWith b c f mark
+    × IsUnfinishedBelow (state b) (subject_of b.wiring f.whole f.target) mark
 IsEarly b Drain = HasUnfinished (state b)
 IsEarly b _ = ⊥
 
@@ -219,17 +220,20 @@ sleepers_of w (Start c) = Contexts c.lane
 sleepers_of w (Over c f) = waiters_for (subject_of w f.whole f.target)
 sleepers_of w _ = Destroyers
 
--- the condition for which its caller sleeps. A context that has nothing to start sleeps for two: work, and the end of its lane
+-- the condition for which its caller sleeps. A context that has nothing to start sleeps for two: work, and the end of
+-- its lane
 abbrev pub Awaits : BookView → Call → Condition → Type 0
 Awaits b (Told x mark) condition = condition ≡ done_below x mark
 Awaits b (Start c) condition = (condition ≡ WorkOn c.lane) ⊎ (condition ≡ EndOf c.lane)
-Awaits b (Over c f) condition = (mark : ℕ) × WaitsWith b c f mark × (condition ≡ done_below (subject_of b.wiring f.whole f.target) mark)
+Awaits b (Over c f) condition = (mark : ℕ) × WaitsWith b c f mark
+    × (condition ≡ done_below (subject_of b.wiring f.whole f.target) mark)
 Awaits b Drain condition = condition ≡ AllDone
 Awaits b _ condition = ⊥
 
 -- ---- a call through a seat, under the lock
 
--- what a call names is there: its item, its lane or its context. (What a wait is for needn't be: then it is undeclared.)
+-- what a call names is there: its item, its lane or its context. (What a wait is for needn't be: then it is
+-- undeclared.)
 abbrev pub IsNamed : Wiring → Call → Type 0
 IsNamed w (Queue i) = i < items w
 IsNamed w (Cancel i) = i < items w
@@ -264,9 +268,10 @@ IsBarred w counts call e = ((¬ IsNamed w call) × (e ≡ missing call))
 abbrev pub IsAdmitted : Wiring → List ℕ → Call → Type 0
 IsAdmitted w counts call = IsNamed w call × (IsTrue (needs_room call) → SeatHasRoom counts)
 
--- a call that is admitted, under the lock: the book answers, no seat is made, the answer is counted in the caller's seat, and these
--- are to be woken
-pub record IsTurn (old : HeldView) (counts : List ℕ) (call : Call) (answer : Result Reply CallError) (new : HeldView) (left : List ℕ) (wake : Wake) : Type 0 where
+-- a call that is admitted, under the lock: the book answers, no seat is made, the answer is counted in the caller's
+-- seat, and these are to be woken
+pub record IsTurn (old : HeldView) (counts : List ℕ) (call : Call) (answer : Result Reply CallError) (new : HeldView)
+    (left : List ℕ) (wake : Wake) : Type 0 where
   pub answers : Answers old.book call answer new.book
   pub seats : new.seats ≡ old.seats
   pub counted : left ≡ counts_after counts answer

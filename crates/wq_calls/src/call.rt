@@ -1,6 +1,7 @@
 //! A call, and its reply.
 //!
-//! The calls are those of "The calls of a book" in docs/RUNTIME.md, each with all that it names. Nothing is computed here.
+//! The calls are those of "The calls of a book" in docs/RUNTIME.md, each with all that it names. Nothing is computed
+//! here.
 
 use wq_core::Context;
 use wq_history::Subject;
@@ -50,8 +51,8 @@ pub enum Reply {
     Wrote(Row),
     /// These two rows were written, with none between them: the ask, and the cancellation.
     WroteTwo(Row, Row),
-    /// It is done, and there is no row for it: the book is closed, nothing is unfinished, or the context has nothing to start and
-    /// never will have.
+    /// It is done, and there is no row for it: the book is closed, nothing is unfinished, or the context has nothing
+    /// to start and never will have.
     Done,
     /// Not yet. Nothing is changed. The caller sleeps, and looks again when it is woken.
     NotYet,

@@ -33,15 +33,18 @@ ghost use Rattle.wq_calls.specs.declared.call.Reply.{Reply};
 ghost use Rattle.wq_calls.specs.declared.call.Reply.TheVariants.{Wrote, WroteTwo, Done, NotYet};
 ghost use Rattle.wq_calls.specs.Calls.{Refuses, IsRowOf, Writes, Replies, WritesTwo, IsEarly, Awaits, Answers, counts_after, WakesAfter, sleepers_of};
 
-/// A queueing: its answer is a row of an open book, its refusals are those of a book, as a runtime hands them on, and its row is
-/// counted for the item.
+/// A queueing: its answer is a row of an open book, its refusals are those of a book, as a runtime hands them on, and
+/// its row is counted for the item.
 pub fn a_queueing_is_answered_as_a_call()
-    ensures row { (old new : BookView) (i : ℕ) (said : Bool) → (AppendsOne old new (QueueEvent i) said × (old.closed ≡ false))
+    ensures row { (old new : BookView) (i : ℕ) (said : Bool)
+        → (AppendsOne old new (QueueEvent i) said × (old.closed ≡ false))
         ↔ ((row : Row) × (row.yes ≡ said) × Replies old (Queue i) (Wrote row) new) }
     ensures refused { (b : BookView) (i : ℕ) (x : BookError) (e : CallError) → call_error x ≡ Some e →
         RefusesQueue b i x ↔ Refuses b (Queue i) e }
-    ensures handed_on { (b : BookView) (i : ℕ) (e : CallError) → RefusedAs (RefusesQueue b i) e ↔ Refuses b (Queue i) e }
-    ensures counted { (old new : BookView) (counts : List ℕ) (i : ℕ) (row : Row) → Replies old (Queue i) (Wrote row) new →
+    ensures handed_on { (b : BookView) (i : ℕ) (e : CallError) → RefusedAs (RefusesQueue b i) e
+        ↔ Refuses b (Queue i) e }
+    ensures counted { (old new : BookView) (counts : List ℕ) (i : ℕ) (row : Row)
+        → Replies old (Queue i) (Wrote row) new →
         counts_after counts (Ok (Wrote row)) ≡ raised counts i QueueKind row.yes }
 {}
 
@@ -51,21 +54,28 @@ pub fn a_cancellation_is_answered_as_a_call()
         ↔ ((row : Row) × (row.yes ≡ said) × Replies old (Cancel i) (Wrote row) new) }
     ensures refused { (b : BookView) (i : ℕ) (x : BookError) (e : CallError) → call_error x ≡ Some e →
         RefusesItem b i CancelEvent x ↔ Refuses b (Cancel i) e }
-    ensures handed_on { (b : BookView) (i : ℕ) (e : CallError) → RefusedAs (RefusesItem b i CancelEvent) e ↔ Refuses b (Cancel i) e }
-    ensures counted { (old new : BookView) (counts : List ℕ) (i : ℕ) (row : Row) → Replies old (Cancel i) (Wrote row) new →
+    ensures handed_on { (b : BookView) (i : ℕ) (e : CallError) → RefusedAs (RefusesItem b i CancelEvent) e
+        ↔ Refuses b (Cancel i) e }
+    ensures counted { (old new : BookView) (counts : List ℕ) (i : ℕ) (row : Row)
+        → Replies old (Cancel i) (Wrote row) new →
         counts_after counts (Ok (Wrote row)) ≡ raised counts i CancelKind row.yes }
 {}
 
-/// A cancellation that waits begins: an ask and a cancellation under one hold of the lock. Where something is unfinished, the number of
-/// the first row is the mark of the wait.
+/// A cancellation that waits begins: an ask and a cancellation under one hold of the lock. Where something is
+/// unfinished, the number of the first row is the mark of the wait.
 pub fn a_cancellation_that_waits_is_answered_as_a_call()
-    ensures idle { (old new : BookView) (i : ℕ) (said : Bool) → (AsksAndCancels old new i ItemIdle said × (3 ≤ free old))
-        ↔ ((ask : Row) × (taken : Row) × (ask.yes ≡ false) × (taken.yes ≡ said) × WritesTwo old (CancelSync i) ask taken new) }
-    ensures waits { (old new : BookView) (i : ℕ) (asked : Asked) (said : Bool) → (AsksAndCancels old new i (ItemWaiting asked) said × (3 ≤ free old))
-        ↔ ((asked.item ≡ i) × ((ask : Row) × (taken : Row) × (ask.yes ≡ true) × (ask.number ≡ asked.mark) × (taken.yes ≡ said)
+    ensures idle { (old new : BookView) (i : ℕ) (said : Bool)
+        → (AsksAndCancels old new i ItemIdle said × (3 ≤ free old))
+        ↔ ((ask : Row) × (taken : Row) × (ask.yes ≡ false) × (taken.yes ≡ said)
+        × WritesTwo old (CancelSync i) ask taken new) }
+    ensures waits { (old new : BookView) (i : ℕ) (asked : Asked) (said : Bool)
+        → (AsksAndCancels old new i (ItemWaiting asked) said × (3 ≤ free old))
+        ↔ ((asked.item ≡ i) × ((ask : Row) × (taken : Row) × (ask.yes ≡ true) × (ask.number ≡ asked.mark)
+        × (taken.yes ≡ said)
         × WritesTwo old (CancelSync i) ask taken new)) }
     ensures refused { (b : BookView) (i : ℕ) (e : CallError) → RefusesAskAndCancel b i e ↔ Refuses b (CancelSync i) e }
-    ensures counted { (old new : BookView) (counts : List ℕ) (i : ℕ) (ask taken : Row) → Replies old (CancelSync i) (WroteTwo ask taken) new →
+    ensures counted { (old new : BookView) (counts : List ℕ) (i : ℕ) (ask taken : Row)
+        → Replies old (CancelSync i) (WroteTwo ask taken) new →
         counts_after counts (Ok (WroteTwo ask taken)) ≡ asked_and_cancelled counts i ask.yes taken.yes }
 {}
 
@@ -74,11 +84,14 @@ pub fn an_ask_of_an_item_is_answered_as_a_call()
     ensures idle { (old new : BookView) (i : ℕ) → AnswersAsk old new i ItemIdle
         ↔ ((row : Row) × (row.yes ≡ false) × Replies old (Ask (OfItem i)) (Wrote row) new) }
     ensures waits { (old new : BookView) (i : ℕ) (asked : Asked) → AnswersAsk old new i (ItemWaiting asked)
-        ↔ ((asked.item ≡ i) × ((row : Row) × (row.yes ≡ true) × (row.number ≡ asked.mark) × Replies old (Ask (OfItem i)) (Wrote row) new)) }
+        ↔ ((asked.item ≡ i) × ((row : Row) × (row.yes ≡ true) × (row.number ≡ asked.mark)
+        × Replies old (Ask (OfItem i)) (Wrote row) new)) }
     ensures refused { (b : BookView) (i : ℕ) (x : BookError) (e : CallError) → call_error x ≡ Some e →
         RefusesItem b i AskEvent x ↔ Refuses b (Ask (OfItem i)) e }
-    ensures handed_on { (b : BookView) (i : ℕ) (e : CallError) → RefusedAs (RefusesItem b i AskEvent) e ↔ Refuses b (Ask (OfItem i)) e }
-    ensures counted { (old new : BookView) (counts : List ℕ) (i : ℕ) (row : Row) → Replies old (Ask (OfItem i)) (Wrote row) new →
+    ensures handed_on { (b : BookView) (i : ℕ) (e : CallError) → RefusedAs (RefusesItem b i AskEvent) e
+        ↔ Refuses b (Ask (OfItem i)) e }
+    ensures counted { (old new : BookView) (counts : List ℕ) (i : ℕ) (row : Row)
+        → Replies old (Ask (OfItem i)) (Wrote row) new →
         counts_after counts (Ok (Wrote row)) ≡ raised counts i AskKind row.yes }
 {}
 
@@ -91,7 +104,8 @@ pub fn the_end_of_a_flush_of_an_item_is_answered_as_a_call()
     ensures not_asked { (old new : BookView) (asked same : Asked) → AnswersTold old new asked (ItemNotAsked same)
         ↔ ((same ≡ asked) × (new ≡ old) × Refuses old (Told (OfItem asked.item) asked.mark) NotAsked) }
     ensures refused { (b : BookView) (i mark : ℕ) (e : CallError) → Refuses b (Told (OfItem i) mark) e → e ≡ NotAsked }
-    ensures counted { (old new : BookView) (counts : List ℕ) (i mark : ℕ) (row : Row) → Replies old (Told (OfItem i) mark) (Wrote row) new →
+    ensures counted { (old new : BookView) (counts : List ℕ) (i mark : ℕ) (row : Row)
+        → Replies old (Told (OfItem i) mark) (Wrote row) new →
         counts_after counts (Ok (Wrote row)) ≡ raised counts i ToldKind true }
 {}
 
@@ -100,11 +114,14 @@ pub fn an_ask_of_a_lane_is_answered_as_a_call()
     ensures idle { (old new : BookView) (q : ℕ) → AnswersAskLane old new q Idle
         ↔ ((row : Row) × (row.yes ≡ false) × Replies old (Ask (OfLane q)) (Wrote row) new) }
     ensures waits { (old new : BookView) (q : ℕ) (asked : LaneAsked) → AnswersAskLane old new q (Waiting asked)
-        ↔ ((asked.lane ≡ q) × ((row : Row) × (row.yes ≡ true) × (row.number ≡ asked.mark) × Replies old (Ask (OfLane q)) (Wrote row) new)) }
+        ↔ ((asked.lane ≡ q) × ((row : Row) × (row.yes ≡ true) × (row.number ≡ asked.mark)
+        × Replies old (Ask (OfLane q)) (Wrote row) new)) }
     ensures refused { (b : BookView) (q : ℕ) (x : BookError) (e : CallError) → call_error x ≡ Some e →
         RefusesAskLane b q x ↔ Refuses b (Ask (OfLane q)) e }
-    ensures handed_on { (b : BookView) (q : ℕ) (e : CallError) → RefusedAs (RefusesAskLane b q) e ↔ Refuses b (Ask (OfLane q)) e }
-    ensures counted { (old new : BookView) (counts : List ℕ) (q : ℕ) (row : Row) → Replies old (Ask (OfLane q)) (Wrote row) new →
+    ensures handed_on { (b : BookView) (q : ℕ) (e : CallError) → RefusedAs (RefusesAskLane b q) e
+        ↔ Refuses b (Ask (OfLane q)) e }
+    ensures counted { (old new : BookView) (counts : List ℕ) (q : ℕ) (row : Row)
+        → Replies old (Ask (OfLane q)) (Wrote row) new →
         counts_after counts (Ok (Wrote row)) ≡ raised_asked counts q row.yes }
 {}
 
@@ -114,10 +131,12 @@ pub fn the_end_of_a_flush_of_a_lane_is_answered_as_a_call()
         ↔ ((row : Row) × Replies old (Told (OfLane asked.lane) asked.mark) (Wrote row) new) }
     ensures not_yet { (old new : BookView) (asked same : LaneAsked) → AnswersToldLane old new asked (ToldNotYet same)
         ↔ ((same ≡ asked) × Replies old (Told (OfLane asked.lane) asked.mark) NotYet new) }
-    ensures not_asked { (old new : BookView) (asked same : LaneAsked) → AnswersToldLane old new asked (ToldNotAsked same)
+    ensures not_asked { (old new : BookView) (asked same : LaneAsked)
+        → AnswersToldLane old new asked (ToldNotAsked same)
         ↔ ((same ≡ asked) × (new ≡ old) × Refuses old (Told (OfLane asked.lane) asked.mark) NotAsked) }
     ensures refused { (b : BookView) (q mark : ℕ) (e : CallError) → Refuses b (Told (OfLane q) mark) e → e ≡ NotAsked }
-    ensures counted { (old new : BookView) (counts : List ℕ) (q mark : ℕ) (row : Row) → Replies old (Told (OfLane q) mark) (Wrote row) new →
+    ensures counted { (old new : BookView) (counts : List ℕ) (q mark : ℕ) (row : Row)
+        → Replies old (Told (OfLane q) mark) (Wrote row) new →
         counts_after counts (Ok (Wrote row)) ≡ raised_told counts q }
 {}
 
@@ -129,37 +148,47 @@ pub fn a_start_is_answered_as_a_call()
         ↔ (Replies old (Start c) Done new ⊎ Replies old (Start c) NotYet new) }
     ensures refused { (b : BookView) (c : Context) (x : BookError) (e : CallError) → call_error x ≡ Some e →
         RefusesLane (IsWrongToStart b c.lane c.helper) x ↔ Refuses b (Start c) e }
-    ensures handed_on { (b : BookView) (c : Context) (e : CallError) → RefusedAs (RefusesLane (IsWrongToStart b c.lane c.helper)) e ↔ Refuses b (Start c) e }
-    ensures counted { (old new : BookView) (counts : List ℕ) (c : Context) (row : Row) → Replies old (Start c) (Wrote row) new →
+    ensures handed_on { (b : BookView) (c : Context) (e : CallError)
+        → RefusedAs (RefusesLane (IsWrongToStart b c.lane c.helper)) e ↔ Refuses b (Start c) e }
+    ensures counted { (old new : BookView) (counts : List ℕ) (c : Context) (row : Row)
+        → Replies old (Start c) (Wrote row) new →
         counts_after counts (Ok (Wrote row)) ≡ counts }
 {}
 
 /// Each answer wakes enough, whatever the call.
 pub fn an_answer_wakes_enough()
     ensures { (old new : BookView) (call : Call) (answer : Result Reply CallError) (wake : Wake) → IsBook old →
-        old.wiring.helpers ≤ max_helpers → Answers old call answer new → WakesAfter new call answer wake → WakesEnough old new wake }
+        old.wiring.helpers ≤ max_helpers → Answers old call answer new → WakesAfter new call answer wake
+        → WakesEnough old new wake }
 {}
 
 /// What a context runs begins to wait.
 pub fn a_wait_is_answered_as_a_call()
-    ensures row { (old new : BookView) (c : Context) (f : Flush) (said : Bool) → AppendsOne old new (wait_event f.whole c.lane c.helper f.target) said
+    ensures row { (old new : BookView) (c : Context) (f : Flush) (said : Bool)
+        → AppendsOne old new (wait_event f.whole c.lane c.helper f.target) said
         ↔ ((row : Row) × (row.yes ≡ said) × Replies old (Wait c f) (Wrote row) new) }
     ensures refused { (b : BookView) (c : Context) (f : Flush) (x : BookError) (e : CallError) → call_error x ≡ Some e →
         RefusesWait b c.lane c.helper f.whole f.target x ↔ Refuses b (Wait c f) e }
-    ensures handed_on { (b : BookView) (c : Context) (f : Flush) (e : CallError) → RefusedAs (RefusesWait b c.lane c.helper f.whole f.target) e ↔ Refuses b (Wait c f) e }
-    ensures counted { (old new : BookView) (counts : List ℕ) (c : Context) (f : Flush) (row : Row) → Replies old (Wait c f) (Wrote row) new →
+    ensures handed_on { (b : BookView) (c : Context) (f : Flush) (e : CallError)
+        → RefusedAs (RefusesWait b c.lane c.helper f.whole f.target) e ↔ Refuses b (Wait c f) e }
+    ensures counted { (old new : BookView) (counts : List ℕ) (c : Context) (f : Flush) (row : Row)
+        → Replies old (Wait c f) (Wrote row) new →
         counts_after counts (Ok (Wrote row)) ≡ raised counts f.target (wait_kind f.whole) row.yes }
 {}
 
 /// Such a wait is over, or goes on.
 pub fn the_end_of_a_wait_is_answered_as_a_call()
-    ensures over { (old new : BookView) (c : Context) (f : Flush) → AnswersOverOf old new c.lane c.helper f.whole f.target true
+    ensures over { (old new : BookView) (c : Context) (f : Flush)
+        → AnswersOverOf old new c.lane c.helper f.whole f.target true
         ↔ ((row : Row) × Replies old (Over c f) (Wrote row) new) }
-    ensures goes_on { (old new : BookView) (c : Context) (f : Flush) → AnswersOverOf old new c.lane c.helper f.whole f.target false
+    ensures goes_on { (old new : BookView) (c : Context) (f : Flush)
+        → AnswersOverOf old new c.lane c.helper f.whole f.target false
         ↔ Replies old (Over c f) NotYet new }
-    ensures refused { (b : BookView) (c : Context) (f : Flush) (e : CallError) → ((e ≡ WrongLane) × IsWrongToGoOn b c.lane c.helper f.whole f.target)
+    ensures refused { (b : BookView) (c : Context) (f : Flush) (e : CallError)
+        → ((e ≡ WrongLane) × IsWrongToGoOn b c.lane c.helper f.whole f.target)
         ↔ Refuses b (Over c f) e }
-    ensures counted { (old new : BookView) (counts : List ℕ) (c : Context) (f : Flush) (row : Row) → Replies old (Over c f) (Wrote row) new →
+    ensures counted { (old new : BookView) (counts : List ℕ) (c : Context) (f : Flush) (row : Row)
+        → Replies old (Over c f) (Wrote row) new →
         counts_after counts (Ok (Wrote row)) ≡ raised counts f.target (over_kind f.whole) row.yes }
 {}
 
@@ -167,8 +196,10 @@ pub fn the_end_of_a_wait_is_answered_as_a_call()
 pub fn a_finish_is_answered_as_a_call()
     ensures row { (old new : BookView) (c : Context) (i : ℕ) → AppendsOne old new (finish_event c.lane c.helper i) true
         ↔ ((row : Row) × Replies old (Finish c i) (Wrote row) new) }
-    ensures refused { (b : BookView) (c : Context) (i : ℕ) (e : CallError) → ((e ≡ WrongLane) × IsWrongToFinish b c.lane c.helper i) ↔ Refuses b (Finish c i) e }
-    ensures counted { (old new : BookView) (counts : List ℕ) (c : Context) (i : ℕ) (row : Row) → Replies old (Finish c i) (Wrote row) new →
+    ensures refused { (b : BookView) (c : Context) (i : ℕ) (e : CallError)
+        → ((e ≡ WrongLane) × IsWrongToFinish b c.lane c.helper i) ↔ Refuses b (Finish c i) e }
+    ensures counted { (old new : BookView) (counts : List ℕ) (c : Context) (i : ℕ) (row : Row)
+        → Replies old (Finish c i) (Wrote row) new →
         counts_after counts (Ok (Wrote row)) ≡ raised counts i FinishKind row.yes }
 {}
 
@@ -177,7 +208,8 @@ pub fn a_closing_is_answered_as_a_call()
     ensures { (old new : BookView) → (new ≡ record old { closed = true }) ↔ Replies old Close Done new }
 {}
 
-/// A call that is early waits for something that isn't so yet, and its caller sleeps among those who are woken once it is.
+/// A call that is early waits for something that isn't so yet, and its caller sleeps among those who are woken once
+/// it is.
 pub fn an_early_call_sleeps_among_its_own()
     ensures { (b : BookView) (call : Call) (condition : Condition) → IsEarly b call → Awaits b call condition →
         (¬ IsMet b condition) × (sleepers_for condition ≡ sleepers_of b.wiring call) }
@@ -185,6 +217,7 @@ pub fn an_early_call_sleeps_among_its_own()
 
 /// A book writes one row for a call, at most: the call and the book say which.
 pub fn a_call_writes_one_row()
-    ensures { (b new next : BookView) (call : Call) (row other : Row) → IsBook b → IsRowOf b call row → Writes b row new →
+    ensures { (b new next : BookView) (call : Call) (row other : Row) → IsBook b → IsRowOf b call row
+        → Writes b row new →
         IsRowOf b call other → Writes b other next → row ≡ other }
 {}
