@@ -8,3 +8,4 @@ pub mod Contexts
 pub mod Waking
 pub mod Sleeping
 pub mod Uniqueness
+pub mod Taken

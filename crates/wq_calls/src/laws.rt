@@ -2,9 +2,9 @@
 //!
 //! They are about books and counts alone, whatever code wrote these.
 
-ghost use Rattle.std.specs.Prelude.{◌≡◌, ℕ, ◌≤◌, ◌↔◌, ◌⊎◌, List, Bool, true, false, Some, None, Result, Ok};
+ghost use Rattle.std.specs.Prelude.{◌≡◌, ℕ, ◌<◌, ◌≤◌, ◌↔◌, ◌⊎◌, List, Bool, true, false, Some, None, Result, Ok, Err};
 ghost use Rattle.wq_core.specs.declared.step.Context.{Context};
-ghost use Rattle.wq_core.specs.Wiring.{max_helpers};
+ghost use Rattle.wq_core.specs.Wiring.{Wiring, items, lane_of, max_helpers, HasContext};
 ghost use Rattle.wq_rows.specs.declared.event.Event.TheVariants.{Queue as QueueEvent, Cancel as CancelEvent, Ask as AskEvent};
 ghost use Rattle.wq_rows.specs.declared.event.Row.{Row};
 ghost use Rattle.wq_counts.specs.declared.kind.Kind.TheVariants.{Queue as QueueKind, Cancel as CancelKind, Ask as AskKind, Told as ToldKind, Finish as FinishKind};
@@ -25,7 +25,10 @@ ghost use Rattle.wq_history.specs.Waits.{Condition, IsMet, sleepers_for, WakesEn
 ghost use Rattle.wq_held.specs.declared.fault.CallError.{CallError};
 ghost use Rattle.wq_held.specs.declared.fault.CallError.TheVariants.{WrongLane, NotAsked};
 ghost use Rattle.wq_held.specs.Errors.{call_error, RefusedAs};
-ghost use Rattle.wq_held.specs.Locked.{AsksAndCancels, RefusesAskAndCancel, asked_and_cancelled, AnswersOverOf, IsWrongToGoOn, IsWrongToFinish};
+ghost use Rattle.wq_held.specs.Locked.{SeatHasRoom, AsksAndCancels, RefusesAskAndCancel, asked_and_cancelled, AnswersOverOf, IsWrongToGoOn, IsWrongToFinish};
+ghost use Rattle.wq_under_lock.specs.Refusals.{RefusesQueueWork};
+ghost use Rattle.wq_api.specs.WaitingCalls.{RefusesFlushWorkqueue, lane_flushed, lane_flush_refused};
+ghost use Rattle.wq_calls.specs.Taking.{Took, CameTo};
 ghost use Rattle.wq_calls.specs.declared.call.Flush.{Flush};
 ghost use Rattle.wq_calls.specs.declared.call.Call.{Call};
 ghost use Rattle.wq_calls.specs.declared.call.Call.TheVariants.{Queue, Cancel, Ask, Told, CancelSync, Start, Wait, Over, Finish, Close};
@@ -220,4 +223,43 @@ pub fn a_call_writes_one_row()
     ensures { (b new next : BookView) (call : Call) (row other : Row) → IsBook b → IsRowOf b call row
         → Writes b row new →
         IsRowOf b call other → Writes b other next → row ≡ other }
+{}
+
+/// What a runtime's `queue_item` says to its caller follows from what the call came to.
+pub fn what_queue_item_says_follows()
+    ensures queued { (w : Wiring) (rows : ℕ) (counts left : List ℕ) (i : ℕ) (row : Row)
+        → CameTo w rows counts (Queue i) (Ok (Wrote row)) left
+        → (i < items w) × SeatHasRoom counts × (left ≡ raised counts i QueueKind row.yes) }
+    ensures refused { (w : Wiring) (rows : ℕ) (counts left : List ℕ) (i : ℕ) (e : CallError)
+        → CameTo w rows counts (Queue i) (Err e) left
+        → RefusesQueueWork w counts (lane_of w i) i e × (left ≡ counts) }
+{}
+
+/// What a runtime's `flush_workqueue` says follows from what its calls came to: an ask, and if that waits, a second one
+/// with the number of its row.
+pub fn what_flush_workqueue_says_follows()
+    ensures idle { (w : Wiring) (rows : ℕ) (counts left : List ℕ) (q : ℕ) (row : Row)
+        → CameTo w rows counts (Ask (OfLane q)) (Ok (Wrote row)) left → row.yes ≡ false
+        → (q < w.lanes) × SeatHasRoom counts × (left ≡ lane_flushed counts q false) }
+    ensures waited { (w : Wiring) (rows : ℕ) (counts between left : List ℕ) (q : ℕ) (row other : Row)
+        → CameTo w rows counts (Ask (OfLane q)) (Ok (Wrote row)) between → row.yes ≡ true
+        → Took w rows between (Told (OfLane q) row.number) (Ok (Wrote other)) left
+        → (q < w.lanes) × SeatHasRoom counts × (left ≡ lane_flushed counts q true) }
+    ensures refused { (w : Wiring) (rows : ℕ) (counts left : List ℕ) (q : ℕ) (e : CallError)
+        → CameTo w rows counts (Ask (OfLane q)) (Err e) left
+        → RefusesFlushWorkqueue w counts q e × (left ≡ lane_flush_refused counts q e) }
+    ensures not_told { (w : Wiring) (rows : ℕ) (counts between left : List ℕ) (q : ℕ) (row : Row) (e : CallError)
+        → CameTo w rows counts (Ask (OfLane q)) (Ok (Wrote row)) between → row.yes ≡ true
+        → Took w rows between (Told (OfLane q) row.number) (Err e) left
+        → RefusesFlushWorkqueue w counts q e × (left ≡ lane_flush_refused counts q e) }
+{}
+
+/// What a runtime's `next` says follows from what its call came to.
+pub fn what_next_says_follows()
+    ensures started { (w : Wiring) (rows : ℕ) (counts left : List ℕ) (c : Context) (row : Row)
+        → Took w rows counts (Start c) (Ok (Wrote row)) left → HasContext w c.lane c.helper × (left ≡ counts) }
+    ensures ended { (w : Wiring) (rows : ℕ) (counts left : List ℕ) (c : Context)
+        → Took w rows counts (Start c) (Ok Done) left → HasContext w c.lane c.helper × (left ≡ counts) }
+    ensures refused { (w : Wiring) (rows : ℕ) (counts left : List ℕ) (c : Context) (e : CallError)
+        → Took w rows counts (Start c) (Err e) left → (e ≡ WrongLane) × (left ≡ counts) }
 {}
