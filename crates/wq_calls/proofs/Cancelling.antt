@@ -10,7 +10,7 @@ use Rattle.wq_history.specs.declared.fault.BookError.{BookError}
 use Rattle.wq_history.specs.declared.fault.BookError.TheVariants.{HistoryFull as BookFull, Closed as BookClosed, Undeclared as BookUndeclared, TooManyWaits as BookTooManyWaits, WrongLane as BookWrongLane, NoItem as BookNoItem, TooManyRows, OutOfMemory}
 use Rattle.wq_history.specs.declared.asking.Ask.TheVariants.{Idle, Waiting}
 use Rattle.wq_history.specs.declared.asking.Asked.{Asked}
-use Rattle.wq_history.specs.Book.{BookView, free, Appends, AppendsOne, RefusesItem}
+use Rattle.wq_history.specs.Book.{BookView, free, AppendsOne, RefusesItem}
 use Rattle.wq_held.specs.declared.fault.CallError.{CallError}
 use Rattle.wq_held.specs.declared.fault.CallError.TheVariants.{HistoryFull, Closed, Undeclared, TooManyWaits, WrongLane, NotAsked, NoItem}
 use Rattle.wq_held.specs.Errors.{call_error, RefusedAs}

@@ -120,7 +120,7 @@ over-true old new c f = (
 )
 
 -- what holds a wait back is what is unfinished below its mark
-held-back : (w : Wiring) (s : State) (whole : Bool) (b mark : ℕ) → IsHeldBack w s whole b mark
+pub held-back : (w : Wiring) (s : State) (whole : Bool) (b mark : ℕ) → IsHeldBack w s whole b mark
     ↔ IsUnfinishedBelow s (subject_of w whole b) mark
 held-back w s false b mark = itself (IsHeldBack w s false b mark)
 held-back w s true b mark = itself (IsHeldBack w s true b mark)

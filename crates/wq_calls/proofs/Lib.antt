@@ -9,3 +9,4 @@ pub mod Waking
 pub mod Sleeping
 pub mod Uniqueness
 pub mod Taken
+pub mod OneAnswer

@@ -5,7 +5,7 @@ use Rattle.wq_rows.specs.declared.event.Event.{Event}
 use Rattle.wq_rows.specs.declared.event.Event.TheVariants.{Queue as QueueEvent}
 use Rattle.wq_rows.specs.declared.event.Row.{Row}
 use Rattle.wq_counts.specs.declared.kind.Kind.TheVariants.{Queue as QueueKind}
-use Rattle.wq_counts.specs.Counting.{raised, noted, noted_as}
+use Rattle.wq_counts.specs.Counting.{raised, noted_as}
 use Rattle.wq_history.specs.declared.fault.BookError.{BookError}
 use Rattle.wq_history.specs.declared.fault.BookError.TheVariants.{HistoryFull as BookFull, Closed as BookClosed, Undeclared as BookUndeclared, TooManyWaits as BookTooManyWaits, WrongLane as BookWrongLane, NoItem as BookNoItem, TooManyRows, OutOfMemory}
 use Rattle.wq_history.specs.Book.{BookView, AppendsOne, RefusesQueue}

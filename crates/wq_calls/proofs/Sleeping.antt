@@ -32,7 +32,7 @@ same-condition b call one condition same holds =
     subst (λ (k : Condition). (¬ IsMet b k) × (sleepers_for k ≡ sleepers_of b.wiring call)) (sym same) holds
 
 -- a context waits with one mark
-one-wait : (b : BookView) (q c : ℕ) (g h : WaitOf) → IsWaiting b q c g → IsWaiting b q c h → g ≡ h
+pub one-wait : (b : BookView) (q c : ℕ) (g h : WaitOf) → IsWaiting b q c g → IsWaiting b q c h → g ≡ h
 one-wait b q c g h one other =
     let same : Some one.0 ≡ Some other.0 = sym one.1 ∙ other.1 in
     let runs : one.0 ≡ other.0 = cc in

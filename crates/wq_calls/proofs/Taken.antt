@@ -13,7 +13,7 @@ use Rattle.wq_history.specs.Events.{start_event}
 use Rattle.wq_history.specs.Book.{BookView, IsWrongToStart}
 use Rattle.wq_held.specs.declared.fault.CallError.{CallError}
 use Rattle.wq_held.specs.declared.fault.CallError.TheVariants.{HistoryFull, Closed, Undeclared, TooManyWaits, WrongLane, NotAsked, NoItem}
-use Rattle.wq_held.specs.Locked.{Holds, SeatHasRoom}
+use Rattle.wq_held.specs.Locked.{SeatHasRoom}
 use Rattle.wq_held.proofs.Locking.{context-appended}
 use Rattle.wq_under_lock.specs.Refusals.{RefusesQueueWork}
 use Rattle.wq_api.specs.WaitingCalls.{RefusesFlushWorkqueue, lane_flushed, lane_flush_refused}

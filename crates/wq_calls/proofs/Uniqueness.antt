@@ -16,16 +16,16 @@ use Rattle.wq_calls.specs.declared.call.Call.TheVariants.{Queue, Cancel, Ask, To
 use Rattle.wq_calls.specs.Calls.{IsRowOf, Writes}
 
 -- rows with the same fields
-same-row : (r s : Row) → r.event ≡ s.event → r.yes ≡ s.yes → r.number ≡ s.number → r ≡ s
+pub same-row : (r s : Row) → r.event ≡ s.event → r.yes ≡ s.yes → r.number ≡ s.number → r ≡ s
 same-row r s events answers numbers = λ i. record { event = events i; yes = answers i; number = numbers i }
 
 -- a row that is written may come, as that of its event
-comes : (b new : BookView) (row : Row) (event : Event) → row.event ≡ event → Writes b row new
+pub comes : (b new : BookView) (row : Row) (event : Event) → row.event ≡ event → Writes b row new
     → MayCome b.wiring b.rows event row.yes row.number
 comes b new row event is writes = subst (λ (e : Event). MayCome b.wiring b.rows e row.yes row.number) is writes.may
 
 -- two rows of one event, which isn't of one who is told
-same-event : (b new next : BookView) (r s : Row) (event : Event) → IsBook b → is_told event ≡ false → r.event ≡ event
+pub same-event : (b new next : BookView) (r s : Row) (event : Event) → IsBook b → is_told event ≡ false → r.event ≡ event
     → s.event ≡ event → Writes b r new → Writes b s next → r ≡ s
 same-event b new next r s event book not_told one other first second =
     let same = one_answer b.wiring b.rows event r.yes s.yes r.number s.number book.legal not_told

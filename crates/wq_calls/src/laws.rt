@@ -263,3 +263,9 @@ pub fn what_next_says_follows()
     ensures refused { (w : Wiring) (rows : ℕ) (counts left : List ℕ) (c : Context) (e : CallError)
         → Took w rows counts (Start c) (Err e) left → (e ≡ WrongLane) × (left ≡ counts) }
 {}
+
+/// A book has one answer to a call, which leaves one book. So the relation leaves nothing open.
+pub fn a_call_has_one_answer()
+    ensures { (b new next : BookView) (call : Call) (one other : Result Reply CallError) → IsBook b
+        → Answers b call one new → Answers b call other next → (one ≡ other) × (new ≡ next) }
+{}
