@@ -1,5 +1,5 @@
 -- The items of each lane, as their places in the list of all lanes, and those on marked lanes.
-use Rattle.std.proofs.Common.{◌≡◌, ℕ, ◌+◌, ◌<◌, ◌⊎◌, Bool, true, false, eqb, List, [], ◌∷◌, ◌++◌, length, map, get_or, sym, ap, subst, ◌∙◌, arith, inl, inr}
+use Rattle.std.proofs.Common.{◌≡◌, ℕ, ◌+◌, ◌<◌, ◌≤◌, Bool, true, false, eqb, List, [], ◌∷◌, ◌++◌, length, map, get_or, sym, ap, subst, ◌∙◌, arith, inl, inr}
 use Rattle.std.specs.Prelude.{Contains, slice_index, slice_index_or}
 use Rattle.std.specs.List.{All, range_with_len}
 use Rattle.std.proofs.lemmas.Bool.{cases_eq, cases_lt, eqb-true, eq-eqb, false≢true}
@@ -101,27 +101,39 @@ AreMarkedBelow-kept w marks n list are unmarked = record {
   ];
 }
 
-pub AreMarkedOf-none : (on : List (List ℕ)) (marks : List Bool) → AreMarkedOf on marks [] []
-AreMarkedOf-none on marks = record { within = λ i there. absurd (omega (arith, there.1)); all = λ q i there marked on_it. absurd (omega (arith, there.1)) }
+-- the same of the lanes below n
+pub record AreMarkedTo (on : List (List ℕ)) (marks bare : List Bool) (n : ℕ) (list : List ℕ) : Type 0 where
+  pub within : (i : ℕ) → Contains list i → (q : ℕ) × Contains (slice_index_or on q []) i
+  pub all : (q i : ℕ) → q < n → slice_index_or marks q false ≡ true → slice_index_or bare q false ≡ false → Contains (slice_index_or on q []) i → Contains list i
 
--- one lane more, which is marked
-pub AreMarkedOf-more : (on : List (List ℕ)) (marks : List Bool) (before after list new : List ℕ) (q : ℕ) → AreMarkedOf on marks before list → ((p : ℕ) → Contains after p → Contains before p ⊎ (q ≡ p))
-    → new ≡ list ++ slice_index_or on q [] → AreMarkedOf on marks after new
-AreMarkedOf-more on marks before after list new q are more is = subst (AreMarkedOf on marks after) (sym is) (record {
-  within = λ i there. elim (Contains-append_cases list (slice_index_or on q []) i there) [ inl old ↦ are.within i old | inr now ↦ (q, now) ];
-  all = λ p i there marked on_it. elim (more p there) [
-    | inl old ↦ Contains-append_left list (slice_index_or on q []) i (are.all p i old marked on_it)
-    | inr same ↦ Contains-append_right list (slice_index_or on q []) i (subst (λ (k : ℕ). Contains (slice_index_or on k []) i) (sym same) on_it)
+pub AreMarkedTo-none : (on : List (List ℕ)) (marks bare : List Bool) → AreMarkedTo on marks bare 0 []
+AreMarkedTo-none on marks bare = record { within = λ i there. absurd (omega (arith, there.1)); all = λ q i below marked stays on_it. absurd (omega (arith, below)) }
+
+-- one lane more, on which rounds may begin
+pub AreMarkedTo-more : (on : List (List ℕ)) (marks bare : List Bool) (n : ℕ) (list new : List ℕ) → AreMarkedTo on marks bare n list → new ≡ list ++ slice_index_or on n [] → AreMarkedTo on marks bare (n + 1) new
+AreMarkedTo-more on marks bare n list new are is = subst (AreMarkedTo on marks bare (n + 1)) (sym is) (record {
+  within = λ i there. elim (Contains-append_cases list (slice_index_or on n []) i there) [ inl old ↦ are.within i old | inr now ↦ (n, now) ];
+  all = λ q i below marked stays on_it. elim (cases_eq q n) [
+    | inl same ↦ Contains-append_right list (slice_index_or on n []) i (subst (λ (k : ℕ). Contains (slice_index_or on k []) i) same on_it)
+    | inr other ↦ Contains-append_left list (slice_index_or on n []) i (are.all q i (omega arith) marked stays on_it)
   ];
 })
 
--- one lane more, which isn't
-pub AreMarkedOf-kept : (on : List (List ℕ)) (marks : List Bool) (before after list : List ℕ) (q : ℕ) → AreMarkedOf on marks before list → ((p : ℕ) → Contains after p → Contains before p ⊎ (q ≡ p))
-    → slice_index_or marks q false ≡ false → AreMarkedOf on marks after list
-AreMarkedOf-kept on marks before after list q are more unmarked = record {
+-- one lane more, on which they don't
+pub AreMarkedTo-kept : (on : List (List ℕ)) (marks bare : List Bool) (n : ℕ) (list : List ℕ) → AreMarkedTo on marks bare n list → (¬ ((slice_index_or marks n false ≡ true) × (slice_index_or bare n false ≡ false))) → AreMarkedTo on marks bare (n + 1) list
+AreMarkedTo-kept on marks bare n list are never = record {
   within = are.within;
-  all = λ p i there marked on_it. elim (more p there) [
-    | inl old ↦ are.all p i old marked on_it
-    | inr same ↦ absurd (false≢true (sym unmarked ∙ ap (λ (k : ℕ). slice_index_or marks k false) same ∙ marked))
+  all = λ q i below marked stays on_it. elim (cases_eq q n) [
+    | inl same ↦ absurd (never (subst (λ (k : ℕ). slice_index_or marks k false ≡ true) same marked, subst (λ (k : ℕ). slice_index_or bare k false ≡ false) same stays))
+    | inr other ↦ are.all q i (omega arith) marked stays on_it
+  ];
+}
+
+pub AreMarkedOf-all : (on : List (List ℕ)) (marks bare : List Bool) (n : ℕ) (list : List ℕ) → AreMarkedTo on marks bare n list → length marks ≤ n → AreMarkedOf on marks bare list
+AreMarkedOf-all on marks bare n list are enough = record {
+  within = are.within;
+  all = λ q i marked stays on_it. elim (cases_lt q (length marks)) [
+    | inl below ↦ are.all q i (omega (arith, below, enough)) marked stays on_it
+    | inr past ↦ absurd (false≢true (sym (get_or_past marks q false past) ∙ marked))
   ];
 }

@@ -116,10 +116,8 @@ module _ (w : Wiring) (wiring : IsWiring w) (lanes : List ℕ) (bare : List Bool
   AreItemsOn-kept on is = record { one_each = is.one_each; within = is.within; all = is.all }
 
   -- the items on those of the lanes that are marked are passed
-  pub ArePassed-on : (on : List (List ℕ)) (marks : List Bool) (passed : List ℕ) → AreMade w on marks → AreMarkedOf on marks lanes passed → ArePassed v passed
-  ArePassed-on on marks passed made of = ArePassed-marked v made.numbers marks passed marked (λ i below rescuer there.
-      let on_them = (are (lane_of w i) (lane_of-within w wiring i below)).0 rescuer in
-      of.all (lane_of w i) i on_them.1 there (made.items_on.all i below))
+  pub ArePassed-on : (on : List (List ℕ)) (marks : List Bool) (passed : List ℕ) → AreMade w on marks → AreMarkedOf on marks bare passed → ArePassed v passed
+  ArePassed-on on marks passed made of = ArePassed-marked v made.numbers marks passed marked (λ i below rescuer there. of.all (lane_of w i) i there rescuer (made.items_on.all i below))
     where
       marked : AreMarked v made.numbers marks
       marked h hop low =
@@ -127,8 +125,8 @@ module _ (w : Wiring) (wiring : IsWiring w) (lanes : List ℕ) (bare : List Bool
           made.marked h (record { declared = hop.declared; rescuer = own.0 }) low
 
 -- the items that are passed exist
-pub passed_items : (w : Wiring) (on : List (List ℕ)) (marks : List Bool) (lanes passed : List ℕ) → AreMade w on marks → AreMarkedOf on marks lanes passed → All (λ i. i < items w) passed
-passed_items w on marks lanes passed made of k d lt =
+pub passed_items : (w : Wiring) (on : List (List ℕ)) (marks bare : List Bool) (passed : List ℕ) → AreMade w on marks → AreMarkedOf on marks bare passed → All (λ i. i < items w) passed
+passed_items w on marks bare passed made of k d lt =
     let i : ℕ = get_or passed k d in
     let at = of.within i (Contains-get_or passed k d lt) in
     (made.items_on.within at.0 i at.1).0

@@ -35,11 +35,7 @@ pub IfOk-is : {A E : Type 0} (P : A → Type 0) (a : A) (r : Result A E) → IfO
 IfOk-is P a (Ok x) same holds = subst P (sym same) holds
 IfOk-is P a (Err e) same holds = tt
 
--- what follows from what holds of a result, or of an option
-pub IfOk-weaker : {A E : Type 0} (r : Result A E) (P Q : A → Type 0) → ((a : A) → P a → Q a) → IfOk r P → IfOk r Q
-IfOk-weaker (Ok a) P Q weaker holds = weaker a holds
-IfOk-weaker (Err e) P Q weaker holds = tt
-
+-- what follows from what holds of an option
 pub IfSome-weaker : {A : Type 0} (o : Option A) (P Q : A → Type 0) → ((a : A) → P a → Q a) → IfSome o P → IfSome o Q
 IfSome-weaker None P Q weaker holds = tt
 IfSome-weaker (Some a) P Q weaker holds = weaker a holds

@@ -5,11 +5,11 @@ use Rattle.wq_core.specs.Wiring.{Wiring, HasRescuer, items, lane_of, declared_by
 use Rattle.wq_hang.specs.declared.hop.Hop.{Hop}
 use Rattle.wq_hang.specs.Walk.{IsHop, IsPath, IsRound, target_beside}
 
--- what a hop costs
+-- what a hop of a round costs
 abbrev pub hop_cost : Hop → ℕ
 hop_cost h = 3 + length (target_beside h)
 
--- what hops cost
+-- what the hops of a round cost
 abbrev pub hops_cost : List Hop → ℕ
 hops_cost [] = 0
 hops_cost (h ∷ hops) = hop_cost h + hops_cost hops
@@ -157,10 +157,10 @@ abbrev pub AreMarked : Wiring → List ℕ → List Bool → Type 0
 AreMarked w numbers marks = (h : Hop) → IsHop w h → slice_index numbers (lane_of w h.flush.item) ≤ slice_index numbers (lane_of w h.item)
     → slice_index_or marks (lane_of w h.flush.item) false ≡ true
 
--- the items on those of these lanes that are marked, and no others
-pub record AreMarkedOf (on : List (List ℕ)) (marks : List Bool) (lanes items : List ℕ) : Type 0 where
+-- the items on lanes that are marked and aren't left out, and no others than items on lanes
+pub record AreMarkedOf (on : List (List ℕ)) (marks bare : List Bool) (items : List ℕ) : Type 0 where
   pub within : (i : ℕ) → Contains items i → (q : ℕ) × Contains (slice_index_or on q []) i
-  pub all : (q i : ℕ) → Contains lanes q → slice_index_or marks q false ≡ true → Contains (slice_index_or on q []) i → Contains items i
+  pub all : (q i : ℕ) → slice_index_or marks q false ≡ true → slice_index_or bare q false ≡ false → Contains (slice_index_or on q []) i → Contains items i
 
 -- what is made of a wiring once: the items on each lane, and marks of lanes by some numbers
 pub record AreMade (w : Wiring) (on : List (List ℕ)) (marks : List Bool) : Type 0 where

@@ -1,5 +1,5 @@
--- Walks: waits that hold one another up, from lane to lane. They are about flushes and lanes alone, and no run is
--- spoken of.
+-- Walks: waits that hold one another up, from lane to lane. They are about flushes and lanes alone. The run of a walk
+-- comes last.
 use Rattle.std.specs.Prelude.{◌≡◌, ℕ, ◌<◌, ◌≤◌, ◌+◌, ◌*◌, ◌==◌, ◌||◌, if◌then◌else◌, ◌⊎◌, List, [], ◌∷◌, ◌++◌, length, map, flat_map, Contains}
 use Rattle.wq_core.specs.declared.step.Step.{Step}
 use Rattle.wq_core.specs.declared.step.Step.TheVariants.{Queue, Start}

@@ -2,7 +2,7 @@
 //!
 //! It takes time and memory in the number of items and lanes.
 
-ghost use Rattle.std.specs.Prelude.{◌≡◌, ◌<◌, ◌≤◌, length, map, slice_index_or, true, false, ℕ, IfOk, OnOk, IsTrue, Contains};
+ghost use Rattle.std.specs.Prelude.{◌≡◌, ◌<◌, ◌↔◌, length, map, slice_index_or, true, false, ℕ, IfOk, OnOk, IsTrue, Contains};
 ghost use Rattle.std.specs.List.{All, range_with_len};
 ghost use Rattle.wq_core.specs.Wiring.{items, lane_of};
 ghost use Rattle.wq_hang.specs.Search.{AreItemsOn, AreMarkedOf};
@@ -59,32 +59,33 @@ pub(crate) fn marked_items<A: Allocator + Copy>(
     Ok(list)
 }
 
-/// Whether a lane is marked. A number that is no lane's isn't.
-fn is_marked(marks: &[bool], lane: u32) -> bool
-    ensures value { result ≡ slice_index_or marks.now lane false }
-    ensures within { IsTrue result → lane < length marks.now }
+/// Whether rounds may begin on a lane: it is marked and isn't left out.
+fn begins_on(marks: &[bool], bare: &[bool], lane: u16) -> bool
+    requires marks { lane < length marks.now }
+    requires bare { lane < length bare.now }
+    ensures { IsTrue result ↔ ((slice_index_or marks.now lane false ≡ true) × (slice_index_or bare.now lane false ≡ false)) }
 {
-    match marks.get(lane as usize) {
-        Some(is_marked) => *is_marked,
-        None => false,
-    }
+    let at = usize::from(lane);
+    marks[at] && !bare[at]
 }
 
-/// The items on those of these lanes that are marked.
+/// The items on those of this many lanes that are marked and aren't left out.
 pub(crate) fn marked_items_of<A: Allocator + Copy>(
     on: &Buckets<A>,
     marks: &[bool],
-    lanes: &[u32],
+    bare: &[bool],
+    lanes: u16,
     list: &mut Vec<u32, A>,
 ) -> Result<(), AllocError>
-    requires one_each { length marks.now ≡ length on.now }
-    requires few { length marks.now ≤ 4096 }
-    ensures { OnOk result (AreMarkedOf on.now marks.now lanes.now list.new.items) }
+    requires on { length on.now ≡ lanes }
+    requires marks { length marks.now ≡ lanes }
+    requires bare { length bare.now ≡ lanes }
+    ensures { OnOk result (AreMarkedOf on.now marks.now bare.now list.new.items) }
 {
     list.clear();
-    for lane in lanes {
-        if is_marked(marks, *lane) {
-            list.extend_from_slice(on.places(*lane as u16))?;
+    for lane in 0..lanes {
+        if begins_on(marks, bare, lane) {
+            list.extend_from_slice(on.places(lane))?;
         }
     }
     Ok(())

@@ -1,7 +1,7 @@
 //! Rounds on some lanes.
 //!
-//! What doesn't depend on the lanes is made once, and the memory of one search serves all. So each answer takes the
-//! time of a search for each item of its lanes, and memory for its own hops alone.
+//! What doesn't depend on the lanes is made once, and the memory of one search serves all. So each answer takes time in
+//! the number of lanes, and that of a search for each item of those that are given, and memory for its own hops alone.
 
 ghost use Rattle.std.specs.Prelude.{◌≡◌, ◌<◌, ℕ, List, length, replicate, slice_index_or, true, false, Contains, ◌↔◌, IfOk, OnOk, IfSome, IfNone};
 ghost use Rattle.wq_groups.specs.Declaration.{declaration_of};
@@ -61,7 +61,8 @@ fn leave_others_out<A: Allocator>(
     lanes: &[u32],
     bare: &mut Vec<bool, A>,
 ) -> Result<(), AllocError>
-    ensures { OnOk result ((q : ℕ) → q < core.now.wiring.lanes →
+    ensures len { OnOk result (length bare.new.items ≡ core.now.wiring.lanes) }
+    ensures kept { OnOk result ((q : ℕ) → q < core.now.wiring.lanes →
         (HasRescuer (with_bare core.now.wiring bare.new.items) q ↔ (HasRescuer core.now.wiring q × Contains lanes.now q))) }
 {
     let count = core.lanes();
@@ -104,8 +105,8 @@ impl<A: Allocator + Copy> Rounds<A> {
         })
     }
 
-    /// A least one of the rounds all of whose waiting items are on these lanes, if there is one. A number that is no
-    /// lane's is passed over.
+    /// A least one of the rounds all of whose waiting items are on these lanes, if there is one. A lane may stand
+    /// twice, and a number that is no lane's is passed over.
     ///
     /// The only error is out of memory (20).
     pub fn least_on(&mut self, alloc: A, lanes: &[u32]) -> Result<Option<Vec<Hop, A>>, AllocError>
@@ -113,9 +114,15 @@ impl<A: Allocator + Copy> Rounds<A> {
         ensures none { IfOk result (λ found. IfNone found ((hops : List Hop) → ¬ IsRoundOn self.old lanes.now hops)) }
         ensures wiring { self.new ≡ self.old }
     {
-        let _lanes = self.core.lanes();
+        let count = self.core.lanes();
         leave_others_out(&self.core, lanes, &mut self.bare)?;
-        marked_items_of(&self.on, &self.marks, lanes, &mut self.passed)?;
+        marked_items_of(
+            &self.on,
+            &self.marks,
+            &self.bare,
+            count as u16,
+            &mut self.passed,
+        )?;
         let waits = Waits::new(&self.core, self.bare.as_slice());
         least_round(
             alloc,

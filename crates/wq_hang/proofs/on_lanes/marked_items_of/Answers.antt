@@ -1,34 +1,26 @@
-use Rattle.std.proofs.Common.{◌≡◌, ◌+◌, ◌++◌, ◌⊎◌, ℕ, List, take, get_or, sym, ap, ◌∙◌}
-use Rattle.std.specs.Prelude.{Contains}
-use Rattle.wq_hang.proofs.Taken.{contains_more, contains_all}
-use Rattle.wq_hang.proofs.LaneItems.{AreMarkedOf-none, AreMarkedOf-more, AreMarkedOf-kept}
+use Rattle.std.proofs.Common.{◌++◌, ℕ, List, sym, ap, ◌∙◌, arith}
+use Rattle.std.proofs.lemmas.Bool.{false≢true}
+use Rattle.wq_hang.proofs.LaneItems.{AreMarkedTo-none, AreMarkedTo-more, AreMarkedTo-kept, AreMarkedOf-all}
 use Rattle.wq_hang.proofs.on_lanes.marked_items_of.Goals as goal
-use Rattle.wq_hang.proofs.on_lanes.marked_items_of.Goals.{then-is_marked+in_ok-extend_from_slice, else-is_marked}
+use Rattle.wq_hang.proofs.on_lanes.marked_items_of.Goals.{then-begins_on+in_ok-extend_from_slice, else-begins_on}
 
 pub loop-lane-init : goal.loop-lane-init
-loop-lane-init g c = rw c.clear.ensures.items (AreMarkedOf-none c.args.on.now c.args.marks.now)
+loop-lane-init g c = rw c.clear.ensures.items (AreMarkedTo-none c.args.on.now c.args.marks.now c.args.bare.now)
 
 pub loop-lane-preserved : goal.loop-lane-preserved
 loop-lane-preserved g c =
     let on = c.args.on.now in
     let marks = c.args.marks.now in
-    let lanes = c.args.lanes.now in
-    let k : ℕ = c.loop-lane.lane-index in
-    let q : ℕ = get_or lanes k 0 in
-    let more : (p : ℕ) → Contains (take (k + 1) lanes) p → Contains (take k lanes) p ⊎ (q ≡ p) = λ p there. contains_more lanes k 0 p c.loop-lane-test.true there in
-    elim c.if-is_marked.branch [
-      | then-is_marked+in_ok-extend_from_slice w ↦
+    let bare = c.args.bare.now in
+    let q : ℕ = c.loop-lane.lane in
+    elim c.if-begins_on.branch [
+      | then-begins_on+in_ok-extend_from_slice w ↦
           rw w.list-is
-          (AreMarkedOf-more on marks (take k lanes) (take (k + 1) lanes) c.loop-lane.list.items w.extend_from_slice.new.self.items q c.loop-lane.invariant more
+          (AreMarkedTo-more on marks bare q c.loop-lane.list.items w.extend_from_slice.new.self.items c.loop-lane.invariant
           (w.in_ok-extend_from_slice.ensures.items ∙ ap (λ (l : List ℕ). c.loop-lane.list.items ++ l) w.places.ensures))
-      | else-is_marked w ↦ rw w.list-is (AreMarkedOf-kept on marks (take k lanes) (take (k + 1) lanes) c.loop-lane.list.items q c.loop-lane.invariant more (sym c.is_marked.ensures.value ∙ w.if-is_marked.false))
+      | else-begins_on w ↦
+          rw w.list-is (AreMarkedTo-kept on marks bare q c.loop-lane.list.items c.loop-lane.invariant (λ both. false≢true (sym w.if-begins_on.false ∙ c.begins_on.ensures.1 both)))
     ]
 
 pub returns : goal.returns
-returns g c =
-    let lanes = c.args.lanes.now in
-    let k : ℕ = c.loop-lane.lane-index in
-    record {
-      within = c.loop-lane.invariant.within;
-      all = λ q i there marked on_it. c.loop-lane.invariant.all q i (contains_all lanes k q c.loop-lane-test.false there) marked on_it;
-    }
+returns g c = AreMarkedOf-all c.args.on.now c.args.marks.now c.args.bare.now c.loop-lane.lane c.loop-lane.list.items c.loop-lane.invariant (omega (arith, c.loop-lane-test.false, c.requires.marks))

@@ -27,8 +27,11 @@ loop-q-preserved g c =
           rw v.bare-is (AreKept-past w (take k lanes) (take (k + 1) lanes) c.loop-q.bare.items q c.loop-q.invariant (omega (arith, v.if-at-count.false, c.lanes-count.ensures.lanes)) fewer more)
     ]
 
-pub returns : goal.returns
-returns g c q below =
+pub returns-clause-len : goal.returns-clause-len
+returns-clause-len g c = c.loop-q.invariant.len
+
+pub returns-clause-kept : goal.returns-clause-kept
+returns-clause-kept g c q below =
     let w = c.args.core.now.wiring in
     let lanes = c.args.lanes.now in
     let k : ℕ = c.loop-q.q-index in
