@@ -11,6 +11,7 @@ use Rattle.wq_graph.specs.Graph.{HasArc, arc_of}
 use Rattle.wq_core.specs.Wiring.{Wiring, IsWiring, HasRescuer, RescuedWaits, items, lane_of}
 use Rattle.wq_core.specs.Workqueues.{Workqueues, wiring_of}
 use Rattle.wq_core.proofs.Wirings.{IsWiring-wiring, IsWiring-with_bare}
+use Rattle.wq_deadlock.specs.Judging.{bare_waits}
 use Rattle.wq_hang.specs.declared.hop.Hop.{Hop}
 use Rattle.wq_hang.specs.Walk.{IsHop, IsPath, IsWalk}
 use Rattle.wq_hang.proofs.Declared.{declared-item, declared-target}
@@ -21,6 +22,7 @@ use Rattle.wq_circles.proofs.Leading.{Leads-arc, Leads-trans}
 use Rattle.wq_circles.proofs.ForBare.{AreForBare-waits}
 use Rattle.wq_circles.proofs.KeptLanes.{VertexWaits-kept_graph}
 use Rattle.wq_circles.proofs.OnCircles.{IsInComponents-leads, Leads-keeps}
+use Rattle.wq_circles.proofs.Safe.{none-IsSafe}
 use Rattle.wq_dot.specs.Dotting.{AreShortest}
 use Rattle.wq_dot.specs.Laws.{IsRed}
 
@@ -142,3 +144,12 @@ module _ (d : Declaration) (ws : Workqueues) (declaration : IsDeclaration d) (as
             λ k e within. circled _ (back k e within).0 (back k e within).1
         by_walk (inr (h, hop, bare, one, beside)) =
             subst (All (λ (x : Hop). IsRed d ws components (flush_of x))) (sym one) (All-cons (λ (x : Hop). IsRed d ws components (flush_of x)) h [] (to_bare h hop bare) (λ k e within. absurd (omega (arith, within))))
+
+    -- where there are no waits, nothing is red
+    pub nothing-red : AreShortest d ws [] → (components ≡ []) × (bare_waits d ws ≡ [])
+    nothing-red (inl (safe, none)) = none-IsSafe d ws.assignment ws.bare declaration assignment components are safe
+    nothing-red (inr (steps, hang)) = absurd (by_walk hang.walk)
+      where
+        by_walk : {beside : List ℕ} → IsWalk w [] beside → ⊥
+        by_walk (inl (round, beside)) = omega (arith, round.some)
+        by_walk (inr (h, hop, bare, one, beside)) = (let never : [] ≡ h ∷ [] = one in cc)

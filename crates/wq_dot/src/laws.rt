@@ -3,7 +3,7 @@
 //! `Drawing` puts the lines one after the other. The laws say what that means for an item and for a flush, as in "The command
 //! `dot`" in docs/FORMAT.md.
 
-ghost use Rattle.std.specs.Prelude.{◌≡◌, ◌<◌, Bool, ℕ, List, Ok, length, map, Contains};
+ghost use Rattle.std.specs.Prelude.{◌≡◌, ◌<◌, Bool, ℕ, List, [], Ok, length, map, Contains};
 ghost use Rattle.std.specs.List.{All, count_by, range_with_len};
 ghost use Rattle.wq_items.specs.declared.target.Target.{Target};
 ghost use Rattle.wq_items.specs.Table.{Table, IsTable, flush_count, targets_of};
@@ -12,6 +12,7 @@ ghost use Rattle.wq_groups.specs.Assignment.{IsAssignment};
 ghost use Rattle.wq_graph.specs.declared.arc.WaitArc.{WaitArc};
 ghost use Rattle.wq_graph.specs.Graph.{IsArc, arc_of, arcs_by_place};
 ghost use Rattle.wq_core.specs.Workqueues.{Workqueues};
+ghost use Rattle.wq_deadlock.specs.Judging.{bare_waits};
 ghost use Rattle.wq_meter.specs.Shell.{HasOneAnswer};
 ghost use Rattle.wq_commands.specs.declared.end.End.{End};
 ghost use Rattle.wq_commands.specs.Declaration.{Declared, declaration};
@@ -70,9 +71,12 @@ pub fn an_arrow_has_the_head_of_its_kind()
 {}
 
 /// What is bold red is red: each flush in which a shortest run waits that ends stuck is in a component, or leads from a workqueue that
-/// has a rescuer to one that has none.
+/// has a rescuer to one that has none. And where something is red, some flush is bold red.
 pub fn what_is_bold_red_is_red()
-    ensures { (d : Declaration) (ws : Workqueues) (components : List (List WaitArc)) (hops : List Hop) → IsDeclaration d →
+    ensures red { (d : Declaration) (ws : Workqueues) (components : List (List WaitArc)) (hops : List Hop) → IsDeclaration d →
         IsAssignment d.groups ws.assignment → AreComponents d ws components → AreShortest d ws hops →
         All (λ (h : Hop). IsRed d ws components (arc_of d.group_of h.item h.flush)) hops }
+    ensures some { (d : Declaration) (ws : Workqueues) (components : List (List WaitArc)) → IsDeclaration d →
+        IsAssignment d.groups ws.assignment → AreComponents d ws components → AreShortest d ws [] →
+        (components ≡ []) × (bare_waits d ws ≡ []) }
 {}
