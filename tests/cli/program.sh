@@ -274,8 +274,8 @@ drawn_plan="$(drawing "plan of 3 workqueues, 2 waits in $bold" "$(box 0 c)" "$(b
     '"a" -> "b" [style=bold];' '"b" -> "c" [style=bold];')\n"
 drawn_safe="$(drawing safe "$(box 0 c)" "$(box 1 b)" "$(box 2 a)" '"a" -> "b";' '"b" -> "c";')\n"
 drawn_circle="$(drawing "can hang, 2 waits in $red" "$(box 0 a c)" "$(box 1 b)" \
-    '"a" -> "b" [color=red, style=bold];' '"b" -> "c" [color=red, style=bold];')\n"
-drawn_loop="$(drawing "every assignment can hang, 1 wait in $red" "$(box 0 a)" '"a" -> "a" [color=red, style=bold];')\n"
+    '"a" -> "b" [color=red, penwidth=4];' '"b" -> "c" [color=red, penwidth=4];')\n"
+drawn_loop="$(drawing "every assignment can hang, 1 wait in $red" "$(box 0 a)" '"a" -> "a" [color=red, penwidth=4];')\n"
 run dot chain </dev/null
 check 'dot: a plan' 0 "$drawn_plan" ''
 run dot circle </dev/null

@@ -256,7 +256,10 @@ def wrong_beside(command, files, texts, found):
         safe = unrescued.said_of(command, files, texts, printed)
         if safe:
             return None if behind == safe else f"this belongs to `safe`: {safe!r}"
-        return reasons.wrong_with(command, files, texts, printed, behind)
+        wrong = reasons.wrong_with(command, files, texts, printed, behind)
+        if wrong is None and command == "hang" and printed.startswith(b"run ") and not reasons.is_of_run(files, texts, printed, behind):
+            wrong = "the reason isn't that of the run"
+        return wrong
     except Refused:
         return "the texts are refused"
 

@@ -303,6 +303,10 @@ def wrong_with(command, files, texts, printed, said):
     wrong = next(filter(None, (wrong_with_part(case, part, places) for part, places in zip(parts, reasons))), None)
     if wrong is None and case.printed(reasons) != said:
         wrong = f"of these flushes this is to be said: {case.printed(reasons)!r}"
-    if wrong is None and command == "hang" and text_of_places(case.declared, case.assignment, reasons[0]) != printed:
-        wrong = "the reason isn't that of the run"
     return wrong
+
+
+def is_of_run(files, texts, printed, said):
+    """Whether the reason beside a run that `hang` prints is that of this run, wait by wait."""
+    case, _ = case_of("hang", files, texts, printed)
+    return text_of_places(case.declared, case.assignment, flushes_said(case, said)[0]) == printed

@@ -48,7 +48,7 @@ def table_cases():
         for assignment, ends in rows:
             yield from hang_cases([text, assignment], ends)
     for *texts, answer in hangs.LONG:
-        yield Case("the longest hangs", ["hang", 0, 1], [text_of(text) for text in texts], text_of(answer), 1, first_line=True)
+        yield Case("the longest hangs", ["hang", 0, 1], [text_of(text) for text in texts], text_of(answer), 1, diagnoses=True, first_line=True)
     for *texts, answers in drawings.SEVERAL:
         allowed = b"|".join(map(re.escape, answers))
         words = ["dot", *range(len(texts))]
