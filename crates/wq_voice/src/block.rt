@@ -10,7 +10,7 @@ ghost use Rattle.wq_voice.specs.Reasons.{plain_head, IsSaidOf};
 
 use std::alloc::{AllocError, Allocator};
 use wq_diagnosis::{column, lines_of, push_excerpt, put_line, put_lines};
-use wq_findings::{Hint, Mark, flush_at, put_place, workqueue_at};
+use wq_findings::{Hint, Mark, put_place, workqueue_at};
 use wq_groups::LaneId;
 use wq_lines::put;
 
@@ -46,7 +46,7 @@ pub(crate) struct Spot<'a> {
 
 impl<'a> Spot<'a> {
     /// These bytes of a line with this number.
-    fn new(no: u32, bytes: &'a [u8], mark: Mark) -> Spot<'a> {
+    pub(crate) fn new(no: u32, bytes: &'a [u8], mark: Mark) -> Spot<'a> {
         Spot {
             line: no,
             column: column(mark),
@@ -55,19 +55,16 @@ impl<'a> Spot<'a> {
         }
     }
 
-    /// The target of the flush at this place, in the text of a declaration.
-    pub(crate) fn of_flush(text: &'a [u8], place: u32) -> Spot<'a> {
-        match flush_at(&lines_of(text), place) {
-            Some((line, mark)) => Spot::new(line.no(), line.bytes(), mark),
-            None => Spot::new(0, b"", Mark { at: 0, len: 1 }),
-        }
+    /// No bytes of a line.
+    pub(crate) fn nowhere() -> Spot<'a> {
+        Spot::new(0, b"", Mark { at: 0, len: 1 })
     }
 
     /// The first word of the line of a workqueue, in the text of an assignment.
     pub(crate) fn of_workqueue(text: &'a [u8], q: LaneId) -> Spot<'a> {
         match workqueue_at(&lines_of(text), q.get()) {
             Some((line, mark)) => Spot::new(line.no(), line.bytes(), mark),
-            None => Spot::new(0, b"", Mark { at: 0, len: 1 }),
+            None => Spot::nowhere(),
         }
     }
 

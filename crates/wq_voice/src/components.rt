@@ -15,6 +15,7 @@ ghost use Rattle.wq_voice.specs.Waits.{words_of};
 ghost use Rattle.wq_voice.specs.declared.waits.Wording.TheVariants.{OnWorkqueues};
 ghost use Rattle.wq_names.specs.Names.{names_of};
 
+use crate::flush_lines::FlushLines;
 use crate::reason::CAN_HANG;
 use crate::rounds::put_rounds;
 use crate::subject::{Subject, put_walk};
@@ -144,12 +145,14 @@ fn of_assigned<'a, A: Allocator + Copy>(
         (record { table = declared.now.table; partition = declared.now.groups }) workqueues.now said.items) }
 {
     let names = workqueue_names(alloc, assignment.text)?;
+    let flushes = FlushLines::new(alloc, declaration.text)?;
     let subject = Subject {
         declaration,
         assignment,
         wording: Wording::OnWorkqueues,
         declared,
         workqueues,
+        flushes: &flushes,
         names: &names,
     };
     of_subject(alloc, &subject)
@@ -220,6 +223,7 @@ fn of_groups<'a, A: Allocator + Copy>(
 {
     let assignment = own_lanes(alloc, &declared.groups)?;
     let workqueues = Workqueues::new(assignment, Vec::new(alloc));
+    let flushes = FlushLines::new(alloc, declaration.text)?;
     let subject = Subject {
         declaration,
         assignment: Source {
@@ -229,6 +233,7 @@ fn of_groups<'a, A: Allocator + Copy>(
         wording: Wording::OfGroups,
         declared,
         workqueues: &workqueues,
+        flushes: &flushes,
         names: &[],
     };
     of_subject(alloc, &subject)

@@ -10,6 +10,7 @@
 mod bare_lines;
 mod block;
 mod components;
+mod flush_lines;
 mod groups;
 mod lacking;
 mod note;

@@ -12,6 +12,7 @@ ghost use Rattle.wq_voice.specs.Reasons.{can_hang, GivesReason, GivesReasonOf, G
 ghost use Rattle.wq_voice.specs.Waits.{words_of};
 ghost use Rattle.wq_voice.specs.declared.waits.Wording.TheVariants.{OnWorkqueues};
 
+use crate::flush_lines::FlushLines;
 use crate::subject::{Subject, put_walk};
 use crate::waits::Wording;
 use std::alloc::{AllocError, Allocator};
@@ -93,12 +94,14 @@ fn of_assigned<'a, A: Allocator + Copy>(
         (declaration_of declared.now.table declared.now.groups) workqueues.now (option_map (λ text. text.items) said)) }
 {
     let names = workqueue_names(alloc, assignment.text)?;
+    let flushes = FlushLines::new(alloc, declaration.text)?;
     let subject = Subject {
         declaration,
         assignment,
         wording: Wording::OnWorkqueues,
         declared,
         workqueues,
+        flushes: &flushes,
         names: &names,
     };
     of_subject(alloc, &subject, CAN_HANG)
@@ -169,6 +172,7 @@ fn of_groups<'a, A: Allocator + Copy>(
 {
     let assignment = own_lanes(alloc, &declared.groups)?;
     let workqueues = Workqueues::new(assignment, Vec::new(alloc));
+    let flushes = FlushLines::new(alloc, declaration.text)?;
     let subject = Subject {
         declaration,
         assignment: Source {
@@ -178,6 +182,7 @@ fn of_groups<'a, A: Allocator + Copy>(
         wording: Wording::OfGroups,
         declared,
         workqueues: &workqueues,
+        flushes: &flushes,
         names: &[],
     };
     of_subject(alloc, &subject, CAN_HANG_ON_ANY)

@@ -1,7 +1,7 @@
 //! What is spoken of, and what is said of a walk: a block of lines for each wait, in its order.
 //!
-//! The words are those of "Where workqueues can hang" in tests/DIAGNOSES.md. A wait takes the time of reading the text that declares its flush, and the
-//! memory of its lines.
+//! The words are those of "Where workqueues can hang" in tests/DIAGNOSES.md. A wait takes the time and the memory of
+//! its lines.
 
 ghost use Rattle.std.specs.Prelude.{◌≡◌, ◌++◌, ◌∷◌, [], ◌<◌, IfOk, OnOk, codes, length, map};
 ghost use Rattle.std.specs.List.{All};
@@ -9,6 +9,7 @@ ghost use Rattle.wq_voice.specs.Reasons.{told, AddsSaid, IsSaidOf};
 ghost use Rattle.wq_voice.specs.Waits.{words_of};
 
 use crate::block::{Spot, plain_head, said_at};
+use crate::flush_lines::FlushLines;
 use crate::waits::{Wording, bare_words, words_of};
 use crate::words::workqueue_of;
 use std::alloc::{AllocError, Allocator};
@@ -32,7 +33,9 @@ pub(crate) struct Subject<'a, 'b, 'c, 'd, A: Allocator> {
     pub(crate) declared: &'b Declaration<'a, A>,
     /// The workqueues.
     pub(crate) workqueues: &'c Workqueues<A>,
-    /// Their names.
+    /// Where the flushes are declared.
+    pub(crate) flushes: &'d FlushLines<'a, A>,
+    /// The workqueues' names.
     pub(crate) names: &'d [&'a [u8]],
 }
 
@@ -90,7 +93,7 @@ fn block_of<A: Allocator + Copy>(
     requires assigned { length subject.now.workqueues.now.assignment.lane_of_group ≡ subject.now.declared.now.groups.groups }
     ensures { IfOk result (λ said. IsSaidOf subject.now.declaration.file.now what.now said.items) }
 {
-    let spot = Spot::of_flush(subject.declaration.text, hop.flush.place);
+    let spot = subject.flushes.spot(hop.flush.place);
     let lines = below(alloc, subject, spot, hop)?;
     said_at(
         alloc,

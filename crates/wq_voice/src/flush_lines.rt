@@ -1,0 +1,85 @@
+//! Which line of a declaration declares each of its flushes.
+//!
+//! A reason may have thousands of waits, so the lines are gone through once. That takes the time of reading the text, and memory in the
+//! number of flushes. A flush is then found in the time of reading its line.
+
+use crate::block::Spot;
+use std::alloc::{AllocError, Allocator};
+use wq_diagnosis::lines_of;
+use wq_findings::flush_at;
+use wq_text::Line;
+
+/// A line that declares flushes.
+#[derive(Clone, Copy)]
+struct FlushLine<'a> {
+    /// Its number.
+    no: u32,
+    /// The place of its first flush among all that are declared.
+    first: u32,
+    /// Its bytes.
+    bytes: &'a [u8],
+}
+
+/// The lines that declare flushes, and for each flush, by place, which of them declares it.
+#[derive(Drop)]
+pub(crate) struct FlushLines<'a, A: Allocator> {
+    lines: Vec<FlushLine<'a>, A>,
+    line_of: Vec<usize, A>,
+}
+
+/// How many flushes a line declares: one for each name after the item's.
+fn flushes_on(line: &Line<'_>) -> usize {
+    let mut words = line.words();
+    let Some(first) = words.next() else {
+        return 0;
+    };
+    if first.bytes() != b"flush".as_slice() && first.bytes() != b"flushwq".as_slice() {
+        return 0;
+    }
+    let mut flushes: usize = 0;
+    for _ in words.skip(1) {
+        flushes = flushes.saturating_add(1);
+    }
+    flushes
+}
+
+impl<'a, A: Allocator + Copy> FlushLines<'a, A> {
+    /// Those of the text of a declaration.
+    pub(crate) fn new(alloc: A, text: &'a [u8]) -> Result<Self, AllocError> {
+        let mut lines = Vec::new(alloc);
+        let mut line_of = Vec::new(alloc);
+        for line in lines_of(text).lines() {
+            let flushes = flushes_on(&line);
+            if flushes == 0 {
+                continue;
+            }
+            let first = u32::try_from(line_of.len()).unwrap_or(u32::MAX);
+            for _ in 0..flushes {
+                line_of.push(lines.len())?;
+            }
+            lines.push(FlushLine {
+                no: line.no(),
+                first,
+                bytes: line.bytes(),
+            })?;
+        }
+        Ok(FlushLines { lines, line_of })
+    }
+
+    /// The line that declares the flush at this place.
+    fn line(&self, place: u32) -> Option<FlushLine<'a>> {
+        let at = self.line_of.get(place as usize)?;
+        self.lines.get(*at).copied()
+    }
+
+    /// The target of the flush at this place, in its line.
+    pub(crate) fn spot(&self, place: u32) -> Spot<'a> {
+        let Some(FlushLine { no, first, bytes }) = self.line(place) else {
+            return Spot::nowhere();
+        };
+        match flush_at(&lines_of(bytes), place.saturating_sub(first)) {
+            Some((_, mark)) => Spot::new(no, bytes, mark),
+            None => Spot::nowhere(),
+        }
+    }
+}
