@@ -1,0 +1,17 @@
+pub use Rattle.wq_groups.specs.Declaration
+pub use Rattle.wq_groups.specs.Assignment
+pub use Rattle.wq_graph.specs.Graph
+pub use Rattle.wq_core.specs.Workqueues
+pub use Rattle.wq_core.specs.Deadlock
+pub mod Changes
+pub mod Needed
+pub mod Repair
+pub mod Marks
+pub mod Joined
+pub mod Together
+pub mod Vertices
+pub mod Steps
+pub mod Lanes
+pub mod Following
+pub mod Ready
+pub mod Placing
