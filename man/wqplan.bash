@@ -65,12 +65,12 @@ _wqplan() {
     local files
     case $command in
         '')
-            mapfile -t COMPREPLY < <(compgen -W 'plan check deadlock hang replay circles dot run explain help' -- "$word")
+            mapfile -t COMPREPLY < <(compgen -W 'plan check deadlock hang repair replay circles dot run explain help' -- "$word")
             return
             ;;
         help)
             [ "$words" -gt 0 ] ||
-                mapfile -t COMPREPLY < <(compgen -W 'plan check deadlock hang replay circles dot run explain' -- "$word")
+                mapfile -t COMPREPLY < <(compgen -W 'plan check deadlock hang repair replay circles dot run explain' -- "$word")
             return
             ;;
         explain)

@@ -1,0 +1,3 @@
+pub mod AssignmentText
+pub mod Movers
+pub mod Repairing
