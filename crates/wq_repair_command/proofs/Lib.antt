@@ -1,2 +1,4 @@
 pub mod Lines
 pub mod Named
+pub mod Circles
+pub mod Taking

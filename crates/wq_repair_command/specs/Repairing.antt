@@ -50,15 +50,15 @@ pub record PrintsNeededCircle (s : Declared) (old : Workqueues) (out : List ℕ)
 -- ---- the answer
 
 -- the answer where these items may move: workqueues that are safe; or else a circle, or a run, which shows that nothing helps
-abbrev pub RepairsNamed : Declared → Workqueues → List (List ℕ) → List ℕ → End → List ℕ → Type 0
-RepairsNamed s old called moving Good out = PrintsWorkqueues s old called moving out
-RepairsNamed s old called moving Bad out = PrintsNeededCircle s old out ⊎ PrintsTooFew s old moving out
-RepairsNamed s old called moving Refused out = ⊥
+abbrev pub RepairsMoving : Declared → Workqueues → List (List ℕ) → List ℕ → End → List ℕ → Type 0
+RepairsMoving s old called moving Good out = PrintsWorkqueues s old called moving out
+RepairsMoving s old called moving Bad out = PrintsNeededCircle s old out ⊎ PrintsTooFew s old moving out
+RepairsMoving s old called moving Refused out = ⊥
 
 -- the answer where these items may move, or one of the names that were given is that of no item (8, at no line)
 abbrev pub RepairsIf : Declared → Workqueues → List (List ℕ) → Option (List ℕ) → End → List ℕ → Type 0
 RepairsIf s old called None end out = PrintsRefusal (record { code = 8; line = 0 }) end out
-RepairsIf s old called (Some moving) end out = RepairsNamed s old called moving end out
+RepairsIf s old called (Some moving) end out = RepairsMoving s old called moving end out
 
 -- the answer to workqueues of a declaration's groups, which are called so, where the items with these names may move
 abbrev pub RepairsAssigned : Declared → Workqueues → List (List ℕ) → List (List ℕ) → End → List ℕ → Type 0

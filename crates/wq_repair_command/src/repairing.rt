@@ -10,10 +10,11 @@ ghost use Rattle.wq_text.specs.Limits.{limit_fault};
 ghost use Rattle.wq_cert.specs.Ranges.{AreWorkqueuesOf};
 ghost use Rattle.wq_cert.specs.Texts.{max_certificate, max_certificate_line, workqueues_of_text};
 ghost use Rattle.wq_commands.specs.declared.why.Which.TheVariants.{Certificate};
+ghost use Rattle.wq_commands.specs.Answer.{PrintsRefusal};
 ghost use Rattle.wq_commands.specs.Why.{SaysFault, SaysAssigned};
 ghost use Rattle.wq_names.specs.Names.{names_of};
 ghost use Rattle.wq_repair.specs.Repair.{IsAnswer};
-ghost use Rattle.wq_repair_command.specs.Repairing.{RepairsNamed, RepairsAssigned, RepairsDeclared, Repairs};
+ghost use Rattle.wq_repair_command.specs.Repairing.{RepairsMoving, RepairsAssigned, RepairsDeclared, Repairs};
 
 use crate::assignment::assignment_text;
 use crate::circle::text_of_circle;
@@ -44,7 +45,7 @@ fn print_answer<A: Allocator + Copy>(
     requires grouped { length groups.now.group_of ≡ length table.now.names }
     requires assigned { AreWorkqueuesOf groups.now.groups workqueues.now }
     requires answer { IsAnswer (declaration_of table.now groups.now) workqueues.now moving.now answer.now }
-    ensures answer { IfOk result (λ a. RepairsNamed (record { table = table.now; partition = groups.now }) workqueues.now
+    ensures answer { IfOk result (λ a. RepairsMoving (record { table = table.now; partition = groups.now }) workqueues.now
         (map (λ n. n.now) called.now) moving.now a.end a.text.items) }
     ensures why { IfOk result (λ a. a.why ≡ None) }
 {
@@ -69,7 +70,7 @@ fn print_answer<A: Allocator + Copy>(
 }
 
 /// The answer to workqueues of these groups, which have these names, where these items may move.
-fn repair_named<A: Allocator + Copy>(
+fn repair_moving<A: Allocator + Copy>(
     alloc: A,
     table: &ItemTable<'_, A>,
     groups: &Groups<A>,
@@ -80,7 +81,7 @@ fn repair_named<A: Allocator + Copy>(
     requires grouped { length groups.now.group_of ≡ length table.now.names }
     requires assigned { AreWorkqueuesOf groups.now.groups workqueues.now }
     requires moving { All (λ i. i < length table.now.names) moving.now }
-    ensures answer { IfOk result (λ a. RepairsNamed (record { table = table.now; partition = groups.now }) workqueues.now
+    ensures answer { IfOk result (λ a. RepairsMoving (record { table = table.now; partition = groups.now }) workqueues.now
         (map (λ n. n.now) called.now) moving.now a.end a.text.items) }
     ensures why { IfOk result (λ a. a.why ≡ None) }
 {
@@ -88,8 +89,11 @@ fn repair_named<A: Allocator + Copy>(
     print_answer(alloc, table, groups, workqueues, called, moving, &answer)
 }
 
-/// The answer where a name is that of no item. Nothing more is said here of which it is.
-fn refuse_name<A: Allocator + Copy>(alloc: A) -> Result<Answered<A>, AllocError> {
+/// The answer where a name is that of no item.
+fn refuse_name<A: Allocator + Copy>(alloc: A) -> Result<Answered<A>, AllocError>
+    ensures answer { IfOk result (λ a. PrintsRefusal (record { code = 8; line = 0 }) a.end a.text.items) }
+    ensures why { IfOk result (λ a. a.why ≡ None) }
+{
     let (end, text) = refuse(alloc, UNKNOWN_ITEM, 0)?;
     Ok(Answered::plain(end, text))
 }
@@ -110,12 +114,38 @@ fn repair_assigned<A: Allocator + Copy>(
     ensures why { IfOk result (λ a. a.why ≡ None) }
 {
     match items_that_may_move(alloc, table, names)? {
-        Some(moving) => repair_named(alloc, table, groups, workqueues, called, moving.as_slice()),
+        Some(moving) => {
+            let answer =
+                repair_moving(alloc, table, groups, workqueues, called, moving.as_slice());
+            // Written as a call, so that the proof has one step for it.
+            drop(moving);
+            answer
+        }
         None => refuse_name(alloc),
     }
 }
 
-/// The answer to the text of an assignment of these groups.
+/// The answer to workqueues of these groups, whose names are in this text, where the items with these other names may move.
+fn repair_named<A: Allocator + Copy>(
+    alloc: A,
+    table: &ItemTable<'_, A>,
+    groups: &Groups<A>,
+    workqueues: &Workqueues<A>,
+    text: &[u8],
+    names: &[&str],
+) -> Result<Answered<A>, AllocError>
+    requires grouped { length groups.now.group_of ≡ length table.now.names }
+    requires assigned { AreWorkqueuesOf groups.now.groups workqueues.now }
+    requires limits { limit_fault max_certificate max_certificate_line text.now ≡ None }
+    ensures answer { IfOk result (λ a. RepairsAssigned (record { table = table.now; partition = groups.now }) workqueues.now
+        (names_of text.now) (map (λ n. n.now) names.now) a.end a.text.items) }
+    ensures why { IfOk result (λ a. a.why ≡ None) }
+{
+    let called = workqueue_names(alloc, text)?;
+    repair_assigned(alloc, table, groups, workqueues, &called, names)
+}
+
+/// The answer to the text of an assignment of these groups, where the items with these names may move.
 fn repair_declared<A: Allocator + Copy>(
     alloc: A,
     table: &ItemTable<'_, A>,
@@ -132,10 +162,8 @@ fn repair_declared<A: Allocator + Copy>(
     let _groups = groups.len();
     match read_workqueues(alloc, text, table, groups) {
         Ok(workqueues) => {
-            let called = workqueue_names(alloc, text)?;
-            let answer = repair_assigned(alloc, table, groups, &workqueues, called.as_slice(), names);
-            // Written as calls, so that the proof has one step for each.
-            drop(called);
+            let answer = repair_named(alloc, table, groups, &workqueues, text, names);
+            // Written as a call, so that the proof has one step for it.
             drop(workqueues);
             answer
         }

@@ -1,6 +1,5 @@
 -- The command line of the program, in the words of `clap`.
 use Rattle.std.specs.Prelude.{◌≡◌, ◌==◌, ◌+◌, ◌≤◌, ◌⊎◌, ℕ, Bool, not, [], ◌∷◌, List, Option, Some, None, codes, true, map, option_map, option_to_list, unwrap_or, pos, nat_lt, if◌then◌else◌, Result, Ok, Err}
-use Rattle.std.specs.List.{AllByRecursion}
 use Rattle.std.specs.Str.Parse.{digits_value, without_leading_plus}
 use Rattle.clap.specs.Lexer.{usize_max}
 use Rattle.clap.specs.Words.{App, IsUnsignedIn, Row, Rule, Text, all_of, first_of, new_app, new_rule, one_of, subcommand_of, with_rule, with_subcommand}
@@ -191,7 +190,7 @@ digit n = (48 + n) ∷ []
 abbrev pub CallsRun : List Text → Text → ℕ → Type 0
 CallsRun words declaration helpers = ((words ≡ declaration ∷ []) × (helpers ≡ 0)) ⊎ ((words ≡ declaration ∷ digit helpers ∷ []) × (helpers ≤ 8))
 
--- the words are the program's name, a command, and after it its files, for `repair` the names, for `run` maybe the number of
+-- the words are the program's name, a command, and after it its files, for `repair` one name at most, for `run` maybe the number of
 -- helpers, or the word to explain. No file and no word looks like an option
 abbrev pub Calls : List Text → Asked → Type 0
 Calls words (plans None) = (program : Text) × (words ≡ program ∷ codes "plan" ∷ [])
@@ -202,8 +201,12 @@ Calls words (judges declaration assignment) = (program : Text) × (words ≡ pro
     × (is_no_option declaration ≡ true) × (is_no_option assignment ≡ true)
 Calls words (hangs declaration assignment) = (program : Text) × (words ≡ program ∷ codes "hang" ∷ declaration ∷ assignment ∷ [])
     × (is_no_option declaration ≡ true) × (is_no_option assignment ≡ true)
-Calls words (repairs declaration assignment names) = (program : Text) × (words ≡ program ∷ codes "repair" ∷ declaration ∷ assignment ∷ names)
-    × (is_no_option declaration ≡ true) × (is_no_option assignment ≡ true) × AllByRecursion (λ name. is_no_option name ≡ true) names
+Calls words (repairs declaration assignment []) = (program : Text) × (words ≡ program ∷ codes "repair" ∷ declaration ∷ assignment ∷ [])
+    × (is_no_option declaration ≡ true) × (is_no_option assignment ≡ true)
+Calls words (repairs declaration assignment (name ∷ [])) =
+    (program : Text) × (words ≡ program ∷ codes "repair" ∷ declaration ∷ assignment ∷ name ∷ [])
+    × (is_no_option declaration ≡ true) × (is_no_option assignment ≡ true) × (is_no_option name ≡ true)
+Calls words (repairs declaration assignment (name ∷ other ∷ names)) = ⊥
 Calls words (replays declaration assignment steps) = (program : Text) × (words ≡ program ∷ codes "replay" ∷ declaration ∷ assignment ∷ steps ∷ [])
     × (is_no_option declaration ≡ true) × (is_no_option assignment ≡ true) × (is_no_option steps ≡ true)
 Calls words (finds declaration None) = (program : Text) × (words ≡ program ∷ codes "circles" ∷ declaration ∷ []) × (is_no_option declaration ≡ true)

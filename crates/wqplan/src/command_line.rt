@@ -2,7 +2,7 @@
 //!
 //! It is read by `clap`: one command, and positional arguments alone. The time is linear in the words.
 
-ghost use Rattle.std.specs.Prelude.{◌≡◌, ◌≤◌, ◌⊎◌, ℕ, List, Option, Some, codes, false, IfOk, IfSome, IsSome, MatchResult, map};
+ghost use Rattle.std.specs.Prelude.{◌≡◌, ◌≤◌, ℕ, List, Option, Some, codes, false, IfOk, IfSome, IsSome, MatchResult, map};
 ghost use Rattle.clap.specs.Words.{app_of, found_of, kind_of, one_of, rows_of, rule_of, subcommand_rows_of};
 ghost use Rattle.clap.specs.declared.error.kind.ErrorKind.TheVariants.{OutOfMemory};
 ghost use Rattle.wqplan.specs.CommandLine.{bare, check, circles, number_rule, many_rule, deadlock, hang, dot, explain, needed, plan, repair, replay, run, spelled, wqplan, Asked, Asks, AsksFor, Calls, GivesArguments, HasFewHelpers, IsHelpers, IsRepair, few_read, helpers_in, names_of, checks, draws, finds, hangs, judges, repairs, replays, runs};
@@ -482,7 +482,7 @@ fn entered<'a>(alloc: Global, matches: &ArgMatches<'a>) -> Result<Option<Request
 /// The request of the command that a parse has entered. There is none where that is `repair` or `help`.
 fn entered_other<'a>(matches: &ArgMatches<'a>) -> Option<Request<'a>>
     ensures asked { IfSome result (λ request. AsksFor (subcommand_rows_of matches.now) (spelled request)) }
-    ensures all { (wanted : Asked) → AsksFor (subcommand_rows_of matches.now) wanted → (IsSome result) ⊎ IsRepair wanted }
+    ensures all { (wanted : Asked) → (¬ IsRepair wanted) → AsksFor (subcommand_rows_of matches.now) wanted → IsSome result }
 {
     if let Some(given) = matches.subcommand_matches("plan") {
         return Some(Request::Plan {
