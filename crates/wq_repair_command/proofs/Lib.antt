@@ -2,3 +2,7 @@ pub mod Lines
 pub mod Named
 pub mod Circles
 pub mod Taking
+pub mod NamedLines
+pub mod TextSize
+pub mod ReadBack
+pub mod Shown

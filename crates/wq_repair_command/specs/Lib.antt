@@ -1,3 +1,4 @@
 pub mod AssignmentText
 pub mod Movers
+pub mod ReadBack
 pub mod Repairing

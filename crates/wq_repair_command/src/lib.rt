@@ -7,6 +7,7 @@
 
 mod assignment;
 mod circle;
+pub mod laws;
 mod movers;
 mod repair;
 mod repairing;
