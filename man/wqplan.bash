@@ -93,6 +93,9 @@ _wqplan() {
             fi
             files=1
             ;;
+        repair)
+            files=2
+            ;;
         plan) files=1 ;;
         check | deadlock | hang | circles | dot) files=2 ;;
         replay) files=3 ;;
