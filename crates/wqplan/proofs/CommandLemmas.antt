@@ -9,7 +9,8 @@ use Rattle.clap.specs.declared.builder.range.ValueRange.{ValueRange}
 use Rattle.clap.specs.declared.builder.value_parser.ValueParser.TheVariants.{Signed, Unsigned}
 use Rattle.clap.proofs.ValueTestLemmas.{accepts-Accepts}
 use Rattle.clap.specs.declared.parser.matches.Found.{Found}
-use Rattle.clap.proofs.WalkLemmas.{first_value-rows}
+use Rattle.clap.specs.Matches.{matched_of, raw_values}
+use Rattle.clap.proofs.WalkLemmas.{first_value-rows, raw_values-rows}
 use Rattle.clap.specs.Lexer.{long_of, short_of, usize_max, without_minus}
 use Rattle.clap.proofs.OnLiterals.{clap_on_literals}
 use Rattle.wqplan.specs.CommandLine.{wqplan, is_no_option, many_rule, Asked, Asks, AsksFor, Calls, CallsRun, GivesArguments, HasFewHelpers, IsHelpers, IsRepair, command_name, digit, helpers_in, names_of}
@@ -486,3 +487,12 @@ many = record { start_inclusive = 1; end_inclusive = usize_max }
 pub range_given : (o : Option ValueRange) → IsSomeAnd o (λ r. r ≡ many) → o ≡ Some many
 range_given None is = absurd is
 range_given (Some r) is = ap Some is
+
+-- the names that a getter returns are those of its rows; if it returns none, there is none
+pub names_given : {S : Type 0} (names : S → List Text) (r : Option S) (s : S) (f : Found) → option_map names r ≡ option_map raw_values (matched_of f (codes "NAME")) → r ≡ Some s
+    → names s ≡ names_of (rows_of f)
+names_given names r s f read is = ap (λ (o : Option (List Text)). unwrap_or o []) (sym (ap (option_map names) is) ∙ read ∙ raw_values-rows f (codes "NAME"))
+
+pub no_names_given : {S : Type 0} (names : S → List Text) (r : Option S) (f : Found) → option_map names r ≡ option_map raw_values (matched_of f (codes "NAME")) → r ≡ None
+    → [] ≡ names_of (rows_of f)
+no_names_given names r f read is = ap (λ (o : Option (List Text)). unwrap_or o []) (sym (ap (option_map names) is) ∙ read ∙ raw_values-rows f (codes "NAME"))
