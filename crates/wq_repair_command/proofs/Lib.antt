@@ -6,3 +6,5 @@ pub mod NamedLines
 pub mod TextSize
 pub mod ReadBack
 pub mod Shown
+pub mod SameSafe
+pub mod Judged
