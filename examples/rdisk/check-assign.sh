@@ -1,6 +1,6 @@
 # check-assign.sh
-# check-assign.sh DECL ASSIGN says whether the workqueues in this commit can hang. It ends with the status of `deadlock`, so CI
-# stops where they can.
+# check-assign.sh DECL ASSIGN says whether the workqueues in this commit can hang. It ends with the status of
+# `deadlock`, so CI stops where they can.
 status=0
 wqplan deadlock "$1" "$2" || status=$?
 case $status in
