@@ -1,0 +1,4 @@
+pub mod Ranges
+pub mod Lanes
+pub mod Each
+pub mod Exact

@@ -1,0 +1,9 @@
+use Rattle.std.proofs.Common.{◌≡◌, ℕ, sym, ap, ◌∙◌}
+use Rattle.wq_changes.specs.Changes.{stays_on}
+use Rattle.wq_changes.proofs.Ranges.{none_passes}
+use Rattle.wq_changes.proofs.change.has_stayed.Goals as goal
+
+pub loop-number-preserved : goal.loop-number-preserved
+loop-number-preserved g c =
+    let p = stays_on c.args.old.now c.args.new.now c.args.lane in
+    none_passes p c.loop-number.number c.loop-number.invariant (sym (c.stays_on.ensures ∙ ap p c.new.ensures) ∙ c.if-stays_on.false)

@@ -1,0 +1,11 @@
+pub use Rattle.wq_names.specs.Names
+pub use Rattle.wq_repair.specs.Changes
+pub use Rattle.wq_repair.specs.Repair
+pub use Rattle.wq_voice.specs.Voice
+pub mod Changes
+pub mod Without
+pub mod Words
+pub mod Told
+pub mod Few
+pub mod Circles
+pub mod Voice
