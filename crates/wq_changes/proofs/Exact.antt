@@ -5,8 +5,7 @@ use Rattle.std.specs.List.{All, Any, list_any, range_with_len}
 use Rattle.std.proofs.lemmas.Bool.{false≢true, eqb-true, eq-eqb}
 use Rattle.std.proofs.lemmas.Bool.Decides.{eqb_tells}
 use Rattle.std.proofs.lemmas.List.Elements.{Contains-append_left, Contains-append_right, Contains-append_cases, filter_passes}
-use Rattle.std.proofs.lemmas.List.Folds.{Any-from_list_any, list_any_at}
-use Rattle.std.proofs.lemmas.List.FromFn.{length-range_with_len, get_or-range_with_len}
+use Rattle.std.proofs.lemmas.List.Folds.{Any-from_list_any}
 use Rattle.wq_items.proofs.Lists.{range_with_len-below, Contains-range_with_len, Contains-filtered}
 use Rattle.wq_graph.proofs.ListLemmas.{Contains-map, Contains-from_map}
 use Rattle.wq_groups.specs.Declaration.{Declaration}
@@ -14,6 +13,7 @@ use Rattle.wq_core.specs.Workqueues.{Workqueues}
 use Rattle.wq_repair.specs.Changes.{lane_in, HasMoved, IsGiven}
 use Rattle.wq_changes.specs.declared.change.Change.{Change}
 use Rattle.wq_changes.specs.declared.change.Change.TheVariants as change
+use Rattle.wq_changes.proofs.Ranges.{some_passes}
 use Rattle.wq_changes.specs.Changes.{changes_of, has_moved, is_bare, is_given, stays_on}
 
 -- what is kept passes
@@ -97,11 +97,9 @@ module _ (d : Declaration) (old new : Workqueues) where
   passes-given q given =
       let stays : stays_on old new q given.group ≡ true =
       both-to (lane_in old given.group == q) (lane_in new given.group == q) (eq-eqb (lane_in old given.group) q given.was) (eq-eqb (lane_in new given.group) q given.stays) in
-      let here : get_or (range_with_len 0 d.groups) given.group given.group ≡ given.group = get_or-range_with_len 0 d.groups given.group given.group given.is_group in
       both-to (is_bare old q && not (is_bare new q)) (list_any (stays_on old new q) (range_with_len 0 d.groups))
       (both-to (is_bare old q) (not (is_bare new q)) given.bare (ap not given.rescued))
-      (list_any_at (stays_on old new q) (range_with_len 0 d.groups) given.group given.group (omega (arith, given.is_group, length-range_with_len 0 d.groups))
-      (subst (λ (x : ℕ). stays_on old new q x ≡ true) (sym here) stays))
+      (some_passes (stays_on old new q) d.groups given.group given.is_group stays)
 
   pub given-is_said : (q : ℕ) → q < old.assignment.lanes → IsGiven d old new q → Contains (changes_of d.groups old new) (change.Given q)
   given-is_said q is given =

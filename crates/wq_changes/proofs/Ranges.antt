@@ -1,11 +1,12 @@
 -- Numbers that are gone through one after another: those that pass a test, and what is made of each.
-use Rattle.std.proofs.Common.{◌≡◌, ℕ, ◌+◌, Bool, true, false, List, [], ◌∷◌, ◌++◌, map, append-nil, append_assoc, refl, sym, ap, ◌∙◌}
+use Rattle.std.proofs.Common.{◌≡◌, ℕ, ◌+◌, ◌<◌, Bool, true, false, List, [], ◌∷◌, ◌++◌, length, map, get_or, append-nil, append_assoc, refl, sym, ap, subst, ◌∙◌, arith}
 use Rattle.std.specs.Prelude.{◌||◌, filter}
 use Rattle.std.specs.List.{list_any, range_with_len}
 use Rattle.std.proofs.lemmas.Bool.{cond-true, cond-false}
 use Rattle.std.proofs.lemmas.List.{map-append}
 use Rattle.std.proofs.lemmas.List.Elements.{filter-append}
-use Rattle.std.proofs.lemmas.List.Folds.{list_any-append}
+use Rattle.std.proofs.lemmas.List.Folds.{list_any-append, list_any_at}
+use Rattle.std.proofs.lemmas.List.FromFn.{length-range_with_len, get_or-range_with_len}
 use Rattle.wq_items.proofs.TableLemmas.{range_with_len-push}
 
 filtered : (p : ℕ → Bool) (n : ℕ) (last : List ℕ) → filter p (n ∷ []) ≡ last → filter p (range_with_len 0 (n + 1)) ≡ filter p (range_with_len 0 n) ++ last
@@ -51,3 +52,9 @@ none_passes p n so_far is =
     ap (list_any p) (range_with_len-push n)
     ∙ list_any-append p (range_with_len 0 n) (n ∷ [])
     ∙ either (list_any p (range_with_len 0 n)) (list_any p (n ∷ [])) so_far (either (p n) false is refl)
+
+-- one passes
+pub some_passes : (p : ℕ → Bool) (n k : ℕ) → k < n → p k ≡ true → list_any p (range_with_len 0 n) ≡ true
+some_passes p n k is passes =
+    let here : k ≡ get_or (range_with_len 0 n) k k = omega (arith, get_or-range_with_len 0 n k k is) in
+    list_any_at p (range_with_len 0 n) k k (omega (arith, is, length-range_with_len 0 n)) (subst (λ (x : ℕ). p x ≡ true) here passes)

@@ -1,7 +1,6 @@
 pub use Rattle.wq_names.specs.Names
-pub use Rattle.wq_repair.specs.Changes
 pub use Rattle.wq_repair.specs.Repair
-pub use Rattle.wq_voice.specs.Voice
+pub use Rattle.wq_voice.specs.Reasons
 pub mod Changes
 pub mod Without
 pub mod Words

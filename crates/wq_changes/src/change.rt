@@ -7,7 +7,7 @@ ghost use Rattle.std.specs.Prelude.{◌≡◌, ◌<◌, ◌≤◌, ◌++◌, IfO
 ghost use Rattle.std.specs.List.{list_any, range_with_len};
 ghost use Rattle.wq_repair.specs.Changes.{lane_in};
 ghost use Rattle.wq_changes.specs.Changes.{changes_of, has_moved, is_given, stays_on};
-ghost use Rattle.wq_changes.specs.declared.change.Change.TheVariants as change;
+ghost use Rattle.wq_changes.specs.declared.change.Change.TheVariants as kind;
 
 use std::alloc::{AllocError, Allocator};
 use wq_core::Workqueues;
@@ -96,7 +96,7 @@ fn push_given<A: Allocator + Copy>(
     requires old { length old.now.assignment.lane_of_group ≡ groups }
     requires new { length new.now.assignment.lane_of_group ≡ groups }
     ensures { OnOk result (changes.new.items ≡ changes.old.items
-        ++ map (λ q. change.Given q) (filter (is_given groups old.now new.now) (range_with_len 0 old.now.assignment.lanes))) }
+        ++ map (λ q. kind.Given q) (filter (is_given groups old.now new.now) (range_with_len 0 old.now.assignment.lanes))) }
 {
     for number in 0..old.assignment().lanes() {
         let lane = LaneId::new(number);
@@ -117,7 +117,7 @@ fn push_moved<A: Allocator + Copy>(
     requires old { length old.now.assignment.lane_of_group ≡ groups }
     requires new { length new.now.assignment.lane_of_group ≡ groups }
     ensures { OnOk result (changes.new.items ≡ changes.old.items
-        ++ map (λ g. change.Moved g) (filter (has_moved old.now new.now) (range_with_len 0 groups))) }
+        ++ map (λ g. kind.Moved g) (filter (has_moved old.now new.now) (range_with_len 0 groups))) }
 {
     for number in 0..groups {
         let group = GroupId::new(number);

@@ -6,12 +6,12 @@ ghost use Rattle.wq_core.specs.Workqueues.{Workqueues};
 ghost use Rattle.wq_repair.specs.Changes.{HasMoved, IsGiven};
 ghost use Rattle.wq_changes.specs.Changes.{changes_of};
 ghost use Rattle.wq_changes.specs.declared.change.Change.{Change};
-ghost use Rattle.wq_changes.specs.declared.change.Change.TheVariants as change;
+ghost use Rattle.wq_changes.specs.declared.change.Change.TheVariants as kind;
 
 /// Exactly the groups that moved and the workqueues that are given a rescuer are among the changes that are said.
 pub fn exactly_the_changes_are_said()
     ensures moved { (d : Declaration) (old new : Workqueues) (g : ℕ) → g < d.groups →
-        Contains (changes_of d.groups old new) (change.Moved g) ↔ HasMoved old new g }
+        Contains (changes_of d.groups old new) (kind.Moved g) ↔ HasMoved old new g }
     ensures given { (d : Declaration) (old new : Workqueues) (q : ℕ) → q < old.assignment.lanes →
-        Contains (changes_of d.groups old new) (change.Given q) ↔ IsGiven d old new q }
+        Contains (changes_of d.groups old new) (kind.Given q) ↔ IsGiven d old new q }
 {}

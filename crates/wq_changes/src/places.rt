@@ -98,12 +98,12 @@ impl<A: Allocator + Copy> Places<A> {
     }
 
     /// The place of a change: of the line of its workqueue, or of the first item of its group.
-    pub(crate) fn of_change(&self, declared: &Declaration<'_, A>, change: Change) -> Place
-        requires { IsOf declared.now.groups.groups change }
+    pub(crate) fn of_change(&self, declared: &Declaration<'_, A>, change: &Change) -> Place
+        requires { IsOf declared.now.groups.groups change.now }
     {
         match change {
-            Change::Given(lane) => self.of_lane(lane),
-            Change::Moved(group) => self.of_item(first_item(declared, group)),
+            Change::Given(lane) => self.of_lane(*lane),
+            Change::Moved(group) => self.of_item(first_item(declared, *group)),
         }
     }
 }

@@ -47,14 +47,14 @@ pub(crate) struct Repair<'a, 'b, 'c, 'd, A: Allocator> {
 fn told<A: Allocator + Copy>(
     alloc: A,
     repair: &Repair<'_, '_, '_, '_, A>,
-    change: Change,
+    change: &Change,
 ) -> Result<Vec<u8, A>, AllocError>
-    requires change { IsOf repair.now.declared.now.groups.groups change }
+    requires change { IsOf repair.now.declared.now.groups.groups change.now }
     requires old { length repair.now.old.now.assignment.lane_of_group ≡ repair.now.declared.now.groups.groups }
     requires new { length repair.now.new.now.assignment.lane_of_group ≡ repair.now.declared.now.groups.groups }
     ensures { IfOk result (λ text. IsTold repair.now.assignment.file.now
         (record { table = repair.now.declared.now.table; partition = repair.now.declared.now.groups })
-        (map (λ n. n.now) repair.now.names.now) repair.now.old.now repair.now.new.now change text.items) }
+        (map (λ n. n.now) repair.now.names.now) repair.now.old.now repair.now.new.now change.now text.items) }
 {
     let Repair {
         assignment,
@@ -74,7 +74,7 @@ fn told<A: Allocator + Copy>(
 fn why<A: Allocator + Copy>(
     alloc: A,
     repair: &Repair<'_, '_, '_, '_, A>,
-    change: Change,
+    change: &Change,
 ) -> Result<Vec<u8, A>, AllocError>
     requires grouped { length repair.now.declared.now.groups.group_of ≡ length repair.now.declared.now.table.names }
     requires old { length repair.now.old.now.assignment.lane_of_group ≡ repair.now.declared.now.groups.groups }
@@ -82,7 +82,7 @@ fn why<A: Allocator + Copy>(
     requires lanes { repair.now.old.now.assignment.lanes ≤ repair.now.new.now.assignment.lanes }
     ensures { IfOk result (λ text. GivesWhy repair.now.declaration.file.now
         (record { table = repair.now.declared.now.table; partition = repair.now.declared.now.groups })
-        (map (λ n. n.now) repair.now.names.now) repair.now.old.now repair.now.new.now change text.items) }
+        (map (λ n. n.now) repair.now.names.now) repair.now.old.now repair.now.new.now change.now text.items) }
 {
     let groups = repair.declared.groups.len();
     let workqueues = without_change(alloc, repair.old, repair.new, change, groups)?;
@@ -105,16 +105,16 @@ fn why<A: Allocator + Copy>(
 fn told_why<A: Allocator + Copy>(
     alloc: A,
     repair: &Repair<'_, '_, '_, '_, A>,
-    change: Change,
+    change: &Change,
 ) -> Result<Vec<u8, A>, AllocError>
-    requires change { IsOf repair.now.declared.now.groups.groups change }
+    requires change { IsOf repair.now.declared.now.groups.groups change.now }
     requires grouped { length repair.now.declared.now.groups.group_of ≡ length repair.now.declared.now.table.names }
     requires old { length repair.now.old.now.assignment.lane_of_group ≡ repair.now.declared.now.groups.groups }
     requires new { length repair.now.new.now.assignment.lane_of_group ≡ repair.now.declared.now.groups.groups }
     requires lanes { repair.now.old.now.assignment.lanes ≤ repair.now.new.now.assignment.lanes }
     ensures { IfOk result (λ text. IsToldWhy repair.now.declaration.file.now repair.now.assignment.file.now
         (record { table = repair.now.declared.now.table; partition = repair.now.declared.now.groups })
-        (map (λ n. n.now) repair.now.names.now) repair.now.old.now repair.now.new.now change text.items) }
+        (map (λ n. n.now) repair.now.names.now) repair.now.old.now repair.now.new.now change.now text.items) }
 {
     let why = why(alloc, repair, change)?;
     let mut text = told(alloc, repair, change)?;
@@ -139,7 +139,7 @@ fn all_whys<A: Allocator + Copy>(
 {
     let mut text = Vec::new(alloc);
     for change in changes {
-        let one = told_why(alloc, repair, *change)?;
+        let one = told_why(alloc, repair, change)?;
         put(&mut text, &one)?;
     }
     Ok(text)
@@ -160,7 +160,7 @@ fn all_told<A: Allocator + Copy>(
 {
     let mut text = Vec::new(alloc);
     for change in changes {
-        let one = told(alloc, repair, *change)?;
+        let one = told(alloc, repair, change)?;
         put(&mut text, &one)?;
     }
     Ok(text)

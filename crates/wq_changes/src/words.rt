@@ -7,7 +7,7 @@ ghost use Rattle.std.specs.Prelude.{◌≡◌, ◌<◌, ◌++◌, IfOk, codes, l
 ghost use Rattle.wq_voice.specs.Words.{workqueue_words};
 ghost use Rattle.wq_changes.specs.Changes.{IsOf};
 ghost use Rattle.wq_changes.specs.Words.{change_words, first_item, group_words, lead_of, more_words, new_words, place_words};
-ghost use Rattle.wq_changes.specs.declared.change.Change.TheVariants as change;
+ghost use Rattle.wq_changes.specs.declared.change.Change.TheVariants as kind;
 
 use crate::change::{Change, lane_in};
 use std::alloc::{AllocError, Allocator};
@@ -107,7 +107,7 @@ fn moved_words<A: Allocator + Copy>(
     requires old { length old.now.assignment.lane_of_group ≡ declared.now.groups.groups }
     requires new { length new.now.assignment.lane_of_group ≡ declared.now.groups.groups }
     ensures { IfOk result (λ words. words.items ≡ change_words (record { table = declared.now.table; partition = declared.now.groups })
-        (map (λ n. n.now) names.now) old.now new.now (change.Moved group)) }
+        (map (λ n. n.now) names.now) old.now new.now (kind.Moved group)) }
 {
     let from = workqueue_words(alloc, names, lane_in(old, group))?;
     let to = place_words(alloc, names, old, lane_in(new, group))?;
@@ -139,23 +139,23 @@ pub(crate) fn change_words<A: Allocator + Copy>(
     names: &[&[u8]],
     old: &Workqueues<A>,
     new: &Workqueues<A>,
-    change: Change,
+    change: &Change,
 ) -> Result<Vec<u8, A>, AllocError>
-    requires change { IsOf declared.now.groups.groups change }
+    requires change { IsOf declared.now.groups.groups change.now }
     requires old { length old.now.assignment.lane_of_group ≡ declared.now.groups.groups }
     requires new { length new.now.assignment.lane_of_group ≡ declared.now.groups.groups }
     ensures { IfOk result (λ words. words.items ≡ change_words (record { table = declared.now.table; partition = declared.now.groups })
-        (map (λ n. n.now) names.now) old.now new.now change) }
+        (map (λ n. n.now) names.now) old.now new.now change.now) }
 {
     match change {
-        Change::Given(lane) => given_words(alloc, names, lane),
-        Change::Moved(group) => moved_words(alloc, declared, names, old, new, group),
+        Change::Given(lane) => given_words(alloc, names, *lane),
+        Change::Moved(group) => moved_words(alloc, declared, names, old, new, *group),
     }
 }
 
 /// What stands before the waits by which the workqueues hang without this change.
-pub(crate) fn lead_of(change: Change) -> &'static [u8]
-    ensures { result.now ≡ lead_of change }
+pub(crate) fn lead_of(change: &Change) -> &'static [u8]
+    ensures { result.now ≡ lead_of change.now }
 {
     match change {
         Change::Given(_) => b"without one: ",

@@ -14,7 +14,7 @@ loop-number-preserved g c =
     elim c.if-is_given.branch [
       | then-is_given+in_ok-push w ↦
           rw w.changes-is
-          (passed (λ q. change.Given q) p n c.args.changes.now.items items w.push.new.changes.items c.loop-number.invariant (sym is ∙ w.if-is_given.true)
+          (passed (λ q. change.Given q) p n c.args.changes.now.items items w.push.new.self.items c.loop-number.invariant (sym is ∙ w.if-is_given.true)
           (w.in_ok-push.ensures.items ∙ ap (λ (q : ℕ). items ++ (change.Given q ∷ [])) c.new-lane.ensures))
       | else-is_given w ↦ rw w.changes-is (failed (λ q. change.Given q) p n c.args.changes.now.items items c.loop-number.invariant (sym is ∙ w.if-is_given.false))
     ]

@@ -14,7 +14,7 @@ loop-number-preserved g c =
     elim c.if-has_moved.branch [
       | then-has_moved+in_ok-push w ↦
           rw w.changes-is
-          (passed (λ h. change.Moved h) p n c.args.changes.now.items items w.push.new.changes.items c.loop-number.invariant (sym is ∙ w.if-has_moved.true)
+          (passed (λ h. change.Moved h) p n c.args.changes.now.items items w.push.new.self.items c.loop-number.invariant (sym is ∙ w.if-has_moved.true)
           (w.in_ok-push.ensures.items ∙ ap (λ (h : ℕ). items ++ (change.Moved h ∷ [])) c.new-group.ensures))
       | else-has_moved w ↦ rw w.changes-is (failed (λ h. change.Moved h) p n c.args.changes.now.items items c.loop-number.invariant (sym is ∙ w.if-has_moved.false))
     ]
