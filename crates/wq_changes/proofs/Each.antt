@@ -1,8 +1,9 @@
 -- Texts of changes, one after another; and which changes there are.
-use Rattle.std.proofs.Common.{◌≡◌, ℕ, ◌+◌, ◌<◌, List, [], ◌∷◌, ◌++◌, length, map, take, get_or, append-nil, append_assoc, refl, sym, ap, subst, ◌∙◌, arith}
+use Rattle.std.proofs.Common.{◌≡◌, ℕ, ◌+◌, ◌<◌, inl, inr, List, [], ◌∷◌, ◌++◌, length, map, take, drop, min, get_or, append-nil, append_assoc, refl, sym, ap, subst, ◌∙◌, arith}
 use Rattle.std.specs.Prelude.{filter}
 use Rattle.std.specs.List.{All, range_with_len}
-use Rattle.std.proofs.lemmas.List.{take_more}
+use Rattle.std.proofs.lemmas.Bool.{cases_lt}
+use Rattle.std.proofs.lemmas.List.{take_all, take_more, drop_all}
 use Rattle.std.proofs.lemmas.List.Elements.{All-append, All-filter, All-map}
 use Rattle.wq_items.proofs.Lists.{range_with_len-below}
 use Rattle.wq_core.specs.Workqueues.{Workqueues}
@@ -32,3 +33,20 @@ All-IsOf groups old new =
     (All-map (IsOf groups) (λ q. change.Given q) (filter (is_given groups old new) (range_with_len 0 old.assignment.lanes)) (λ k d is. tt))
     (All-map (IsOf groups) (λ g. change.Moved g) (filter (has_moved old new) (range_with_len 0 groups))
     (All-filter (has_moved old new) (λ g. g < groups) (range_with_len 0 groups) (range_with_len-below groups)))
+
+-- the first n, and the others, if there are so many
+pub take_least : {X : Type 0} (n : ℕ) (xs : List X) → take (min (length xs) n) xs ≡ take n xs
+take_least n xs = elim (cases_lt (length xs) n) [
+  | inl few ↦
+      let all : min (length xs) n ≡ length xs = omega (arith, few) in
+      ap (λ (k : ℕ). take k xs) all ∙ take_all (length xs) xs (omega arith) ∙ sym (take_all n xs (omega (arith, few)))
+  | inr many ↦ let n_of : min (length xs) n ≡ n = omega (arith, many) in ap (λ (k : ℕ). take k xs) n_of
+]
+
+pub drop_least : {X : Type 0} (n : ℕ) (xs : List X) → drop (min (length xs) n) xs ≡ drop n xs
+drop_least n xs = elim (cases_lt (length xs) n) [
+  | inl few ↦
+      let all : min (length xs) n ≡ length xs = omega (arith, few) in
+      ap (λ (k : ℕ). drop k xs) all ∙ drop_all (length xs) xs (omega arith) ∙ sym (drop_all n xs (omega (arith, few)))
+  | inr many ↦ let n_of : min (length xs) n ≡ n = omega (arith, many) in ap (λ (k : ℕ). drop k xs) n_of
+]

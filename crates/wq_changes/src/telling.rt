@@ -3,7 +3,7 @@
 //! The form is that of "Changes" in docs/FORMAT.md. It takes the time of a search for a shortest run for each of the
 //! first changes.
 
-ghost use Rattle.std.specs.Prelude.{◌≡◌, ◌<◌, ◌≤◌, IfOk, drop, length, map, take};
+ghost use Rattle.std.specs.Prelude.{◌≡◌, ◌≤◌, [], IfOk, length, map, option_map, unwrap_or};
 ghost use Rattle.std.specs.List.{All};
 ghost use Rattle.wq_changes.specs.Changes.{IsOf};
 ghost use Rattle.wq_changes.specs.Told.{AreEach, GivesWhy, IsTold, IsToldWhy, TellsChanges};
@@ -70,6 +70,16 @@ fn told<A: Allocator + Copy>(
     said_at(alloc, assignment.file, place.line, place.column, &what, &[])
 }
 
+/// This, or no byte if there is nothing.
+fn or_nothing<A: Allocator>(alloc: A, said: Option<Vec<u8, A>>) -> Vec<u8, A>
+    ensures { result.items ≡ unwrap_or (option_map (λ s. s.items) said) [] }
+{
+    match said {
+        Some(said) => said,
+        None => Vec::new(alloc),
+    }
+}
+
 /// How the workqueues hang without a change.
 fn why<A: Allocator + Copy>(
     alloc: A,
@@ -95,10 +105,8 @@ fn why<A: Allocator + Copy>(
         flushes: repair.flushes,
         names: repair.names,
     };
-    match of_subject(alloc, &subject, lead_of(change))? {
-        Some(said) => Ok(said),
-        None => Ok(Vec::new(alloc)),
-    }
+    let said = of_subject(alloc, &subject, lead_of(change))?;
+    Ok(or_nothing(alloc, said))
 }
 
 /// What is changed, and how the workqueues hang without it.
