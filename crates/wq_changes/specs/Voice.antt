@@ -1,5 +1,5 @@
 -- What is said beside the answer of `repair`.
-use Rattle.std.specs.Prelude.{◌≡◌, ◌⊎◌, ℕ, List, [], ◌∷◌, ◌++◌, Option, Some, None, MatchOption, MatchResult, codes, option_map}
+use Rattle.std.specs.Prelude.{◌≡◌, ◌⊎◌, if◌then◌else◌, is_none, ℕ, List, [], ◌∷◌, ◌++◌, Option, Some, None, MatchOption, MatchResult, codes, option_map}
 use Rattle.wq_items.specs.Table.{item_named}
 use Rattle.wq_graph.specs.declared.arc.WaitArc.{WaitArc}
 use Rattle.wq_core.specs.declared.step.Step.{Step}
@@ -83,7 +83,7 @@ SaysRepair f names said =
 -- the first of these names that is that of no item
 abbrev pub first_unknown : List (List ℕ) → List (List ℕ) → Option (List ℕ)
 first_unknown items [] = None
-first_unknown items (name ∷ names) = MatchOption (item_named items name) (Some name) (λ _. first_unknown items names)
+first_unknown items (name ∷ names) = if is_none (item_named items name) then Some name else first_unknown items names
 
 -- that this is the name of no item
 abbrev pub unknown_line : List ℕ → List ℕ → List ℕ

@@ -67,7 +67,15 @@ fn told<A: Allocator + Copy>(
     } = *repair;
     let what = change_words(alloc, declared, names, old, new, change)?;
     let place = places.of_change(declared, change);
-    said_at(alloc, assignment.file, place.line, place.column, &what, &[])
+    let more = Vec::new(alloc);
+    said_at(
+        alloc,
+        assignment.file,
+        place.line,
+        place.column,
+        &what,
+        &more,
+    )
 }
 
 /// This, or no byte if there is nothing.
