@@ -211,7 +211,7 @@ fn keep_together<A: Allocator + Copy>(
 }
 
 /// Of workqueues that can be repaired: the repair.
-fn repaired<A: Allocator + Copy>(
+pub(crate) fn repaired<A: Allocator + Copy>(
     alloc: A,
     table: &ItemTable<'_, A>,
     groups: &Groups<A>,

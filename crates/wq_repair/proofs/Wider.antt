@@ -1,0 +1,60 @@
+-- Repairs in which more groups than those that need a rescuer count as needing one.
+use Rattle.std.proofs.Common.{◌≡◌, ℕ, ◌<◌, ◌⊎◌, inl, inr, Bool, List, length, sym, subst, ◌∙◌, arith}
+use Rattle.std.proofs.lemmas.Bool.{cases_eq}
+use Rattle.wq_groups.specs.Declaration.{Declaration, IsDeclaration}
+use Rattle.wq_groups.specs.Assignment.{IsAssignment}
+use Rattle.wq_core.specs.Workqueues.{Workqueues, wiring_of}
+use Rattle.wq_core.specs.Deadlock.{IsSafe, Deadlocks}
+use Rattle.wq_repair.specs.Changes.{IsRescued, lane_in}
+use Rattle.wq_repair.specs.Needed.{NeedsRescuerOf}
+use Rattle.wq_repair.specs.Marks.{IsMarked, Marks}
+use Rattle.wq_repair.specs.Joined.{NeedRescuers}
+use Rattle.wq_repair.specs.Steps.{IsStartBy}
+use Rattle.wq_repair.specs.Ready.{Scope, IsReady, IsMinimal}
+use Rattle.wq_repair.specs.Repair.{IsRepair}
+use Rattle.wq_repair.specs.Wider.{IsScope, KeepsNeeded}
+use Rattle.wq_repair.proofs.Rescuers.{rescued-needed}
+use Rattle.wq_repair.proofs.Repaired.{IsRepair-needed}
+
+-- with a start in which all of the scope have a rescuer, and that is safe, groups can be put back
+pub IsReady-scope : (d : Declaration) (old : Workqueues) (names : List ℕ) (s : Scope) (start : Workqueues) → IsScope d old names s → IsStartBy old s.movable s.given start
+    → ((g : ℕ) → g < d.groups → IsMarked s.needed g → IsRescued start (lane_in start g)) → IsSafe (wiring_of d start) → IsReady d old names s start
+IsReady-scope d old names s start is by rescued safe = record {
+  assignment = is.assignment;
+  one_each = is.one_each;
+  named = is.named;
+  lanes = is.lanes;
+  are_named = is.are_named;
+  are_lanes = is.are_lanes;
+  are_movable = is.are_movable;
+  are_given = is.are_given;
+  first = is.first;
+  by = by;
+  rescued = rescued;
+  safe = safe;
+}
+
+module _ (d : Declaration) (old new : Workqueues) (names : List ℕ) (needed all : List Bool) (declaration : IsDeclaration d) (before : IsAssignment d.groups old.assignment)
+    (are : Marks (NeedsRescuerOf d old names) d.groups needed) (long : length all ≡ d.groups)
+    (keeps : (g : ℕ) → g < length all → IsMarked all g → IsMarked needed g ⊎ KeepsNeeded old new needed (lane_in old g)) where
+  -- a group that needs a rescuer stays on the lane in whatever has fewer changes, so the lane has one; and who stays beside it has it too
+  NeedRescuers-wider : NeedRescuers d old names new all
+  NeedRescuers-wider fewer compared less g is marked = elim (keeps g (omega (arith, is, long)) marked) [
+    | inl needs ↦ rescued-needed d old fewer names declaration before compared g ((are.exactly g is).0 needs)
+    | inr keep ↦
+        let h : ℕ = keep.group in
+        let h_is : h < d.groups = omega (arith, keep.is_group, are.one_each) in
+        elim (rescued-needed d old fewer names declaration before compared h ((are.exactly h h_is).0 keep.needs)) [
+          | inr dead ↦ inr dead
+          | inl rescued ↦ elim (cases_eq (lane_in fewer h) (lane_in old h)) [
+            | inr moved ↦ absurd (less.moved h h_is moved (keep.stays ∙ sym keep.was))
+            | inl stays ↦ elim (cases_eq (lane_in fewer g) (lane_in old g)) [
+              | inr moved ↦ inl (compared.onto_rescuers g is moved)
+              | inl beside ↦ inl (subst (IsRescued fewer) (stays ∙ keep.was ∙ sym beside) rescued)
+            ]
+          ]
+        ]
+  ]
+
+  pub IsRepair-wider : Deadlocks (wiring_of d old) → IsMinimal d old names all new → IsRepair d old names new
+  IsRepair-wider dead is = IsRepair-needed d old new names all is.number declaration dead is.compared NeedRescuers-wider is.changes is.falls is.few
