@@ -34,4 +34,4 @@ pub mod Ordered
 pub mod GivenLanes
 pub mod PutBack
 pub mod RepairedBy
-pub mod Wider
+pub mod Widened

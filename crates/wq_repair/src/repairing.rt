@@ -8,7 +8,7 @@ ghost use Rattle.std.specs.Prelude.{◌≡◌, ◌↔◌, ◌<◌, ◌≤◌, �
 ghost use Rattle.std.specs.List.{All};
 ghost use Rattle.wq_groups.specs.Declaration.{Declaration, IsDeclaration, declaration_of};
 ghost use Rattle.wq_graph.specs.declared.arc.WaitArc.{WaitArc};
-ghost use Rattle.wq_core.specs.Workqueues.{Workqueues};
+ghost use Rattle.wq_core.specs.Workqueues.{Workqueues as WorkqueuesView};
 ghost use Rattle.wq_items.specs.Chain.{HasCircle};
 ghost use Rattle.wq_graph.specs.Graph.{HasArc, group_graph, without};
 ghost use Rattle.wq_levels.specs.Ranks.{AreRanks};
@@ -171,7 +171,7 @@ fn put_back<A: Allocator + Copy>(
 ) -> Result<Vec<bool, A>, AllocError>
     requires vertices { AreVertices joined.old }
     requires heads { AreHeads graph.now joined.old.at joined.old.heads }
-    requires ready { (d : Declaration) × (names : List ℕ) × (start : Workqueues) × IsDeclaration d
+    requires ready { (d : Declaration) × (names : List ℕ) × (start : WorkqueuesView) × IsDeclaration d
         × IsReady d old.now names scope.now start × IsGraphOfNeeded d scope.now.needed graph.now
         × (joined.old.at ≡ start.assignment.lane_of_group) }
     ensures vertices { IfOk result (λ _. AreVertices joined.new) }

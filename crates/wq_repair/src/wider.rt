@@ -5,15 +5,15 @@
 //! as needing one. If each of these lanes keeps a group that does need one, no change can be left out in this repair,
 //! either. It takes the time of a repair.
 
-ghost use Rattle.std.specs.Prelude.{◌≡◌, ◌<◌, ◌≤◌, ◌⊎◌, ℕ, length, IfOk, IfSome, IsTrue};
+ghost use Rattle.std.specs.Prelude.{◌≡◌, ◌<◌, ◌≤◌, ◌⊎◌, ℕ, length, IfOk, IfSome, IsTrue, List};
 ghost use Rattle.std.specs.List.{All};
 ghost use Rattle.wq_groups.specs.Declaration.{declaration_of};
-ghost use Rattle.wq_core.specs.Workqueues.{Workqueues, wiring_of};
+ghost use Rattle.wq_core.specs.Workqueues.{wiring_of};
 ghost use Rattle.wq_core.specs.Deadlock.{Deadlocks};
 ghost use Rattle.wq_repair.specs.Changes.{IsRescued, lane_in};
 ghost use Rattle.wq_repair.specs.Marks.{IsMarked, Marks};
 ghost use Rattle.wq_repair.specs.Needed.{NeedsRescuerOf};
-ghost use Rattle.wq_repair.specs.Ready.{IsMinimal};
+ghost use Rattle.wq_repair.specs.Ready.{IsReady, IsMinimal};
 ghost use Rattle.wq_repair.specs.Repair.{IsRepair};
 ghost use Rattle.wq_repair.specs.Wider.{IsScope, KeepsNeeded};
 
@@ -314,7 +314,7 @@ pub(crate) fn with_fewer_changes<A: Allocator + Copy>(
     requires other { IfSome other (λ o.
         length o.assignment.lane_of_group ≡ length old.now.assignment.lane_of_group) }
     requires few { length old.now.assignment.lane_of_group ≤ 4096 }
-    ensures { IfOk result (λ best. (P : Workqueues → Type 0) → P one → IfSome other P → P best) }
+    ensures { IfOk result (λ best. (best ≡ one) ⊎ IfSome other (λ o. best ≡ o)) }
 {
     let Some(other) = other else {
         return Ok(one);
@@ -323,4 +323,30 @@ pub(crate) fn with_fewer_changes<A: Allocator + Copy>(
         return Ok(other);
     }
     Ok(one)
+}
+
+/// The repair of workqueues that can be repaired: of two, the one with fewer changes.
+pub(crate) fn better_repair<A: Allocator + Copy>(
+    alloc: A,
+    table: &ItemTable<'_, A>,
+    groups: &Groups<A>,
+    old: &Workqueues<A>,
+    names: &[ItemId],
+    start: &Workqueues<A>,
+    scope: &Scope<A>,
+) -> Result<Workqueues<A>, AllocError>
+    requires grouped { length groups.now.group_of ≡ length table.now.names }
+    requires names { All (λ i. i < length groups.now.group_of) names.now }
+    requires ready { IsReady (declaration_of table.now groups.now) old.now names.now scope.now start.now }
+    requires needed { Marks (NeedsRescuerOf (declaration_of table.now groups.now) old.now names.now)
+        groups.now.groups scope.now.needed }
+    requires deadlocked { Deadlocks (wiring_of (declaration_of table.now groups.now) old.now) }
+    ensures { IfOk result (IsRepair (declaration_of table.now groups.now) old.now names.now) }
+{
+    // What holds of every table and of its groups.
+    let _items = table.len();
+    let _groups = groups.len();
+    let one = repaired(alloc, table, groups, old, start, scope)?;
+    let other = wider(alloc, table, groups, old, names, scope.needed.as_slice())?;
+    with_fewer_changes(alloc, old, one, other)
 }

@@ -9,10 +9,11 @@ use Rattle.wq_repair.specs.Changes.{IsRescued, lane_in}
 use Rattle.wq_repair.specs.Needed.{NeedsRescuerOf}
 use Rattle.wq_repair.specs.Marks.{IsMarked, Marks}
 use Rattle.wq_repair.specs.Joined.{NeedRescuers}
-use Rattle.wq_repair.specs.Steps.{IsStartBy}
+use Rattle.wq_repair.specs.Steps.{IsStartBy, HoldsMarked}
 use Rattle.wq_repair.specs.Ready.{Scope, IsReady, IsMinimal}
 use Rattle.wq_repair.specs.Repair.{IsRepair}
 use Rattle.wq_repair.specs.Wider.{IsScope, KeepsNeeded}
+use Rattle.wq_repair.proofs.StartMade.{IsMarked-below}
 use Rattle.wq_repair.proofs.Rescuers.{rescued-needed}
 use Rattle.wq_repair.proofs.Repaired.{IsRepair-needed}
 
@@ -33,6 +34,15 @@ IsReady-scope d old names s start is by rescued safe = record {
   rescued = rescued;
   safe = safe;
 }
+
+-- of the groups that stay, one that needs a rescuer is on each of these lanes
+pub KeepsNeeded-kept : (old new : Workqueues) (needed stay kept : List Bool) → Marks (λ (g : ℕ). IsMarked needed g × (lane_in new g ≡ lane_in old g)) (length needed) stay
+    → Marks (HoldsMarked old stay) old.assignment.lanes kept → (q : ℕ) → IsMarked kept q → KeepsNeeded old new needed q
+KeepsNeeded-kept old new needed stay kept are_staying are_kept q marked =
+    let holds = (are_kept.exactly q (omega (arith, IsMarked-below kept q marked, are_kept.one_each))).0 marked in
+    let group_is : holds.group < length needed = omega (arith, holds.is_group, are_staying.one_each) in
+    let stays = (are_staying.exactly holds.group group_is).0 holds.marked in
+    record { group = holds.group; is_group = group_is; needs = stays.0; was = holds.on; stays = stays.1 ∙ holds.on }
 
 module _ (d : Declaration) (old new : Workqueues) (names : List ℕ) (needed all : List Bool) (declaration : IsDeclaration d) (before : IsAssignment d.groups old.assignment)
     (are : Marks (NeedsRescuerOf d old names) d.groups needed) (long : length all ≡ d.groups)
