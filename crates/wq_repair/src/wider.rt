@@ -208,6 +208,9 @@ fn repaired_in<A: Allocator + Copy>(
         IsScope (declaration_of table.now groups.now) old.now names scope.now →
         IsMinimal (declaration_of table.now groups.now) old.now names scope.now.needed new)) }
 {
+    // What holds of every table and of its groups.
+    let _items = table.len();
+    let _groups = groups.len();
     let begin = start(alloc, old, scope.movable.as_slice(), scope.given.as_slice())?;
     if !all_rescued(&begin, scope.needed.as_slice()) {
         return Ok(None);
@@ -239,8 +242,41 @@ fn keeps_needed<A: Allocator + Copy>(
     Ok(are_beside(old, groups, needed, kept.as_slice()))
 }
 
-/// A repair in which lanes that are shared by groups of both kinds are given a rescuer, if there is one.
-pub(crate) fn wider<A: Allocator + Copy>(
+/// What such a repair is about, if there are lanes on which groups are that need a rescuer and others that don't.
+fn wider_scope<A: Allocator + Copy>(
+    alloc: A,
+    table: &ItemTable<'_, A>,
+    groups: &Groups<A>,
+    old: &Workqueues<A>,
+    names: &[ItemId],
+    needed: &[bool],
+) -> Result<Option<Scope<A>>, AllocError>
+    requires grouped { length groups.now.group_of ≡ length table.now.names }
+    requires assigned { length old.now.assignment.lane_of_group ≡ groups.now.groups }
+    requires names { All (λ i. i < length groups.now.group_of) names.now }
+    requires needed { Marks (NeedsRescuerOf (declaration_of table.now groups.now) old.now names.now)
+        groups.now.groups needed.now }
+    ensures { IfOk result (λ scope. IfSome scope
+        (IsScope (declaration_of table.now groups.now) old.now names.now)) }
+{
+    // What holds of every table, of its groups and of every assignment.
+    let _items = table.len();
+    let _groups = groups.len();
+    let _lanes = old.assignment().lanes();
+    let named = named_groups(alloc, groups, names)?;
+    let lanes = named_lanes(alloc, old, named.as_slice())?;
+    let graph = WaitGraph::of_groups(alloc, table, groups)?;
+    let shared = shared_lanes(alloc, &graph, old, lanes.as_slice(), needed)?;
+    if !shared.iter().any(|is_shared| *is_shared) {
+        return Ok(None);
+    }
+    let all = with_all_on(alloc, old, needed, shared.as_slice())?;
+    let scope = scope_of(alloc, old, named.as_slice(), lanes.as_slice(), all)?;
+    Ok(Some(scope))
+}
+
+/// A repair in which lanes are given a rescuer on which groups are that need one and others that don't, if there is one.
+fn wider<A: Allocator + Copy>(
     alloc: A,
     table: &ItemTable<'_, A>,
     groups: &Groups<A>,
@@ -261,15 +297,9 @@ pub(crate) fn wider<A: Allocator + Copy>(
     let _items = table.len();
     let _groups = groups.len();
     let _lanes = old.assignment().lanes();
-    let named = named_groups(alloc, groups, names)?;
-    let lanes = named_lanes(alloc, old, named.as_slice())?;
-    let graph = WaitGraph::of_groups(alloc, table, groups)?;
-    let shared = shared_lanes(alloc, &graph, old, lanes.as_slice(), needed)?;
-    if !shared.iter().any(|is_shared| *is_shared) {
+    let Some(scope) = wider_scope(alloc, table, groups, old, names, needed)? else {
         return Ok(None);
-    }
-    let all = with_all_on(alloc, old, needed, shared.as_slice())?;
-    let scope = scope_of(alloc, old, named.as_slice(), lanes.as_slice(), all)?;
+    };
     let Some(new) = repaired_in(alloc, table, groups, old, &scope)? else {
         return Ok(None);
     };
