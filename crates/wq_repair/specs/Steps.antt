@@ -37,6 +37,7 @@ pub record IsStartBy (old : Workqueues) (movable given : List Bool) (start : Wor
   pub within : (g : ℕ) → g < length movable → lane_in start g < start.assignment.lanes
   pub more : old.assignment.lanes ≤ start.assignment.lanes
   pub few : start.assignment.lanes ≤ max old.assignment.lanes (length movable)
+  pub bare : length start.bare ≤ start.assignment.lanes
   pub stay : (g : ℕ) → g < length movable → (¬ IsMarked movable g) → lane_in start g ≡ lane_in old g
   pub alone : (g h : ℕ) → g < length movable → h < length movable → IsMarked movable g
       → lane_in start g ≡ lane_in start h → g ≡ h

@@ -8,7 +8,7 @@ ghost use Rattle.std.specs.Prelude.{◌≡◌, ◌↔◌, ◌<◌, ◌≤◌, �
 ghost use Rattle.std.specs.List.{All};
 ghost use Rattle.wq_groups.specs.Declaration.{Declaration, IsDeclaration, declaration_of};
 ghost use Rattle.wq_graph.specs.declared.arc.WaitArc.{WaitArc};
-ghost use Rattle.wq_core.specs.Workqueues.{Workqueues};
+ghost use Rattle.wq_core.specs.Workqueues.{Workqueues as WorkqueuesView};
 ghost use Rattle.wq_items.specs.Chain.{HasCircle};
 ghost use Rattle.wq_graph.specs.Graph.{HasArc, group_graph, without};
 ghost use Rattle.wq_levels.specs.Ranks.{AreRanks};
@@ -155,6 +155,7 @@ fn ranks_of<A: Allocator + Copy>(alloc: A, graph: &WaitGraph<A>) -> Result<Vec<u
     requires { ¬ HasCircle (HasArc graph.now) (length graph.now) }
     ensures { IfOk result (λ ranks. AreRanks graph.now ranks.items) }
 {
+    let _vertices = graph.vertices();
     match rank(alloc, graph)? {
         Ranked::Ranks(ranks) => Ok(ranks),
         Ranked::Circle(_) => unreachable!(),
@@ -171,13 +172,14 @@ fn put_back<A: Allocator + Copy>(
 ) -> Result<Vec<bool, A>, AllocError>
     requires vertices { AreVertices joined.old }
     requires heads { AreHeads graph.now joined.old.at joined.old.heads }
-    requires ready { (d : Declaration) × (names : List ℕ) × (start : Workqueues) × IsDeclaration d
+    requires ready { (d : Declaration) × (names : List ℕ) × (start : WorkqueuesView) × IsDeclaration d
         × IsReady d old.now names scope.now start × IsGraphOfNeeded d scope.now.needed graph.now
         × (joined.old.at ≡ start.assignment.lane_of_group) }
     ensures vertices { IfOk result (λ _. AreVertices joined.new) }
     ensures heads { IfOk result (λ _. AreHeads graph.now joined.new.at joined.new.heads) }
     ensures back { IfOk result (λ back. IsPutBack graph.now old.now scope.now joined.old.at joined.new.at back.items) }
 {
+    let _groups = graph.vertices();
     let tried = tried_groups(alloc, old, scope)?;
     let ranks = ranks_of(alloc, graph)?;
     let by_rank = by_rank(alloc, ranks.as_slice())?;
