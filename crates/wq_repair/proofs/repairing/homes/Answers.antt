@@ -18,7 +18,7 @@ loop-group-preserved-then-not-is_needed g c =
     record {
       one_each = c.loop-group.invariant.one_each;
       homes = homes-skip c.args.old.now c.args.scope.now i c.loop-group.homes.items c.loop-group.invariant.homes
-      (λ both. false≢true (sym c.if-not-is_needed.true ∙ subst (λ (xs : List Bool). IsMarked xs i) (sym needed_is) both.0));
+          (λ both. false≢true (sym c.if-not-is_needed.true ∙ subst (λ (xs : List Bool). IsMarked xs i) (sym needed_is) both.0));
     }
 
 pub loop-group-preserved-then-index : goal.loop-group-preserved-then-index
@@ -61,7 +61,7 @@ loop-group-preserved g c =
     record {
       one_each = length-set xs c.from-in-loop-group.result (Some lane) ∙ c.loop-group.invariant.one_each;
       homes = subst (λ (n : ℕ). (q v : ℕ) → IsHomeOf (set xs n (Some lane)) q v ↔ ((v ≡ q) × HoldsBelow old s (i + 1) q)) (sym c.from-in-loop-group.ensures)
-      (homes-set old s i xs c.loop-group.invariant.homes needs stays lane (omega (arith, here, c.get-lane.ensures)) (omega (arith, within, here, c.get-lane.ensures, c.loop-group.invariant.one_each)));
+          (homes-set old s i xs c.loop-group.invariant.homes needs stays lane (omega (arith, here, c.get-lane.ensures)) (omega (arith, within, here, c.get-lane.ensures, c.loop-group.invariant.one_each)));
     }
 
 pub returns-clause-homes : goal.returns-clause-homes

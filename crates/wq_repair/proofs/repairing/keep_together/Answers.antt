@@ -22,7 +22,21 @@ put_together-requires-clause-alone g c =
     λ k there. c.requires.alone k ((c.in_ok-out.ensures.exactly k).0 (subst (λ (xs : List ℕ). Contains xs k) c.as_slice.ensures.value there))
 
 pub put_together-requires-clause-homes : goal.put_together-requires-clause-homes
-put_together-requires-clause-homes g c = let a = c.as_mut_slice.ensures in let b = c.in_ok-none.ensures in let d = c.from in ?
+put_together-requires-clause-homes g c =
+    let same : c.as_mut_slice.result.now ≡ replicate c.from.result None = c.as_mut_slice.ensures.value ∙ c.in_ok-none.ensures.items_if_clones_equal (λ y e. search rules) in
+    record {
+      some = λ q v home. absurd (no_home c.from.result c.as_mut_slice.result.now same q v home);
+      own = λ q v x home. absurd (no_home c.from.result c.as_mut_slice.result.now same q v home);
+    }
 
 pub returns-clause-together : goal.returns-clause-together
-returns-clause-together g c = let a = c.in_ok-put_together.ensures in ?
+returns-clause-together g c =
+    let same : c.as_mut_slice.result.now ≡ replicate c.from.result None = c.as_mut_slice.ensures.value ∙ c.in_ok-none.ensures.items_if_clones_equal (λ y e. search rules) in
+    λ graph heads. record {
+      homes = c.as_mut_slice.result.now;
+      order = c.as_slice.result.now;
+      again = c.in_ok-put_together.field-0.items;
+      no_homes = no_home c.from.result c.as_mut_slice.result.now same;
+      lists = subst (Lists c.args.leaves.now) (sym c.as_slice.ensures.value) c.in_ok-out.ensures;
+      together = c.in_ok-put_together.ensures.together graph heads;
+    }

@@ -14,6 +14,12 @@ use Rattle.wq_repair.proofs.PutBack.{Circle-between}
 use Rattle.wq_repair.proofs.TrialReady.{order-below, order-alone, AreHomes-at}
 use Rattle.wq_repair.proofs.repairing.put_back.Goals as goal
 
+ArePutTogether-same : (graph : List (List WaitArc)) (a b : Assignment) (hs ks : List (Option ℕ)) (xs ys at new : List ℕ) (back : List Bool) → b ≡ a → ks ≡ hs → ys ≡ xs
+    → ArePutTogether graph b.lane_of_group ks ys at new back → ArePutTogether graph a.lane_of_group hs xs at new back
+ArePutTogether-same graph a b hs ks xs ys at new back one two three together =
+    subst (λ (x : Assignment). ArePutTogether graph x.lane_of_group hs xs at new back) one
+    (subst (λ (os : List (Option ℕ)). ArePutTogether graph b.lane_of_group os xs at new back) two (subst (λ (zs : List ℕ). ArePutTogether graph b.lane_of_group ks zs at new back) three together))
+
 pub tried_groups-requires-clause-movable : goal.tried_groups-requires-clause-movable
 tried_groups-requires-clause-movable g c = c.requires.ready.4.are_movable.one_each ∙ sym c.requires.ready.4.assignment.one_each
 
@@ -105,4 +111,22 @@ pub returns-clause-heads : goal.returns-clause-heads
 returns-clause-heads g c = IfOk-weaker c.put_together.result _ _ (λ back all. all c.args.graph.now c.requires.heads) c.put_together.ensures.heads
 
 pub returns-clause-back : goal.returns-clause-back
-returns-clause-back g c = ?
+returns-clause-back g c =
+    let graph = c.args.graph.now in
+    let old = c.args.old.now in
+    let order = c.in_ok-order.order.items in
+    let tried = c.in_ok-tried.tried.items in
+    let homes = c.in_ok-homes.homes.items in
+    let at = c.args.joined.now.at in
+    let new = c.put_together.new.joined.at in
+    let lists : Lists tried order = subst (λ (xs : List Bool). Lists xs order) c.as_slice-3.ensures.value c.in_ok-order.ensures in
+    IfOk-weaker c.put_together.result _ _ (λ back all. record {
+      homes = homes;
+      tried = tried;
+      order = order;
+      are_homes = c.in_ok-homes.ensures.homes;
+      are_tried = c.in_ok-tried.ensures;
+      lists = lists;
+      together = ArePutTogether-same graph old.assignment c.assignment-assignment.result.now homes c.as_mut_slice.result.now order c.as_slice-4.result.now at new back.items
+          c.assignment-assignment.ensures c.as_mut_slice.ensures.value c.as_slice-4.ensures.value (all graph c.requires.heads);
+    }) c.put_together.ensures.together

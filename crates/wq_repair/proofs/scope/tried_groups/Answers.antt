@@ -33,7 +33,7 @@ loop-group-preserved g c =
         λ tried. w.push-is ∙ w.either.ensures.1 (read.1 tried.1),
       )
       | else-is_movable w ↦ (
-        λ is. absurd (false≢true (sym w.push-is ∙ is)),
+        λ is. absurd (false≢true (sym w.if-is_movable.false ∙ sym w.push-is ∙ is)),
         λ tried. absurd (false≢true (sym w.if-is_movable.false ∙ subst (λ (xs : List Bool). IsMarked xs i) (sym movable_is) tried.0)),
       )
     ] in
