@@ -208,6 +208,7 @@ module _ (old : Workqueues) (given stays leaves leave bare : List Bool) (ranks e
     within = within-placed;
     more = omega arith;
     few = few;
+    bare = omega (arith, now.few);
     stay = ranked.others;
     rescued = λ g is marked. now.rescued (slice_index lane_of g) (inr (record { group = g; is_group = is; why = inl marked; on = refl }));
     kept = λ q rescued. now.rescued q (inl rescued);
