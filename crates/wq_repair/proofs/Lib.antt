@@ -35,3 +35,5 @@ pub mod GivenLanes
 pub mod PutBack
 pub mod RepairedBy
 pub mod Widened
+pub mod Tried
+pub mod TrialReady
