@@ -8,7 +8,7 @@ ghost use Rattle.std.specs.Prelude.{◌≡◌, ◌↔◌, ◌<◌, ◌≤◌, �
 ghost use Rattle.std.specs.List.{All};
 ghost use Rattle.wq_groups.specs.Declaration.{Declaration, IsDeclaration, declaration_of};
 ghost use Rattle.wq_graph.specs.declared.arc.WaitArc.{WaitArc};
-ghost use Rattle.wq_core.specs.Workqueues.{Workqueues, wiring_of};
+ghost use Rattle.wq_core.specs.Workqueues.{Workqueues as WorkqueuesView, wiring_of};
 ghost use Rattle.wq_core.specs.Deadlock.{Deadlocks};
 ghost use Rattle.wq_items.specs.Chain.{Circle, HasCircle};
 ghost use Rattle.wq_graph.specs.Graph.{HasArc, group_graph, without};
@@ -151,6 +151,7 @@ fn ranks_of_groups<A: Allocator + Copy>(
     ensures ranks { IfOk result (λ of_group. (g : ℕ) → g < groups →
         slice_index of_group.items g ≡ slice_index ranks.now (slice_index vertices.now.lane_of_group g)) }
 {
+    let _lanes = vertices.lanes();
     let mut of_group = Vec::with_capacity(alloc, usize::from(groups))?;
     for group in 0..groups {
         let vertex = vertices.lane(GroupId::new(group)).get();
@@ -180,7 +181,7 @@ fn put_back<A: Allocator + Copy>(
 ) -> Result<Vec<bool, A>, AllocError>
     requires vertices { AreVertices joined.old }
     requires heads { AreHeads graph.now joined.old.at joined.old.heads }
-    requires ready { (d : Declaration) × (names : List ℕ) × (start : Workqueues) × IsDeclaration d
+    requires ready { (d : Declaration) × (names : List ℕ) × (start : WorkqueuesView) × IsDeclaration d
         × IsReady d old.now names scope.now start × IsGraphOfNeeded d scope.now.needed graph.now
         × (joined.old.at ≡ start.assignment.lane_of_group) }
     ensures vertices { IfOk result (λ _. AreVertices joined.new) }
@@ -228,7 +229,7 @@ fn start_vertices<A: Allocator + Copy>(
     graph: &WaitGraph<A>,
 ) -> Result<Joined<A>, AllocError>
     requires grouped { length groups.now.group_of ≡ length table.now.names }
-    requires ready { (old : Workqueues) × (names : List ℕ) × (s : ScopeView)
+    requires ready { (old : WorkqueuesView) × (names : List ℕ) × (s : ScopeView)
         × IsReady (declaration_of table.now groups.now) old names s start.now
         × IsGraphOfNeeded (declaration_of table.now groups.now) s.needed graph.now }
     ensures vertices { IfOk result AreVertices }
