@@ -34,3 +34,5 @@ pub mod Ordered
 pub mod GivenLanes
 pub mod PutBack
 pub mod RepairedBy
+pub mod Tried
+pub mod TrialReady

@@ -442,4 +442,5 @@ module _ (d : Declaration) (old : Workqueues) (names : List ℕ) (s : Scope) (st
               falls = FallsAlongWaits-placed d old new names ready.lanes s.needed s.given stays leaves ranks ready.assignment ready.are_lanes ready.one_each ready.are_given leaving placed declaration
               (λ (q : ℕ). rank_on s.needed new.assignment.lane_of_group ranks q d.groups) ranked;
               few = omega (arith, placed.few, are_leaving.one_each);
+              bare = placed.bare;
             }

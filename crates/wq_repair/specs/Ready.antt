@@ -47,6 +47,7 @@ pub record IsMinimal (d : Declaration) (old : Workqueues) (names : List ℕ) (ne
   pub number : ℕ → ℕ
   pub falls : FallsAlongWaits d new needed number
   pub few : new.assignment.lanes ≤ max old.assignment.lanes d.groups
+  pub bare : length new.bare ≤ new.assignment.lanes
 
 -- the group may be put back: its lane has a rescuer, or is given one
 abbrev pub IsTried : Workqueues → Scope → ℕ → Type 0

@@ -165,6 +165,7 @@ fn ranks_of<A: Allocator + Copy>(alloc: A, graph: &WaitGraph<A>) -> Result<Vec<u
     requires { ¬ HasCircle (HasArc graph.now) (length graph.now) }
     ensures { IfOk result (λ ranks. AreRanks graph.now ranks.items) }
 {
+    let _vertices = graph.vertices();
     match rank(alloc, graph)? {
         Ranked::Ranks(ranks) => Ok(ranks),
         Ranked::Circle(_) => unreachable!(),
@@ -188,6 +189,7 @@ fn put_back<A: Allocator + Copy>(
     ensures heads { IfOk result (λ _. AreHeads graph.now joined.new.at joined.new.heads) }
     ensures back { IfOk result (λ back. IsPutBack graph.now old.now scope.now joined.old.at joined.new.at back.items) }
 {
+    let _groups = graph.vertices();
     let tried = tried_groups(alloc, old, scope)?;
     let ranks = ranks_of(alloc, graph)?;
     let by_rank = by_rank(alloc, ranks.as_slice())?;
