@@ -264,8 +264,8 @@ leaving-has_lane leaves leave ranks empty there most taken before after long bel
 
     at_rank : (o : Option ℕ) → slice_index_or before (slice_index ranks g) None ≡ o → ⊥
     at_rank (Some q) had = some q (took.kept (slice_index ranks g) q had)
-    at_rank None no =
-        let at = took.took (slice_index ranks g) r_below ((leaving.exactly (slice_index ranks g) r_below).1 (record { group = g; marked = marked; ranked = refl })) no in
+    at_rank None before_none =
+        let at = took.took (slice_index ranks g) r_below ((leaving.exactly (slice_index ranks g) r_below).1 (record { group = g; marked = marked; ranked = refl })) before_none in
         some (nth_lane empty there at.0) at.2
 
 -- ---- the lanes of all groups
@@ -296,3 +296,12 @@ module _ (old : Workqueues) (marks : List Bool) (ranks : List ℕ) (of_rank : Li
 
       before : (h : ℕ) → h < g → slice_index (lane_of ++ lane ∷ []) h ≡ slice_index lane_of h
       before h lt = get_or_append_left lane_of (lane ∷ []) 0 h (omega (arith, lt, is.one_each))
+
+-- one more number, where each is what its place says
+pub each-push : (f : ℕ → ℕ) (xs ys : List ℕ) (n x : ℕ) → length xs ≡ n → ((k : ℕ) → k < n → slice_index xs k ≡ f k) → ys ≡ xs ++ x ∷ [] → x ≡ f n → (k : ℕ) → k < n + 1 → slice_index ys k ≡ f k
+each-push f xs ys n x long each pushed last k lt = ap (λ (zs : List ℕ). slice_index zs k) pushed ∙ elim (cases_eq k n) [
+  | inl now ↦ ap (slice_index (xs ++ x ∷ [])) now ∙ get_or_push xs x 0 n long ∙ last ∙ ap f (sym now)
+  | inr other ↦
+      let earlier : k < n = omega (arith, lt, other) in
+      get_or_append_left xs (x ∷ []) 0 k (omega (arith, earlier, long)) ∙ each k earlier
+]

@@ -151,6 +151,7 @@ fn ranks_of_groups<A: Allocator + Copy>(
     ensures ranks { IfOk result (λ of_group. (g : ℕ) → g < groups →
         slice_index of_group.items g ≡ slice_index ranks.now (slice_index vertices.now.lane_of_group g)) }
 {
+    let _lanes = vertices.lanes();
     let mut of_group = Vec::with_capacity(alloc, usize::from(groups))?;
     for group in 0..groups {
         let vertex = vertices.lane(GroupId::new(group)).get();

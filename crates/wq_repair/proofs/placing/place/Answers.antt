@@ -69,7 +69,10 @@ unwrap-assignment-requires g c =
     c.new.ensures.exactly.1 (omega (arith, few, count), within)
 
 pub new-requires-2 : goal.new-requires-2
-new-requires-2 g c = ?
+new-requires-2 g c =
+    let some : (c.unwrap-assignment.result.lanes ≡ c.lanes_with-lanes.result) × (c.unwrap-assignment.result.lane_of_group ≡ c.in_ok-lane_of.lane_of.items) =
+    subst (λ (o : Option Assignment). IfSome o (λ a. (a.lanes ≡ c.lanes_with-lanes.result) × (a.lane_of_group ≡ c.in_ok-lane_of.lane_of.items))) c.unwrap-assignment.ensures c.new.ensures.some in
+    omega (arith, c.in_ok-bare.ensures.few, some.0, c.lanes_with-lanes.ensures, c.lanes-2.ensures.lanes, ap (λ (a : Assignment). a.lanes) c.assignment-assignment.ensures)
 
 pub returns : goal.returns
 returns g c =
