@@ -5,7 +5,7 @@
 //! as needing one. If each of these lanes keeps a group that does need one, no change can be left out in this repair,
 //! either. It takes the time of a repair.
 
-ghost use Rattle.std.specs.Prelude.{◌≡◌, ◌<◌, ◌≤◌, ◌⊎◌, ℕ, length, IfOk, IfSome, IsTrue, List};
+ghost use Rattle.std.specs.Prelude.{◌≡◌, ◌<◌, ◌≤◌, ◌⊎◌, ℕ, length, IfOk, IfSome, IsTrue, List, Some};
 ghost use Rattle.std.specs.List.{All};
 ghost use Rattle.wq_groups.specs.Declaration.{declaration_of};
 ghost use Rattle.wq_core.specs.Workqueues.{wiring_of};
@@ -215,11 +215,13 @@ fn repaired_in<A: Allocator + Copy>(
     if !all_rescued(&begin, scope.needed.as_slice()) {
         return Ok(None);
     }
-    if let Judged::Deadlock(_) = judge(alloc, table, groups, &begin)? {
-        return Ok(None);
+    match judge(alloc, table, groups, &begin)? {
+        Judged::Deadlock(_) => Ok(None),
+        Judged::Safe => {
+            let new = repaired(alloc, table, groups, old, &begin, scope)?;
+            Ok(Some(new))
+        }
     }
-    let new = repaired(alloc, table, groups, old, &begin, scope)?;
-    Ok(Some(new))
 }
 
 /// Whether each lane that holds another group than those that need a rescuer, of all these, keeps one that does.
@@ -344,7 +346,7 @@ pub(crate) fn with_fewer_changes<A: Allocator + Copy>(
     requires other { IfSome other (λ o.
         length o.assignment.lane_of_group ≡ length old.now.assignment.lane_of_group) }
     requires few { length old.now.assignment.lane_of_group ≤ 4096 }
-    ensures { IfOk result (λ best. (best ≡ one) ⊎ IfSome other (λ o. best ≡ o)) }
+    ensures { IfOk result (λ best. (best ≡ one) ⊎ (other ≡ Some best)) }
 {
     let Some(other) = other else {
         return Ok(one);
