@@ -30,6 +30,7 @@ use crate::order::order_of_trial;
 use crate::placing::place;
 use crate::scope::{Scope, all_but, but_not, scope_of, tried_groups};
 use crate::start::start;
+use crate::wider::better_repair;
 use std::alloc::{AllocError, Allocator};
 use wq_buckets::Buckets;
 use wq_core::Workqueues;
@@ -368,7 +369,7 @@ fn repair_without_circle<A: Allocator + Copy>(
     match judge(alloc, table, groups, &begin)? {
         Judged::Deadlock(steps) => Ok(Answer::TooFewNames(begin, steps)),
         Judged::Safe => {
-            let new = repaired(alloc, table, groups, workqueues, &begin, &scope)?;
+            let new = better_repair(alloc, table, groups, workqueues, names, &begin, &scope)?;
             Ok(Answer::Repaired(new))
         }
     }
