@@ -42,4 +42,4 @@ returns g c = λ names is.
     subst (λ (xs : List Bool). (k : ℕ) → k < length xs → IsMarked xs k → IsRescued begin (lane_in begin k)) needed (c.all_rescued.ensures c.if-not-all_rescued.false) in
     let rescued : (k : ℕ) → k < d.groups → IsMarked s.needed k → IsRescued begin (lane_in begin k) = λ k below marked. all k (omega (arith, below, is.one_each)) marked in
     let safe : AreSafe d begin = rw (c.in-Safe.is) at c.in_ok-judge.ensures.verdict in
-    c.in_ok-new.ensures names (IsReady-scope d old names s begin is by rescued safe.safe)
+    c.in_ok-new-in-Safe.ensures names (IsReady-scope d old names s begin is by rescued safe.safe)
