@@ -9,6 +9,7 @@ use Rattle.wq_repair.specs.Changes.{IsNamed, IsNamedLane}
 use Rattle.wq_repair.specs.Needed.{NeedsRescuerOf}
 use Rattle.wq_repair.specs.Marks.{Marks}
 use Rattle.wq_repair.specs.Steps.{HoldsMarked, IsToBeGiven, IsMovable, IsStartBy}
+use Rattle.wq_repair.specs.Ready.{Scope}
 use Rattle.wq_repair.proofs.NeededGroups.{Marks-named_lanes}
 use Rattle.wq_repair.proofs.StartsBy.{IsStart-by}
 use Rattle.wq_repair.proofs.Answered.{AreNamesTooFew-start, IsReady-start}
@@ -46,7 +47,7 @@ judge-requires-clause-assigned g c =
     let are_given : Marks (IsToBeGiven ws lanes s.needed) ws.assignment.lanes s.given =
     subst (λ (xs : List Bool). Marks (IsToBeGiven ws lanes xs) ws.assignment.lanes s.given) (sym c.in_ok-scope.ensures.needed) c.in_ok-scope.ensures.given in
     let by : IsStartBy ws s.movable s.given begin =
-    subst (λ (xs : List Bool). IsStartBy ws xs s.given begin) c.as_slice-4.ensures.value (subst (λ (xs : List Bool). IsStartBy ws c.as_slice-4.result.now xs begin) c.as_slice-5.ensures.value c.in_ok-begin.ensures) in
+    subst (λ (xs : List Bool). IsStartBy ws xs s.given begin) (c.as_slice-4.ensures.value ∙ ap (λ (x : Scope). x.movable) c.scope.view_is) (subst (λ (xs : List Bool). IsStartBy ws c.as_slice-4.result.now xs begin) (c.as_slice-5.ensures.value ∙ ap (λ (x : Scope). x.given) c.scope.view_is) c.in_ok-begin.ensures) in
     by.one_each ∙ are_movable.one_each
 
 pub returns-in-Deadlock : goal.returns-in-Deadlock
@@ -75,11 +76,11 @@ returns-in-Deadlock g c =
     let are_given : Marks (IsToBeGiven ws lanes s.needed) ws.assignment.lanes s.given =
     subst (λ (xs : List Bool). Marks (IsToBeGiven ws lanes xs) ws.assignment.lanes s.given) (sym c.in_ok-scope.ensures.needed) c.in_ok-scope.ensures.given in
     let by : IsStartBy ws s.movable s.given begin =
-    subst (λ (xs : List Bool). IsStartBy ws xs s.given begin) c.as_slice-4.ensures.value (subst (λ (xs : List Bool). IsStartBy ws c.as_slice-4.result.now xs begin) c.as_slice-5.ensures.value c.in_ok-begin.ensures) in
+    subst (λ (xs : List Bool). IsStartBy ws xs s.given begin) (c.as_slice-4.ensures.value ∙ ap (λ (x : Scope). x.movable) c.scope.view_is) (subst (λ (xs : List Bool). IsStartBy ws c.as_slice-4.result.now xs begin) (c.as_slice-5.ensures.value ∙ ap (λ (x : Scope). x.given) c.scope.view_is) c.in_ok-begin.ensures) in
     let few : begin.assignment.lanes ≤ 4096 =
     omega (arith, by.few, are_movable.one_each, c.len-groups.ensures.len, c.len-groups.ensures.few, c.lanes-lanes.ensures.lanes, c.lanes-lanes.ensures.few, ap (λ (a : Assignment). a.lanes) c.assignment.ensures) in
     let is = IsStart-by d ws begin names named lanes s.needed s.movable s.given assigned are_named are_lanes are_needed are_movable are_given by in
-    let hang : IsHang d begin c.in-Deadlock.steps.items = rw (c.in-Deadlock.is) at c.in_ok-judge.ensures.verdict in
+    let hang : IsHang d begin c.in-Deadlock.steps.items = rw (c.in-Deadlock.is) at c.in_ok-steps.ensures.verdict in
     AreNamesTooFew-start d ws begin names declaration assigned is few c.requires.no_circle c.in-Deadlock.steps.items hang
 
 pub better_repair-requires-clause-names : goal.better_repair-requires-clause-names
@@ -116,9 +117,9 @@ better_repair-requires-clause-ready g c =
     let are_given : Marks (IsToBeGiven ws lanes s.needed) ws.assignment.lanes s.given =
     subst (λ (xs : List Bool). Marks (IsToBeGiven ws lanes xs) ws.assignment.lanes s.given) (sym c.in_ok-scope.ensures.needed) c.in_ok-scope.ensures.given in
     let by : IsStartBy ws s.movable s.given begin =
-    subst (λ (xs : List Bool). IsStartBy ws xs s.given begin) c.as_slice-4.ensures.value (subst (λ (xs : List Bool). IsStartBy ws c.as_slice-4.result.now xs begin) c.as_slice-5.ensures.value c.in_ok-begin.ensures) in
-    let safe : AreSafe d begin = rw (c.in-Safe.is) at c.in_ok-judge.ensures.verdict in
+    subst (λ (xs : List Bool). IsStartBy ws xs s.given begin) (c.as_slice-4.ensures.value ∙ ap (λ (x : Scope). x.movable) c.scope.view_is) (subst (λ (xs : List Bool). IsStartBy ws c.as_slice-4.result.now xs begin) (c.as_slice-5.ensures.value ∙ ap (λ (x : Scope). x.given) c.scope.view_is) c.in_ok-begin.ensures) in
+    let safe : AreSafe d begin = rw (c.in-Safe.is) at c.in_ok-steps.ensures.verdict in
     IsReady-start d ws begin names s named lanes declaration assigned are_named are_lanes are_needed are_movable are_given by safe.safe
 
 pub returns : goal.returns
-returns g c = c.in_ok-new.ensures
+returns g c = c.in_ok-new-in-Safe.ensures

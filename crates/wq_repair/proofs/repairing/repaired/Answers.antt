@@ -10,7 +10,7 @@ use Rattle.wq_core.specs.Workqueues.{Workqueues}
 use Rattle.wq_repair.specs.Changes.{IsRescued, lane_in}
 use Rattle.wq_repair.specs.Marks.{IsMarked, Marks}
 use Rattle.wq_repair.specs.Steps.{ArePlacedBy}
-use Rattle.wq_repair.specs.Ready.{IsReady, IsGraphOfNeeded, IsButNot, IsPutBack, IsKeptTogether, IsMinimal, AreRanksOfGroups, placed_at}
+use Rattle.wq_repair.specs.Ready.{Scope, IsReady, IsGraphOfNeeded, IsButNot, IsPutBack, IsKeptTogether, IsMinimal, AreRanksOfGroups, placed_at}
 use Rattle.wq_repair.proofs.Answered.{IsGraphOfNeeded-without}
 use Rattle.wq_repair.proofs.Readied.{IsAssignment-start}
 use Rattle.wq_repair.proofs.PutBack.{alone-leaving}
@@ -30,7 +30,7 @@ start_vertices-requires-clause-ready g c =
     let ready = c.requires.ready.1 in
     let graph = c.in_ok-graph.graph in
     let of : IsGraphOfNeeded d s.needed graph =
-    subst (IsGraphOfNeeded d s.needed) (sym (c.in_ok-graph.ensures ∙ ap (λ (xs : List Bool). without (map not xs) (group_graph d)) c.as_slice.ensures.value)) (IsGraphOfNeeded-without d declaration s.needed ready.one_each) in
+    subst (IsGraphOfNeeded d s.needed) (sym (c.in_ok-graph.ensures ∙ ap (λ (xs : List Bool). without (map not xs) (group_graph d)) (c.as_slice.ensures.value ∙ ap (λ (x : Scope). x.needed) c.scope.view_is))) (IsGraphOfNeeded-without d declaration s.needed ready.one_each) in
     (old, names, s, ready, of)
 
 pub put_back-requires-clause-ready : goal.put_back-requires-clause-ready
@@ -46,7 +46,7 @@ put_back-requires-clause-ready g c =
     let ready = c.requires.ready.1 in
     let graph = c.in_ok-graph.graph in
     let of : IsGraphOfNeeded d s.needed graph =
-    subst (IsGraphOfNeeded d s.needed) (sym (c.in_ok-graph.ensures ∙ ap (λ (xs : List Bool). without (map not xs) (group_graph d)) c.as_slice.ensures.value)) (IsGraphOfNeeded-without d declaration s.needed ready.one_each) in
+    subst (IsGraphOfNeeded d s.needed) (sym (c.in_ok-graph.ensures ∙ ap (λ (xs : List Bool). without (map not xs) (group_graph d)) (c.as_slice.ensures.value ∙ ap (λ (x : Scope). x.needed) c.scope.view_is))) (IsGraphOfNeeded-without d declaration s.needed ready.one_each) in
     (d, names, start, declaration, ready, of, c.in_ok-joined.ensures.at)
 
 pub but_not-requires : goal.but_not-requires
@@ -62,15 +62,15 @@ but_not-requires g c =
     let ready = c.requires.ready.1 in
     let graph = c.in_ok-graph.graph in
     let of : IsGraphOfNeeded d s.needed graph =
-    subst (IsGraphOfNeeded d s.needed) (sym (c.in_ok-graph.ensures ∙ ap (λ (xs : List Bool). without (map not xs) (group_graph d)) c.as_slice.ensures.value)) (IsGraphOfNeeded-without d declaration s.needed ready.one_each) in
+    subst (IsGraphOfNeeded d s.needed) (sym (c.in_ok-graph.ensures ∙ ap (λ (xs : List Bool). without (map not xs) (group_graph d)) (c.as_slice.ensures.value ∙ ap (λ (x : Scope). x.needed) c.scope.view_is))) (IsGraphOfNeeded-without d declaration s.needed ready.one_each) in
     let one = c.put_back.new.joined.at in
     let back = c.in_ok-back.back.items in
     let put : IsPutBack graph old s start.assignment.lane_of_group one back =
     subst (λ (at : List ℕ). IsPutBack graph old s at one back) c.in_ok-joined.ensures.at c.in_ok-back.ensures.back in
-    ap length c.as_slice-3.ensures.value ∙ put.together.one_each ∙ ready.by.one_each ∙ sym (ap length c.as_slice-2.ensures.value)
+    ap length c.as_slice-3.ensures.value ∙ put.together.one_each ∙ ready.by.one_each ∙ sym (ap length (c.as_slice-2.ensures.value ∙ ap (λ (x : Scope). x.movable) c.scope.view_is))
 
-pub but_not-2-requires : goal.but_not-2-requires
-but_not-2-requires g c =
+pub but_not-requires-2 : goal.but_not-requires-2
+but_not-requires-2 g c =
     let t = c.args.table.now in
     let p = c.args.groups.now in
     let d = declaration_of t p in
@@ -82,15 +82,15 @@ but_not-2-requires g c =
     let ready = c.requires.ready.1 in
     let graph = c.in_ok-graph.graph in
     let of : IsGraphOfNeeded d s.needed graph =
-    subst (IsGraphOfNeeded d s.needed) (sym (c.in_ok-graph.ensures ∙ ap (λ (xs : List Bool). without (map not xs) (group_graph d)) c.as_slice.ensures.value)) (IsGraphOfNeeded-without d declaration s.needed ready.one_each) in
+    subst (IsGraphOfNeeded d s.needed) (sym (c.in_ok-graph.ensures ∙ ap (λ (xs : List Bool). without (map not xs) (group_graph d)) (c.as_slice.ensures.value ∙ ap (λ (x : Scope). x.needed) c.scope.view_is))) (IsGraphOfNeeded-without d declaration s.needed ready.one_each) in
     let one = c.put_back.new.joined.at in
     let back = c.in_ok-back.back.items in
     let put : IsPutBack graph old s start.assignment.lane_of_group one back =
     subst (λ (at : List ℕ). IsPutBack graph old s at one back) c.in_ok-joined.ensures.at c.in_ok-back.ensures.back in
     let leaves = c.in_ok-leaves.leaves.items in
     let are_leaving : Marks (IsButNot s.movable back) d.groups leaves =
-    Marks-but_not s.movable c.as_slice-2.result.now back c.as_slice-3.result.now leaves d.groups c.as_slice-2.ensures.value c.as_slice-3.ensures.value ready.are_movable.one_each c.in_ok-leaves.ensures in
-    ap length c.as_slice-5.ensures.value ∙ are_leaving.one_each ∙ sym ready.one_each ∙ sym (ap length c.as_slice-4.ensures.value)
+    Marks-but_not s.movable c.as_slice-2.result.now back c.as_slice-3.result.now leaves d.groups (c.as_slice-2.ensures.value ∙ ap (λ (x : Scope). x.movable) c.scope.view_is) c.as_slice-3.ensures.value ready.are_movable.one_each c.in_ok-leaves.ensures in
+    ap length c.as_slice-5.ensures.value ∙ are_leaving.one_each ∙ sym ready.one_each ∙ sym (ap length (c.as_slice-4.ensures.value ∙ ap (λ (x : Scope). x.needed) c.scope.view_is))
 
 pub keep_together-requires-clause-few : goal.keep_together-requires-clause-few
 keep_together-requires-clause-few g c =
@@ -105,14 +105,14 @@ keep_together-requires-clause-few g c =
     let ready = c.requires.ready.1 in
     let graph = c.in_ok-graph.graph in
     let of : IsGraphOfNeeded d s.needed graph =
-    subst (IsGraphOfNeeded d s.needed) (sym (c.in_ok-graph.ensures ∙ ap (λ (xs : List Bool). without (map not xs) (group_graph d)) c.as_slice.ensures.value)) (IsGraphOfNeeded-without d declaration s.needed ready.one_each) in
+    subst (IsGraphOfNeeded d s.needed) (sym (c.in_ok-graph.ensures ∙ ap (λ (xs : List Bool). without (map not xs) (group_graph d)) (c.as_slice.ensures.value ∙ ap (λ (x : Scope). x.needed) c.scope.view_is))) (IsGraphOfNeeded-without d declaration s.needed ready.one_each) in
     let one = c.put_back.new.joined.at in
     let back = c.in_ok-back.back.items in
     let put : IsPutBack graph old s start.assignment.lane_of_group one back =
     subst (λ (at : List ℕ). IsPutBack graph old s at one back) c.in_ok-joined.ensures.at c.in_ok-back.ensures.back in
     let leaves = c.in_ok-leaves.leaves.items in
     let are_leaving : Marks (IsButNot s.movable back) d.groups leaves =
-    Marks-but_not s.movable c.as_slice-2.result.now back c.as_slice-3.result.now leaves d.groups c.as_slice-2.ensures.value c.as_slice-3.ensures.value ready.are_movable.one_each c.in_ok-leaves.ensures in
+    Marks-but_not s.movable c.as_slice-2.result.now back c.as_slice-3.result.now leaves d.groups (c.as_slice-2.ensures.value ∙ ap (λ (x : Scope). x.movable) c.scope.view_is) c.as_slice-3.ensures.value ready.are_movable.one_each c.in_ok-leaves.ensures in
     omega (arith, ap length c.as_slice-6.ensures.value, are_leaving.one_each, c.len-groups.ensures.len, c.len-groups.ensures.few)
 
 pub keep_together-requires-clause-one_each : goal.keep_together-requires-clause-one_each
@@ -128,7 +128,7 @@ keep_together-requires-clause-one_each g c =
     let ready = c.requires.ready.1 in
     let graph = c.in_ok-graph.graph in
     let of : IsGraphOfNeeded d s.needed graph =
-    subst (IsGraphOfNeeded d s.needed) (sym (c.in_ok-graph.ensures ∙ ap (λ (xs : List Bool). without (map not xs) (group_graph d)) c.as_slice.ensures.value)) (IsGraphOfNeeded-without d declaration s.needed ready.one_each) in
+    subst (IsGraphOfNeeded d s.needed) (sym (c.in_ok-graph.ensures ∙ ap (λ (xs : List Bool). without (map not xs) (group_graph d)) (c.as_slice.ensures.value ∙ ap (λ (x : Scope). x.needed) c.scope.view_is))) (IsGraphOfNeeded-without d declaration s.needed ready.one_each) in
     let one = c.put_back.new.joined.at in
     let back = c.in_ok-back.back.items in
     let put : IsPutBack graph old s start.assignment.lane_of_group one back =
@@ -148,14 +148,14 @@ keep_together-requires-clause-leaves g c =
     let ready = c.requires.ready.1 in
     let graph = c.in_ok-graph.graph in
     let of : IsGraphOfNeeded d s.needed graph =
-    subst (IsGraphOfNeeded d s.needed) (sym (c.in_ok-graph.ensures ∙ ap (λ (xs : List Bool). without (map not xs) (group_graph d)) c.as_slice.ensures.value)) (IsGraphOfNeeded-without d declaration s.needed ready.one_each) in
+    subst (IsGraphOfNeeded d s.needed) (sym (c.in_ok-graph.ensures ∙ ap (λ (xs : List Bool). without (map not xs) (group_graph d)) (c.as_slice.ensures.value ∙ ap (λ (x : Scope). x.needed) c.scope.view_is))) (IsGraphOfNeeded-without d declaration s.needed ready.one_each) in
     let one = c.put_back.new.joined.at in
     let back = c.in_ok-back.back.items in
     let put : IsPutBack graph old s start.assignment.lane_of_group one back =
     subst (λ (at : List ℕ). IsPutBack graph old s at one back) c.in_ok-joined.ensures.at c.in_ok-back.ensures.back in
     let leaves = c.in_ok-leaves.leaves.items in
     let are_leaving : Marks (IsButNot s.movable back) d.groups leaves =
-    Marks-but_not s.movable c.as_slice-2.result.now back c.as_slice-3.result.now leaves d.groups c.as_slice-2.ensures.value c.as_slice-3.ensures.value ready.are_movable.one_each c.in_ok-leaves.ensures in
+    Marks-but_not s.movable c.as_slice-2.result.now back c.as_slice-3.result.now leaves d.groups (c.as_slice-2.ensures.value ∙ ap (λ (x : Scope). x.movable) c.scope.view_is) c.as_slice-3.ensures.value ready.are_movable.one_each c.in_ok-leaves.ensures in
     ap length c.as_slice-6.ensures.value ∙ are_leaving.one_each ∙ sym ready.assignment.one_each ∙ sym (ap (λ (a : Assignment). length a.lane_of_group) c.assignment-2.ensures)
 
 pub keep_together-requires-clause-alone : goal.keep_together-requires-clause-alone
@@ -171,14 +171,14 @@ keep_together-requires-clause-alone g c =
     let ready = c.requires.ready.1 in
     let graph = c.in_ok-graph.graph in
     let of : IsGraphOfNeeded d s.needed graph =
-    subst (IsGraphOfNeeded d s.needed) (sym (c.in_ok-graph.ensures ∙ ap (λ (xs : List Bool). without (map not xs) (group_graph d)) c.as_slice.ensures.value)) (IsGraphOfNeeded-without d declaration s.needed ready.one_each) in
+    subst (IsGraphOfNeeded d s.needed) (sym (c.in_ok-graph.ensures ∙ ap (λ (xs : List Bool). without (map not xs) (group_graph d)) (c.as_slice.ensures.value ∙ ap (λ (x : Scope). x.needed) c.scope.view_is))) (IsGraphOfNeeded-without d declaration s.needed ready.one_each) in
     let one = c.put_back.new.joined.at in
     let back = c.in_ok-back.back.items in
     let put : IsPutBack graph old s start.assignment.lane_of_group one back =
     subst (λ (at : List ℕ). IsPutBack graph old s at one back) c.in_ok-joined.ensures.at c.in_ok-back.ensures.back in
     let leaves = c.in_ok-leaves.leaves.items in
     let are_leaving : Marks (IsButNot s.movable back) d.groups leaves =
-    Marks-but_not s.movable c.as_slice-2.result.now back c.as_slice-3.result.now leaves d.groups c.as_slice-2.ensures.value c.as_slice-3.ensures.value ready.are_movable.one_each c.in_ok-leaves.ensures in
+    Marks-but_not s.movable c.as_slice-2.result.now back c.as_slice-3.result.now leaves d.groups (c.as_slice-2.ensures.value ∙ ap (λ (x : Scope). x.movable) c.scope.view_is) c.as_slice-3.ensures.value ready.are_movable.one_each c.in_ok-leaves.ensures in
     let movable_long = ready.are_movable.one_each in
     λ v marked. alone-leaving d old names s start ready graph one back leaves put (subst (λ (n : ℕ). Marks (IsButNot s.movable back) n leaves) (sym movable_long) are_leaving) v
     (subst (λ (xs : List Bool). IsMarked xs v) c.as_slice-6.ensures.value marked)
@@ -209,17 +209,17 @@ ranks_of_vertices-requires-clause-groups g c =
     let ready = c.requires.ready.1 in
     let graph = c.in_ok-graph.graph in
     let of : IsGraphOfNeeded d s.needed graph =
-    subst (IsGraphOfNeeded d s.needed) (sym (c.in_ok-graph.ensures ∙ ap (λ (xs : List Bool). without (map not xs) (group_graph d)) c.as_slice.ensures.value)) (IsGraphOfNeeded-without d declaration s.needed ready.one_each) in
+    subst (IsGraphOfNeeded d s.needed) (sym (c.in_ok-graph.ensures ∙ ap (λ (xs : List Bool). without (map not xs) (group_graph d)) (c.as_slice.ensures.value ∙ ap (λ (x : Scope). x.needed) c.scope.view_is))) (IsGraphOfNeeded-without d declaration s.needed ready.one_each) in
     let one = c.put_back.new.joined.at in
     let back = c.in_ok-back.back.items in
     let put : IsPutBack graph old s start.assignment.lane_of_group one back =
     subst (λ (at : List ℕ). IsPutBack graph old s at one back) c.in_ok-joined.ensures.at c.in_ok-back.ensures.back in
     let leaves = c.in_ok-leaves.leaves.items in
     let are_leaving : Marks (IsButNot s.movable back) d.groups leaves =
-    Marks-but_not s.movable c.as_slice-2.result.now back c.as_slice-3.result.now leaves d.groups c.as_slice-2.ensures.value c.as_slice-3.ensures.value ready.are_movable.one_each c.in_ok-leaves.ensures in
+    Marks-but_not s.movable c.as_slice-2.result.now back c.as_slice-3.result.now leaves d.groups (c.as_slice-2.ensures.value ∙ ap (λ (x : Scope). x.movable) c.scope.view_is) c.as_slice-3.ensures.value ready.are_movable.one_each c.in_ok-leaves.ensures in
     let stays = c.in_ok-stays.stays.items in
     let are_staying : Marks (IsButNot s.needed leaves) d.groups stays =
-    Marks-but_not s.needed c.as_slice-4.result.now leaves c.as_slice-5.result.now stays d.groups c.as_slice-4.ensures.value c.as_slice-5.ensures.value ready.one_each c.in_ok-stays.ensures in
+    Marks-but_not s.needed c.as_slice-4.result.now leaves c.as_slice-5.result.now stays d.groups (c.as_slice-4.ensures.value ∙ ap (λ (x : Scope). x.needed) c.scope.view_is) c.as_slice-5.ensures.value ready.one_each c.in_ok-stays.ensures in
     let two = c.keep_together.new.joined.at in
     let kept : IsKeptTogether graph old.assignment leaves one two =
     subst (λ (a : Assignment). IsKeptTogether graph a leaves one two) c.assignment-2.ensures
@@ -239,17 +239,17 @@ ranks_of_vertices-requires-clause-within g c =
     let ready = c.requires.ready.1 in
     let graph = c.in_ok-graph.graph in
     let of : IsGraphOfNeeded d s.needed graph =
-    subst (IsGraphOfNeeded d s.needed) (sym (c.in_ok-graph.ensures ∙ ap (λ (xs : List Bool). without (map not xs) (group_graph d)) c.as_slice.ensures.value)) (IsGraphOfNeeded-without d declaration s.needed ready.one_each) in
+    subst (IsGraphOfNeeded d s.needed) (sym (c.in_ok-graph.ensures ∙ ap (λ (xs : List Bool). without (map not xs) (group_graph d)) (c.as_slice.ensures.value ∙ ap (λ (x : Scope). x.needed) c.scope.view_is))) (IsGraphOfNeeded-without d declaration s.needed ready.one_each) in
     let one = c.put_back.new.joined.at in
     let back = c.in_ok-back.back.items in
     let put : IsPutBack graph old s start.assignment.lane_of_group one back =
     subst (λ (at : List ℕ). IsPutBack graph old s at one back) c.in_ok-joined.ensures.at c.in_ok-back.ensures.back in
     let leaves = c.in_ok-leaves.leaves.items in
     let are_leaving : Marks (IsButNot s.movable back) d.groups leaves =
-    Marks-but_not s.movable c.as_slice-2.result.now back c.as_slice-3.result.now leaves d.groups c.as_slice-2.ensures.value c.as_slice-3.ensures.value ready.are_movable.one_each c.in_ok-leaves.ensures in
+    Marks-but_not s.movable c.as_slice-2.result.now back c.as_slice-3.result.now leaves d.groups (c.as_slice-2.ensures.value ∙ ap (λ (x : Scope). x.movable) c.scope.view_is) c.as_slice-3.ensures.value ready.are_movable.one_each c.in_ok-leaves.ensures in
     let stays = c.in_ok-stays.stays.items in
     let are_staying : Marks (IsButNot s.needed leaves) d.groups stays =
-    Marks-but_not s.needed c.as_slice-4.result.now leaves c.as_slice-5.result.now stays d.groups c.as_slice-4.ensures.value c.as_slice-5.ensures.value ready.one_each c.in_ok-stays.ensures in
+    Marks-but_not s.needed c.as_slice-4.result.now leaves c.as_slice-5.result.now stays d.groups (c.as_slice-4.ensures.value ∙ ap (λ (x : Scope). x.needed) c.scope.view_is) c.as_slice-5.ensures.value ready.one_each c.in_ok-stays.ensures in
     let two = c.keep_together.new.joined.at in
     let kept : IsKeptTogether graph old.assignment leaves one two =
     subst (λ (a : Assignment). IsKeptTogether graph a leaves one two) c.assignment-2.ensures
@@ -274,17 +274,17 @@ ranks_of_vertices-requires-clause-no_circle g c =
     let ready = c.requires.ready.1 in
     let graph = c.in_ok-graph.graph in
     let of : IsGraphOfNeeded d s.needed graph =
-    subst (IsGraphOfNeeded d s.needed) (sym (c.in_ok-graph.ensures ∙ ap (λ (xs : List Bool). without (map not xs) (group_graph d)) c.as_slice.ensures.value)) (IsGraphOfNeeded-without d declaration s.needed ready.one_each) in
+    subst (IsGraphOfNeeded d s.needed) (sym (c.in_ok-graph.ensures ∙ ap (λ (xs : List Bool). without (map not xs) (group_graph d)) (c.as_slice.ensures.value ∙ ap (λ (x : Scope). x.needed) c.scope.view_is))) (IsGraphOfNeeded-without d declaration s.needed ready.one_each) in
     let one = c.put_back.new.joined.at in
     let back = c.in_ok-back.back.items in
     let put : IsPutBack graph old s start.assignment.lane_of_group one back =
     subst (λ (at : List ℕ). IsPutBack graph old s at one back) c.in_ok-joined.ensures.at c.in_ok-back.ensures.back in
     let leaves = c.in_ok-leaves.leaves.items in
     let are_leaving : Marks (IsButNot s.movable back) d.groups leaves =
-    Marks-but_not s.movable c.as_slice-2.result.now back c.as_slice-3.result.now leaves d.groups c.as_slice-2.ensures.value c.as_slice-3.ensures.value ready.are_movable.one_each c.in_ok-leaves.ensures in
+    Marks-but_not s.movable c.as_slice-2.result.now back c.as_slice-3.result.now leaves d.groups (c.as_slice-2.ensures.value ∙ ap (λ (x : Scope). x.movable) c.scope.view_is) c.as_slice-3.ensures.value ready.are_movable.one_each c.in_ok-leaves.ensures in
     let stays = c.in_ok-stays.stays.items in
     let are_staying : Marks (IsButNot s.needed leaves) d.groups stays =
-    Marks-but_not s.needed c.as_slice-4.result.now leaves c.as_slice-5.result.now stays d.groups c.as_slice-4.ensures.value c.as_slice-5.ensures.value ready.one_each c.in_ok-stays.ensures in
+    Marks-but_not s.needed c.as_slice-4.result.now leaves c.as_slice-5.result.now stays d.groups (c.as_slice-4.ensures.value ∙ ap (λ (x : Scope). x.needed) c.scope.view_is) c.as_slice-5.ensures.value ready.one_each c.in_ok-stays.ensures in
     let two = c.keep_together.new.joined.at in
     let kept : IsKeptTogether graph old.assignment leaves one two =
     subst (λ (a : Assignment). IsKeptTogether graph a leaves one two) c.assignment-2.ensures
@@ -294,7 +294,7 @@ ranks_of_vertices-requires-clause-no_circle g c =
     no_circle-by d old names s start declaration ready graph of one two back leaves stays put are_leaving are_staying kept within few
 
 pub place-requires-clause-given : goal.place-requires-clause-given
-place-requires-clause-given g c = ap length c.as_slice-7.ensures.value ∙ c.requires.ready.1.are_given.one_each
+place-requires-clause-given g c = ap length (c.as_slice-7.ensures.value ∙ ap (λ (x : Scope). x.given) c.scope.view_is) ∙ c.requires.ready.1.are_given.one_each
 
 pub place-requires-clause-stays : goal.place-requires-clause-stays
 place-requires-clause-stays g c =
@@ -309,7 +309,7 @@ place-requires-clause-stays g c =
     let ready = c.requires.ready.1 in
     let graph = c.in_ok-graph.graph in
     let of : IsGraphOfNeeded d s.needed graph =
-    subst (IsGraphOfNeeded d s.needed) (sym (c.in_ok-graph.ensures ∙ ap (λ (xs : List Bool). without (map not xs) (group_graph d)) c.as_slice.ensures.value)) (IsGraphOfNeeded-without d declaration s.needed ready.one_each) in
+    subst (IsGraphOfNeeded d s.needed) (sym (c.in_ok-graph.ensures ∙ ap (λ (xs : List Bool). without (map not xs) (group_graph d)) (c.as_slice.ensures.value ∙ ap (λ (x : Scope). x.needed) c.scope.view_is))) (IsGraphOfNeeded-without d declaration s.needed ready.one_each) in
     let one = c.put_back.new.joined.at in
     let back = c.in_ok-back.back.items in
     let put : IsPutBack graph old s start.assignment.lane_of_group one back =
@@ -317,11 +317,11 @@ place-requires-clause-stays g c =
     let leaves = c.as_slice-9.result.now in
     let are_leaving : Marks (IsButNot s.movable back) d.groups leaves =
     subst (Marks (IsButNot s.movable back) d.groups) (sym c.as_slice-9.ensures.value)
-    (Marks-but_not s.movable c.as_slice-2.result.now back c.as_slice-3.result.now c.in_ok-leaves.leaves.items d.groups c.as_slice-2.ensures.value c.as_slice-3.ensures.value ready.are_movable.one_each c.in_ok-leaves.ensures) in
+    (Marks-but_not s.movable c.as_slice-2.result.now back c.as_slice-3.result.now c.in_ok-leaves.leaves.items d.groups (c.as_slice-2.ensures.value ∙ ap (λ (x : Scope). x.movable) c.scope.view_is) c.as_slice-3.ensures.value ready.are_movable.one_each c.in_ok-leaves.ensures) in
     let stays = c.as_slice-8.result.now in
     let are_staying : Marks (IsButNot s.needed leaves) d.groups stays =
     subst (Marks (IsButNot s.needed leaves) d.groups) (sym c.as_slice-8.ensures.value)
-    (Marks-but_not s.needed c.as_slice-4.result.now leaves c.as_slice-5.result.now c.in_ok-stays.stays.items d.groups c.as_slice-4.ensures.value (c.as_slice-5.ensures.value ∙ sym c.as_slice-9.ensures.value) ready.one_each c.in_ok-stays.ensures) in
+    (Marks-but_not s.needed c.as_slice-4.result.now leaves c.as_slice-5.result.now c.in_ok-stays.stays.items d.groups (c.as_slice-4.ensures.value ∙ ap (λ (x : Scope). x.needed) c.scope.view_is) (c.as_slice-5.ensures.value ∙ sym c.as_slice-9.ensures.value) ready.one_each c.in_ok-stays.ensures) in
     let two = c.keep_together.new.joined.at in
     let kept : IsKeptTogether graph old.assignment leaves one two =
     subst (λ (a : Assignment). IsKeptTogether graph a leaves one two) c.assignment-2.ensures
@@ -345,7 +345,7 @@ place-requires-clause-leaves g c =
     let ready = c.requires.ready.1 in
     let graph = c.in_ok-graph.graph in
     let of : IsGraphOfNeeded d s.needed graph =
-    subst (IsGraphOfNeeded d s.needed) (sym (c.in_ok-graph.ensures ∙ ap (λ (xs : List Bool). without (map not xs) (group_graph d)) c.as_slice.ensures.value)) (IsGraphOfNeeded-without d declaration s.needed ready.one_each) in
+    subst (IsGraphOfNeeded d s.needed) (sym (c.in_ok-graph.ensures ∙ ap (λ (xs : List Bool). without (map not xs) (group_graph d)) (c.as_slice.ensures.value ∙ ap (λ (x : Scope). x.needed) c.scope.view_is))) (IsGraphOfNeeded-without d declaration s.needed ready.one_each) in
     let one = c.put_back.new.joined.at in
     let back = c.in_ok-back.back.items in
     let put : IsPutBack graph old s start.assignment.lane_of_group one back =
@@ -353,11 +353,11 @@ place-requires-clause-leaves g c =
     let leaves = c.as_slice-9.result.now in
     let are_leaving : Marks (IsButNot s.movable back) d.groups leaves =
     subst (Marks (IsButNot s.movable back) d.groups) (sym c.as_slice-9.ensures.value)
-    (Marks-but_not s.movable c.as_slice-2.result.now back c.as_slice-3.result.now c.in_ok-leaves.leaves.items d.groups c.as_slice-2.ensures.value c.as_slice-3.ensures.value ready.are_movable.one_each c.in_ok-leaves.ensures) in
+    (Marks-but_not s.movable c.as_slice-2.result.now back c.as_slice-3.result.now c.in_ok-leaves.leaves.items d.groups (c.as_slice-2.ensures.value ∙ ap (λ (x : Scope). x.movable) c.scope.view_is) c.as_slice-3.ensures.value ready.are_movable.one_each c.in_ok-leaves.ensures) in
     let stays = c.as_slice-8.result.now in
     let are_staying : Marks (IsButNot s.needed leaves) d.groups stays =
     subst (Marks (IsButNot s.needed leaves) d.groups) (sym c.as_slice-8.ensures.value)
-    (Marks-but_not s.needed c.as_slice-4.result.now leaves c.as_slice-5.result.now c.in_ok-stays.stays.items d.groups c.as_slice-4.ensures.value (c.as_slice-5.ensures.value ∙ sym c.as_slice-9.ensures.value) ready.one_each c.in_ok-stays.ensures) in
+    (Marks-but_not s.needed c.as_slice-4.result.now leaves c.as_slice-5.result.now c.in_ok-stays.stays.items d.groups (c.as_slice-4.ensures.value ∙ ap (λ (x : Scope). x.needed) c.scope.view_is) (c.as_slice-5.ensures.value ∙ sym c.as_slice-9.ensures.value) ready.one_each c.in_ok-stays.ensures) in
     let two = c.keep_together.new.joined.at in
     let kept : IsKeptTogether graph old.assignment leaves one two =
     subst (λ (a : Assignment). IsKeptTogether graph a leaves one two) c.assignment-2.ensures
@@ -381,7 +381,7 @@ place-requires-clause-one_each g c =
     let ready = c.requires.ready.1 in
     let graph = c.in_ok-graph.graph in
     let of : IsGraphOfNeeded d s.needed graph =
-    subst (IsGraphOfNeeded d s.needed) (sym (c.in_ok-graph.ensures ∙ ap (λ (xs : List Bool). without (map not xs) (group_graph d)) c.as_slice.ensures.value)) (IsGraphOfNeeded-without d declaration s.needed ready.one_each) in
+    subst (IsGraphOfNeeded d s.needed) (sym (c.in_ok-graph.ensures ∙ ap (λ (xs : List Bool). without (map not xs) (group_graph d)) (c.as_slice.ensures.value ∙ ap (λ (x : Scope). x.needed) c.scope.view_is))) (IsGraphOfNeeded-without d declaration s.needed ready.one_each) in
     let one = c.put_back.new.joined.at in
     let back = c.in_ok-back.back.items in
     let put : IsPutBack graph old s start.assignment.lane_of_group one back =
@@ -389,11 +389,11 @@ place-requires-clause-one_each g c =
     let leaves = c.as_slice-9.result.now in
     let are_leaving : Marks (IsButNot s.movable back) d.groups leaves =
     subst (Marks (IsButNot s.movable back) d.groups) (sym c.as_slice-9.ensures.value)
-    (Marks-but_not s.movable c.as_slice-2.result.now back c.as_slice-3.result.now c.in_ok-leaves.leaves.items d.groups c.as_slice-2.ensures.value c.as_slice-3.ensures.value ready.are_movable.one_each c.in_ok-leaves.ensures) in
+    (Marks-but_not s.movable c.as_slice-2.result.now back c.as_slice-3.result.now c.in_ok-leaves.leaves.items d.groups (c.as_slice-2.ensures.value ∙ ap (λ (x : Scope). x.movable) c.scope.view_is) c.as_slice-3.ensures.value ready.are_movable.one_each c.in_ok-leaves.ensures) in
     let stays = c.as_slice-8.result.now in
     let are_staying : Marks (IsButNot s.needed leaves) d.groups stays =
     subst (Marks (IsButNot s.needed leaves) d.groups) (sym c.as_slice-8.ensures.value)
-    (Marks-but_not s.needed c.as_slice-4.result.now leaves c.as_slice-5.result.now c.in_ok-stays.stays.items d.groups c.as_slice-4.ensures.value (c.as_slice-5.ensures.value ∙ sym c.as_slice-9.ensures.value) ready.one_each c.in_ok-stays.ensures) in
+    (Marks-but_not s.needed c.as_slice-4.result.now leaves c.as_slice-5.result.now c.in_ok-stays.stays.items d.groups (c.as_slice-4.ensures.value ∙ ap (λ (x : Scope). x.needed) c.scope.view_is) (c.as_slice-5.ensures.value ∙ sym c.as_slice-9.ensures.value) ready.one_each c.in_ok-stays.ensures) in
     let two = c.keep_together.new.joined.at in
     let kept : IsKeptTogether graph old.assignment leaves one two =
     subst (λ (a : Assignment). IsKeptTogether graph a leaves one two) c.assignment-2.ensures
@@ -417,7 +417,7 @@ place-requires-clause-few g c =
     let ready = c.requires.ready.1 in
     let graph = c.in_ok-graph.graph in
     let of : IsGraphOfNeeded d s.needed graph =
-    subst (IsGraphOfNeeded d s.needed) (sym (c.in_ok-graph.ensures ∙ ap (λ (xs : List Bool). without (map not xs) (group_graph d)) c.as_slice.ensures.value)) (IsGraphOfNeeded-without d declaration s.needed ready.one_each) in
+    subst (IsGraphOfNeeded d s.needed) (sym (c.in_ok-graph.ensures ∙ ap (λ (xs : List Bool). without (map not xs) (group_graph d)) (c.as_slice.ensures.value ∙ ap (λ (x : Scope). x.needed) c.scope.view_is))) (IsGraphOfNeeded-without d declaration s.needed ready.one_each) in
     let one = c.put_back.new.joined.at in
     let back = c.in_ok-back.back.items in
     let put : IsPutBack graph old s start.assignment.lane_of_group one back =
@@ -425,11 +425,11 @@ place-requires-clause-few g c =
     let leaves = c.as_slice-9.result.now in
     let are_leaving : Marks (IsButNot s.movable back) d.groups leaves =
     subst (Marks (IsButNot s.movable back) d.groups) (sym c.as_slice-9.ensures.value)
-    (Marks-but_not s.movable c.as_slice-2.result.now back c.as_slice-3.result.now c.in_ok-leaves.leaves.items d.groups c.as_slice-2.ensures.value c.as_slice-3.ensures.value ready.are_movable.one_each c.in_ok-leaves.ensures) in
+    (Marks-but_not s.movable c.as_slice-2.result.now back c.as_slice-3.result.now c.in_ok-leaves.leaves.items d.groups (c.as_slice-2.ensures.value ∙ ap (λ (x : Scope). x.movable) c.scope.view_is) c.as_slice-3.ensures.value ready.are_movable.one_each c.in_ok-leaves.ensures) in
     let stays = c.as_slice-8.result.now in
     let are_staying : Marks (IsButNot s.needed leaves) d.groups stays =
     subst (Marks (IsButNot s.needed leaves) d.groups) (sym c.as_slice-8.ensures.value)
-    (Marks-but_not s.needed c.as_slice-4.result.now leaves c.as_slice-5.result.now c.in_ok-stays.stays.items d.groups c.as_slice-4.ensures.value (c.as_slice-5.ensures.value ∙ sym c.as_slice-9.ensures.value) ready.one_each c.in_ok-stays.ensures) in
+    (Marks-but_not s.needed c.as_slice-4.result.now leaves c.as_slice-5.result.now c.in_ok-stays.stays.items d.groups (c.as_slice-4.ensures.value ∙ ap (λ (x : Scope). x.needed) c.scope.view_is) (c.as_slice-5.ensures.value ∙ sym c.as_slice-9.ensures.value) ready.one_each c.in_ok-stays.ensures) in
     let two = c.keep_together.new.joined.at in
     let kept : IsKeptTogether graph old.assignment leaves one two =
     subst (λ (a : Assignment). IsKeptTogether graph a leaves one two) c.assignment-2.ensures
@@ -453,7 +453,7 @@ place-requires-clause-below g c =
     let ready = c.requires.ready.1 in
     let graph = c.in_ok-graph.graph in
     let of : IsGraphOfNeeded d s.needed graph =
-    subst (IsGraphOfNeeded d s.needed) (sym (c.in_ok-graph.ensures ∙ ap (λ (xs : List Bool). without (map not xs) (group_graph d)) c.as_slice.ensures.value)) (IsGraphOfNeeded-without d declaration s.needed ready.one_each) in
+    subst (IsGraphOfNeeded d s.needed) (sym (c.in_ok-graph.ensures ∙ ap (λ (xs : List Bool). without (map not xs) (group_graph d)) (c.as_slice.ensures.value ∙ ap (λ (x : Scope). x.needed) c.scope.view_is))) (IsGraphOfNeeded-without d declaration s.needed ready.one_each) in
     let one = c.put_back.new.joined.at in
     let back = c.in_ok-back.back.items in
     let put : IsPutBack graph old s start.assignment.lane_of_group one back =
@@ -461,11 +461,11 @@ place-requires-clause-below g c =
     let leaves = c.as_slice-9.result.now in
     let are_leaving : Marks (IsButNot s.movable back) d.groups leaves =
     subst (Marks (IsButNot s.movable back) d.groups) (sym c.as_slice-9.ensures.value)
-    (Marks-but_not s.movable c.as_slice-2.result.now back c.as_slice-3.result.now c.in_ok-leaves.leaves.items d.groups c.as_slice-2.ensures.value c.as_slice-3.ensures.value ready.are_movable.one_each c.in_ok-leaves.ensures) in
+    (Marks-but_not s.movable c.as_slice-2.result.now back c.as_slice-3.result.now c.in_ok-leaves.leaves.items d.groups (c.as_slice-2.ensures.value ∙ ap (λ (x : Scope). x.movable) c.scope.view_is) c.as_slice-3.ensures.value ready.are_movable.one_each c.in_ok-leaves.ensures) in
     let stays = c.as_slice-8.result.now in
     let are_staying : Marks (IsButNot s.needed leaves) d.groups stays =
     subst (Marks (IsButNot s.needed leaves) d.groups) (sym c.as_slice-8.ensures.value)
-    (Marks-but_not s.needed c.as_slice-4.result.now leaves c.as_slice-5.result.now c.in_ok-stays.stays.items d.groups c.as_slice-4.ensures.value (c.as_slice-5.ensures.value ∙ sym c.as_slice-9.ensures.value) ready.one_each c.in_ok-stays.ensures) in
+    (Marks-but_not s.needed c.as_slice-4.result.now leaves c.as_slice-5.result.now c.in_ok-stays.stays.items d.groups (c.as_slice-4.ensures.value ∙ ap (λ (x : Scope). x.needed) c.scope.view_is) (c.as_slice-5.ensures.value ∙ sym c.as_slice-9.ensures.value) ready.one_each c.in_ok-stays.ensures) in
     let two = c.keep_together.new.joined.at in
     let kept : IsKeptTogether graph old.assignment leaves one two =
     subst (λ (a : Assignment). IsKeptTogether graph a leaves one two) c.assignment-2.ensures
@@ -492,7 +492,7 @@ place-requires-clause-apart g c =
     let ready = c.requires.ready.1 in
     let graph = c.in_ok-graph.graph in
     let of : IsGraphOfNeeded d s.needed graph =
-    subst (IsGraphOfNeeded d s.needed) (sym (c.in_ok-graph.ensures ∙ ap (λ (xs : List Bool). without (map not xs) (group_graph d)) c.as_slice.ensures.value)) (IsGraphOfNeeded-without d declaration s.needed ready.one_each) in
+    subst (IsGraphOfNeeded d s.needed) (sym (c.in_ok-graph.ensures ∙ ap (λ (xs : List Bool). without (map not xs) (group_graph d)) (c.as_slice.ensures.value ∙ ap (λ (x : Scope). x.needed) c.scope.view_is))) (IsGraphOfNeeded-without d declaration s.needed ready.one_each) in
     let one = c.put_back.new.joined.at in
     let back = c.in_ok-back.back.items in
     let put : IsPutBack graph old s start.assignment.lane_of_group one back =
@@ -500,11 +500,11 @@ place-requires-clause-apart g c =
     let leaves = c.as_slice-9.result.now in
     let are_leaving : Marks (IsButNot s.movable back) d.groups leaves =
     subst (Marks (IsButNot s.movable back) d.groups) (sym c.as_slice-9.ensures.value)
-    (Marks-but_not s.movable c.as_slice-2.result.now back c.as_slice-3.result.now c.in_ok-leaves.leaves.items d.groups c.as_slice-2.ensures.value c.as_slice-3.ensures.value ready.are_movable.one_each c.in_ok-leaves.ensures) in
+    (Marks-but_not s.movable c.as_slice-2.result.now back c.as_slice-3.result.now c.in_ok-leaves.leaves.items d.groups (c.as_slice-2.ensures.value ∙ ap (λ (x : Scope). x.movable) c.scope.view_is) c.as_slice-3.ensures.value ready.are_movable.one_each c.in_ok-leaves.ensures) in
     let stays = c.as_slice-8.result.now in
     let are_staying : Marks (IsButNot s.needed leaves) d.groups stays =
     subst (Marks (IsButNot s.needed leaves) d.groups) (sym c.as_slice-8.ensures.value)
-    (Marks-but_not s.needed c.as_slice-4.result.now leaves c.as_slice-5.result.now c.in_ok-stays.stays.items d.groups c.as_slice-4.ensures.value (c.as_slice-5.ensures.value ∙ sym c.as_slice-9.ensures.value) ready.one_each c.in_ok-stays.ensures) in
+    (Marks-but_not s.needed c.as_slice-4.result.now leaves c.as_slice-5.result.now c.in_ok-stays.stays.items d.groups (c.as_slice-4.ensures.value ∙ ap (λ (x : Scope). x.needed) c.scope.view_is) (c.as_slice-5.ensures.value ∙ sym c.as_slice-9.ensures.value) ready.one_each c.in_ok-stays.ensures) in
     let two = c.keep_together.new.joined.at in
     let kept : IsKeptTogether graph old.assignment leaves one two =
     subst (λ (a : Assignment). IsKeptTogether graph a leaves one two) c.assignment-2.ensures
@@ -528,7 +528,7 @@ place-requires-clause-same g c =
     let ready = c.requires.ready.1 in
     let graph = c.in_ok-graph.graph in
     let of : IsGraphOfNeeded d s.needed graph =
-    subst (IsGraphOfNeeded d s.needed) (sym (c.in_ok-graph.ensures ∙ ap (λ (xs : List Bool). without (map not xs) (group_graph d)) c.as_slice.ensures.value)) (IsGraphOfNeeded-without d declaration s.needed ready.one_each) in
+    subst (IsGraphOfNeeded d s.needed) (sym (c.in_ok-graph.ensures ∙ ap (λ (xs : List Bool). without (map not xs) (group_graph d)) (c.as_slice.ensures.value ∙ ap (λ (x : Scope). x.needed) c.scope.view_is))) (IsGraphOfNeeded-without d declaration s.needed ready.one_each) in
     let one = c.put_back.new.joined.at in
     let back = c.in_ok-back.back.items in
     let put : IsPutBack graph old s start.assignment.lane_of_group one back =
@@ -536,11 +536,11 @@ place-requires-clause-same g c =
     let leaves = c.as_slice-9.result.now in
     let are_leaving : Marks (IsButNot s.movable back) d.groups leaves =
     subst (Marks (IsButNot s.movable back) d.groups) (sym c.as_slice-9.ensures.value)
-    (Marks-but_not s.movable c.as_slice-2.result.now back c.as_slice-3.result.now c.in_ok-leaves.leaves.items d.groups c.as_slice-2.ensures.value c.as_slice-3.ensures.value ready.are_movable.one_each c.in_ok-leaves.ensures) in
+    (Marks-but_not s.movable c.as_slice-2.result.now back c.as_slice-3.result.now c.in_ok-leaves.leaves.items d.groups (c.as_slice-2.ensures.value ∙ ap (λ (x : Scope). x.movable) c.scope.view_is) c.as_slice-3.ensures.value ready.are_movable.one_each c.in_ok-leaves.ensures) in
     let stays = c.as_slice-8.result.now in
     let are_staying : Marks (IsButNot s.needed leaves) d.groups stays =
     subst (Marks (IsButNot s.needed leaves) d.groups) (sym c.as_slice-8.ensures.value)
-    (Marks-but_not s.needed c.as_slice-4.result.now leaves c.as_slice-5.result.now c.in_ok-stays.stays.items d.groups c.as_slice-4.ensures.value (c.as_slice-5.ensures.value ∙ sym c.as_slice-9.ensures.value) ready.one_each c.in_ok-stays.ensures) in
+    (Marks-but_not s.needed c.as_slice-4.result.now leaves c.as_slice-5.result.now c.in_ok-stays.stays.items d.groups (c.as_slice-4.ensures.value ∙ ap (λ (x : Scope). x.needed) c.scope.view_is) (c.as_slice-5.ensures.value ∙ sym c.as_slice-9.ensures.value) ready.one_each c.in_ok-stays.ensures) in
     let two = c.keep_together.new.joined.at in
     let kept : IsKeptTogether graph old.assignment leaves one two =
     subst (λ (a : Assignment). IsKeptTogether graph a leaves one two) c.assignment-2.ensures
@@ -564,7 +564,7 @@ place-requires-clause-held g c =
     let ready = c.requires.ready.1 in
     let graph = c.in_ok-graph.graph in
     let of : IsGraphOfNeeded d s.needed graph =
-    subst (IsGraphOfNeeded d s.needed) (sym (c.in_ok-graph.ensures ∙ ap (λ (xs : List Bool). without (map not xs) (group_graph d)) c.as_slice.ensures.value)) (IsGraphOfNeeded-without d declaration s.needed ready.one_each) in
+    subst (IsGraphOfNeeded d s.needed) (sym (c.in_ok-graph.ensures ∙ ap (λ (xs : List Bool). without (map not xs) (group_graph d)) (c.as_slice.ensures.value ∙ ap (λ (x : Scope). x.needed) c.scope.view_is))) (IsGraphOfNeeded-without d declaration s.needed ready.one_each) in
     let one = c.put_back.new.joined.at in
     let back = c.in_ok-back.back.items in
     let put : IsPutBack graph old s start.assignment.lane_of_group one back =
@@ -572,11 +572,11 @@ place-requires-clause-held g c =
     let leaves = c.as_slice-9.result.now in
     let are_leaving : Marks (IsButNot s.movable back) d.groups leaves =
     subst (Marks (IsButNot s.movable back) d.groups) (sym c.as_slice-9.ensures.value)
-    (Marks-but_not s.movable c.as_slice-2.result.now back c.as_slice-3.result.now c.in_ok-leaves.leaves.items d.groups c.as_slice-2.ensures.value c.as_slice-3.ensures.value ready.are_movable.one_each c.in_ok-leaves.ensures) in
+    (Marks-but_not s.movable c.as_slice-2.result.now back c.as_slice-3.result.now c.in_ok-leaves.leaves.items d.groups (c.as_slice-2.ensures.value ∙ ap (λ (x : Scope). x.movable) c.scope.view_is) c.as_slice-3.ensures.value ready.are_movable.one_each c.in_ok-leaves.ensures) in
     let stays = c.as_slice-8.result.now in
     let are_staying : Marks (IsButNot s.needed leaves) d.groups stays =
     subst (Marks (IsButNot s.needed leaves) d.groups) (sym c.as_slice-8.ensures.value)
-    (Marks-but_not s.needed c.as_slice-4.result.now leaves c.as_slice-5.result.now c.in_ok-stays.stays.items d.groups c.as_slice-4.ensures.value (c.as_slice-5.ensures.value ∙ sym c.as_slice-9.ensures.value) ready.one_each c.in_ok-stays.ensures) in
+    (Marks-but_not s.needed c.as_slice-4.result.now leaves c.as_slice-5.result.now c.in_ok-stays.stays.items d.groups (c.as_slice-4.ensures.value ∙ ap (λ (x : Scope). x.needed) c.scope.view_is) (c.as_slice-5.ensures.value ∙ sym c.as_slice-9.ensures.value) ready.one_each c.in_ok-stays.ensures) in
     let two = c.keep_together.new.joined.at in
     let kept : IsKeptTogether graph old.assignment leaves one two =
     subst (λ (a : Assignment). IsKeptTogether graph a leaves one two) c.assignment-2.ensures
@@ -602,7 +602,7 @@ place-requires-clause-fine g c =
     let ready = c.requires.ready.1 in
     let graph = c.in_ok-graph.graph in
     let of : IsGraphOfNeeded d s.needed graph =
-    subst (IsGraphOfNeeded d s.needed) (sym (c.in_ok-graph.ensures ∙ ap (λ (xs : List Bool). without (map not xs) (group_graph d)) c.as_slice.ensures.value)) (IsGraphOfNeeded-without d declaration s.needed ready.one_each) in
+    subst (IsGraphOfNeeded d s.needed) (sym (c.in_ok-graph.ensures ∙ ap (λ (xs : List Bool). without (map not xs) (group_graph d)) (c.as_slice.ensures.value ∙ ap (λ (x : Scope). x.needed) c.scope.view_is))) (IsGraphOfNeeded-without d declaration s.needed ready.one_each) in
     let one = c.put_back.new.joined.at in
     let back = c.in_ok-back.back.items in
     let put : IsPutBack graph old s start.assignment.lane_of_group one back =
@@ -610,11 +610,11 @@ place-requires-clause-fine g c =
     let leaves = c.as_slice-9.result.now in
     let are_leaving : Marks (IsButNot s.movable back) d.groups leaves =
     subst (Marks (IsButNot s.movable back) d.groups) (sym c.as_slice-9.ensures.value)
-    (Marks-but_not s.movable c.as_slice-2.result.now back c.as_slice-3.result.now c.in_ok-leaves.leaves.items d.groups c.as_slice-2.ensures.value c.as_slice-3.ensures.value ready.are_movable.one_each c.in_ok-leaves.ensures) in
+    (Marks-but_not s.movable c.as_slice-2.result.now back c.as_slice-3.result.now c.in_ok-leaves.leaves.items d.groups (c.as_slice-2.ensures.value ∙ ap (λ (x : Scope). x.movable) c.scope.view_is) c.as_slice-3.ensures.value ready.are_movable.one_each c.in_ok-leaves.ensures) in
     let stays = c.as_slice-8.result.now in
     let are_staying : Marks (IsButNot s.needed leaves) d.groups stays =
     subst (Marks (IsButNot s.needed leaves) d.groups) (sym c.as_slice-8.ensures.value)
-    (Marks-but_not s.needed c.as_slice-4.result.now leaves c.as_slice-5.result.now c.in_ok-stays.stays.items d.groups c.as_slice-4.ensures.value (c.as_slice-5.ensures.value ∙ sym c.as_slice-9.ensures.value) ready.one_each c.in_ok-stays.ensures) in
+    (Marks-but_not s.needed c.as_slice-4.result.now leaves c.as_slice-5.result.now c.in_ok-stays.stays.items d.groups (c.as_slice-4.ensures.value ∙ ap (λ (x : Scope). x.needed) c.scope.view_is) (c.as_slice-5.ensures.value ∙ sym c.as_slice-9.ensures.value) ready.one_each c.in_ok-stays.ensures) in
     let two = c.keep_together.new.joined.at in
     let kept : IsKeptTogether graph old.assignment leaves one two =
     subst (λ (a : Assignment). IsKeptTogether graph a leaves one two) c.assignment-2.ensures
@@ -623,7 +623,7 @@ place-requires-clause-fine g c =
     let within : All (λ (v : ℕ). v < start.assignment.lanes) two = within-by d old names s start declaration ready graph of one two back leaves stays put are_leaving are_staying kept in
     let ranks = c.as_slice-10.result.now in
     let of_groups : AreRanksOfGroups d (placed_at start two) ranks = subst (AreRanksOfGroups d (placed_at start two)) (sym c.as_slice-10.ensures.value) c.in_ok-ranks.ensures in
-    subst (λ (xs : List Bool). (v : ℕ) → IsMarked stays v → IsRescued old (lane_in old v) ⊎ IsMarked xs (lane_in old v)) (sym c.as_slice-7.ensures.value)
+    subst (λ (xs : List Bool). (v : ℕ) → IsMarked stays v → IsRescued old (lane_in old v) ⊎ IsMarked xs (lane_in old v)) (sym (c.as_slice-7.ensures.value ∙ ap (λ (x : Scope). x.given) c.scope.view_is))
     (fine-by d old names s start declaration ready graph of one two back leaves stays put are_leaving are_staying kept)
 
 pub returns : goal.returns
@@ -639,7 +639,7 @@ returns g c =
     let ready = c.requires.ready.1 in
     let graph = c.in_ok-graph.graph in
     let of : IsGraphOfNeeded d s.needed graph =
-    subst (IsGraphOfNeeded d s.needed) (sym (c.in_ok-graph.ensures ∙ ap (λ (xs : List Bool). without (map not xs) (group_graph d)) c.as_slice.ensures.value)) (IsGraphOfNeeded-without d declaration s.needed ready.one_each) in
+    subst (IsGraphOfNeeded d s.needed) (sym (c.in_ok-graph.ensures ∙ ap (λ (xs : List Bool). without (map not xs) (group_graph d)) (c.as_slice.ensures.value ∙ ap (λ (x : Scope). x.needed) c.scope.view_is))) (IsGraphOfNeeded-without d declaration s.needed ready.one_each) in
     let one = c.put_back.new.joined.at in
     let back = c.in_ok-back.back.items in
     let put : IsPutBack graph old s start.assignment.lane_of_group one back =
@@ -647,11 +647,11 @@ returns g c =
     let leaves = c.as_slice-9.result.now in
     let are_leaving : Marks (IsButNot s.movable back) d.groups leaves =
     subst (Marks (IsButNot s.movable back) d.groups) (sym c.as_slice-9.ensures.value)
-    (Marks-but_not s.movable c.as_slice-2.result.now back c.as_slice-3.result.now c.in_ok-leaves.leaves.items d.groups c.as_slice-2.ensures.value c.as_slice-3.ensures.value ready.are_movable.one_each c.in_ok-leaves.ensures) in
+    (Marks-but_not s.movable c.as_slice-2.result.now back c.as_slice-3.result.now c.in_ok-leaves.leaves.items d.groups (c.as_slice-2.ensures.value ∙ ap (λ (x : Scope). x.movable) c.scope.view_is) c.as_slice-3.ensures.value ready.are_movable.one_each c.in_ok-leaves.ensures) in
     let stays = c.as_slice-8.result.now in
     let are_staying : Marks (IsButNot s.needed leaves) d.groups stays =
     subst (Marks (IsButNot s.needed leaves) d.groups) (sym c.as_slice-8.ensures.value)
-    (Marks-but_not s.needed c.as_slice-4.result.now leaves c.as_slice-5.result.now c.in_ok-stays.stays.items d.groups c.as_slice-4.ensures.value (c.as_slice-5.ensures.value ∙ sym c.as_slice-9.ensures.value) ready.one_each c.in_ok-stays.ensures) in
+    (Marks-but_not s.needed c.as_slice-4.result.now leaves c.as_slice-5.result.now c.in_ok-stays.stays.items d.groups (c.as_slice-4.ensures.value ∙ ap (λ (x : Scope). x.needed) c.scope.view_is) (c.as_slice-5.ensures.value ∙ sym c.as_slice-9.ensures.value) ready.one_each c.in_ok-stays.ensures) in
     let two = c.keep_together.new.joined.at in
     let kept : IsKeptTogether graph old.assignment leaves one two =
     subst (λ (a : Assignment). IsKeptTogether graph a leaves one two) c.assignment-2.ensures
@@ -662,4 +662,4 @@ returns g c =
     let of_groups : AreRanksOfGroups d (placed_at start two) ranks = subst (AreRanksOfGroups d (placed_at start two)) (sym c.as_slice-10.ensures.value) c.in_ok-ranks.ensures in
     IfOk-weaker c.place.result (ArePlacedBy old c.as_slice-7.result.now stays leaves ranks) (λ new. (names : List ℕ) → IsReady d old names s start → IsMinimal d old names s.needed new)
     (λ new placed all_names is_ready. IsMinimal-by d old all_names s start declaration is_ready graph of one two back leaves stays put are_leaving are_staying kept within few of_groups.of_lanes ranks of_groups.are of_groups.exactly new
-      (subst (λ (xs : List Bool). ArePlacedBy old xs stays leaves ranks new) c.as_slice-7.ensures.value placed)) c.place.ensures
+      (subst (λ (xs : List Bool). ArePlacedBy old xs stays leaves ranks new) (c.as_slice-7.ensures.value ∙ ap (λ (x : Scope). x.given) c.scope.view_is) placed)) c.place.ensures

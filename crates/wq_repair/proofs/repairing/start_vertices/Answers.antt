@@ -1,5 +1,6 @@
 use Rattle.std.proofs.Common.{◌≡◌, ◌<◌, ◌≤◌, ℕ, List, length, refl, sym, ap, subst, ◌∙◌, arith}
 use Rattle.std.specs.Prelude.{slice_index}
+use Rattle.std.proofs.lemmas.Result.{IfOk-weaker}
 use Rattle.wq_items.specs.Chain.{Circle}
 use Rattle.wq_groups.specs.Declaration.{IsDeclaration, declaration_of}
 use Rattle.wq_groups.specs.Assignment.{Assignment, IsAssignment, group_lane}
@@ -67,7 +68,7 @@ new-requires-clause-falls g c =
     let ready = c.requires.ready.3 in
     let assigned : IsAssignment d.groups start.assignment = IsAssignment-start d c.requires.ready.0 c.requires.ready.1 c.requires.ready.2 start declaration ready in
     let ranks = c.as_slice.result.now in
-    let few : start.assignment.lanes ≤ 4096 = omega (arith, c.lanes.ensures.lanes, c.lanes.ensures.few, ap (λ (a : Assignment). a.lanes) c.assignment.ensures) in
+    let few : start.assignment.lanes ≤ 4096 = omega (arith, c.lanes-lanes.ensures.lanes, c.lanes-lanes.ensures.few, ap (λ (a : Assignment). a.lanes) c.assignment.ensures) in
     let are : AreRanks (rescued_graph d start) ranks =
     subst (λ (graph : List (List WaitArc)). AreRanks graph ranks) c.in_ok-start_graph.ensures.graph (subst (AreRanks c.in_ok-start_graph.start_graph) (sym c.as_slice.ensures.value) c.in_ok-ranks.ensures) in
     subst (λ (a : Assignment). (v w : ℕ) → HasArc c.args.graph.now v w → slice_index ranks (group_lane a w) < slice_index ranks (group_lane a v)) (sym c.assignment-2.ensures)
@@ -75,4 +76,6 @@ new-requires-clause-falls g c =
       (group_lane start.assignment v) (group_lane start.assignment w) (record { from = v; to = w; arc = arc; leaves = refl; leads = refl }))
 
 pub returns-clause-at : goal.returns-clause-at
-returns-clause-at g c = ?
+returns-clause-at g c =
+    IfOk-weaker c.new.result (λ joined. joined.at ≡ c.assignment-2.result.now.lane_of_group) (λ joined. joined.at ≡ c.args.start.now.assignment.lane_of_group)
+    (λ joined same. same ∙ ap (λ (a : Assignment). a.lane_of_group) c.assignment-2.ensures) c.new.ensures.at
