@@ -699,7 +699,15 @@ fn carry_out_asked<'a, O: World<'a>, R: Threads + Wait + Sync, I: Read, W: Write
             declaration,
             assignment,
             names,
-        } => repair(world, alloc, declaration, assignment, names.as_slice(), writer, teller),
+        } => repair(
+            world,
+            alloc,
+            declaration,
+            assignment,
+            names.as_slice(),
+            writer,
+            teller,
+        ),
         Request::Replay {
             declaration,
             assignment,
