@@ -2,7 +2,7 @@ use Rattle.std.proofs.Common.{refl, sym, codes, List, Some, ◌≡◌, ◌∙◌
 use Rattle.clap.specs.Words.{Row, Text, found_of, rows_of, subcommand_rows_of}
 use Rattle.clap.proofs.WalkLemmas.{first_value-rows}
 use Rattle.wqplan.proofs.CommandLemmas.{met_is, option_map_twice, replays_of}
-use Rattle.wqplan.proofs.command_line.entered.Goals as goal
+use Rattle.wqplan.proofs.command_line.entered_other.Goals as goal
 
 pub returns-in-Some-clause-asked : goal.returns-in-Some-clause-asked
 returns-in-Some-clause-asked c =
@@ -13,7 +13,7 @@ returns-in-Some-clause-asked c =
     (rows_of found, is, sym (c.get_str.ensures ∙ first_value-rows found (codes "FILE")))
 
 pub returns-in-Some-subcommand_matches-4-clause-all : goal.returns-in-Some-subcommand_matches-4-clause-all
-returns-in-Some-subcommand_matches-4-clause-all c = λ wanted asked.
+returns-in-Some-subcommand_matches-4-clause-all c = λ wanted other asked.
     let found = found_of c.in-Some-subcommand_matches-4.given.now in
     let met = subcommand_rows_of c.args.matches.now in
     let is : met ≡ Some (codes "replay", rows_of found) =
