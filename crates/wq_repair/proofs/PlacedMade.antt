@@ -186,7 +186,7 @@ module _ (old : Workqueues) (given stays leaves leave bare : List Bool) (ranks e
   ]
 
   only : (g : ℕ) → g < length leaves → IsRescued made (lane_in old g) → IsRescued old (lane_in old g) ⊎ IsMarked given (lane_in old g)
-  only g is rescued = elim ((now.exactly (lane_in old g)).0 rescued) [
+  only g is rescued = elim (now.only (lane_in old g) (within g is) rescued) [
     | inl had ↦ inl had
     | inr comer ↦ elim (cases_marked leaves comer.group) [
       | inl marked ↦ elim (comes comer.group comer.is_group marked) [
@@ -208,10 +208,11 @@ module _ (old : Workqueues) (given stays leaves leave bare : List Bool) (ranks e
     within = within-placed;
     more = omega arith;
     few = few;
+    bare = omega (arith, now.few);
     stay = ranked.others;
-    rescued = λ g is marked. (now.exactly (slice_index lane_of g)).1 (inr (record { group = g; is_group = is; why = inl marked; on = refl }));
-    kept = λ q rescued. (now.exactly q).1 (inl rescued);
-    given_one = λ g is not marked. (now.exactly (lane_in old g)).1 (inr (record { group = g; is_group = is; why = inr marked; on = ranked.others g is not }));
+    rescued = λ g is marked. now.rescued (slice_index lane_of g) (inr (record { group = g; is_group = is; why = inl marked; on = refl }));
+    kept = λ q rescued. now.rescued q (inl rescued);
+    given_one = λ g is not marked. now.rescued (lane_in old g) (inr (record { group = g; is_group = is; why = inr marked; on = ranked.others g is not }));
     only = only;
     ranked = ranked-any;
   }

@@ -19,15 +19,11 @@ use Rattle.wq_repair.specs.Marks.{IsMarked, Marks}
 use Rattle.wq_repair.specs.Joined.{VerticesWait, StaysOrIs, IsTriedInVain}
 use Rattle.wq_repair.specs.Together.{Lists, ArcBetween, IsAlone, IsHomeOf, AreHomes, IsAtHome, WasInVain, ArePutTogether}
 use Rattle.wq_repair.specs.Steps.{IsToBeGiven, IsMovable, ArePlacedBy, AreLeaving}
-use Rattle.wq_repair.specs.Ready.{Scope, IsReady, IsGraphOfNeeded, IsMinimal, IsTried, HoldsNeeded, IsButNot}
+use Rattle.wq_repair.specs.Ready.{Scope, IsReady, IsGraphOfNeeded, IsMinimal, IsTried, HoldsNeeded, IsButNot, placed_at}
 use Rattle.wq_repair.proofs.Rescuers.{cases_rescued, waiting-below, awaited-below}
 use Rattle.wq_repair.proofs.StartsBy.{cases_marked}
 use Rattle.wq_repair.proofs.Judged.{group_arc, GroupsWait, GroupsWait-arc, length-rescued_graph, IsGraph-rescued_graph, rescued_awaited-safe}
 use Rattle.wq_repair.proofs.Placed.{IsToBeCompared-placed, AreChangesNeeded-placed, FallsAlongWaits-placed}
-
--- the workqueues on which the groups are on these lanes
-abbrev pub placed_at : Workqueues → List ℕ → Workqueues
-placed_at ws at = record { assignment = record { lanes = ws.assignment.lanes; lane_of_group = at }; bare = ws.bare }
 
 -- all numbers below n are so, or one isn't
 pub all_or_one : (P Q : ℕ → Type 0) → ((k : ℕ) → P k ⊎ Q k) → (n : ℕ) → ((k : ℕ) → k < n → P k) ⊎ ((k : ℕ) × (k < n) × Q k)
@@ -446,4 +442,5 @@ module _ (d : Declaration) (old : Workqueues) (names : List ℕ) (s : Scope) (st
               falls = FallsAlongWaits-placed d old new names ready.lanes s.needed s.given stays leaves ranks ready.assignment ready.are_lanes ready.one_each ready.are_given leaving placed declaration
               (λ (q : ℕ). rank_on s.needed new.assignment.lane_of_group ranks q d.groups) ranked;
               few = omega (arith, placed.few, are_leaving.one_each);
+              bare = placed.bare;
             }

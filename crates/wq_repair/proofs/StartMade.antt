@@ -115,7 +115,7 @@ module _ (old : Workqueues) (movable given is_free bare : List Bool) (free lane_
   ]
 
   only : (g : ℕ) → g < length movable → (¬ IsMarked movable g) → IsRescued made (lane_in old g) → IsRescued old (lane_in old g) ⊎ IsMarked given (lane_in old g)
-  only g is not rescued = elim ((now.exactly (lane_in old g)).0 rescued) [
+  only g is not rescued = elim (now.only (lane_in old g) (within g is) rescued) [
     | inl had ↦ inl had
     | inr comer ↦ elim (cases_marked movable comer.group) [
       | inl moves ↦ absurd (let at = own.own comer.group comer.is_group moves in not_taken at.0 g is not (sym at.2 ∙ comer.on))
@@ -132,11 +132,12 @@ module _ (old : Workqueues) (movable given is_free bare : List Bool) (free lane_
     within = within-made;
     more = omega arith;
     few = few;
+    bare = omega (arith, now.few);
     stay = own.others;
     alone = alone;
-    rescued = λ g is marked. (now.exactly (slice_index lane_of g)).1 (inr (record { group = g; is_group = is; why = inl marked; on = refl }));
-    kept = λ q rescued. (now.exactly q).1 (inl rescued);
-    given_one = λ q marked holds. (now.exactly q).1 (inr (record {
+    rescued = λ g is marked. now.rescued (slice_index lane_of g) (inr (record { group = g; is_group = is; why = inl marked; on = refl }));
+    kept = λ q rescued. now.rescued q (inl rescued);
+    given_one = λ q marked holds. now.rescued q (inr (record {
       group = holds.group;
       is_group = holds.is_group;
       why = inr (subst (IsMarked given) (sym holds.on) marked);

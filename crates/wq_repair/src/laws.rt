@@ -92,7 +92,8 @@ pub fn needed_changes_make_a_repair()
     ensures { (d : Declaration) (old new : Workqueues) (names : List ℕ) (needed : List Bool) (number : ℕ → ℕ) →
         IsDeclaration d → Deadlocks (wiring_of d old) → IsToBeCompared d old names new →
         NeedRescuers d old names new needed → AreChangesNeeded d old new needed → FallsAlongWaits d new needed number →
-        new.assignment.lanes ≤ max old.assignment.lanes d.groups → IsRepair d old names new }
+        new.assignment.lanes ≤ max old.assignment.lanes d.groups → length new.bare ≤ new.assignment.lanes →
+        IsRepair d old names new }
 {}
 
 /// What `place` makes of lists may be compared, all its changes are needed, and numbers fall along all waits, if those

@@ -23,6 +23,7 @@ import declarations  # noqa: E402
 import diagnoses  # noqa: E402  (in tests/model)
 import further  # noqa: E402
 import places  # noqa: E402
+import repairs  # noqa: E402
 import unlawful_runs  # noqa: E402
 import usual  # noqa: E402
 import why_hanging  # noqa: E402
@@ -66,9 +67,16 @@ TABLES = [
     ("lines of reasons", why_hanging.LINES),
 ]
 
+# What the model of diagnoses doesn't know.
+OF_REPAIRS = [
+    ("what `repair` changes", repairs.CHANGES),
+    ("more than ten changes", repairs.MANY),
+    ("where `repair` changes nothing", repairs.NOTHING),
+]
+
 # Of each of these tables the rows whose standard error is closed or full: of each command some.
 STREAMS = [places.FILES, places.LIMITS, places.NOES, places.ACCEPTED, unlawful_runs.PLACES, without_rescuer.NOTES, without_rescuer.REASONS,
-           why_hanging.COMPONENTS, why_hanging.BELOW_NO, why_hanging.REPLAYED]
+           why_hanging.COMPONENTS, why_hanging.BELOW_NO, why_hanging.REPLAYED, repairs.NOTHING]
 
 
 class Row:
@@ -169,7 +177,7 @@ def main(arguments):
     program = os.path.realpath(arguments[0])
     if not is_there("diagnoses", program):
         return 1
-    for name, rows in tables:
+    for name, rows in tables + [(name, rows_of(table)) for name, table in OF_REPAIRS]:
         counts.table(name, [program_gives(program, row) for row in rows])
     rows = [row for table in STREAMS for row in rows_of(table)]
     counts.table("streams", [outcome for row in rows for outcome in stream_outcomes(program, row)])
