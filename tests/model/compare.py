@@ -7,7 +7,7 @@
 # with the model's. Standard error must have what belongs to the answer (tests/lib/standard_error.py), and
 # right reasons why workqueues can hang (reasons.py). Of each command there are the cases at the limits of
 # docs/FORMAT.md and at each place of small texts, once each, and then CASES random ones; of `run`, which makes
-# threads, and of `hang`, RUNS, or a fifth as many. The same SEED makes the same cases. It fails where an answer
+# threads, of `hang` and of `repair`, RUNS, or a fifth as many. The same SEED makes the same cases. It fails where an answer
 # differs, and where some kind of answer or of reason never came, as may be with few CASES. Before all this the
 # model must answer the worked examples (examples.py).
 #
@@ -214,10 +214,10 @@ COMMANDS |= {command: like_others(command) for command in ANSWERS if command not
 # The words behind DECL of the cases of `run`, in turn. They change no answer.
 HELPERS = [[], ["2"], ["8"], ["0"], ["1"], ["5"]]
 
-# Each random case of `run` makes threads, and what `hang` prints is judged by other means than looking whether it is the same. So
-# there is one case of them for so many of the other commands.
+# Each random case of `run` makes threads, what `hang` prints is judged by other means than looking whether it is the same, and what
+# `repair` prints is given back to three commands. So there is one case of them for so many of the other commands.
 CASES_FOR_A_RUN = 5
-FEWER = ("run", "hang")
+FEWER = ("run", "hang", "repair")
 
 
 def form(pattern):
