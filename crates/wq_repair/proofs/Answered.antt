@@ -69,22 +69,21 @@ module _ (d : Declaration) (declaration : IsDeclaration d) (needed : List Bool) 
   IsGraphOfNeeded-without = record {
     long = length-without (map not needed) (group_graph d) ∙ length-map-range_with_len (arcs_from d.waits d.group_of) 0 d.groups;
     arcs = λ g h.
-    let kept = HasArc-without (map not needed) (group_graph d) g h in
-    let waits = GroupWaits-HasArc d declaration g h in (
-      λ arc.
-      let parts = kept.0 arc in
-      let group_waits = waits.1 parts.2 in
-      (
-        (left_out-not needed g (omega (arith, waiting-below d declaration g h group_waits, long))).0 parts.0,
-        (left_out-not needed h (omega (arith, awaited-below d declaration g h group_waits, long))).0 parts.1,
-        group_waits,
-      ),
-      λ all. kept.1 (
-        (left_out-not needed g (omega (arith, waiting-below d declaration g h all.2, long))).1 all.0,
-        (left_out-not needed h (omega (arith, awaited-below d declaration g h all.2, long))).1 all.1,
-        waits.0 all.2,
-      ),
-    );
+        let kept = HasArc-without (map not needed) (group_graph d) g h in
+        let waits = GroupWaits-HasArc d declaration g h in (
+          λ arc.
+              let parts = kept.0 arc in
+              let group_waits = waits.1 parts.2 in (
+                (left_out-not needed g (omega (arith, waiting-below d declaration g h group_waits, long))).0 parts.0,
+                (left_out-not needed h (omega (arith, awaited-below d declaration g h group_waits, long))).0 parts.1,
+                group_waits,
+              ),
+          λ all. kept.1 (
+            (left_out-not needed g (omega (arith, waiting-below d declaration g h all.2, long))).1 all.0,
+            (left_out-not needed h (omega (arith, awaited-below d declaration g h all.2, long))).1 all.1,
+            waits.0 all.2,
+          ),
+        );
   }
 
 -- ---- where all may move
@@ -115,8 +114,7 @@ module _ (d : Declaration) (old : Workqueues) (names : List ℕ) (all_named : (g
 pub IsNamed-all : (d : Declaration) (items : List ℕ) → IsDeclaration d → ((i : ℕ) → i < length d.group_of → slice_index items i ≡ i) → length items ≡ length d.group_of → (g : ℕ) → g < d.groups → IsNamed d items g
 IsNamed-all d items declaration all long g is =
     let there = declaration.partition.filled g is in
-    let within : there.0 < length items = omega (arith, there.1, long) in
-    (
+    let within : there.0 < length items = omega (arith, there.1, long) in (
       there.0,
       there.0,
       within,
@@ -136,9 +134,9 @@ module _ (d : Declaration) (old : Workqueues) (declaration : IsDeclaration d) (b
       let of = (IsGraphOfNeeded-without d declaration always are.one_each).arcs g h in (
         λ arc. let parts = of.0 arc in ((are.exactly g (waiting-below d declaration g h parts.2)).0 parts.0, parts.2),
         λ waits.
-        let g_below = waiting-below d declaration g h waits.1 in
-        let h_below = awaited-below d declaration g h waits.1 in
-        of.1 ((are.exactly g g_below).1 waits.0, (are.exactly h h_below).1 (IsLedTo-next d old (GroupWaits d) g h waits.0 waits.1), waits.1),
+            let g_below = waiting-below d declaration g h waits.1 in
+            let h_below = awaited-below d declaration g h waits.1 in
+            of.1 ((are.exactly g g_below).1 waits.0, (are.exactly h h_below).1 (IsLedTo-next d old (GroupWaits d) g h waits.0 waits.1), waits.1),
       )
 
   needed_sound : IsGraph (without (map not always) (group_graph d))

@@ -37,8 +37,7 @@ module _ (d : Declaration) (ws : Workqueues) (declaration : IsDeclaration d) (as
   pub RescuedWaits-arc : (p q : ℕ) → HasArc (rescued_graph d ws) p q ↔ RescuedWaits (wiring_of d ws) p q
   RescuedWaits-arc p q =
       let kept = HasArc-without ws.bare (lane_graph d ws.assignment) p q in
-      let lanes = VertexWaits-lane_graph d ws.assignment declaration assignment p q in
-      (
+      let lanes = VertexWaits-lane_graph d ws.assignment declaration assignment p q in (
         λ arc. let parts = kept.0 arc in (parts.0, parts.1, lanes.1 parts.2),
         λ waits. kept.1 (waits.0, waits.1, lanes.0 waits.2),
       )

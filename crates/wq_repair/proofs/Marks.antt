@@ -154,8 +154,7 @@ Lists-add marks xs g below not is = record {
     more k = elim (cases_eq k g) [
       | inl same ↦ (λ marked. inr same, λ either. subst (IsMarked (set marks g true)) (sym same) own)
       | inr other ↦
-          let kept : get_or (set marks g true) k false ≡ get_or marks k false = get_or-set_other marks g k true false other in
-          (
+          let kept : get_or (set marks g true) k false ≡ get_or marks k false = get_or-set_other marks g k true false other in (
             λ marked. inl (sym kept ∙ marked),
             λ either. elim either [ inl marked ↦ kept ∙ marked | inr same ↦ absurd (other same) ],
           )

@@ -125,8 +125,8 @@ Marks-named_lanes d old names named lanes n are_named are_lanes = Marks-as (Hold
     same : (q : ℕ) → q < n → HoldsMarked old named q ↔ IsNamedLane d old names q
     same q lt = (
       λ holds.
-      let is : holds.group < d.groups = omega (arith, holds.is_group, are_named.one_each) in
-      record { group = holds.group; is_group = is; named = (are_named.exactly holds.group is).0 holds.marked; on = holds.on },
+          let is : holds.group < d.groups = omega (arith, holds.is_group, are_named.one_each) in
+          record { group = holds.group; is_group = is; named = (are_named.exactly holds.group is).0 holds.marked; on = holds.on },
       λ lane. record {
         group = lane.group;
         is_group = omega (arith, lane.is_group, are_named.one_each);

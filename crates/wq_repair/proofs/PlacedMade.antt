@@ -144,8 +144,7 @@ module _ (old : Workqueues) (given stays leaves leave bare : List Bool) (ranks e
       let some = (leaving.exactly at.0 at.1).0 at.2 in
       let is : some.group < length leaves = IsMarked-below leaves some.group some.marked in
       let lane : IsLaneOfRank after (slice_index ranks some.group) (nth_lane empty old.assignment.lanes n) =
-      subst (λ (r : ℕ). IsLaneOfRank after r (nth_lane empty old.assignment.lanes n)) (sym some.ranked) at.3 in
-      (
+      subst (λ (r : ℕ). IsLaneOfRank after r (nth_lane empty old.assignment.lanes n)) (sym some.ranked) at.3 in (
         some.group,
         omega (arith, is, ranked.one_each),
         one_lane (slice_index_or after (slice_index ranks some.group) None) (slice_index lane_of some.group) (nth_lane empty old.assignment.lanes n) (ranked.marked some.group is some.marked) lane,
@@ -169,8 +168,7 @@ module _ (old : Workqueues) (given stays leaves leave bare : List Bool) (ranks e
       | inl none ↦ (
           let nobody : ¬ HoldsAny old q = λ holds. (let is : holds.group < length leaves = omega (arith, holds.is_group, long) in none holds.group is (is, holds.on)) in
           let there_is = (are_empty q).1 (old_lane, nobody) in
-          let at = taken_holds there_is.0 (omega (arith, there_is.1, all)) in
-          (
+          let at = taken_holds there_is.0 (omega (arith, there_is.1, all)) in (
             at.0,
             at.1,
             at.2 ∙ nth_lane-in empty old.assignment.lanes there_is.0 there_is.1 ∙ get_or_default empty there_is.0 0 q there_is.1 ∙ there_is.2,

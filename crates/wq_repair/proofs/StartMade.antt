@@ -76,18 +76,17 @@ module _ (old : Workqueues) (movable given is_free bare : List Bool) (free lane_
         )
     | inl old_lane ↦ elim (all_or_one (λ (k : ℕ). (k < length movable) → lane_in old k ≡ q → IsMarked movable k)
         (λ (k : ℕ). (k < length movable) × (lane_in old k ≡ q) × (¬ IsMarked movable k)) (holds_or_not q) (length movable)) [
-      | inr other ↦ (other.0, omega (arith, other.1, own.one_each), own.others other.0 other.1 other.2.2 ∙ other.2.1)
-      | inl none ↦ (
-          let empty : ¬ HoldsOther old movable q = λ holds. holds.other (none holds.group holds.is_group holds.is_group holds.on) in
-          let there_is = (lists.exactly q).1 ((are_free.exactly q old_lane).1 empty) in
-          let at = own.all there_is.0 (omega (arith, there_is.1, all)) in
-          (
-            at.0,
-            omega (arith, at.1, own.one_each),
-            at.2 ∙ nth_lane-in free old.assignment.lanes there_is.0 there_is.1 ∙ get_or_default free there_is.0 0 q there_is.1 ∙ there_is.2,
-          )
-          )
-    ]
+          | inr other ↦ (other.0, omega (arith, other.1, own.one_each), own.others other.0 other.1 other.2.2 ∙ other.2.1)
+          | inl none ↦ (
+              let empty : ¬ HoldsOther old movable q = λ holds. holds.other (none holds.group holds.is_group holds.is_group holds.on) in
+              let there_is = (lists.exactly q).1 ((are_free.exactly q old_lane).1 empty) in
+              let at = own.all there_is.0 (omega (arith, there_is.1, all)) in (
+                at.0,
+                omega (arith, at.1, own.one_each),
+                at.2 ∙ nth_lane-in free old.assignment.lanes there_is.0 there_is.1 ∙ get_or_default free there_is.0 0 q there_is.1 ∙ there_is.2,
+              )
+              )
+        ]
   ]
 
   few : old.assignment.lanes + (taken - length free) ≤ max old.assignment.lanes (length movable)

@@ -121,4 +121,4 @@ pub few-held : (lane_of : List ℕ) (n : ℕ) → ((q : ℕ) → q < n → (g : 
 few-held lane_of n held = le-length_from_below lane_of n (λ q lt.
     let at = held q lt in
     list_any-from_Any (eqb q) lane_of (at.0, q, at.1, get_or_default lane_of at.0 q 0 at.1 ∙ at.2, eq-eqb q q refl)
-  )
+    )

@@ -50,8 +50,8 @@ pub record WasInVain (graph : List (List WaitArc)) (lane_of : List ℕ) (homes :
   pub tried : List ℕ
   pub together : (h k : ℕ) → h < length at → k < length at → slice_index tried h ≡ slice_index tried k
       → (slice_index at h ≡ slice_index at k)
-          ⊎ (((h ≡ g) ⊎ IsAtHome lane_of homes at back h) × ((k ≡ g) ⊎ IsAtHome lane_of homes at back k)
-              × (slice_index lane_of h ≡ slice_index lane_of k))
+      ⊎ (((h ≡ g) ⊎ IsAtHome lane_of homes at back h) × ((k ≡ g) ⊎ IsAtHome lane_of homes at back k)
+      × (slice_index lane_of h ≡ slice_index lane_of k))
   pub circle : Circle (ArcBetween graph tried)
 
 -- these groups, in this order, were put together with those of the same lane, as far as that makes no circle. `at` has

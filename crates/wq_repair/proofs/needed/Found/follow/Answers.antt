@@ -85,6 +85,6 @@ returns g c =
     HasGrown-then c.args.self.now c.add_awaited.new.self c.add_lane.new.self (HasArc graph i) (Contains c.places.result.now) (BringsAlongBy graph ws named lanes i) grown c.in_ok-add_lane.ensures
     (λ h arc. inl arc)
     (λ h there.
-      let known = (on h).0 there in
-      inr (record { unnamed = unnamed; bare = bare; named_lane = named_lane; is_group = known.0; beside = known.1 ∙ sym key }))
+    let known = (on h).0 there in
+    inr (record { unnamed = unnamed; bare = bare; named_lane = named_lane; is_group = known.0; beside = known.1 ∙ sym key }))
     (λ h by. elim by [ inl arc ↦ inl arc | inr beside ↦ inr ((on h).1 (beside.is_group, beside.beside ∙ key)) ])
