@@ -2,8 +2,8 @@
 use Rattle.std.proofs.Common.{◌≡◌, ℕ, ◌<◌, ◌≤◌, ◌⊎◌, inl, inr, Bool, true, false, not, List, [], ◌∷◌, length, get_or, refl, sym, ap, subst, ◌∙◌, arith}
 use Rattle.std.specs.Prelude.{◌↔◌, map, slice_index, slice_index_or, Contains}
 use Rattle.std.specs.List.{All}
-use Rattle.std.proofs.lemmas.Bool.{cases_Bool, cases_lt, false≢true}
-use Rattle.std.proofs.lemmas.List.{get_or-map, get_or_default, get_or_past, length-map}
+use Rattle.std.proofs.lemmas.Bool.{cases_lt, false≢true}
+use Rattle.std.proofs.lemmas.List.{get_or-map, get_or_default, length-map}
 use Rattle.std.proofs.lemmas.List.Elements.{All-nil, All-cons}
 use Rattle.std.proofs.lemmas.List.FromFn.{length-map-range_with_len}
 use Rattle.wq_items.proofs.Lists.{Contains-here}
@@ -14,7 +14,6 @@ use Rattle.wq_graph.specs.declared.arc.WaitArc.{WaitArc}
 use Rattle.wq_graph.specs.Graph.{HasArc, IsGraph, arcs_from, group_graph, without}
 use Rattle.wq_graph.proofs.Graphs.{GroupWaits-HasArc, IsGraph-group_graph}
 use Rattle.wq_graph.proofs.LeavingOut.{length-without, HasArc-without, IsGraph-without}
-use Rattle.wq_levels.specs.Ranks.{AreRanks}
 use Rattle.wq_levels.specs.Walks.{IsWalkedCircle}
 use Rattle.wq_levels.proofs.Graphs.{HasArc-below}
 use Rattle.wq_levels.proofs.OneCircle.{HasCircle-walked}
@@ -25,20 +24,19 @@ use Rattle.wq_core.proofs.KnotRuns.{Deadlocks-knot}
 use Rattle.wq_core.proofs.LaneCircles.{Circle-map}
 use Rattle.wq_deadlock.specs.Judging.{bare_waits, rescued_graph, AreFirst, IsHang}
 use Rattle.wq_deadlock.proofs.BareLanes.{IsWiring-workqueues, IsKnot-first}
-use Rattle.wq_repair.specs.Changes.{IsRescued, IsBare, IsNamed, IsNamedLane, IsToBeCompared, lane_in}
-use Rattle.wq_repair.specs.Needed.{IsLedTo, StaysBeside, BringsAlong, NeedsRescuer, NeedsRescuerOf, AreUnneeded}
+use Rattle.wq_repair.specs.Changes.{IsRescued, IsNamed, IsNamedLane, lane_in}
+use Rattle.wq_repair.specs.Needed.{BringsAlong, NeedsRescuer, NeedsRescuerOf}
 use Rattle.wq_repair.specs.Marks.{IsMarked, Marks}
-use Rattle.wq_repair.specs.Joined.{NeededWaits, HangsRound, IsStart, NeedRescuers}
+use Rattle.wq_repair.specs.Joined.{NeededWaits, IsStart}
 use Rattle.wq_repair.specs.Steps.{IsToBeGiven, IsMovable, IsStartBy}
 use Rattle.wq_repair.specs.Ready.{Scope, IsReady, IsGraphOfNeeded, IsMinimal}
 use Rattle.wq_repair.specs.Repair.{IsRepair, AreNamesTooFew, IsNeededCircle}
-use Rattle.wq_repair.proofs.Rescuers.{stays-unnamed, rescued-first, waiting-below, awaited-below, IsLedTo-first, IsLedTo-next, NeedsRescuerOf-any, rescued-needed, Deadlocks-needed_circle}
+use Rattle.wq_repair.proofs.Rescuers.{stays-unnamed, rescued-first, waiting-below, awaited-below, IsLedTo-first, IsLedTo-next, rescued-needed, Deadlocks-needed_circle}
 use Rattle.wq_repair.proofs.Starts.{cases_named}
 use Rattle.wq_repair.proofs.StartsBy.{IsStart-by}
-use Rattle.wq_repair.proofs.StartMade.{IsMarked-below}
 use Rattle.wq_repair.proofs.Readied.{all_or_one}
 use Rattle.wq_repair.proofs.Identified.{Circle-identified}
-use Rattle.wq_repair.proofs.Judged.{GroupsWait, GroupsWait-arc, bare_group_waits, Deadlocks-hanging, rescued_awaited-safe, IsGraph-rescued_graph}
+use Rattle.wq_repair.proofs.Judged.{GroupsWait-arc, bare_group_waits, Deadlocks-hanging, rescued_awaited-safe, IsGraph-rescued_graph}
 use Rattle.wq_repair.proofs.Repaired.{IsRepair-needed}
 
 -- a circle whose vertices are bounded, as all that something leads to is

@@ -1,6 +1,6 @@
 -- The homes of those that need a rescuer and can't move.
-use Rattle.std.proofs.Common.{◌≡◌, ◌≢◌, ℕ, ◌+◌, ◌<◌, inl, inr, Bool, List, length, get_or, set, replicate, refl, sym, ap, subst, ◌∙◌, arith, get_or-set_same, get_or-set_other}
-use Rattle.std.specs.Prelude.{◌↔◌, ◌⊎◌, Option, Some, None, slice_index_or}
+use Rattle.std.proofs.Common.{◌≡◌, ℕ, ◌+◌, ◌<◌, inl, inr, List, length, get_or, set, replicate, sym, ap, subst, ◌∙◌, arith, get_or-set_same, get_or-set_other}
+use Rattle.std.specs.Prelude.{◌↔◌, Option, Some, None, slice_index_or}
 use Rattle.std.proofs.Math.ListN.{length-replicate}
 use Rattle.std.proofs.lemmas.Bool.{cases_eq, cases_lt}
 use Rattle.std.proofs.lemmas.List.{get_or-replicate, get_or_past}
@@ -8,7 +8,7 @@ use Rattle.wq_core.specs.Workqueues.{Workqueues}
 use Rattle.wq_repair.specs.Changes.{lane_in}
 use Rattle.wq_repair.specs.Marks.{IsMarked}
 use Rattle.wq_repair.specs.Together.{IsHomeOf}
-use Rattle.wq_repair.specs.Ready.{Scope, HoldsNeeded}
+use Rattle.wq_repair.specs.Ready.{Scope}
 
 -- one of the first n groups needs a rescuer, can't move and is on lane q
 abbrev pub HoldsBelow : Workqueues → Scope → ℕ → ℕ → Type 0

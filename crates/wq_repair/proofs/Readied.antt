@@ -1,10 +1,10 @@
 -- From what is ready, what is put together and what is placed: the changes are needed, and numbers fall along all waits.
-use Rattle.std.proofs.Common.{◌≡◌, ◌≢◌, ℕ, zero, suc, ◌+◌, ◌<◌, ◌≤◌, ◌⊎◌, inl, inr, Bool, List, length, refl, sym, ap, subst, ◌∙◌, arith}
-use Rattle.std.specs.Prelude.{◌↔◌, ◌==◌, ◌&&◌, if◌then◌else◌, true, false, Option, max, slice_index, slice_index_or, Contains}
+use Rattle.std.proofs.Common.{◌≡◌, ℕ, zero, suc, ◌<◌, ◌≤◌, ◌⊎◌, inl, inr, Bool, List, length, refl, sym, ap, subst, ◌∙◌, arith}
+use Rattle.std.specs.Prelude.{◌==◌, ◌&&◌, if◌then◌else◌, true, false, Option, slice_index, slice_index_or, Contains}
 use Rattle.std.specs.List.{All}
 use Rattle.std.proofs.lemmas.Bool.{cases_eq, cases_lt, cases_Bool, false≢true, eqb-true, eq-eqb}
 use Rattle.std.proofs.lemmas.List.{get_or_default, get_or_past}
-use Rattle.wq_items.specs.Chain.{Circle, HasCircle}
+use Rattle.wq_items.specs.Chain.{HasCircle}
 use Rattle.wq_groups.specs.Declaration.{Declaration, IsDeclaration, GroupWaits}
 use Rattle.wq_groups.specs.Assignment.{IsAssignment}
 use Rattle.wq_graph.specs.declared.arc.WaitArc.{WaitArc}
@@ -14,15 +14,15 @@ use Rattle.wq_levels.proofs.Ranks.{AreRanks-fall}
 use Rattle.wq_core.specs.Workqueues.{Workqueues}
 use Rattle.wq_core.proofs.LaneCircles.{Circle-map}
 use Rattle.wq_deadlock.specs.Judging.{rescued_graph}
-use Rattle.wq_repair.specs.Changes.{IsRescued, IsBare, IsNamed, IsNamedLane, lane_in}
+use Rattle.wq_repair.specs.Changes.{IsRescued, IsBare, IsNamed, lane_in}
 use Rattle.wq_repair.specs.Marks.{IsMarked, Marks}
 use Rattle.wq_repair.specs.Joined.{VerticesWait, StaysOrIs, IsTriedInVain}
-use Rattle.wq_repair.specs.Together.{Lists, ArcBetween, IsAlone, IsHomeOf, AreHomes, IsAtHome, WasInVain, ArePutTogether}
-use Rattle.wq_repair.specs.Steps.{IsToBeGiven, IsMovable, ArePlacedBy, AreLeaving}
+use Rattle.wq_repair.specs.Together.{Lists, ArcBetween, IsHomeOf, IsAtHome, WasInVain, ArePutTogether}
+use Rattle.wq_repair.specs.Steps.{ArePlacedBy, AreLeaving}
 use Rattle.wq_repair.specs.Ready.{Scope, IsReady, IsGraphOfNeeded, IsMinimal, IsTried, HoldsNeeded, IsButNot, placed_at}
 use Rattle.wq_repair.proofs.Rescuers.{cases_rescued, waiting-below, awaited-below}
 use Rattle.wq_repair.proofs.StartsBy.{cases_marked}
-use Rattle.wq_repair.proofs.Judged.{group_arc, GroupsWait, GroupsWait-arc, length-rescued_graph, IsGraph-rescued_graph, rescued_awaited-safe}
+use Rattle.wq_repair.proofs.Judged.{group_arc, GroupsWait-arc, length-rescued_graph, IsGraph-rescued_graph, rescued_awaited-safe}
 use Rattle.wq_repair.proofs.Placed.{IsToBeCompared-placed, AreChangesNeeded-placed, FallsAlongWaits-placed}
 
 -- all numbers below n are so, or one isn't

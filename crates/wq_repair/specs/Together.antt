@@ -1,7 +1,6 @@
 -- Groups that are put together at vertices, as far as that makes no circle. At first the vertex of a group is its lane in
 -- the start.
 use Rattle.std.specs.Prelude.{◌≡◌, ◌≢◌, ◌↔◌, ℕ, ◌<◌, ◌⊎◌, List, Bool, Option, Some, None, length, slice_index, slice_index_or, Contains, AllPairs}
-use Rattle.std.specs.List.{All}
 use Rattle.wq_items.specs.Chain.{Circle}
 use Rattle.wq_graph.specs.declared.arc.WaitArc.{WaitArc}
 use Rattle.wq_graph.specs.Graph.{HasArc}

@@ -1,5 +1,5 @@
-use Rattle.std.proofs.Common.{◌≡◌, ℕ, ◌<◌, inl, inr, List, [], length, get_or, refl, sym, ap, subst, ◌∙◌, arith}
-use Rattle.std.specs.Prelude.{◌⊎◌, ◌↔◌, true, false, slice_index_or, Contains}
+use Rattle.std.proofs.Common.{◌≡◌, ℕ, ◌<◌, inl, inr, List, [], length, get_or, sym, ap, subst, ◌∙◌, arith}
+use Rattle.std.specs.Prelude.{◌↔◌, true, false, slice_index_or, Contains}
 use Rattle.std.specs.List.{Any}
 use Rattle.std.proofs.lemmas.Bool.{false≢true}
 use Rattle.std.proofs.lemmas.List.Elements.{Contains-get_or}
@@ -7,7 +7,7 @@ use Rattle.wq_graph.specs.declared.arc.WaitArc.{WaitArc}
 use Rattle.wq_graph.specs.Graph.{HasArc}
 use Rattle.wq_repair.specs.Changes.{lane_in}
 use Rattle.wq_repair.specs.Marks.{IsMarked}
-use Rattle.wq_repair.specs.Following.{HasGrown, IsBesideBy, BringsAlongBy}
+use Rattle.wq_repair.specs.Following.{HasGrown, BringsAlongBy}
 use Rattle.wq_repair.proofs.NeededFound.{HasGrown-as, HasGrown-then}
 use Rattle.wq_repair.proofs.LaneReads.{lane-read, lane-within}
 use Rattle.wq_repair.proofs.needed.Found.follow.Goals as goal
