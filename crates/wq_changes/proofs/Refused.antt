@@ -1,0 +1,14 @@
+-- What is said of a text that is refused.
+use Rattle.std.proofs.Common.{◌≡◌, ℕ, List, Option, None, Result, Err, refl, sym, subst}
+use Rattle.std.specs.Prelude.{MatchResult}
+use Rattle.wq_core.specs.Workqueues.{Workqueues}
+use Rattle.wq_cert.specs.declared.fault.CertError.{CertError}
+use Rattle.wq_cert.specs.Texts.{workqueues_of_text}
+use Rattle.wq_commands.specs.Declaration.{Declared}
+use Rattle.wq_changes.specs.Voice.{Files, SaysDeclared, SaysNamed}
+
+-- nothing
+pub nothing_said : (f : Files) (names : List (List ℕ)) (s : Declared) (fault : CertError) → workqueues_of_text s.table.names s.partition f.lanes ≡ Err fault
+    → SaysDeclared f names s None
+nothing_said f names s fault is =
+    subst (λ (r : Result Workqueues CertError). MatchResult r (λ old. SaysNamed f names s old None) (λ _. None ≡ None)) (sym is) refl
