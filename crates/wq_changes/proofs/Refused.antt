@@ -11,4 +11,5 @@ use Rattle.wq_changes.specs.Voice.{Files, SaysDeclared, SaysNamed}
 pub nothing_said : (f : Files) (names : List (List ℕ)) (s : Declared) (fault : CertError) → workqueues_of_text s.table.names s.partition f.lanes ≡ Err fault
     → SaysDeclared f names s None
 nothing_said f names s fault is =
-    subst (λ (r : Result Workqueues CertError). MatchResult r (λ old. SaysNamed f names s old None) (λ _. None ≡ None)) (sym is) refl
+    let none : Option (List ℕ) = None in
+    subst (λ (r : Result Workqueues CertError). MatchResult r (λ (old : Workqueues). SaysNamed f names s old none) (λ (_ : CertError). none ≡ none)) (sym is) refl

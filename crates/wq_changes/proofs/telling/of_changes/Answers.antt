@@ -33,7 +33,7 @@ returns g c =
     let cs = changes_of groups r.old.now r.new.now in
     let all : c.as_slice-list.result.now ≡ cs = c.as_slice-list.ensures.value ∙ c.in_ok-all.ensures ∙ ap (λ (n : ℕ). changes_of n r.old.now r.new.now) c.len-groups.ensures.len in
     let mid : c.min.result ≡ min (length cs) most_reasons =
-    c.min.ensures ∙ ap (λ (n : ℕ). min n most_reasons) (c.len.ensures ∙ ap (λ (l : List Change). length l) all) in
+    c.min.ensures ∙ ap (λ (l : List Change). min (length l) most_reasons) all in
     let front : c.split_at.result.0.now ≡ take most_reasons cs =
     c.split_at.ensures.front ∙ ap (λ (n : ℕ). take n c.as_slice-list.result.now) mid ∙ ap (λ (l : List Change). take (min (length cs) most_reasons) l) all ∙ take_least most_reasons cs in
     let back : c.split_at.result.1.now ≡ drop most_reasons cs =
