@@ -3,9 +3,10 @@
 //! The form is that of "Changes" in docs/FORMAT.md. A call takes the time and the memory of reading the texts, of a
 //! repair, and of what is said of it.
 
-ghost use Rattle.std.specs.Prelude.{◌≡◌, ◌≤◌, IfOk, Ok, length, map, option_map};
+ghost use Rattle.std.specs.Prelude.{◌≡◌, ◌≢◌, ◌≤◌, IfOk, Ok, length, map, option_map};
 ghost use Rattle.wq_groups.specs.Declaration.{declaration_of};
 ghost use Rattle.wq_cert.specs.Texts.{workqueues_of_text};
+ghost use Rattle.wq_cert.specs.declared.fault.CertError.TheVariants.{OutOfMemory};
 ghost use Rattle.wq_names.specs.Names.{names_of};
 ghost use Rattle.wq_repair.specs.Repair.{IsAnswer};
 ghost use Rattle.wq_voice.specs.Note.{NotesBare};
@@ -189,6 +190,19 @@ fn of_assigned<A: Allocator + Copy>(
     }
 }
 
+/// An error if memory ran out.
+fn unless_memory(fault: CertError) -> Result<(), AllocError>
+    ensures { IfOk result (λ _. fault ≢ OutOfMemory) }
+{
+    match fault {
+        CertError::OutOfMemory => Err(AllocError),
+        CertError::BadCertLine { .. }
+        | CertError::NotAllItems { .. }
+        | CertError::GroupSplit { .. }
+        | CertError::NumberOutOfRange { .. } => Ok(()),
+    }
+}
+
 /// What is said of the text of an assignment. Nothing if it is refused.
 fn of_declared<'a, A: Allocator + Copy>(
     alloc: A,
@@ -219,13 +233,10 @@ fn of_declared<'a, A: Allocator + Copy>(
             drop(workqueues);
             said
         }
-        Err(CertError::OutOfMemory) => Err(AllocError),
-        Err(
-            CertError::BadCertLine { .. }
-            | CertError::NotAllItems { .. }
-            | CertError::GroupSplit { .. }
-            | CertError::NumberOutOfRange { .. },
-        ) => Ok(None),
+        Err(fault) => {
+            unless_memory(fault)?;
+            Ok(None)
+        }
     }
 }
 

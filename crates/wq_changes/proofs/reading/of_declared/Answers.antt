@@ -9,8 +9,8 @@ pub of_assigned-said-requires-clause-old : goal.of_assigned-said-requires-clause
 of_assigned-said-requires-clause-old g c =
     (AreWorkqueuesOf-workqueues_of_text c.args.declared.now.table.names c.args.declared.now.groups c.len-groups.ensures.partition (sym c.requires) c.args.assignment.text.now c.in-Ok.workqueues c.in-Ok.ensures.workqueues).assignment.assignment.one_each
 
-pub returns-in-Err-BadCertLine : goal.returns-in-Err-BadCertLine
-returns-in-Err-BadCertLine g c =
+pub returns-in_ok-unless_memory-in-Err : goal.returns-in_ok-unless_memory-in-Err
+returns-in_ok-unless_memory-in-Err g c =
     let s : Declared = record { table = c.args.declared.now.table; partition = c.args.declared.now.groups } in
     let f : Files = record { first = c.args.declaration.file.now; second = c.args.assignment.file.now; text = c.args.declaration.text.now; lanes = c.args.assignment.text.now } in
-    nothing_said f (map (λ n. n.now) c.args.names.now) s _ c.in-Err-BadCertLine.ensures.fault
+    nothing_said f (map (λ n. n.now) c.args.names.now) s c.in-Err.fault c.in_ok-unless_memory-in-Err.ensures c.in-Err.ensures.fault
