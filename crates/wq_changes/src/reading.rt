@@ -145,8 +145,12 @@ fn of_answer<A: Allocator + Copy>(
     requires old { length assigned.now.workqueues.now.assignment.lane_of_group ≡ assigned.now.declared.now.groups.groups }
     requires answer { IsAnswer (declaration_of assigned.now.declared.now.table assigned.now.declared.now.groups) assigned.now.workqueues.now
         moving.now answer.now }
-    ensures { IfOk result (λ said. SaysMoving (record { first = assigned.now.declaration.file.now; second = assigned.now.assignment.file.now;
-        text = assigned.now.declaration.text.now; lanes = assigned.now.assignment.text.now })
+    ensures { IfOk result (λ said. SaysMoving (record {
+      first = assigned.now.declaration.file.now;
+      second = assigned.now.assignment.file.now;
+      text = assigned.now.declaration.text.now;
+      lanes = assigned.now.assignment.text.now;
+    })
         (record { table = assigned.now.declared.now.table; partition = assigned.now.declared.now.groups }) assigned.now.workqueues.now
         moving.now (option_map (λ text. text.items) said)) }
 {
@@ -175,8 +179,12 @@ fn of_assigned<A: Allocator + Copy>(
     requires read { workqueues_of_text assigned.now.declared.now.table.names assigned.now.declared.now.groups assigned.now.assignment.text.now
         ≡ Ok assigned.now.workqueues.now }
     requires old { length assigned.now.workqueues.now.assignment.lane_of_group ≡ assigned.now.declared.now.groups.groups }
-    ensures { IfOk result (λ said. SaysNamed (record { first = assigned.now.declaration.file.now; second = assigned.now.assignment.file.now;
-        text = assigned.now.declaration.text.now; lanes = assigned.now.assignment.text.now }) (map (λ n. n.now) names.now)
+    ensures { IfOk result (λ said. SaysNamed (record {
+      first = assigned.now.declaration.file.now;
+      second = assigned.now.assignment.file.now;
+      text = assigned.now.declaration.text.now;
+      lanes = assigned.now.assignment.text.now;
+    }) (map (λ n. n.now) names.now)
         (record { table = assigned.now.declared.now.table; partition = assigned.now.declared.now.groups }) assigned.now.workqueues.now
         (option_map (λ text. text.items) said)) }
 {
@@ -213,8 +221,12 @@ fn of_declared<'a, A: Allocator + Copy>(
     names: &[&str],
 ) -> Result<Option<Vec<u8, A>>, AllocError>
     requires { length declared.now.groups.group_of ≡ length declared.now.table.names }
-    ensures { IfOk result (λ said. SaysDeclared (record { first = declaration.entry.file.now; second = assignment.entry.file.now;
-        text = declaration.entry.text.now; lanes = assignment.entry.text.now }) (map (λ n. n.now) names.now)
+    ensures { IfOk result (λ said. SaysDeclared (record {
+      first = declaration.entry.file.now;
+      second = assignment.entry.file.now;
+      text = declaration.entry.text.now;
+      lanes = assignment.entry.text.now;
+    }) (map (λ n. n.now) names.now)
         (record { table = declared.now.table; partition = declared.now.groups }) (option_map (λ text. text.items) said)) }
 {
     // What holds of every table and of all groups.
@@ -251,8 +263,12 @@ pub(crate) fn of_repair<'a, A: Allocator + Copy>(
     assignment: Source<'a>,
     names: &[&str],
 ) -> Result<Option<Vec<u8, A>>, AllocError>
-    ensures { IfOk result (λ said. SaysRepair (record { first = declaration.entry.file.now; second = assignment.entry.file.now;
-        text = declaration.entry.text.now; lanes = assignment.entry.text.now }) (map (λ n. n.now) names.now)
+    ensures { IfOk result (λ said. SaysRepair (record {
+      first = declaration.entry.file.now;
+      second = assignment.entry.file.now;
+      text = declaration.entry.text.now;
+      lanes = assignment.entry.text.now;
+    }) (map (λ n. n.now) names.now)
         (option_map (λ text. text.items) said)) }
 {
     match read_declaration(alloc, seed, declaration.text) {
