@@ -197,7 +197,8 @@ pub(crate) fn of_changes<A: Allocator + Copy>(
 {
     let groups = repair.declared.groups.len();
     let all = changes(alloc, repair.old, repair.new, groups)?;
-    let (first, others) = all.as_slice().split_at(all.len().min(MOST_REASONS));
+    let list = all.as_slice();
+    let (first, others) = list.split_at(list.len().min(MOST_REASONS));
     let mut text = all_whys(alloc, repair, first)?;
     let alone = all_told(alloc, repair, others)?;
     put(&mut text, &alone)?;

@@ -27,7 +27,7 @@ returns g c =
       said,
       c.or_nothing.ensures,
       subst (λ (ws : Workqueues). GivesReason first (lead_of c.args.change.now) (λ h. words_of OnWorkqueues s ws names h) (declared_waits s) ws said)
-      c.in_ok-workqueues.ensures
-      (subst (λ (lead : List ℕ). GivesReason first lead (λ h. words_of OnWorkqueues s c.in_ok-workqueues.workqueues names h) (declared_waits s) c.in_ok-workqueues.workqueues said)
-      c.lead_of.ensures c.in_ok-said.ensures),
+          c.in_ok-workqueues.ensures
+          (subst (λ (lead : List ℕ). GivesReason first lead (λ h. words_of OnWorkqueues s c.in_ok-workqueues.workqueues names h) (declared_waits s) c.in_ok-workqueues.workqueues said)
+          c.lead_of.ensures c.in_ok-said.ensures),
     )
