@@ -32,12 +32,14 @@ returns g c =
     let names = map (λ n. n.now) r.names.now in
     let cs = changes_of groups r.old.now r.new.now in
     let all : c.as_slice-list.result.now ≡ cs = c.as_slice-list.ensures.value ∙ c.in_ok-all.ensures ∙ ap (λ (n : ℕ). changes_of n r.old.now r.new.now) c.len-groups.ensures.len in
-    let mid : c.min.result ≡ min (length cs) most_reasons =
-    c.min.ensures ∙ ap (λ (l : List Change). min (length l) most_reasons) all in
-    let front : c.split_at.result.0.now ≡ take most_reasons cs =
-    c.split_at.ensures.front ∙ ap (λ (n : ℕ). take n c.as_slice-list.result.now) mid ∙ ap (λ (l : List Change). take (min (length cs) most_reasons) l) all ∙ take_least most_reasons cs in
-    let back : c.split_at.result.1.now ≡ drop most_reasons cs =
-    c.split_at.ensures.back ∙ ap (λ (n : ℕ). drop n c.as_slice-list.result.now) mid ∙ ap (λ (l : List Change). drop (min (length cs) most_reasons) l) all ∙ drop_least most_reasons cs in (
+    let most : ℕ = most_reasons (length s.table.names) in
+    let is_most : c.most_reasons.result ≡ most = c.most_reasons.ensures ∙ ap most_reasons c.len-items.ensures.len in
+    let mid : c.min.result ≡ min (length cs) most =
+    c.min.ensures ∙ ap (λ (l : List Change). min (length l) c.most_reasons.result) all ∙ ap (min (length cs)) is_most in
+    let front : c.split_at.result.0.now ≡ take most cs =
+    c.split_at.ensures.front ∙ ap (λ (n : ℕ). take n c.as_slice-list.result.now) mid ∙ ap (λ (l : List Change). take (min (length cs) most) l) all ∙ take_least most cs in
+    let back : c.split_at.result.1.now ≡ drop most cs =
+    c.split_at.ensures.back ∙ ap (λ (n : ℕ). drop n c.as_slice-list.result.now) mid ∙ ap (λ (l : List Change). drop (min (length cs) most) l) all ∙ drop_least most cs in (
       c.in_ok-text.text.items,
       c.in_ok-alone.alone.items,
       c.in_ok-put.ensures.added ∙ ap (λ (b : List ℕ). c.in_ok-text.text.items ++ b) c.deref.ensures.value,
