@@ -1,5 +1,5 @@
 -- The flushes of a circle of groups: few, and each of an item.
-use Rattle.std.proofs.Common.{◌≡◌, ℕ, ◌<◌, Bool, List, length, get_or, subst, arith}
+use Rattle.std.proofs.Common.{◌≡◌, ◌<◌, Bool, List, length, get_or, arith}
 use Rattle.std.proofs.lemmas.List.Elements.{All-contains}
 use Rattle.std.proofs.lemmas.List.FromFn.{length-map-range_with_len}
 use Rattle.wq_items.specs.Table.{ItemWaits}
