@@ -51,7 +51,7 @@ cli      examples     cli/examples.sh WQPLAN
 cli      explain      cli/explain.sh WQPLAN
 cli      diagnoses    cli/diagnoses/main.py WQPLAN
 cli      worst        cli/worst.py WQPLAN
-model    model        model/properties.py | model/compare.py WQPLAN | model/search.py WQPLAN
+model    model        model/properties.py | model/compare.py WQPLAN | model/search.py WQPLAN | model/repair_search.py WQPLAN
 source   source       source/main.sh
 runtime  book         runtime/book/main.py TEST_RUNTIME
 runtime  runtime      runtime/main.py TEST_RUNTIME | runtime/wakes.py TEST_RUNTIME | runtime/loads.py TEST_RUNTIME \

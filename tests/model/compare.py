@@ -7,7 +7,7 @@
 # with the model's. Standard error must have what belongs to the answer (tests/lib/standard_error.py), and
 # right reasons why workqueues can hang (reasons.py). Of each command there are the cases at the limits of
 # docs/FORMAT.md and at each place of small texts, once each, and then CASES random ones; of `run`, which makes
-# threads, and of `hang`, RUNS, or a fifth as many. The same SEED makes the same cases. It fails where an answer
+# threads, of `hang` and of `repair`, RUNS, or a fifth as many. The same SEED makes the same cases. It fails where an answer
 # differs, and where some kind of answer or of reason never came, as may be with few CASES. Before all this the
 # model must answer the worked examples (examples.py).
 #
@@ -18,7 +18,7 @@
 # plans as assignments to `PROGRAM deadlock`, and the runs, those behind circles too, to `PROGRAM
 # replay`. It must stand by its answers: `yes`, `safe` and `deadlock`; of what `hang` prints the model says
 # which of `deadlock` and `stuck`, and `PROGRAM dot` must draw the waits of that run bold red. Where it prints
-# `safe` by `circles`, it must print it by `deadlock` too.
+# `safe` by `circles`, it must print it by `deadlock` too. What it prints by `repair` must be safe, and need no repair.
 # What `hang` prints may be another run than the model's, if it is as good (hang.py), and what `dot` draws the waits of one (dot.py).
 #
 # With --only the program is asked for these commands alone; with `--only none` it isn't run at all.
@@ -46,6 +46,7 @@ import make_certificates  # noqa: E402
 import make_circles  # noqa: E402
 import make_declarations  # noqa: E402
 import make_hangs  # noqa: E402
+import make_repairs  # noqa: E402
 import programs  # noqa: E402  (in tests/lib)
 import reasons  # noqa: E402
 import unrescued  # noqa: E402
@@ -100,6 +101,7 @@ BOLD = r", N in bold"
 LEGEND = r"\\lBold: enough to hang it, in the fewest steps\."
 ESCAPE = r"([ !#-%\'-\[\]-~]|\\\"|\\\\|&amp;)"
 NO_LOOK = "(?!)"
+CALLED = "(  # [ -~]{1,63})?"
 
 
 def drawing(title, look):
@@ -156,6 +158,13 @@ COMMANDS = {
         [("safe", 0, r"safe\n")] + [(f"runs of {steps}", 1, rf"run {steps}\nY+") for steps in (3, 4, 6)]
         + [("longer runs", 1, r"run N\nY+")] + CERTIFICATE_REFUSALS,
     ),
+    "repair": (
+        make_repairs.limit_repair_cases,
+        make_repairs.random_repair_case,
+        [("all with a rescuer", 0, rf"(wq N( Z)?{CALLED}\n)*"), ("some without", 0, rf"((wq|norescuer) N( Z)?{CALLED}\n)+"),
+         ("circles", 1, r"circle N\nA+run N\nS+"), ("runs", 1, r"run N\nS+")]
+        + DECLARATION_REFUSALS + CERTIFICATE_REFUSALS[1:],
+    ),
     "circles": (
         make_circles.limit_circles_cases,
         make_circles.random_circles_case,
@@ -205,10 +214,10 @@ COMMANDS |= {command: like_others(command) for command in ANSWERS if command not
 # The words behind DECL of the cases of `run`, in turn. They change no answer.
 HELPERS = [[], ["2"], ["8"], ["0"], ["1"], ["5"]]
 
-# Each random case of `run` makes threads, and what `hang` prints is judged by other means than looking whether it is the same. So
-# there is one case of them for so many of the other commands.
+# Each random case of `run` makes threads, what `hang` prints is judged by other means than looking whether it is the same, and what
+# `repair` prints is given back to three commands. So there is one case of them for so many of the other commands.
 CASES_FOR_A_RUN = 5
-FEWER = ("run", "hang")
+FEWER = ("run", "hang", "repair")
 
 
 def form(pattern):
@@ -233,9 +242,12 @@ def kind_of(command, answer):
     return None
 
 
-def words_behind(command, number):
-    """The words of the command line behind the files, in the case of this number."""
-    return HELPERS[number % len(HELPERS)] if command == "run" else []
+def words_behind(command, texts, number):
+    """The words of the command line behind the files, in the case of this number: the names, which are behind the texts, or HELPERS."""
+    names = texts[len(TEXTS_OF[command]):]
+    if any(name.startswith(b"-") and name != b"-" for name in names):
+        names = [b"--", *names]
+    return HELPERS[number % len(HELPERS)] if command == "run" else names
 
 
 # How often the program said each kind of reason.
@@ -249,7 +261,7 @@ def wrong_beside(command, files, texts, found):
     printed, _, errors = found
     if not fits(printed, errors, files, command):
         return "standard error hasn't the form that belongs to this answer"
-    if printed.startswith((b"refused ", b"not lawful ")) or errors == note(files[0]):
+    if printed.startswith((b"refused ", b"not lawful ")) or errors == note(files[0]) or command == "repair":
         return None
     behind = errors.split(b"\n", reasons.BLOCK)[reasons.BLOCK] if printed.startswith(b"no ") else errors
     try:
@@ -272,7 +284,7 @@ def ask(program, command, texts, folder, number):
     else:
         named = {f"{number}.{name}": text for name, text in zip(TEXTS_OF[command], texts)}
     with programs.files(folder, named) as places:
-        found = programs.ask([program, command, *places, *words_behind(command, number)], input=given)
+        found = programs.ask([program, command, *places, *words_behind(command, texts, number)], input=given)
     wrong = None if found.is_late() else wrong_beside(command, [os.fsencode(place) for place in places] or [STDIN], texts, found)
     SAID.update(reasons.rows_in(found.errors))
     errors = found.errors + (f"({wrong})".encode() if wrong else b"")
@@ -299,6 +311,11 @@ def questions(command, texts, printed):
     if command == "hang" and head.startswith(b"run "):
         yield "replay", [*texts, printed], ANSWERS["replay"](*texts, printed)
         yield "dot", texts, (dot.text_with_waits_of(printed, *texts), 0)
+    if command == "repair" and head.startswith((b"wq ", b"norescuer ")):
+        yield "deadlock", [texts[0], printed], (b"safe\n", 0)
+        yield "repair", [texts[0], printed], (printed, 0)
+    if command == "repair" and head.startswith(b"circle "):
+        yield "check", [texts[0], printed], (b"yes " + head + b"\n", 0)
     if command == "circles" and head == b"safe" and len(texts) == 2:
         yield "deadlock", texts, (b"safe\n", 0)
 
@@ -361,7 +378,7 @@ def show_difference(seed, number, difference, folder):
     print(f"FAILED  {command}, {difference.what} (seed {seed})")
     for name, text in zip(TEXTS_OF[command], difference.texts):
         print(f"    {name}: {show_bytes(text, folder, f'{command}{number}.{name}')}")
-    for word in words_behind(command, number):
+    for word in words_behind(command, difference.texts, number):
         print(f"    and behind it: {word}")
     printed, status = difference.wanted
     place = show_bytes(printed, folder, f"{command}{number}.wanted")

@@ -1,5 +1,5 @@
-# The worked examples of tests/cli/rows/worked.py, each of which the model must answer as it stands there, and those of hangs.py beside
-# it, which have all runs that may be printed:
+# The worked examples of tests/cli/rows/worked.py, each of which the model must answer as it stands there, those of repairs.py beside it,
+# which have words behind the files, and those of hangs.py, which have all runs that may be printed:
 #
 #     examples.py
 #
@@ -15,6 +15,7 @@ from models import ANSWERS, agrees  # noqa: E402  (beside this file)
 
 sys.path += [str(TESTS / "lib"), str(TESTS / "cli" / "rows")]
 from hangs import HANGS  # noqa: E402  (in tests/cli/rows)
+from repairs import ROWS as REPAIR_ROWS, status_of  # noqa: E402  (there, too)
 from statuses import STATUS  # noqa: E402  (there, too)
 from tables import text_of  # noqa: E402  (in tests/lib)
 from worked import ROWS  # noqa: E402  (in tests/cli/rows)
@@ -32,6 +33,12 @@ def failures():
             model = ANSWERS[command](*map(text_of, texts))
             if model != wanted:
                 found.append(f"{command}, {texts!r}: wanted {wanted}, the model has {model}")
+    for text, assignment, words, answer in REPAIR_ROWS:
+        names = [word.encode() for word in words if word != "--"]
+        wanted = text_of(answer), status_of(answer)
+        model = ANSWERS["repair"](text_of(text), text_of(assignment), *names)
+        if model != wanted:
+            found.append(f"repair, {text!r}, {assignment!r}, {words}: wanted {wanted}, the model has {model}")
     for text, assignment, ends in HANG_ROWS:
         texts = [text_of(text), text_of(assignment)]
         model = ANSWERS["hang"](*texts)
@@ -42,7 +49,7 @@ def failures():
 
 
 def count():
-    return sum(map(len, ROWS.values())) + len(HANG_ROWS)
+    return sum(map(len, ROWS.values())) + len(HANG_ROWS) + len(REPAIR_ROWS)
 
 
 if __name__ == "__main__":

@@ -202,7 +202,14 @@ fn repair<A: Allocator + Copy, R: Read, W: Write, E: Write>(
         assignment,
         names,
     };
-    carry(alloc, &RepairCommand { seed, names }, &voice, readers, writer, teller)
+    carry(
+        alloc,
+        &RepairCommand { seed, names },
+        &voice,
+        readers,
+        writer,
+        teller,
+    )
 }
 
 /// Performs a command over as many of these readers as it has texts, and says on `teller` what there is to be said.

@@ -15,7 +15,7 @@ use Rattle.wq_commands.specs.declared.end.End.TheVariants.{Refused}
 use Rattle.wq_commands.specs.declared.why.Why.{Why}
 use Rattle.wq_diagnosis.specs.Diagnosis.{shown_lines}
 use Rattle.wq_repair.specs.Repair.{IsRepair, AreNamesTooFew, IsNeededCircle}
-use Rattle.wq_repair_command.specs.Repairing.{movers}
+use Rattle.wq_repair_command.specs.Movers.{movers}
 use Rattle.wq_voice.specs.Note.{NotesBare}
 use Rattle.wq_voice.specs.Voice.{SaysWhy}
 use Rattle.wq_changes.specs.Told.{TellsChanges}
@@ -71,12 +71,14 @@ SaysMoving f s old moving said =
 abbrev pub SaysNamed : Files → List (List ℕ) → Declared → Workqueues → Option (List ℕ) → Type 0
 SaysNamed f names s old said = MatchOption (movers s.table.names names) (said ≡ None) (λ moving. SaysMoving f s old moving said)
 
--- the same of texts; nothing if one is refused
+-- the same of the text of an assignment; nothing if it is refused
+abbrev pub SaysDeclared : Files → List (List ℕ) → Declared → Option (List ℕ) → Type 0
+SaysDeclared f names s said =
+    MatchResult (workqueues_of_text s.table.names s.partition f.lanes) (λ old. SaysNamed f names s old said) (λ _. said ≡ None)
+
+-- the same of both texts; nothing if one is refused
 abbrev pub SaysRepair : Files → List (List ℕ) → Option (List ℕ) → Type 0
-SaysRepair f names said =
-    MatchResult (declaration f.text)
-    (λ s. MatchResult (workqueues_of_text s.table.names s.partition f.lanes) (λ old. SaysNamed f names s old said) (λ _. said ≡ None))
-    (λ _. said ≡ None)
+SaysRepair f names said = MatchResult (declaration f.text) (λ s. SaysDeclared f names s said) (λ _. said ≡ None)
 
 -- ---- a name that is that of no item
 

@@ -3,7 +3,7 @@
 //! The form is that of "Changes" in docs/FORMAT.md. A call takes the time and the memory of reading the texts, of a
 //! repair, and of what is said of it.
 
-ghost use Rattle.std.specs.Prelude.{◌≡◌, ◌≤◌, IfOk, MatchResult, None, Ok, length, map, option_map};
+ghost use Rattle.std.specs.Prelude.{◌≡◌, ◌≤◌, IfOk, Ok, length, map, option_map};
 ghost use Rattle.wq_groups.specs.Declaration.{declaration_of};
 ghost use Rattle.wq_cert.specs.Texts.{workqueues_of_text};
 ghost use Rattle.wq_names.specs.Names.{names_of};
@@ -11,7 +11,7 @@ ghost use Rattle.wq_repair.specs.Repair.{IsAnswer};
 ghost use Rattle.wq_voice.specs.Note.{NotesBare};
 ghost use Rattle.wq_changes.specs.Few.{TellsFew};
 ghost use Rattle.wq_changes.specs.Told.{TellsChanges};
-ghost use Rattle.wq_changes.specs.Voice.{SaysMoving, SaysNamed, SaysRepair};
+ghost use Rattle.wq_changes.specs.Voice.{SaysDeclared, SaysMoving, SaysNamed, SaysRepair};
 
 use crate::circle::of_circle;
 use crate::few::of_few;
@@ -199,12 +199,9 @@ fn of_declared<'a, A: Allocator + Copy>(
     names: &[&str],
 ) -> Result<Option<Vec<u8, A>>, AllocError>
     requires { length declared.now.groups.group_of ≡ length declared.now.table.names }
-    ensures { IfOk result (λ said. MatchResult
-        (workqueues_of_text declared.now.table.names declared.now.groups assignment.entry.text.now)
-        (λ old. SaysNamed (record { first = declaration.entry.file.now; second = assignment.entry.file.now;
+    ensures { IfOk result (λ said. SaysDeclared (record { first = declaration.entry.file.now; second = assignment.entry.file.now;
         text = declaration.entry.text.now; lanes = assignment.entry.text.now }) (map (λ n. n.now) names.now)
-        (record { table = declared.now.table; partition = declared.now.groups }) old (option_map (λ text. text.items) said))
-        (λ _. option_map (λ text. text.items) said ≡ None)) }
+        (record { table = declared.now.table; partition = declared.now.groups }) (option_map (λ text. text.items) said)) }
 {
     // What holds of every table and of all groups.
     let _items = declared.table.len();

@@ -1,6 +1,6 @@
 -- Lanes of ranks, group by group and rank by rank.
-use Rattle.std.proofs.Common.{◌≡◌, ◌≢◌, ℕ, ◌+◌, ◌<◌, ◌≤◌, inl, inr, Bool, true, false, List, [], ◌∷◌, ◌++◌, length, get_or, set, replicate, refl, sym, ap, subst, ◌∙◌, arith, get_or-set_same, get_or-set_other, length-append}
-use Rattle.std.specs.Prelude.{◌⊎◌, ◌↔◌, Option, Some, None, slice_index, slice_index_or, Contains}
+use Rattle.std.proofs.Common.{◌≡◌, ◌≢◌, ℕ, ◌+◌, ◌<◌, ◌≤◌, inl, inr, Bool, true, false, List, [], ◌∷◌, ◌++◌, length, set, replicate, refl, sym, ap, subst, ◌∙◌, arith, get_or-set_same, get_or-set_other, length-append}
+use Rattle.std.specs.Prelude.{◌⊎◌, ◌↔◌, Option, Some, None, slice_index, slice_index_or}
 use Rattle.std.proofs.Math.ListN.{length-set, length-replicate}
 use Rattle.std.specs.Option.{is_some}
 use Rattle.std.proofs.lemmas.Bool.{cases_eq, false≢true}
@@ -121,9 +121,9 @@ pub AreEmpty-lists : (old : Workqueues) (none is_empty : List Bool) (groups : �
     → Marks (λ (q : ℕ). ¬ HoldsOther old none q) old.assignment.lanes is_empty → Lists is_empty empty → AreEmpty old empty
 AreEmpty-lists old none is_empty groups empty is assigned are lists q = (
   λ there.
-  let marked : IsMarked is_empty q = (lists.exactly q).0 there in
-  let below : q < old.assignment.lanes = omega (arith, IsMarked-below is_empty q marked, are.one_each) in
-  (below, λ any. (are.exactly q below).0 marked (record { group = any.group; is_group = omega (arith, any.is_group, assigned, no_marks.one_each); other = unmarked any.group; on = any.on })),
+      let marked : IsMarked is_empty q = (lists.exactly q).0 there in
+      let below : q < old.assignment.lanes = omega (arith, IsMarked-below is_empty q marked, are.one_each) in
+      (below, λ any. (are.exactly q below).0 marked (record { group = any.group; is_group = omega (arith, any.is_group, assigned, no_marks.one_each); other = unmarked any.group; on = any.on })),
   λ both. (lists.exactly q).1 ((are.exactly q both.0).1 (λ holds. both.1 (record { group = holds.group; is_group = omega (arith, holds.is_group, assigned, no_marks.one_each); on = holds.on }))),
 )
   where

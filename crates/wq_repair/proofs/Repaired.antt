@@ -1,5 +1,5 @@
 -- What is to be compared, and all whose changes are needed, and in which numbers fall along all waits, is a repair.
-use Rattle.std.proofs.Common.{◌≡◌, ℕ, ◌≤◌, Bool, List, length}
+use Rattle.std.proofs.Common.{ℕ, ◌≤◌, Bool, List, length}
 use Rattle.std.specs.Prelude.{max}
 use Rattle.wq_groups.specs.Declaration.{Declaration, IsDeclaration}
 use Rattle.wq_core.specs.Workqueues.{Workqueues, wiring_of}

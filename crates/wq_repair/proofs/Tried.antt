@@ -21,8 +21,7 @@ pub rescued-read : (old : Workqueues) (s : Scope) (g lane : ℕ) (is_given is_ba
     → ((is_given ≡ true) ⊎ (not is_bare ≡ true)) ↔ (IsMarked s.given (lane_in old g) ⊎ IsRescued old (lane_in old g))
 rescued-read old s g lane is_given is_bare here given_is bare_is =
     let given_here : slice_index_or s.given (lane_in old g) false ≡ is_given = ap (λ (q : ℕ). slice_index_or s.given q false) here ∙ given_is in
-    let bare_here : slice_index_or old.bare (lane_in old g) false ≡ is_bare = ap (λ (q : ℕ). slice_index_or old.bare q false) here ∙ bare_is in
-    (
+    let bare_here : slice_index_or old.bare (lane_in old g) false ≡ is_bare = ap (λ (q : ℕ). slice_index_or old.bare q false) here ∙ bare_is in (
       λ either. elim either [
         | inl given ↦ inl (given_here ∙ given)
         | inr rescued ↦ inr (bare_here ∙ not_true is_bare rescued)

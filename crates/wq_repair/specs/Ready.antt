@@ -8,7 +8,7 @@ use Rattle.wq_core.specs.Workqueues.{Workqueues, wiring_of}
 use Rattle.wq_core.specs.Deadlock.{IsSafe}
 use Rattle.wq_levels.specs.Ranks.{AreRanks}
 use Rattle.wq_deadlock.specs.Judging.{rescued_graph}
-use Rattle.wq_repair.specs.Changes.{IsRescued, IsBare, IsNamed, IsNamedLane, IsToBeCompared, lane_in}
+use Rattle.wq_repair.specs.Changes.{IsRescued, IsNamed, IsNamedLane, IsToBeCompared, lane_in}
 use Rattle.wq_repair.specs.Marks.{IsMarked, Marks}
 use Rattle.wq_repair.specs.Together.{Lists, IsHomeOf, ArePutTogether}
 use Rattle.wq_repair.specs.Joined.{AreChangesNeeded, FallsAlongWaits}

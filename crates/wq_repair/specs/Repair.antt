@@ -1,8 +1,7 @@
 -- Repairs: workqueues made safe, with no change that could be left out.
-use Rattle.std.specs.Prelude.{◌≡◌, ℕ, ◌<◌, ◌≤◌, max, Bool, List, length}
+use Rattle.std.specs.Prelude.{ℕ, ◌<◌, ◌≤◌, max, Bool, List, length}
 use Rattle.wq_items.specs.Chain.{Circle}
 use Rattle.wq_groups.specs.Declaration.{Declaration}
-use Rattle.wq_groups.specs.Assignment.{IsAssignment}
 use Rattle.wq_graph.specs.declared.arc.WaitArc.{WaitArc}
 use Rattle.wq_graph.specs.Graph.{group_graph, without}
 use Rattle.wq_levels.specs.Walks.{IsWalkedCircle}

@@ -48,7 +48,7 @@ pub fn names_are_too_few_where_the_start_deadlocks()
 pub fn no_change_can_be_left_out()
     ensures { (d : Declaration) (old new fewer : Workqueues) (names : List ℕ) (needed : List Bool) → IsDeclaration d →
         ((g : ℕ) → g < d.groups → IsMarked needed g →
-            IsRescued fewer (lane_in fewer g) ⊎ Deadlocks (wiring_of d fewer)) →
+        IsRescued fewer (lane_in fewer g) ⊎ Deadlocks (wiring_of d fewer)) →
         AreChangesNeeded d old new needed → IsToBeCompared d old names fewer → HasFewerChanges d old fewer new →
         Deadlocks (wiring_of d fewer) }
 {}

@@ -195,9 +195,21 @@ fn put_back<A: Allocator + Copy>(
     let ranks = ranks_of(alloc, graph)?;
     let by_rank = by_rank(alloc, ranks.as_slice())?;
     let assignment = old.assignment();
-    let order = order_of_trial(alloc, graph, by_rank.as_slice(), assignment, tried.as_slice())?;
+    let order = order_of_trial(
+        alloc,
+        graph,
+        by_rank.as_slice(),
+        assignment,
+        tried.as_slice(),
+    )?;
     let mut homes = homes(alloc, old, scope)?;
-    put_together(alloc, joined, assignment, homes.as_mut_slice(), order.as_slice())
+    put_together(
+        alloc,
+        joined,
+        assignment,
+        homes.as_mut_slice(),
+        order.as_slice(),
+    )
 }
 
 /// Keeps those together that leave the same lane, as far as that makes no circle.
@@ -364,8 +376,19 @@ fn repair_without_circle<A: Allocator + Copy>(
     let needed = needed_groups(alloc, table, groups, workqueues, names)?;
     let named = named_groups(alloc, groups, names)?;
     let lanes = named_lanes(alloc, workqueues, named.as_slice())?;
-    let scope = scope_of(alloc, workqueues, named.as_slice(), lanes.as_slice(), needed)?;
-    let begin = start(alloc, workqueues, scope.movable.as_slice(), scope.given.as_slice())?;
+    let scope = scope_of(
+        alloc,
+        workqueues,
+        named.as_slice(),
+        lanes.as_slice(),
+        needed,
+    )?;
+    let begin = start(
+        alloc,
+        workqueues,
+        scope.movable.as_slice(),
+        scope.given.as_slice(),
+    )?;
     match judge(alloc, table, groups, &begin)? {
         Judged::Deadlock(steps) => Ok(Answer::TooFewNames(begin, steps)),
         Judged::Safe => {

@@ -18,6 +18,7 @@ import every  # noqa: E402  (beside this file)
 import drawings  # noqa: E402
 import hangs  # noqa: E402
 import prefixes  # noqa: E402
+import repairs  # noqa: E402
 import replays  # noqa: E402
 import runs  # noqa: E402
 import statuses  # noqa: E402
@@ -47,6 +48,9 @@ def table_cases():
     for text, rows in hangs.HANGS:
         for assignment, ends in rows:
             yield from hang_cases([text, assignment], ends)
+    for text, assignment, words, answer in repairs.ROWS:
+        texts = [text_of(text), text_of(assignment)]
+        yield Case("repairs", ["repair", 0, 1, *words], texts, text_of(answer), repairs.status_of(answer), diagnoses=True)
     for *texts, answer in hangs.LONG:
         yield Case("the longest hangs", ["hang", 0, 1], [text_of(text) for text in texts], text_of(answer), 1, diagnoses=True, first_line=True)
     for *texts, answers in drawings.SEVERAL:
@@ -128,7 +132,10 @@ def follow_ups(cases):
             run = answer[answer.index(b"run "):]
             replayed = [texts[0], own_workqueues(texts[0]), run]
             yield case("runs of circles that are replayed", "replay", replayed, "deadlock")
-        elif word == b"run":
+        elif word in (b"wq", b"norescuer"):
+            yield case("repairs that are safe", "deadlock", [texts[0], answer], "safe")
+            yield Case("repairs that need no repair", ["repair", 0, 1], [texts[0], answer], answer, 0, diagnoses=True)
+        elif word == b"run" and given.arguments[0] != "repair":
             yield case("runs that are replayed", "replay", texts + [answer], "deadlock")
 
 

@@ -1,4 +1,4 @@
-use Rattle.std.proofs.Common.{◌≡◌, ℕ, ◌<◌, List, [], length, take, subst, sym, ap, ◌∙◌, arith}
+use Rattle.std.proofs.Common.{◌≡◌, ℕ, ◌<◌, List, [], length, subst, sym, ap, ◌∙◌, arith}
 use Rattle.std.specs.Prelude.{◌↔◌, slice_get, slice_index, slice_index_or, Some, Contains}
 use Rattle.std.specs.List.{All}
 use Rattle.std.proofs.lemmas.List.{take_all}
@@ -34,10 +34,9 @@ returns-clause-on g c q k =
     let within : All (λ (n : ℕ). n < count) keys =
     subst (λ (xs : List ℕ). All (λ (n : ℕ). n < count) xs) (sym same) (subst (λ (n : ℕ). All (λ (m : ℕ). m < n) lane_of) (sym c.lanes-count.ensures.lanes) c.lanes-count.ensures.within) in
     let exactly : Contains (slice_index_or (buckets_of keys count) q []) k ↔ ((k < length keys) × (slice_index keys k ≡ q)) = Contains-bucket keys count within q k in
-    let buckets : c.in_ok-on.on ≡ buckets_of keys count = c.in_ok-on.ensures.buckets in
-    (
+    let buckets : c.in_ok-on.on ≡ buckets_of keys count = c.in_ok-on.ensures.buckets in (
       λ there.
-      let both = exactly.0 (subst (λ (on : List (List ℕ)). Contains (slice_index_or on q []) k) buckets there) in
-      (omega (arith, both.0, long), ap (λ (xs : List ℕ). slice_index xs k) (sym same) ∙ both.1),
+          let both = exactly.0 (subst (λ (on : List (List ℕ)). Contains (slice_index_or on q []) k) buckets there) in
+          (omega (arith, both.0, long), ap (λ (xs : List ℕ). slice_index xs k) (sym same) ∙ both.1),
       λ both. subst (λ (on : List (List ℕ)). Contains (slice_index_or on q []) k) (sym buckets) (exactly.1 (omega (arith, both.0, long), ap (λ (xs : List ℕ). slice_index xs k) same ∙ both.1)),
     )

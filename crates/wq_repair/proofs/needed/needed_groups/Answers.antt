@@ -1,5 +1,5 @@
-use Rattle.std.proofs.Common.{◌≡◌, ℕ, ◌+◌, ◌<◌, ◌≤◌, Bool, List, [], length, sym, ap, subst, ◌∙◌, arith}
-use Rattle.std.specs.Prelude.{◌↔◌, slice_index, slice_index_or, Contains}
+use Rattle.std.proofs.Common.{◌≡◌, ℕ, ◌<◌, ◌≤◌, Bool, List, length, sym, ap, subst, ◌∙◌, arith}
+use Rattle.std.specs.Prelude.{slice_index}
 use Rattle.std.proofs.lemmas.List.{get_or_default}
 use Rattle.std.proofs.lemmas.List.FromFn.{length-map-range_with_len}
 use Rattle.wq_groups.specs.Declaration.{Declaration, IsDeclaration, declaration_of}
@@ -107,8 +107,7 @@ follow-requires-clause-on g c q k =
     let are_named : Marks (IsNamed d names) d.groups c.in_ok-named.named.items = c.in_ok-named.ensures in
     let long : length c.as_slice-in-loop-done.result.now ≡ d.groups = ap (λ (xs : List Bool). length xs) c.as_slice-in-loop-done.ensures.value ∙ are_named.one_each in
     let exactly = c.in_ok-on.ensures.on q k in
-    let same : slice_index c.assignment-2.result.now.lane_of_group k ≡ slice_index c.args.workqueues.now.assignment.lane_of_group k = ap (λ (a : Assignment). slice_index a.lane_of_group k) c.assignment-2.ensures in
-    (
+    let same : slice_index c.assignment-2.result.now.lane_of_group k ≡ slice_index c.args.workqueues.now.assignment.lane_of_group k = ap (λ (a : Assignment). slice_index a.lane_of_group k) c.assignment-2.ensures in (
       λ there. let both = exactly.0 there in (omega (arith, both.0, long, c.len.ensures.len), sym same ∙ both.1),
       λ both. exactly.1 (omega (arith, both.0, long, c.len.ensures.len), same ∙ both.1),
     )

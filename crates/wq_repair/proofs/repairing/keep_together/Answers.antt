@@ -1,9 +1,8 @@
-use Rattle.std.proofs.Common.{◌≡◌, ◌<◌, ℕ, List, Bool, Option, None, length, get_or, replicate, sym, ap, subst, ◌∙◌, arith, rules}
+use Rattle.std.proofs.Common.{◌≡◌, ◌<◌, ℕ, List, None, length, get_or, replicate, sym, subst, ◌∙◌, arith, rules}
 use Rattle.std.specs.Prelude.{Contains, AllPairs, ◌≢◌}
 use Rattle.std.specs.List.{All}
 use Rattle.std.proofs.lemmas.List.Elements.{Contains-get_or}
-use Rattle.wq_repair.specs.Marks.{IsMarked}
-use Rattle.wq_repair.specs.Together.{Lists, IsHomeOf, IsAlone, AreHomes, ArePutTogether}
+use Rattle.wq_repair.specs.Together.{Lists}
 use Rattle.wq_repair.proofs.Homes.{no_home}
 use Rattle.wq_repair.proofs.StartMade.{IsMarked-below}
 use Rattle.wq_repair.proofs.repairing.keep_together.Goals as goal

@@ -1,14 +1,11 @@
-use Rattle.std.proofs.Common.{◌≡◌, ◌<◌, ◌≤◌, ℕ, List, Bool, Option, length, sym, ap, subst, ◌∙◌, arith}
+use Rattle.std.proofs.Common.{◌≡◌, ◌<◌, ℕ, List, Bool, Option, length, sym, ap, subst, ◌∙◌, arith}
 use Rattle.std.specs.Prelude.{Contains, AllPairs, ◌≢◌}
 use Rattle.std.specs.List.{All}
 use Rattle.std.proofs.lemmas.Result.{IfOk-weaker}
 use Rattle.wq_groups.specs.Assignment.{Assignment}
 use Rattle.wq_graph.specs.declared.arc.WaitArc.{WaitArc}
 use Rattle.wq_levels.proofs.Ranks.{AreRanks-few}
-use Rattle.wq_repair.specs.Marks.{Marks}
-use Rattle.wq_repair.specs.Together.{Lists, IsAlone, AreHomes, ArePutTogether}
-use Rattle.wq_repair.specs.Vertices.{AreHeads}
-use Rattle.wq_repair.specs.Ready.{IsPutBack}
+use Rattle.wq_repair.specs.Together.{Lists, AreHomes, ArePutTogether}
 use Rattle.wq_repair.proofs.Putting.{no_circle-vertices}
 use Rattle.wq_repair.proofs.PutBack.{Circle-between}
 use Rattle.wq_repair.proofs.TrialReady.{order-below, order-alone, AreHomes-at}

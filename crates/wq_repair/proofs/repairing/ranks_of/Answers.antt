@@ -1,4 +1,3 @@
-use Rattle.std.proofs.Common.{◌≡◌}
 use Rattle.wq_levels.proofs.OneCircle.{HasCircle-walked}
 use Rattle.wq_repair.proofs.repairing.ranks_of.Goals as goal
 

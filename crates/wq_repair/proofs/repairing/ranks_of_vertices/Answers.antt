@@ -1,4 +1,4 @@
-use Rattle.std.proofs.Common.{◌≡◌, ◌<◌, ◌≤◌, ℕ, List, length, refl, sym, ap, subst, ◌∙◌, arith}
+use Rattle.std.proofs.Common.{◌≡◌, ℕ, List, length, sym, ap, subst, ◌∙◌, arith}
 use Rattle.std.specs.Prelude.{slice_index}
 use Rattle.wq_items.specs.Chain.{HasCircle}
 use Rattle.wq_groups.specs.Declaration.{IsDeclaration, declaration_of}
@@ -49,7 +49,7 @@ returns g c =
       are = subst (λ (graph : List (List WaitArc)). AreRanks graph c.in_ok-ranks.ranks.items) is c.in_ok-ranks.ensures;
       one_each = c.in_ok-of_groups.ensures.one_each ∙ c.len.ensures.len;
       exactly = λ v lt.
-      c.in_ok-of_groups.ensures.ranks v (omega (arith, lt, c.len.ensures.len))
-      ∙ ap (λ (xs : List ℕ). slice_index xs (slice_index c.assignment-2.result.now.lane_of_group v)) c.as_slice.ensures.value
-      ∙ ap (λ (a : Assignment). slice_index c.in_ok-ranks.ranks.items (group_lane a v)) vertices;
+          c.in_ok-of_groups.ensures.ranks v (omega (arith, lt, c.len.ensures.len))
+          ∙ ap (λ (xs : List ℕ). slice_index xs (slice_index c.assignment-2.result.now.lane_of_group v)) c.as_slice.ensures.value
+          ∙ ap (λ (a : Assignment). slice_index c.in_ok-ranks.ranks.items (group_lane a v)) vertices;
     }

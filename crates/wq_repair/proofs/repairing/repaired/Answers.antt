@@ -1,12 +1,11 @@
-use Rattle.std.proofs.Common.{◌≡◌, ◌<◌, ◌≤◌, ◌⊎◌, ℕ, Bool, not, List, length, refl, sym, ap, subst, ◌∙◌, arith}
-use Rattle.std.specs.Prelude.{map, slice_index}
+use Rattle.std.proofs.Common.{◌<◌, ◌≤◌, ◌⊎◌, ℕ, Bool, not, List, length, sym, ap, subst, ◌∙◌, arith}
+use Rattle.std.specs.Prelude.{map}
 use Rattle.std.specs.List.{All}
 use Rattle.std.proofs.lemmas.Result.{IfOk-weaker}
 use Rattle.wq_groups.specs.Declaration.{IsDeclaration, declaration_of}
-use Rattle.wq_groups.specs.Assignment.{Assignment, IsAssignment}
+use Rattle.wq_groups.specs.Assignment.{Assignment}
 use Rattle.wq_groups.proofs.Declarations.{IsDeclaration-of}
 use Rattle.wq_graph.specs.Graph.{group_graph, without}
-use Rattle.wq_core.specs.Workqueues.{Workqueues}
 use Rattle.wq_repair.specs.Changes.{IsRescued, lane_in}
 use Rattle.wq_repair.specs.Marks.{IsMarked, Marks}
 use Rattle.wq_repair.specs.Steps.{ArePlacedBy}
@@ -662,4 +661,4 @@ returns g c =
     let of_groups : AreRanksOfGroups d (placed_at start two) ranks = subst (AreRanksOfGroups d (placed_at start two)) (sym c.as_slice-10.ensures.value) c.in_ok-ranks.ensures in
     IfOk-weaker c.place.result (ArePlacedBy old c.as_slice-7.result.now stays leaves ranks) (λ new. (names : List ℕ) → IsReady d old names s start → IsMinimal d old names s.needed new)
     (λ new placed all_names is_ready. IsMinimal-by d old all_names s start declaration is_ready graph of one two back leaves stays put are_leaving are_staying kept within few of_groups.of_lanes ranks of_groups.are of_groups.exactly new
-      (subst (λ (xs : List Bool). ArePlacedBy old xs stays leaves ranks new) (c.as_slice-7.ensures.value ∙ ap (λ (x : Scope). x.given) c.scope.view_is) placed)) c.place.ensures
+    (subst (λ (xs : List Bool). ArePlacedBy old xs stays leaves ranks new) (c.as_slice-7.ensures.value ∙ ap (λ (x : Scope). x.given) c.scope.view_is) placed)) c.place.ensures

@@ -73,7 +73,7 @@ new-requires-clause-falls g c =
     subst (λ (graph : List (List WaitArc)). AreRanks graph ranks) c.in_ok-start_graph.ensures.graph (subst (AreRanks c.in_ok-start_graph.start_graph) (sym c.as_slice.ensures.value) c.in_ok-ranks.ensures) in
     subst (λ (a : Assignment). (v w : ℕ) → HasArc c.args.graph.now v w → slice_index ranks (group_lane a w) < slice_index ranks (group_lane a v)) (sym c.assignment-2.ensures)
     (λ v w arc. falls-start d c.requires.ready.0 c.requires.ready.1 c.requires.ready.2 start declaration ready c.args.graph.now c.requires.ready.4 few ranks are
-      (group_lane start.assignment v) (group_lane start.assignment w) (record { from = v; to = w; arc = arc; leaves = refl; leads = refl }))
+    (group_lane start.assignment v) (group_lane start.assignment w) (record { from = v; to = w; arc = arc; leaves = refl; leads = refl }))
 
 pub returns-clause-at : goal.returns-clause-at
 returns-clause-at g c =

@@ -1,14 +1,12 @@
-use Rattle.std.proofs.Common.{◌≡◌, ◌≤◌, length, ℕ, ◌+◌, ◌-◌, ◌<◌, List, Bool, sym, ap, subst, ◌∙◌, arith}
-use Rattle.std.specs.List.{All}
+use Rattle.std.proofs.Common.{◌≡◌, length, ℕ, ◌+◌, ◌-◌, ◌<◌, List, Bool, sym, ap, subst, ◌∙◌, arith}
 use Rattle.std.proofs.lemmas.List.{get_or_default}
 use Rattle.wq_groups.specs.Assignment.{Assignment}
-use Rattle.wq_core.specs.Workqueues.{Workqueues}
 use Rattle.wq_repair.specs.Changes.{lane_in}
 use Rattle.wq_repair.specs.Together.{Lists}
 use Rattle.wq_repair.specs.Steps.{IsStartBy}
 use Rattle.wq_repair.specs.Lanes.{AreFree, AreOwnLanes, AreBareNow}
 use Rattle.wq_repair.proofs.LaneReads.{lane-within}
-use Rattle.wq_repair.proofs.StartMade.{AreFree-lists, within-made, IsStartBy-made}
+use Rattle.wq_repair.proofs.StartMade.{AreFree-lists, IsStartBy-made}
 use Rattle.wq_repair.proofs.start.start.Goals as goal
 
 AreOwnLanes-same : (a b : Assignment) (marks : List Bool) (xs ys : List ℕ) (n : ℕ) (lane_of : List ℕ) (taken : ℕ) → b ≡ a → ys ≡ xs → AreOwnLanes b marks ys n lane_of taken → AreOwnLanes a marks xs n lane_of taken

@@ -1,4 +1,4 @@
-use Rattle.std.proofs.Common.{◌≡◌, ◌<◌, ℕ}
+use Rattle.std.proofs.Common.{◌<◌, ℕ}
 use Rattle.wq_repair.specs.Changes.{IsRescued, lane_in}
 use Rattle.wq_repair.specs.Marks.{IsMarked}
 use Rattle.wq_repair.proofs.wider.all_rescued.Given as goal

@@ -1,4 +1,4 @@
-use Rattle.std.proofs.Common.{◌≡◌, ◌<◌, ℕ, Bool, List, length, sym, ap, subst, ◌∙◌, arith}
+use Rattle.std.proofs.Common.{◌<◌, ℕ, Bool, List, length, ap, subst, ◌∙◌, arith}
 use Rattle.wq_groups.specs.Declaration.{declaration_of}
 use Rattle.wq_deadlock.specs.Judging.{AreSafe}
 use Rattle.wq_repair.specs.Changes.{IsRescued, lane_in}

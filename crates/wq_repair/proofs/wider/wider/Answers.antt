@@ -1,4 +1,4 @@
-use Rattle.std.proofs.Common.{◌≡◌, ◌<◌, ◌⊎◌, ℕ, Bool, List, length, sym, ap, subst, ◌∙◌}
+use Rattle.std.proofs.Common.{◌<◌, ◌⊎◌, ℕ, Bool, List, length, ap, subst, ◌∙◌}
 use Rattle.wq_groups.specs.Declaration.{IsDeclaration, declaration_of}
 use Rattle.wq_groups.proofs.Declarations.{IsDeclaration-of}
 use Rattle.wq_repair.specs.Changes.{lane_in}

@@ -1,7 +1,7 @@
-use Rattle.std.proofs.Common.{◌≡◌, ◌<◌, ◌≤◌, ℕ, inl, Bool, List, length, sym, ap, subst, ◌∙◌, arith}
+use Rattle.std.proofs.Common.{◌≡◌, ◌<◌, ℕ, inl, Bool, List, length, sym, ap, subst, ◌∙◌, arith}
 use Rattle.std.proofs.lemmas.List.FromFn.{length-map-range_with_len}
 use Rattle.wq_graph.specs.Graph.{arcs_from}
-use Rattle.wq_groups.specs.Declaration.{IsDeclaration, declaration_of}
+use Rattle.wq_groups.specs.Declaration.{declaration_of}
 use Rattle.wq_groups.specs.Assignment.{Assignment, IsAssignment}
 use Rattle.wq_repair.specs.Changes.{IsNamed, IsNamedLane}
 use Rattle.wq_repair.specs.Marks.{IsMarked, Marks}
