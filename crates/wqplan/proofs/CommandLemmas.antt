@@ -1,6 +1,6 @@
 -- The command that a parse of the program's words entered, and the files that it was given.
 use Rattle.std.proofs.Common.{refl, ap, ap₂, sym, subst, arith, ℕ, zero, suc, ◌≤◌, ◌⊎◌, inl, inr, Result, Ok, Err, IsErrAnd, MatchResult, ◌∙◌, codes, Bool, true, false, cond, not, ◌==◌, ◌&&◌, [], ◌∷◌, List, Option, Some, None, ◌≡◌}
-use Rattle.std.specs.Prelude.{IsSomeAnd, option_map, pos, unwrap_or}
+use Rattle.std.specs.Prelude.{IfSome, IsSome, IsSomeAnd, option_map, pos, unwrap_or}
 use Rattle.std.specs.Str.{bytes_eq}
 use Rattle.std.specs.Borrow.{Bor}
 use Rattle.clap.specs.Words.{Row, Text, first_of, first_value, is_simple, one_of, rows_of, takes}
@@ -496,3 +496,10 @@ names_given names r s f read is = ap (λ (o : Option (List Text)). unwrap_or o [
 pub no_names_given : {S : Type 0} (names : S → List Text) (r : Option S) (f : Found) → option_map names r ≡ option_map raw_values (matched_of f (codes "NAME")) → r ≡ None
     → [] ≡ names_of (rows_of f)
 no_names_given names r f read is = ap (λ (o : Option (List Text)). unwrap_or o []) (sym (ap (option_map names) is) ∙ read ∙ raw_values-rows f (codes "NAME"))
+
+-- what holds of what there is
+pub if_some : {T : Type 0} (o : Option T) (x : T) (P : T → Type 0) → o ≡ Some x → IfSome o P → P x
+if_some o x P is holds = subst (λ p. IfSome p P) is holds
+
+pub no_some : {T : Type 0} (o : Option T) → o ≡ None → IsSome o → ⊥
+no_some {T} o is some = absurd (let bad : false ≡ true = subst (λ (p : Option T). IsSome p) is some in cc)

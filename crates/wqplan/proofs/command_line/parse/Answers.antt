@@ -1,8 +1,8 @@
-use Rattle.std.proofs.Common.{false, true, ap, sym, subst, map, ◌≡◌, ◌∙◌}
+use Rattle.std.proofs.Common.{true, ap, sym, subst, map, ◌≡◌, ◌∙◌}
 use Rattle.clap.specs.Words.{App, app_of, is_simple, kind_of, subcommand_of, subcommand_rows_of, takes}
 use Rattle.clap.specs.declared.error.kind.ErrorKind.TheVariants.{OutOfMemory}
 use Rattle.wqplan.specs.CommandLine.{wqplan, spelled, AsksFor}
-use Rattle.wqplan.proofs.CommandLemmas.{wqplan_is_simple, takes_Calls, Asks_Calls, AsksFor-unique, failed_with, few_helpers}
+use Rattle.wqplan.proofs.CommandLemmas.{wqplan_is_simple, takes_Calls, Asks_Calls, AsksFor-unique, failed_with, few_helpers, if_some, no_some}
 use Rattle.wqplan.proofs.command_line.parse.Goals as goal
 
 pub returns-in_err-matches-clause-called : goal.returns-in_err-matches-clause-called
@@ -19,7 +19,7 @@ returns-in-Some-clause-asked g c =
     let app_is : app_of c.in_ok-command.command ≡ wqplan = c.in_ok-command.ensures in
     let entered_is : subcommand_rows_of matches ≡ subcommand_of wqplan words =
     (c.in_ok-matches.ensures.ok.2 (ap is_simple app_is ∙ wqplan_is_simple)).1 ∙ ap (λ (a : App). subcommand_of a words) app_is in
-    subst (λ met. AsksFor met (spelled c.in-Some.request)) entered_is c.in-Some.ensures.asked
+    subst (λ met. AsksFor met (spelled c.in-Some.request)) entered_is (if_some c.in_ok-request.field-0 c.in-Some.request (λ request. AsksFor (subcommand_rows_of c.in_ok-matches.matches) (spelled request)) c.in-Some.is c.in_ok-request.ensures.asked)
 
 pub returns-in-Some-clause-called : goal.returns-in-Some-clause-called
 returns-in-Some-clause-called g c = λ wanted is.
@@ -28,7 +28,7 @@ returns-in-Some-clause-called g c = λ wanted is.
     let app_is : app_of c.in_ok-command.command ≡ wqplan = c.in_ok-command.ensures in
     let entered_is : subcommand_rows_of matches ≡ subcommand_of wqplan words =
     (c.in_ok-matches.ensures.ok.2 (ap is_simple app_is ∙ wqplan_is_simple)).1 ∙ ap (λ (a : App). subcommand_of a words) app_is in
-    let asked = subst (λ met. AsksFor met (spelled c.in-Some.request)) entered_is c.in-Some.ensures.asked in
+    let asked = subst (λ met. AsksFor met (spelled c.in-Some.request)) entered_is (if_some c.in_ok-request.field-0 c.in-Some.request (λ request. AsksFor (subcommand_rows_of c.in_ok-matches.matches) (spelled request)) c.in-Some.is c.in_ok-request.ensures.asked) in
     AsksFor-unique (subcommand_of wqplan words) (spelled c.in-Some.request) wanted asked (Asks_Calls words wanted is)
 
 pub returns-clause-called : goal.returns-clause-called
@@ -39,8 +39,7 @@ returns-clause-called g c = λ wanted is.
     let entered_is : subcommand_rows_of matches ≡ subcommand_of wqplan words =
     (c.in_ok-matches.ensures.ok.2 (ap is_simple app_is ∙ wqplan_is_simple)).1 ∙ ap (λ (a : App). subcommand_of a words) app_is in
     let asked = subst (λ met. AsksFor met wanted) (sym entered_is) (Asks_Calls words wanted is) in
-    let bad : false ≡ true = c.in-None.ensures.all wanted asked in
-    cc
+    absurd (no_some c.in_ok-request.field-0 c.in-None.is (c.in_ok-request.ensures.all wanted asked))
 
 pub returns-in-Some-clause-few_helpers : goal.returns-in-Some-clause-few_helpers
-returns-in-Some-clause-few_helpers g c = let asked = c.in-Some.ensures.asked in few_helpers asked.0 (spelled c.in-Some.request) asked.2
+returns-in-Some-clause-few_helpers g c = let asked = (if_some c.in_ok-request.field-0 c.in-Some.request (λ request. AsksFor (subcommand_rows_of c.in_ok-matches.matches) (spelled request)) c.in-Some.is c.in_ok-request.ensures.asked) in few_helpers asked.0 (spelled c.in-Some.request) asked.2
