@@ -1,5 +1,5 @@
 -- What is said beside the answer of `repair`.
-use Rattle.std.specs.Prelude.{◌≡◌, ◌⊎◌, ℕ, List, [], ◌∷◌, ◌++◌, Option, Some, None, MatchOption, MatchResult, codes, option_map}
+use Rattle.std.specs.Prelude.{◌≡◌, ◌⊎◌, if◌then◌else◌, is_none, ℕ, List, [], ◌∷◌, ◌++◌, Option, Some, None, MatchOption, MatchResult, codes, option_map}
 use Rattle.wq_items.specs.Table.{item_named}
 use Rattle.wq_graph.specs.declared.arc.WaitArc.{WaitArc}
 use Rattle.wq_core.specs.declared.step.Step.{Step}
@@ -15,7 +15,7 @@ use Rattle.wq_commands.specs.declared.end.End.TheVariants.{Refused}
 use Rattle.wq_commands.specs.declared.why.Why.{Why}
 use Rattle.wq_diagnosis.specs.Diagnosis.{shown_lines}
 use Rattle.wq_repair.specs.Repair.{IsRepair, AreNamesTooFew, IsNeededCircle}
-use Rattle.wq_repair_command.specs.Repairing.{movers}
+use Rattle.wq_repair_command.specs.Movers.{movers}
 use Rattle.wq_voice.specs.Note.{NotesBare}
 use Rattle.wq_voice.specs.Voice.{SaysWhy}
 use Rattle.wq_changes.specs.Told.{TellsChanges}
@@ -71,19 +71,21 @@ SaysMoving f s old moving said =
 abbrev pub SaysNamed : Files → List (List ℕ) → Declared → Workqueues → Option (List ℕ) → Type 0
 SaysNamed f names s old said = MatchOption (movers s.table.names names) (said ≡ None) (λ moving. SaysMoving f s old moving said)
 
--- the same of texts; nothing if one is refused
+-- the same of the text of an assignment; nothing if it is refused
+abbrev pub SaysDeclared : Files → List (List ℕ) → Declared → Option (List ℕ) → Type 0
+SaysDeclared f names s said =
+    MatchResult (workqueues_of_text s.table.names s.partition f.lanes) (λ old. SaysNamed f names s old said) (λ _. said ≡ None)
+
+-- the same of both texts; nothing if one is refused
 abbrev pub SaysRepair : Files → List (List ℕ) → Option (List ℕ) → Type 0
-SaysRepair f names said =
-    MatchResult (declaration f.text)
-    (λ s. MatchResult (workqueues_of_text s.table.names s.partition f.lanes) (λ old. SaysNamed f names s old said) (λ _. said ≡ None))
-    (λ _. said ≡ None)
+SaysRepair f names said = MatchResult (declaration f.text) (λ s. SaysDeclared f names s said) (λ _. said ≡ None)
 
 -- ---- a name that is that of no item
 
 -- the first of these names that is that of no item
 abbrev pub first_unknown : List (List ℕ) → List (List ℕ) → Option (List ℕ)
 first_unknown items [] = None
-first_unknown items (name ∷ names) = MatchOption (item_named items name) (Some name) (λ _. first_unknown items names)
+first_unknown items (name ∷ names) = if is_none (item_named items name) then Some name else first_unknown items names
 
 -- that this is the name of no item
 abbrev pub unknown_line : List ℕ → List ℕ → List ℕ

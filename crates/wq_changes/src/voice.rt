@@ -3,13 +3,14 @@
 //!
 //! It takes the time and the memory of the diagnosis, or of what is said of the answer.
 
-ghost use Rattle.std.specs.Prelude.{◌≡◌, IfOk, map, option_map};
-ghost use Rattle.wq_changes.specs.Voice.{SaysBeside};
+ghost use Rattle.std.specs.Prelude.{[], IfOk, Some, map, option_map};
+ghost use Rattle.wq_voice.specs.Voice.{SaysWhy};
+ghost use Rattle.wq_changes.specs.Voice.{SaysBeside, SaysOf};
 
 use crate::reading::of_repair;
 use crate::unknown::of_unknown;
 use std::alloc::{AllocError, Allocator};
-use wq_commands::{End, Outcome, Texts, Voice};
+use wq_commands::{End, Outcome, Texts, Voice, Why};
 use wq_diagnosis::Source;
 use wq_voice::{Beside, CertificateKind, Diagnosing};
 
@@ -50,6 +51,49 @@ fn of_more<A: Allocator + Copy>(
     }
 }
 
+/// The diagnosis of the text that is refused, for this reason.
+fn of_reason<A: Allocator + Copy>(
+    alloc: A,
+    voice: &Repairing<'_>,
+    texts: &Texts<A>,
+    end: End,
+    why: Why,
+) -> Result<Option<Vec<u8, A>>, AllocError>
+    ensures { IfOk result (λ said. SaysWhy voice.now.declaration.now voice.now.assignment.now [] texts.now (Some why)
+        (option_map (λ text. text.items) said)) }
+{
+    let diagnosing = Diagnosing {
+        seed: voice.seed,
+        declaration: voice.declaration,
+        kind: CertificateKind::Assignment,
+        certificate: voice.assignment,
+        run: "",
+        beside: Beside::Other,
+    };
+    let outcome = Outcome {
+        end,
+        why: Some(why),
+    };
+    diagnosing.say(alloc, texts, &outcome)
+}
+
+/// What is said of an answer with this end, for this reason, where there is one.
+fn of_outcome<A: Allocator + Copy>(
+    alloc: A,
+    voice: &Repairing<'_>,
+    texts: &Texts<A>,
+    end: End,
+    why: Option<Why>,
+) -> Result<Option<Vec<u8, A>>, AllocError>
+    ensures { IfOk result (λ said. SaysOf voice.now.declaration.now voice.now.assignment.now (map (λ n. n.now) voice.now.names.now)
+        texts.now end why (option_map (λ text. text.items) said)) }
+{
+    match why {
+        None => of_more(alloc, voice, texts, end),
+        Some(why) => of_reason(alloc, voice, texts, end, why),
+    }
+}
+
 impl<A: Allocator + Copy> Voice<A, Outcome> for Repairing<'_> {
     ghost use Rattle.std.specs.Prelude.{map};
     ghost use Rattle.wq_changes.specs.Voice.{SaysOf};
@@ -63,16 +107,6 @@ impl<A: Allocator + Copy> Voice<A, Outcome> for Repairing<'_> {
         texts: &Texts<A>,
         outcome: &Outcome,
     ) -> Result<Option<Vec<u8, A>>, AllocError> {
-        if outcome.why.is_none() {
-            return of_more(alloc, self, texts, outcome.end);
-        }
-        let diagnosing = Diagnosing::two(
-            self.seed,
-            self.declaration,
-            CertificateKind::Assignment,
-            self.assignment,
-            Beside::Other,
-        );
-        diagnosing.say(alloc, texts, outcome)
+        of_outcome(alloc, self, texts, outcome.end, outcome.why)
     }
 }

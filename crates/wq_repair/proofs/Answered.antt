@@ -2,8 +2,8 @@
 use Rattle.std.proofs.Common.{◌≡◌, ℕ, ◌<◌, ◌≤◌, ◌⊎◌, inl, inr, Bool, true, false, not, List, [], ◌∷◌, length, get_or, refl, sym, ap, subst, ◌∙◌, arith}
 use Rattle.std.specs.Prelude.{◌↔◌, map, slice_index, slice_index_or, Contains}
 use Rattle.std.specs.List.{All}
-use Rattle.std.proofs.lemmas.Bool.{cases_Bool, cases_lt, false≢true}
-use Rattle.std.proofs.lemmas.List.{get_or-map, get_or_default, get_or_past, length-map}
+use Rattle.std.proofs.lemmas.Bool.{cases_lt, false≢true}
+use Rattle.std.proofs.lemmas.List.{get_or-map, get_or_default, length-map}
 use Rattle.std.proofs.lemmas.List.Elements.{All-nil, All-cons}
 use Rattle.std.proofs.lemmas.List.FromFn.{length-map-range_with_len}
 use Rattle.wq_items.proofs.Lists.{Contains-here}
@@ -14,7 +14,6 @@ use Rattle.wq_graph.specs.declared.arc.WaitArc.{WaitArc}
 use Rattle.wq_graph.specs.Graph.{HasArc, IsGraph, arcs_from, group_graph, without}
 use Rattle.wq_graph.proofs.Graphs.{GroupWaits-HasArc, IsGraph-group_graph}
 use Rattle.wq_graph.proofs.LeavingOut.{length-without, HasArc-without, IsGraph-without}
-use Rattle.wq_levels.specs.Ranks.{AreRanks}
 use Rattle.wq_levels.specs.Walks.{IsWalkedCircle}
 use Rattle.wq_levels.proofs.Graphs.{HasArc-below}
 use Rattle.wq_levels.proofs.OneCircle.{HasCircle-walked}
@@ -25,20 +24,19 @@ use Rattle.wq_core.proofs.KnotRuns.{Deadlocks-knot}
 use Rattle.wq_core.proofs.LaneCircles.{Circle-map}
 use Rattle.wq_deadlock.specs.Judging.{bare_waits, rescued_graph, AreFirst, IsHang}
 use Rattle.wq_deadlock.proofs.BareLanes.{IsWiring-workqueues, IsKnot-first}
-use Rattle.wq_repair.specs.Changes.{IsRescued, IsBare, IsNamed, IsNamedLane, IsToBeCompared, lane_in}
-use Rattle.wq_repair.specs.Needed.{IsLedTo, StaysBeside, BringsAlong, NeedsRescuer, NeedsRescuerOf, AreUnneeded}
+use Rattle.wq_repair.specs.Changes.{IsRescued, IsNamed, IsNamedLane, lane_in}
+use Rattle.wq_repair.specs.Needed.{BringsAlong, NeedsRescuer, NeedsRescuerOf}
 use Rattle.wq_repair.specs.Marks.{IsMarked, Marks}
-use Rattle.wq_repair.specs.Joined.{NeededWaits, HangsRound, IsStart, NeedRescuers}
+use Rattle.wq_repair.specs.Joined.{NeededWaits, IsStart}
 use Rattle.wq_repair.specs.Steps.{IsToBeGiven, IsMovable, IsStartBy}
 use Rattle.wq_repair.specs.Ready.{Scope, IsReady, IsGraphOfNeeded, IsMinimal}
 use Rattle.wq_repair.specs.Repair.{IsRepair, AreNamesTooFew, IsNeededCircle}
-use Rattle.wq_repair.proofs.Rescuers.{stays-unnamed, rescued-first, waiting-below, awaited-below, IsLedTo-first, IsLedTo-next, NeedsRescuerOf-any, rescued-needed, Deadlocks-needed_circle}
+use Rattle.wq_repair.proofs.Rescuers.{stays-unnamed, rescued-first, waiting-below, awaited-below, IsLedTo-first, IsLedTo-next, rescued-needed, Deadlocks-needed_circle}
 use Rattle.wq_repair.proofs.Starts.{cases_named}
 use Rattle.wq_repair.proofs.StartsBy.{IsStart-by}
-use Rattle.wq_repair.proofs.StartMade.{IsMarked-below}
 use Rattle.wq_repair.proofs.Readied.{all_or_one}
 use Rattle.wq_repair.proofs.Identified.{Circle-identified}
-use Rattle.wq_repair.proofs.Judged.{GroupsWait, GroupsWait-arc, bare_group_waits, Deadlocks-hanging, rescued_awaited-safe, IsGraph-rescued_graph}
+use Rattle.wq_repair.proofs.Judged.{GroupsWait-arc, bare_group_waits, Deadlocks-hanging, rescued_awaited-safe, IsGraph-rescued_graph}
 use Rattle.wq_repair.proofs.Repaired.{IsRepair-needed}
 
 -- a circle whose vertices are bounded, as all that something leads to is
@@ -69,22 +67,21 @@ module _ (d : Declaration) (declaration : IsDeclaration d) (needed : List Bool) 
   IsGraphOfNeeded-without = record {
     long = length-without (map not needed) (group_graph d) ∙ length-map-range_with_len (arcs_from d.waits d.group_of) 0 d.groups;
     arcs = λ g h.
-    let kept = HasArc-without (map not needed) (group_graph d) g h in
-    let waits = GroupWaits-HasArc d declaration g h in (
-      λ arc.
-      let parts = kept.0 arc in
-      let group_waits = waits.1 parts.2 in
-      (
-        (left_out-not needed g (omega (arith, waiting-below d declaration g h group_waits, long))).0 parts.0,
-        (left_out-not needed h (omega (arith, awaited-below d declaration g h group_waits, long))).0 parts.1,
-        group_waits,
-      ),
-      λ all. kept.1 (
-        (left_out-not needed g (omega (arith, waiting-below d declaration g h all.2, long))).1 all.0,
-        (left_out-not needed h (omega (arith, awaited-below d declaration g h all.2, long))).1 all.1,
-        waits.0 all.2,
-      ),
-    );
+        let kept = HasArc-without (map not needed) (group_graph d) g h in
+        let waits = GroupWaits-HasArc d declaration g h in (
+          λ arc.
+              let parts = kept.0 arc in
+              let group_waits = waits.1 parts.2 in (
+                (left_out-not needed g (omega (arith, waiting-below d declaration g h group_waits, long))).0 parts.0,
+                (left_out-not needed h (omega (arith, awaited-below d declaration g h group_waits, long))).0 parts.1,
+                group_waits,
+              ),
+          λ all. kept.1 (
+            (left_out-not needed g (omega (arith, waiting-below d declaration g h all.2, long))).1 all.0,
+            (left_out-not needed h (omega (arith, awaited-below d declaration g h all.2, long))).1 all.1,
+            waits.0 all.2,
+          ),
+        );
   }
 
 -- ---- where all may move
@@ -115,8 +112,7 @@ module _ (d : Declaration) (old : Workqueues) (names : List ℕ) (all_named : (g
 pub IsNamed-all : (d : Declaration) (items : List ℕ) → IsDeclaration d → ((i : ℕ) → i < length d.group_of → slice_index items i ≡ i) → length items ≡ length d.group_of → (g : ℕ) → g < d.groups → IsNamed d items g
 IsNamed-all d items declaration all long g is =
     let there = declaration.partition.filled g is in
-    let within : there.0 < length items = omega (arith, there.1, long) in
-    (
+    let within : there.0 < length items = omega (arith, there.1, long) in (
       there.0,
       there.0,
       within,
@@ -136,9 +132,9 @@ module _ (d : Declaration) (old : Workqueues) (declaration : IsDeclaration d) (b
       let of = (IsGraphOfNeeded-without d declaration always are.one_each).arcs g h in (
         λ arc. let parts = of.0 arc in ((are.exactly g (waiting-below d declaration g h parts.2)).0 parts.0, parts.2),
         λ waits.
-        let g_below = waiting-below d declaration g h waits.1 in
-        let h_below = awaited-below d declaration g h waits.1 in
-        of.1 ((are.exactly g g_below).1 waits.0, (are.exactly h h_below).1 (IsLedTo-next d old (GroupWaits d) g h waits.0 waits.1), waits.1),
+            let g_below = waiting-below d declaration g h waits.1 in
+            let h_below = awaited-below d declaration g h waits.1 in
+            of.1 ((are.exactly g g_below).1 waits.0, (are.exactly h h_below).1 (IsLedTo-next d old (GroupWaits d) g h waits.0 waits.1), waits.1),
       )
 
   needed_sound : IsGraph (without (map not always) (group_graph d))
@@ -293,4 +289,4 @@ pub IsRepair-minimal : (d : Declaration) (old new : Workqueues) (names : List �
 IsRepair-minimal d old new names needed declaration before are_needed dead is =
     IsRepair-needed d old new names needed is.number declaration dead is.compared
     (λ fewer compared less g below marked. rescued-needed d old fewer names declaration before compared g ((are_needed.exactly g below).0 marked))
-    is.changes is.falls is.few
+    is.changes is.falls is.few is.bare

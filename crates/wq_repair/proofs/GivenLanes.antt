@@ -1,6 +1,5 @@
 -- The lanes that are given a rescuer, as groups are looked at one after the other.
-use Rattle.std.proofs.Common.{◌≡◌, ◌≢◌, ℕ, ◌+◌, ◌<◌, inl, inr, Bool, false, List, length, set, sym, ap, subst, ◌∙◌, arith}
-use Rattle.std.specs.Prelude.{◌↔◌}
+use Rattle.std.proofs.Common.{◌≡◌, ℕ, ◌+◌, ◌<◌, inl, inr, Bool, false, List, length, set, sym, ap, subst, ◌∙◌, arith}
 use Rattle.std.proofs.lemmas.Bool.{cases_eq}
 use Rattle.wq_core.specs.Workqueues.{Workqueues}
 use Rattle.wq_repair.specs.Changes.{IsBare, lane_in}

@@ -1,10 +1,10 @@
 -- What a verdict on workqueues says of groups.
-use Rattle.std.proofs.Common.{◌≡◌, ℕ, ◌<◌, ◌≤◌, ◌⊎◌, inl, inr, Bool, true, false, not, List, [], ◌∷◌, length, get_or, refl, sym, ap, subst, ◌∙◌, arith}
+use Rattle.std.proofs.Common.{◌≡◌, ℕ, ◌<◌, ◌≤◌, inl, inr, Bool, true, false, not, List, [], ◌∷◌, length, refl, sym, subst, ◌∙◌}
 use Rattle.std.specs.Prelude.{◌↔◌, ◌&&◌, slice_get, slice_index, Some, Contains}
 use Rattle.std.proofs.lemmas.Bool.{false≢true}
 use Rattle.std.proofs.lemmas.Option.{get_or_from_slice_get}
 use Rattle.std.proofs.lemmas.List.FromFn.{length-map-range_with_len}
-use Rattle.wq_items.specs.Chain.{Circle, HasCircle}
+use Rattle.wq_items.specs.Chain.{Circle}
 use Rattle.wq_items.specs.Table.{ItemWaits}
 use Rattle.wq_items.proofs.Lists.{Contains-here}
 use Rattle.wq_groups.specs.Declaration.{Declaration, IsDeclaration, GroupWaits}
@@ -20,7 +20,7 @@ use Rattle.wq_core.specs.Wiring.{RescuedWaits}
 use Rattle.wq_core.specs.Workqueues.{Workqueues, wiring_of}
 use Rattle.wq_core.specs.Deadlock.{IsSafe, Deadlocks}
 use Rattle.wq_core.proofs.LaneCircles.{Circle-map}
-use Rattle.wq_deadlock.specs.Judging.{is_on_bare, leads_to_bare, bare_waits, rescued_graph, AreFirst}
+use Rattle.wq_deadlock.specs.Judging.{is_on_bare, bare_waits, rescued_graph, AreFirst}
 use Rattle.wq_deadlock.proofs.BareLanes.{IsArc-bare_waits}
 use Rattle.wq_deadlock.proofs.Renumbered.{not_safe-deadlocks}
 use Rattle.wq_repair.specs.Changes.{IsRescued, IsToBeCompared, lane_in}
@@ -37,8 +37,7 @@ module _ (d : Declaration) (ws : Workqueues) (declaration : IsDeclaration d) (as
   pub RescuedWaits-arc : (p q : ℕ) → HasArc (rescued_graph d ws) p q ↔ RescuedWaits (wiring_of d ws) p q
   RescuedWaits-arc p q =
       let kept = HasArc-without ws.bare (lane_graph d ws.assignment) p q in
-      let lanes = VertexWaits-lane_graph d ws.assignment declaration assignment p q in
-      (
+      let lanes = VertexWaits-lane_graph d ws.assignment declaration assignment p q in (
         λ arc. let parts = kept.0 arc in (parts.0, parts.1, lanes.1 parts.2),
         λ waits. kept.1 (waits.0, waits.1, lanes.0 waits.2),
       )

@@ -1,11 +1,11 @@
 -- Two vertices of which neither leads to the other come to the same height.
-use Rattle.std.proofs.Common.{◌≡◌, ◌≢◌, ℕ, ◌+◌, ◌-◌, ◌^◌, ◌<◌, ◌≤◌, ◌⊎◌, inl, inr, Bool, true, false, List, [], length, get_or, set, ◌↔◌, refl, sym, subst, ap, ◌∙◌, arith}
-use Rattle.std.specs.Prelude.{Contains, All, slice_index, slice_index_or, if◌then◌else◌, ◌==◌, ◌||◌}
+use Rattle.std.proofs.Common.{◌≡◌, ◌≢◌, ℕ, ◌+◌, ◌-◌, ◌^◌, ◌<◌, ◌≤◌, ◌⊎◌, inl, inr, Bool, false, List, [], length, get_or, set, ◌↔◌, refl, sym, subst, ap, ◌∙◌, arith}
+use Rattle.std.specs.Prelude.{Contains, slice_index, slice_index_or, if◌then◌else◌, ◌==◌, ◌||◌}
 use Rattle.std.proofs.lemmas.Bool.{cases_eq, cases_lt, cases_Bool, false≢true, eqb-true, eq-eqb}
 use Rattle.std.proofs.lemmas.List.{get_or_default, length-set, get_or-set_same, get_or-set_other}
 use Rattle.std.proofs.lemmas.List.Elements.{All-contains}
 use Rattle.wq_repair.specs.Marks.{IsMarked, Marks}
-use Rattle.wq_repair.specs.Vertices.{Vertices, AreVertices, LeadsOn, LeadsTo, HasSearched, IsNotHigher, heads_at, raised}
+use Rattle.wq_repair.specs.Vertices.{Vertices, AreVertices, LeadsOn, HasSearched, IsNotHigher, heads_at, raised}
 use Rattle.wq_repair.proofs.VertexLists.{past_end}
 
 pub LeadsOn-from : (at : List ℕ) (heads : List (List ℕ)) (p q : ℕ) → LeadsOn at heads p q → p < length heads

@@ -34,3 +34,6 @@ pub mod Ordered
 pub mod GivenLanes
 pub mod PutBack
 pub mod RepairedBy
+pub mod Widened
+pub mod Tried
+pub mod TrialReady

@@ -1,14 +1,14 @@
 -- The lists of vertices, made group by group.
-use Rattle.std.proofs.Common.{◌≡◌, ◌≢◌, ℕ, ◌+◌, ◌<◌, ◌≤◌, ◌⊎◌, ◌↔◌, inl, inr, List, [], ◌∷◌, ◌++◌, length, map, get_or, set, replicate, refl, sym, subst, ap, ◌∙◌, lit≤, arith}
+use Rattle.std.proofs.Common.{◌≡◌, ◌≢◌, ℕ, ◌+◌, ◌<◌, ◌≤◌, ◌↔◌, inl, inr, List, [], ◌++◌, length, map, get_or, set, replicate, sym, subst, ap, ◌∙◌, lit≤, arith}
 use Rattle.std.specs.Prelude.{Contains, All, slice_index}
 use Rattle.std.proofs.lemmas.Bool.{cases_eq, cases_lt}
 use Rattle.std.proofs.lemmas.List.{get_or-set_same, get_or-set_other, get_or-replicate, length-replicate, get_or_default}
-use Rattle.std.proofs.lemmas.List.Elements.{All-contains, Contains-get_or, Contains-append_left, Contains-append_right, Contains-append_cases}
+use Rattle.std.proofs.lemmas.List.Elements.{Contains-get_or, Contains-append_left, Contains-append_right, Contains-append_cases}
 use Rattle.wq_graph.specs.declared.arc.WaitArc.{WaitArc}
 use Rattle.wq_graph.specs.Graph.{HasArc, arcs_at}
 use Rattle.wq_graph.proofs.ListLemmas.{Contains-map, Contains-from_map}
 use Rattle.wq_graph.specs.Graph.{IsGraph}
-use Rattle.wq_repair.specs.Vertices.{AreVertices, AreHeads, LeadsOn, heads_at}
+use Rattle.wq_repair.specs.Vertices.{AreVertices, AreHeads, heads_at}
 use Rattle.wq_repair.proofs.VertexLists.{past_end}
 
 -- the heads of a group's arcs

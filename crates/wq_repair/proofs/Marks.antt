@@ -1,5 +1,5 @@
 -- Lists of marks, and what a write changes in them.
-use Rattle.std.proofs.Common.{◌≡◌, ◌≢◌, ℕ, ◌+◌, ◌<◌, inl, inr, Bool, true, false, List, [], ◌∷◌, ◌++◌, length, get_or, set, replicate, refl, sym, ap, subst, ◌∙◌, arith, get_or-set_same, get_or-set_other, length-append}
+use Rattle.std.proofs.Common.{◌≡◌, ◌≢◌, ℕ, ◌+◌, ◌<◌, inl, inr, Bool, true, false, List, [], ◌∷◌, ◌++◌, length, get_or, set, replicate, sym, ap, subst, ◌∙◌, arith, get_or-set_same, get_or-set_other, length-append}
 use Rattle.std.specs.Prelude.{◌↔◌, ◌⊎◌, Contains, AllPairs}
 use Rattle.std.proofs.lemmas.List.Elements.{Contains-get_or, Contains-push, Contains-push_cases, Contains-append_left}
 use Rattle.std.proofs.lemmas.List.Quantifiers.{all_pairs_push}
@@ -154,8 +154,7 @@ Lists-add marks xs g below not is = record {
     more k = elim (cases_eq k g) [
       | inl same ↦ (λ marked. inr same, λ either. subst (IsMarked (set marks g true)) (sym same) own)
       | inr other ↦
-          let kept : get_or (set marks g true) k false ≡ get_or marks k false = get_or-set_other marks g k true false other in
-          (
+          let kept : get_or (set marks g true) k false ≡ get_or marks k false = get_or-set_other marks g k true false other in (
             λ marked. inl (sym kept ∙ marked),
             λ either. elim either [ inl marked ↦ kept ∙ marked | inr same ↦ absurd (other same) ],
           )

@@ -1,8 +1,8 @@
 -- A group comes to another vertex: what leads where.
-use Rattle.std.proofs.Common.{◌≡◌, ◌≢◌, ℕ, ◌<◌, ◌⊎◌, inl, inr, Bool, true, false, List, [], ◌++◌, length, get_or, set, refl, sym, subst, ap, ◌∙◌, arith}
-use Rattle.std.specs.Prelude.{Contains, All, slice_index, slice_index_or, if◌then◌else◌, ◌==◌}
-use Rattle.std.proofs.lemmas.Bool.{cases_eq, cases_lt, cases_Bool, false≢true, eqb-true, eq-eqb}
-use Rattle.std.proofs.lemmas.List.{length-set, get_or-set_same, get_or-set_other, get_or_default}
+use Rattle.std.proofs.Common.{◌≡◌, ◌≢◌, ℕ, ◌<◌, ◌⊎◌, inl, inr, Bool, true, false, List, [], ◌++◌, length, set, refl, sym, subst, ap, ◌∙◌, arith}
+use Rattle.std.specs.Prelude.{Contains, All, slice_index, if◌then◌else◌, ◌==◌}
+use Rattle.std.proofs.lemmas.Bool.{cases_eq, cases_Bool, false≢true, eqb-true, eq-eqb}
+use Rattle.std.proofs.lemmas.List.{length-set, get_or-set_same, get_or-set_other}
 use Rattle.std.proofs.lemmas.List.Elements.{All-set, All-append, Contains-append_left, Contains-append_right, Contains-append_cases, All-contains}
 use Rattle.wq_items.specs.Chain.{Circle}
 use Rattle.wq_graph.specs.declared.arc.WaitArc.{WaitArc}

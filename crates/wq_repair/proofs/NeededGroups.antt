@@ -1,23 +1,23 @@
 -- The groups that are found are those that need a rescuer.
-use Rattle.std.proofs.Common.{◌≡◌, ◌≢◌, ℕ, ◌+◌, ◌-◌, ◌<◌, ◌≤◌, ◌⊎◌, inl, inr, Bool, List, [], ◌∷◌, length, get_or, refl, sym, ap, subst, ◌∙◌, arith}
-use Rattle.std.specs.Prelude.{◌↔◌, slice_index, Contains}
+use Rattle.std.proofs.Common.{◌≡◌, ℕ, ◌+◌, ◌-◌, ◌<◌, ◌≤◌, inl, inr, Bool, List, [], ◌∷◌, length, get_or, sym, ap, subst, ◌∙◌, arith}
+use Rattle.std.specs.Prelude.{◌↔◌, slice_index}
 use Rattle.std.proofs.lemmas.Bool.{cases_eq, cases_lt}
 use Rattle.std.proofs.lemmas.List.{get_or_default}
 use Rattle.std.proofs.lemmas.List.Elements.{Contains-get_or}
 use Rattle.wq_items.specs.Chain.{IsChain, last_of}
 use Rattle.wq_items.proofs.Pigeonhole.{repeats_from_length}
-use Rattle.wq_groups.specs.Declaration.{Declaration, IsDeclaration, GroupWaits}
+use Rattle.wq_groups.specs.Declaration.{Declaration, IsDeclaration}
 use Rattle.wq_groups.specs.Assignment.{IsAssignment}
-use Rattle.wq_graph.specs.Graph.{HasArc, group_graph}
+use Rattle.wq_graph.specs.Graph.{group_graph}
 use Rattle.wq_graph.proofs.Graphs.{GroupWaits-HasArc}
 use Rattle.wq_core.specs.Workqueues.{Workqueues}
 use Rattle.wq_repair.specs.Changes.{IsRescued, IsNamed, IsNamedLane, lane_in}
-use Rattle.wq_repair.specs.Needed.{IsLedTo, StaysBeside, BringsAlong, NeedsRescuerOf}
+use Rattle.wq_repair.specs.Needed.{BringsAlong, NeedsRescuerOf}
 use Rattle.wq_repair.specs.Marks.{IsMarked, Marks}
 use Rattle.wq_repair.specs.Together.{Lists}
 use Rattle.wq_repair.specs.Steps.{HoldsMarked}
-use Rattle.wq_repair.specs.Following.{FoundGroups, HasGrown, IsBesideBy, BringsAlongBy, IsFollowed}
-use Rattle.wq_repair.proofs.Rescuers.{waiting-below, IsLedTo-first, IsLedTo-next}
+use Rattle.wq_repair.specs.Following.{FoundGroups, HasGrown, BringsAlongBy, IsFollowed}
+use Rattle.wq_repair.proofs.Rescuers.{IsLedTo-first, IsLedTo-next}
 use Rattle.wq_repair.proofs.Marks.{Marks-as}
 use Rattle.wq_repair.proofs.StartMade.{IsMarked-below}
 
@@ -125,8 +125,8 @@ Marks-named_lanes d old names named lanes n are_named are_lanes = Marks-as (Hold
     same : (q : ℕ) → q < n → HoldsMarked old named q ↔ IsNamedLane d old names q
     same q lt = (
       λ holds.
-      let is : holds.group < d.groups = omega (arith, holds.is_group, are_named.one_each) in
-      record { group = holds.group; is_group = is; named = (are_named.exactly holds.group is).0 holds.marked; on = holds.on },
+          let is : holds.group < d.groups = omega (arith, holds.is_group, are_named.one_each) in
+          record { group = holds.group; is_group = is; named = (are_named.exactly holds.group is).0 holds.marked; on = holds.on },
       λ lane. record {
         group = lane.group;
         is_group = omega (arith, lane.is_group, are_named.one_each);

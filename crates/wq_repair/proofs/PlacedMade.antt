@@ -1,5 +1,5 @@
 -- What is placed rank by rank.
-use Rattle.std.proofs.Common.{◌≡◌, ◌≢◌, ℕ, ◌+◌, ◌-◌, ◌<◌, ◌≤◌, ◌⊎◌, inl, inr, Bool, List, length, refl, sym, ap, subst, ◌∙◌, arith}
+use Rattle.std.proofs.Common.{◌≡◌, ◌≢◌, ℕ, ◌+◌, ◌-◌, ◌<◌, ◌≤◌, ◌⊎◌, inl, inr, Bool, List, length, refl, sym, subst, ◌∙◌, arith}
 use Rattle.std.specs.Prelude.{Option, Some, None, max, slice_index, slice_index_or, Contains}
 use Rattle.std.proofs.lemmas.Bool.{cases_eq, cases_lt}
 use Rattle.std.proofs.lemmas.List.{get_or_default}
@@ -8,7 +8,7 @@ use Rattle.wq_core.specs.Workqueues.{Workqueues}
 use Rattle.wq_repair.specs.Changes.{IsRescued, lane_in}
 use Rattle.wq_repair.specs.Marks.{IsMarked, Marks}
 use Rattle.wq_repair.specs.Steps.{ArePlacedBy}
-use Rattle.wq_repair.specs.Lanes.{nth_lane, AreFree, HasComer, AreBareNow}
+use Rattle.wq_repair.specs.Lanes.{nth_lane, AreFree, AreBareNow}
 use Rattle.wq_repair.specs.Placing.{IsLaneOfRank, HasNoLane, HoldsRanked, AreLanesOfRanks, HasRanked, HoldsAny, AreEmpty, AreTaken, AreRankedLanes}
 use Rattle.wq_repair.proofs.StartsBy.{cases_marked}
 use Rattle.wq_repair.proofs.Readied.{all_or_one}
@@ -144,8 +144,7 @@ module _ (old : Workqueues) (given stays leaves leave bare : List Bool) (ranks e
       let some = (leaving.exactly at.0 at.1).0 at.2 in
       let is : some.group < length leaves = IsMarked-below leaves some.group some.marked in
       let lane : IsLaneOfRank after (slice_index ranks some.group) (nth_lane empty old.assignment.lanes n) =
-      subst (λ (r : ℕ). IsLaneOfRank after r (nth_lane empty old.assignment.lanes n)) (sym some.ranked) at.3 in
-      (
+      subst (λ (r : ℕ). IsLaneOfRank after r (nth_lane empty old.assignment.lanes n)) (sym some.ranked) at.3 in (
         some.group,
         omega (arith, is, ranked.one_each),
         one_lane (slice_index_or after (slice_index ranks some.group) None) (slice_index lane_of some.group) (nth_lane empty old.assignment.lanes n) (ranked.marked some.group is some.marked) lane,
@@ -169,8 +168,7 @@ module _ (old : Workqueues) (given stays leaves leave bare : List Bool) (ranks e
       | inl none ↦ (
           let nobody : ¬ HoldsAny old q = λ holds. (let is : holds.group < length leaves = omega (arith, holds.is_group, long) in none holds.group is (is, holds.on)) in
           let there_is = (are_empty q).1 (old_lane, nobody) in
-          let at = taken_holds there_is.0 (omega (arith, there_is.1, all)) in
-          (
+          let at = taken_holds there_is.0 (omega (arith, there_is.1, all)) in (
             at.0,
             at.1,
             at.2 ∙ nth_lane-in empty old.assignment.lanes there_is.0 there_is.1 ∙ get_or_default empty there_is.0 0 q there_is.1 ∙ there_is.2,
@@ -186,7 +184,7 @@ module _ (old : Workqueues) (given stays leaves leave bare : List Bool) (ranks e
   ]
 
   only : (g : ℕ) → g < length leaves → IsRescued made (lane_in old g) → IsRescued old (lane_in old g) ⊎ IsMarked given (lane_in old g)
-  only g is rescued = elim ((now.exactly (lane_in old g)).0 rescued) [
+  only g is rescued = elim (now.only (lane_in old g) (within g is) rescued) [
     | inl had ↦ inl had
     | inr comer ↦ elim (cases_marked leaves comer.group) [
       | inl marked ↦ elim (comes comer.group comer.is_group marked) [
@@ -208,10 +206,11 @@ module _ (old : Workqueues) (given stays leaves leave bare : List Bool) (ranks e
     within = within-placed;
     more = omega arith;
     few = few;
+    bare = omega (arith, now.few);
     stay = ranked.others;
-    rescued = λ g is marked. (now.exactly (slice_index lane_of g)).1 (inr (record { group = g; is_group = is; why = inl marked; on = refl }));
-    kept = λ q rescued. (now.exactly q).1 (inl rescued);
-    given_one = λ g is not marked. (now.exactly (lane_in old g)).1 (inr (record { group = g; is_group = is; why = inr marked; on = ranked.others g is not }));
+    rescued = λ g is marked. now.rescued (slice_index lane_of g) (inr (record { group = g; is_group = is; why = inl marked; on = refl }));
+    kept = λ q rescued. now.rescued q (inl rescued);
+    given_one = λ g is not marked. now.rescued (lane_in old g) (inr (record { group = g; is_group = is; why = inr marked; on = ranked.others g is not }));
     only = only;
     ranked = ranked-any;
   }

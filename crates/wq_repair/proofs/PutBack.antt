@@ -1,23 +1,18 @@
 -- What groups that are put back may rely on: they are alone, and homes hold none of them.
-use Rattle.std.proofs.Common.{◌≡◌, ◌≢◌, ℕ, ◌<◌, inl, inr, Bool, List, length, refl, sym, ap, subst, ◌∙◌, arith}
+use Rattle.std.proofs.Common.{◌≡◌, ◌≢◌, ℕ, ◌<◌, inl, inr, Bool, List, length, refl, sym, subst, ◌∙◌, arith}
 use Rattle.std.specs.Prelude.{◌↔◌, Option, slice_index, Contains, AllPairs}
-use Rattle.std.specs.List.{All}
-use Rattle.wq_items.specs.Chain.{Circle, HasCircle, Repeats}
-use Rattle.wq_groups.specs.Declaration.{Declaration, IsDeclaration}
+use Rattle.wq_items.specs.Chain.{Circle, Repeats}
+use Rattle.wq_groups.specs.Declaration.{Declaration}
 use Rattle.wq_graph.specs.declared.arc.WaitArc.{WaitArc}
 use Rattle.wq_graph.specs.Graph.{HasArc}
-use Rattle.wq_levels.specs.Ranks.{AreRanks}
 use Rattle.wq_core.specs.Workqueues.{Workqueues}
 use Rattle.wq_core.proofs.LaneCircles.{Circle-map}
-use Rattle.wq_deadlock.specs.Judging.{rescued_graph}
 use Rattle.wq_repair.specs.Changes.{lane_in}
 use Rattle.wq_repair.specs.Marks.{IsMarked, Marks}
 use Rattle.wq_repair.specs.Together.{Lists, ArcBetween, IsAlone, IsHomeOf, AreHomes, IsAtHome}
-use Rattle.wq_repair.specs.Ready.{Scope, IsReady, IsGraphOfNeeded, IsTried, HoldsNeeded, IsButNot, IsPutBack}
-use Rattle.wq_repair.proofs.Joining.{no_circle-falls}
+use Rattle.wq_repair.specs.Ready.{Scope, IsReady, IsTried, HoldsNeeded, IsButNot, IsPutBack}
 use Rattle.wq_repair.proofs.StartsBy.{cases_marked}
 use Rattle.wq_repair.proofs.StartMade.{IsMarked-below}
-use Rattle.wq_repair.proofs.Readied.{falls-start}
 
 -- each number once
 pub no_repeats : (order : List ℕ) → AllPairs (λ (j k : ℕ). j ≢ k) order → ¬ Repeats order

@@ -1,5 +1,5 @@
 -- Groups are put together one after the other: what holds after each.
-use Rattle.std.proofs.Common.{◌≡◌, ◌≢◌, ℕ, ◌+◌, ◌<◌, ◌≤◌, ◌⊎◌, inl, inr, Bool, true, false, List, [], ◌∷◌, ◌++◌, length, take, replicate, get_or, set, refl, sym, subst, ap, ◌∙◌, arith}
+use Rattle.std.proofs.Common.{◌≡◌, ◌≢◌, ℕ, ◌+◌, ◌<◌, ◌≤◌, ◌⊎◌, inl, inr, Bool, true, false, List, [], ◌∷◌, length, take, replicate, get_or, set, refl, sym, subst, ap, ◌∙◌, arith}
 use Rattle.std.specs.Prelude.{Contains, All, Option, None, Some, slice_index, slice_index_or}
 use Rattle.std.proofs.lemmas.Bool.{cases_eq, cases_lt, cases_Bool, false≢true}
 use Rattle.std.proofs.lemmas.List.{length-set, get_or-set_same, get_or-set_other, get_or_default, length-take-le, get_or-take, take_more, get_or-replicate, length-replicate}
@@ -7,7 +7,7 @@ use Rattle.std.proofs.Math.Seq.{take-length}
 use Rattle.std.proofs.lemmas.List.Elements.{Contains-get_or, Contains-append_left, Contains-push, Contains-push_cases}
 use Rattle.wq_items.specs.Chain.{IsChain, Circle, Repeats}
 use Rattle.wq_graph.specs.declared.arc.WaitArc.{WaitArc}
-use Rattle.wq_graph.specs.Graph.{HasArc, arcs_at}
+use Rattle.wq_graph.specs.Graph.{HasArc}
 use Rattle.wq_repair.specs.Marks.{IsMarked}
 use Rattle.wq_repair.specs.Together.{ArcBetween, IsAlone, IsHomeOf, AreHomes, IsAtHome, WasInVain, ArePutTogether}
 use Rattle.wq_repair.specs.Vertices.{Vertices, AreVertices, LeadsOn, AreHeads, IsPutAtHome, heads_moved}

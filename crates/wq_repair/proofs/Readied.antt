@@ -1,10 +1,10 @@
 -- From what is ready, what is put together and what is placed: the changes are needed, and numbers fall along all waits.
-use Rattle.std.proofs.Common.{◌≡◌, ◌≢◌, ℕ, zero, suc, ◌+◌, ◌<◌, ◌≤◌, ◌⊎◌, inl, inr, Bool, List, length, refl, sym, ap, subst, ◌∙◌, arith}
-use Rattle.std.specs.Prelude.{◌↔◌, ◌==◌, ◌&&◌, if◌then◌else◌, true, false, Option, max, slice_index, slice_index_or, Contains}
+use Rattle.std.proofs.Common.{◌≡◌, ℕ, zero, suc, ◌<◌, ◌≤◌, ◌⊎◌, inl, inr, Bool, List, length, refl, sym, ap, subst, ◌∙◌, arith}
+use Rattle.std.specs.Prelude.{◌==◌, ◌&&◌, if◌then◌else◌, true, false, Option, slice_index, slice_index_or, Contains}
 use Rattle.std.specs.List.{All}
 use Rattle.std.proofs.lemmas.Bool.{cases_eq, cases_lt, cases_Bool, false≢true, eqb-true, eq-eqb}
 use Rattle.std.proofs.lemmas.List.{get_or_default, get_or_past}
-use Rattle.wq_items.specs.Chain.{Circle, HasCircle}
+use Rattle.wq_items.specs.Chain.{HasCircle}
 use Rattle.wq_groups.specs.Declaration.{Declaration, IsDeclaration, GroupWaits}
 use Rattle.wq_groups.specs.Assignment.{IsAssignment}
 use Rattle.wq_graph.specs.declared.arc.WaitArc.{WaitArc}
@@ -14,20 +14,16 @@ use Rattle.wq_levels.proofs.Ranks.{AreRanks-fall}
 use Rattle.wq_core.specs.Workqueues.{Workqueues}
 use Rattle.wq_core.proofs.LaneCircles.{Circle-map}
 use Rattle.wq_deadlock.specs.Judging.{rescued_graph}
-use Rattle.wq_repair.specs.Changes.{IsRescued, IsBare, IsNamed, IsNamedLane, lane_in}
+use Rattle.wq_repair.specs.Changes.{IsRescued, IsBare, IsNamed, lane_in}
 use Rattle.wq_repair.specs.Marks.{IsMarked, Marks}
 use Rattle.wq_repair.specs.Joined.{VerticesWait, StaysOrIs, IsTriedInVain}
-use Rattle.wq_repair.specs.Together.{Lists, ArcBetween, IsAlone, IsHomeOf, AreHomes, IsAtHome, WasInVain, ArePutTogether}
-use Rattle.wq_repair.specs.Steps.{IsToBeGiven, IsMovable, ArePlacedBy, AreLeaving}
-use Rattle.wq_repair.specs.Ready.{Scope, IsReady, IsGraphOfNeeded, IsMinimal, IsTried, HoldsNeeded, IsButNot}
+use Rattle.wq_repair.specs.Together.{Lists, ArcBetween, IsHomeOf, IsAtHome, WasInVain, ArePutTogether}
+use Rattle.wq_repair.specs.Steps.{ArePlacedBy, AreLeaving}
+use Rattle.wq_repair.specs.Ready.{Scope, IsReady, IsGraphOfNeeded, IsMinimal, IsTried, HoldsNeeded, IsButNot, placed_at}
 use Rattle.wq_repair.proofs.Rescuers.{cases_rescued, waiting-below, awaited-below}
 use Rattle.wq_repair.proofs.StartsBy.{cases_marked}
-use Rattle.wq_repair.proofs.Judged.{group_arc, GroupsWait, GroupsWait-arc, length-rescued_graph, IsGraph-rescued_graph, rescued_awaited-safe}
+use Rattle.wq_repair.proofs.Judged.{group_arc, GroupsWait-arc, length-rescued_graph, IsGraph-rescued_graph, rescued_awaited-safe}
 use Rattle.wq_repair.proofs.Placed.{IsToBeCompared-placed, AreChangesNeeded-placed, FallsAlongWaits-placed}
-
--- the workqueues on which the groups are on these lanes
-abbrev pub placed_at : Workqueues → List ℕ → Workqueues
-placed_at ws at = record { assignment = record { lanes = ws.assignment.lanes; lane_of_group = at }; bare = ws.bare }
 
 -- all numbers below n are so, or one isn't
 pub all_or_one : (P Q : ℕ → Type 0) → ((k : ℕ) → P k ⊎ Q k) → (n : ℕ) → ((k : ℕ) → k < n → P k) ⊎ ((k : ℕ) × (k < n) × Q k)
@@ -294,7 +290,7 @@ module _ (d : Declaration) (old : Workqueues) (names : List ℕ) (s : Scope) (st
           at_home g is needs not = elim (back-staying g is not) [
             | inl marked ↦ inl marked
             | inr unmovable ↦ inr (subst (IsHomeOf homes (lane_in old g)) (sym (ready.by.stay g (below g is) unmovable))
-              (homes_all (lane_in old g) (record { group = g; is_group = omega (arith, is, ready.one_each); needs = needs; stays = unmovable; on = refl })))
+                (homes_all (lane_in old g) (record { group = g; is_group = omega (arith, is, ready.one_each); needs = needs; stays = unmovable; on = refl })))
           ]
 
           pub same-staying : (g h : ℕ) → IsMarked stays g → IsMarked stays h → lane_in old g ≡ lane_in old h → slice_index ranks g ≡ slice_index ranks h
@@ -350,17 +346,17 @@ module _ (d : Declaration) (old : Workqueues) (names : List ℕ) (s : Scope) (st
                 ]
                 )
             | inr not ↦ elim (all_or_one (λ (k : ℕ). (k < d.groups) → lane_in old k ≡ lane_in old g → IsMarked s.needed k)
-              (λ (k : ℕ). (k < d.groups) × (lane_in old k ≡ lane_in old g) × (¬ IsMarked s.needed k)) (on_lane (lane_in old g)) d.groups) [
-              | inr one_out ↦ (
-                  let k : ℕ = one_out.0 in
-                  (k, one_out.1, one_out.2.1, not_leaving-unmovable k one_out.1 (λ movable. one_out.2.2 (movable_needed k one_out.1 movable)))
-                  )
-              | inl all ↦ absurd (not.1 ((ready.are_given.exactly (lane_in old g) (lane_below g is)).1 (record {
-                bare = not.0;
-                named = (ready.are_lanes.exactly (lane_in old g) (lane_below g is)).1 (record { group = g; is_group = is; named = movable_named g is (leaves_movable g is leaving).0; on = refl });
-                all = λ k lt on. (let k_is : k < d.groups = omega (arith, lt, ready.one_each) in all k k_is k_is on);
-              })))
-            ]
+                (λ (k : ℕ). (k < d.groups) × (lane_in old k ≡ lane_in old g) × (¬ IsMarked s.needed k)) (on_lane (lane_in old g)) d.groups) [
+                  | inr one_out ↦ (
+                      let k : ℕ = one_out.0 in
+                      (k, one_out.1, one_out.2.1, not_leaving-unmovable k one_out.1 (λ movable. one_out.2.2 (movable_needed k one_out.1 movable)))
+                      )
+                  | inl all ↦ absurd (not.1 ((ready.are_given.exactly (lane_in old g) (lane_below g is)).1 (record {
+                    bare = not.0;
+                    named = (ready.are_lanes.exactly (lane_in old g) (lane_below g is)).1 (record { group = g; is_group = is; named = movable_named g is (leaves_movable g is leaving).0; on = refl });
+                    all = λ k lt on. (let k_is : k < d.groups = omega (arith, lt, ready.one_each) in all k k_is k_is on);
+                  })))
+                ]
           ]
 
           -- ---- what is placed
@@ -444,6 +440,7 @@ module _ (d : Declaration) (old : Workqueues) (names : List ℕ) (s : Scope) (st
               changes = AreChangesNeeded-placed d old new names ready.lanes s.needed s.given stays leaves ranks ready.assignment ready.are_lanes ready.one_each ready.are_given leaving placed;
               number = λ (q : ℕ). rank_on s.needed new.assignment.lane_of_group ranks q d.groups;
               falls = FallsAlongWaits-placed d old new names ready.lanes s.needed s.given stays leaves ranks ready.assignment ready.are_lanes ready.one_each ready.are_given leaving placed declaration
-              (λ (q : ℕ). rank_on s.needed new.assignment.lane_of_group ranks q d.groups) ranked;
+                  (λ (q : ℕ). rank_on s.needed new.assignment.lane_of_group ranks q d.groups) ranked;
               few = omega (arith, placed.few, are_leaving.one_each);
+              bare = placed.bare;
             }

@@ -1,6 +1,6 @@
 -- The start that is made lane by lane.
-use Rattle.std.proofs.Common.{◌≡◌, ◌≢◌, ℕ, ◌+◌, ◌-◌, ◌<◌, ◌≤◌, ◌⊎◌, inl, inr, Bool, List, length, refl, sym, ap, subst, ◌∙◌, arith}
-use Rattle.std.specs.Prelude.{false, max, slice_index, slice_index_or, Contains}
+use Rattle.std.proofs.Common.{◌≡◌, ◌≢◌, ℕ, ◌+◌, ◌-◌, ◌<◌, ◌≤◌, ◌⊎◌, inl, inr, Bool, List, length, refl, sym, subst, ◌∙◌, arith}
+use Rattle.std.specs.Prelude.{false, max, slice_index}
 use Rattle.std.proofs.lemmas.Bool.{cases_eq, cases_lt, false≢true}
 use Rattle.std.proofs.lemmas.List.{get_or_past, get_or_default}
 use Rattle.std.proofs.lemmas.List.Elements.{Contains-get_or}
@@ -9,7 +9,7 @@ use Rattle.wq_repair.specs.Changes.{IsRescued, lane_in}
 use Rattle.wq_repair.specs.Marks.{IsMarked, Marks}
 use Rattle.wq_repair.specs.Together.{Lists}
 use Rattle.wq_repair.specs.Steps.{HoldsOther, IsStartBy}
-use Rattle.wq_repair.specs.Lanes.{nth_lane, AreFree, AreOwnLanes, HasComer, AreBareNow}
+use Rattle.wq_repair.specs.Lanes.{nth_lane, AreFree, AreOwnLanes, AreBareNow}
 use Rattle.wq_repair.proofs.StartsBy.{cases_marked}
 use Rattle.wq_repair.proofs.Readied.{all_or_one}
 use Rattle.wq_repair.proofs.Taking.{nth_lane-in, nth_lane-new, nth_lane-below, few-held}
@@ -76,18 +76,17 @@ module _ (old : Workqueues) (movable given is_free bare : List Bool) (free lane_
         )
     | inl old_lane ↦ elim (all_or_one (λ (k : ℕ). (k < length movable) → lane_in old k ≡ q → IsMarked movable k)
         (λ (k : ℕ). (k < length movable) × (lane_in old k ≡ q) × (¬ IsMarked movable k)) (holds_or_not q) (length movable)) [
-      | inr other ↦ (other.0, omega (arith, other.1, own.one_each), own.others other.0 other.1 other.2.2 ∙ other.2.1)
-      | inl none ↦ (
-          let empty : ¬ HoldsOther old movable q = λ holds. holds.other (none holds.group holds.is_group holds.is_group holds.on) in
-          let there_is = (lists.exactly q).1 ((are_free.exactly q old_lane).1 empty) in
-          let at = own.all there_is.0 (omega (arith, there_is.1, all)) in
-          (
-            at.0,
-            omega (arith, at.1, own.one_each),
-            at.2 ∙ nth_lane-in free old.assignment.lanes there_is.0 there_is.1 ∙ get_or_default free there_is.0 0 q there_is.1 ∙ there_is.2,
-          )
-          )
-    ]
+          | inr other ↦ (other.0, omega (arith, other.1, own.one_each), own.others other.0 other.1 other.2.2 ∙ other.2.1)
+          | inl none ↦ (
+              let empty : ¬ HoldsOther old movable q = λ holds. holds.other (none holds.group holds.is_group holds.is_group holds.on) in
+              let there_is = (lists.exactly q).1 ((are_free.exactly q old_lane).1 empty) in
+              let at = own.all there_is.0 (omega (arith, there_is.1, all)) in (
+                at.0,
+                omega (arith, at.1, own.one_each),
+                at.2 ∙ nth_lane-in free old.assignment.lanes there_is.0 there_is.1 ∙ get_or_default free there_is.0 0 q there_is.1 ∙ there_is.2,
+              )
+              )
+        ]
   ]
 
   few : old.assignment.lanes + (taken - length free) ≤ max old.assignment.lanes (length movable)
@@ -115,7 +114,7 @@ module _ (old : Workqueues) (movable given is_free bare : List Bool) (free lane_
   ]
 
   only : (g : ℕ) → g < length movable → (¬ IsMarked movable g) → IsRescued made (lane_in old g) → IsRescued old (lane_in old g) ⊎ IsMarked given (lane_in old g)
-  only g is not rescued = elim ((now.exactly (lane_in old g)).0 rescued) [
+  only g is not rescued = elim (now.only (lane_in old g) (within g is) rescued) [
     | inl had ↦ inl had
     | inr comer ↦ elim (cases_marked movable comer.group) [
       | inl moves ↦ absurd (let at = own.own comer.group comer.is_group moves in not_taken at.0 g is not (sym at.2 ∙ comer.on))
@@ -132,11 +131,12 @@ module _ (old : Workqueues) (movable given is_free bare : List Bool) (free lane_
     within = within-made;
     more = omega arith;
     few = few;
+    bare = omega (arith, now.few);
     stay = own.others;
     alone = alone;
-    rescued = λ g is marked. (now.exactly (slice_index lane_of g)).1 (inr (record { group = g; is_group = is; why = inl marked; on = refl }));
-    kept = λ q rescued. (now.exactly q).1 (inl rescued);
-    given_one = λ q marked holds. (now.exactly q).1 (inr (record {
+    rescued = λ g is marked. now.rescued (slice_index lane_of g) (inr (record { group = g; is_group = is; why = inl marked; on = refl }));
+    kept = λ q rescued. now.rescued q (inl rescued);
+    given_one = λ q marked holds. now.rescued q (inr (record {
       group = holds.group;
       is_group = holds.is_group;
       why = inr (subst (IsMarked given) (sym holds.on) marked);

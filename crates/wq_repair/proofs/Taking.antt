@@ -1,6 +1,6 @@
 -- Lanes that are taken one after the other: each is another one, and all that there are in the end hold a group.
-use Rattle.std.proofs.Common.{◌≡◌, ◌≢◌, ℕ, ◌+◌, ◌-◌, ◌<◌, ◌≤◌, ◌⊎◌, inl, inr, Bool, List, [], ◌∷◌, ◌++◌, length, get_or, refl, sym, ap, subst, ◌∙◌, arith, length-append}
-use Rattle.std.specs.Prelude.{if◌then◌else◌, true, false, max, slice_index, Contains}
+use Rattle.std.proofs.Common.{◌≡◌, ◌≢◌, ℕ, ◌+◌, ◌-◌, ◌<◌, ◌≤◌, inl, inr, Bool, List, [], ◌∷◌, ◌++◌, length, refl, sym, ap, subst, ◌∙◌, arith, length-append}
+use Rattle.std.specs.Prelude.{if◌then◌else◌, slice_index}
 use Rattle.std.proofs.Math.Dec.{eqb}
 use Rattle.std.proofs.lemmas.Bool.{cases_eq, cases_lt, lt-ltb, le-ltb, eq-eqb}
 use Rattle.std.proofs.lemmas.List.{get_or_append_left, get_or_push, get_or_default}
@@ -121,4 +121,4 @@ pub few-held : (lane_of : List ℕ) (n : ℕ) → ((q : ℕ) → q < n → (g : 
 few-held lane_of n held = le-length_from_below lane_of n (λ q lt.
     let at = held q lt in
     list_any-from_Any (eqb q) lane_of (at.0, q, at.1, get_or_default lane_of at.0 q 0 at.1 ∙ at.2, eq-eqb q q refl)
-  )
+    )

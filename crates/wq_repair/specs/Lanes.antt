@@ -1,5 +1,5 @@
 -- Lanes that are taken one after the other, and who has a rescuer then.
-use Rattle.std.specs.Prelude.{◌≡◌, ◌≢◌, ◌↔◌, ℕ, ◌+◌, ◌-◌, ◌<◌, ◌≤◌, ◌⊎◌, nat_lt, if◌then◌else◌, false, List, Bool, length, slice_index, slice_index_or, AllPairs}
+use Rattle.std.specs.Prelude.{◌≡◌, ◌≢◌, ℕ, ◌+◌, ◌-◌, ◌<◌, ◌≤◌, ◌⊎◌, nat_lt, if◌then◌else◌, false, List, Bool, length, slice_index, slice_index_or, AllPairs}
 use Rattle.std.specs.List.{All}
 use Rattle.wq_groups.specs.Assignment.{Assignment, group_lane}
 use Rattle.wq_core.specs.Workqueues.{Workqueues}
@@ -36,9 +36,11 @@ pub record HasComer (old : Workqueues) (comes given : List Bool) (lane_of : List
   pub why : IsMarked comes group ⊎ IsMarked given (lane_in old group)
   pub on : slice_index lane_of group ≡ q
 
--- just the lanes that had a rescuer, and those that are given one by one of the first `groups` groups, have one
+-- the lanes that had a rescuer, and those that are given one by one of the first `groups` groups, have one, and of the old
+-- lanes no others. The list isn't longer than there were lanes
 pub record AreBareNow (old : Workqueues) (comes given : List Bool) (lane_of : List ℕ) (groups : ℕ) (bare : List Bool)
     : Type 0 where
-  pub as_long : length bare ≡ length old.bare
-  pub exactly : (q : ℕ) → (slice_index_or bare q false ≡ false)
-      ↔ (IsRescued old q ⊎ HasComer old comes given lane_of groups q)
+  pub few : length bare ≤ old.assignment.lanes
+  pub rescued : (q : ℕ) → IsRescued old q ⊎ HasComer old comes given lane_of groups q → slice_index_or bare q false ≡ false
+  pub only : (q : ℕ) → q < old.assignment.lanes → slice_index_or bare q false ≡ false
+      → IsRescued old q ⊎ HasComer old comes given lane_of groups q

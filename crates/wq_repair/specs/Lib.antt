@@ -15,3 +15,4 @@ pub mod Lanes
 pub mod Following
 pub mod Ready
 pub mod Placing
+pub mod Wider

@@ -1,5 +1,5 @@
 -- Lanes of ranks, and how groups come to them.
-use Rattle.std.specs.Prelude.{◌≡◌, ◌≢◌, ◌↔◌, ℕ, ◌<◌, ◌≤◌, List, Bool, Option, Some, None, length, slice_index, slice_index_or, Contains}
+use Rattle.std.specs.Prelude.{◌≡◌, ◌↔◌, ℕ, ◌<◌, ◌≤◌, List, Bool, Option, Some, None, length, slice_index, slice_index_or, Contains}
 use Rattle.wq_core.specs.Workqueues.{Workqueues}
 use Rattle.wq_repair.specs.Changes.{lane_in}
 use Rattle.wq_repair.specs.Marks.{IsMarked}

@@ -6,7 +6,9 @@ use Rattle.wq_graph.specs.declared.arc.WaitArc.{WaitArc}
 use Rattle.wq_graph.specs.Graph.{HasArc}
 use Rattle.wq_core.specs.Workqueues.{Workqueues, wiring_of}
 use Rattle.wq_core.specs.Deadlock.{IsSafe}
-use Rattle.wq_repair.specs.Changes.{IsRescued, IsBare, IsNamed, IsNamedLane, IsToBeCompared, lane_in}
+use Rattle.wq_levels.specs.Ranks.{AreRanks}
+use Rattle.wq_deadlock.specs.Judging.{rescued_graph}
+use Rattle.wq_repair.specs.Changes.{IsRescued, IsNamed, IsNamedLane, IsToBeCompared, lane_in}
 use Rattle.wq_repair.specs.Marks.{IsMarked, Marks}
 use Rattle.wq_repair.specs.Together.{Lists, IsHomeOf, ArePutTogether}
 use Rattle.wq_repair.specs.Joined.{AreChangesNeeded, FallsAlongWaits}
@@ -45,6 +47,7 @@ pub record IsMinimal (d : Declaration) (old : Workqueues) (names : List ℕ) (ne
   pub number : ℕ → ℕ
   pub falls : FallsAlongWaits d new needed number
   pub few : new.assignment.lanes ≤ max old.assignment.lanes d.groups
+  pub bare : length new.bare ≤ new.assignment.lanes
 
 -- the group may be put back: its lane has a rescuer, or is given one
 abbrev pub IsTried : Workqueues → Scope → ℕ → Type 0
@@ -80,3 +83,14 @@ pub record IsKeptTogether (graph : List (List WaitArc)) (old : Assignment) (leav
   pub no_homes : (q v : ℕ) → ¬ IsHomeOf homes q v
   pub lists : Lists leaves order
   pub together : ArePutTogether graph old.lane_of_group homes order at new again
+
+-- the workqueues on which the groups are on these lanes
+abbrev pub placed_at : Workqueues → List ℕ → Workqueues
+placed_at ws at = record { assignment = record { lanes = ws.assignment.lanes; lane_of_group = at }; bare = ws.bare }
+
+-- for each group the rank of its lane among those that have a rescuer
+pub record AreRanksOfGroups (d : Declaration) (ws : Workqueues) (ranks : List ℕ) : Type 0 where
+  pub of_lanes : List ℕ
+  pub are : AreRanks (rescued_graph d ws) of_lanes
+  pub one_each : length ranks ≡ d.groups
+  pub exactly : (g : ℕ) → g < d.groups → slice_index ranks g ≡ slice_index of_lanes (lane_in ws g)

@@ -1,8 +1,7 @@
 -- Repairs: workqueues made safe, with no change that could be left out.
-use Rattle.std.specs.Prelude.{◌≡◌, ℕ, ◌<◌, ◌≤◌, max, Bool, List}
+use Rattle.std.specs.Prelude.{ℕ, ◌<◌, ◌≤◌, max, Bool, List, length}
 use Rattle.wq_items.specs.Chain.{Circle}
 use Rattle.wq_groups.specs.Declaration.{Declaration}
-use Rattle.wq_groups.specs.Assignment.{IsAssignment}
 use Rattle.wq_graph.specs.declared.arc.WaitArc.{WaitArc}
 use Rattle.wq_graph.specs.Graph.{group_graph, without}
 use Rattle.wq_levels.specs.Walks.{IsWalkedCircle}
@@ -17,7 +16,7 @@ use Rattle.wq_repair.specs.Needed.{AreUnneeded}
 use Rattle.wq_repair.specs.Joined.{NeededWaits}
 
 -- the old workqueues deadlock and the new ones are safe; and whatever has only some of the changes deadlocks. No more
--- lanes are made than there are groups
+-- lanes are made than there are groups, and the list that says which are bare isn't longer than they
 pub record IsRepair (d : Declaration) (old : Workqueues) (names : List ℕ) (new : Workqueues) : Type 0 where
   pub deadlocked : Deadlocks (wiring_of d old)
   pub compared : IsToBeCompared d old names new
@@ -25,6 +24,7 @@ pub record IsRepair (d : Declaration) (old : Workqueues) (names : List ℕ) (new
   pub minimal : (fewer : Workqueues) → IsToBeCompared d old names fewer → HasFewerChanges d old fewer new
       → Deadlocks (wiring_of d fewer)
   pub few : new.assignment.lanes ≤ max old.assignment.lanes d.groups
+  pub bare : length new.bare ≤ new.assignment.lanes
 
 -- no groups that need a rescuer wait in a circle; but a group may not move, and whatever may be compared deadlocks. Of
 -- this `start`, in which each group that may move and needs a rescuer is alone, the steps are the run that shows it

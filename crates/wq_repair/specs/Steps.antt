@@ -37,6 +37,7 @@ pub record IsStartBy (old : Workqueues) (movable given : List Bool) (start : Wor
   pub within : (g : ℕ) → g < length movable → lane_in start g < start.assignment.lanes
   pub more : old.assignment.lanes ≤ start.assignment.lanes
   pub few : start.assignment.lanes ≤ max old.assignment.lanes (length movable)
+  pub bare : length start.bare ≤ start.assignment.lanes
   pub stay : (g : ℕ) → g < length movable → (¬ IsMarked movable g) → lane_in start g ≡ lane_in old g
   pub alone : (g h : ℕ) → g < length movable → h < length movable → IsMarked movable g
       → lane_in start g ≡ lane_in start h → g ≡ h
@@ -56,6 +57,7 @@ pub record ArePlacedBy (old : Workqueues) (given stays leaves : List Bool) (rank
   pub within : (g : ℕ) → g < length leaves → lane_in new g < new.assignment.lanes
   pub more : old.assignment.lanes ≤ new.assignment.lanes
   pub few : new.assignment.lanes ≤ max old.assignment.lanes (length leaves)
+  pub bare : length new.bare ≤ new.assignment.lanes
   pub stay : (g : ℕ) → g < length leaves → (¬ IsMarked leaves g) → lane_in new g ≡ lane_in old g
   pub rescued : (g : ℕ) → g < length leaves → IsMarked leaves g → IsRescued new (lane_in new g)
   pub kept : (q : ℕ) → IsRescued old q → IsRescued new q

@@ -1,7 +1,6 @@
 -- Groups that are put together at vertices, as far as that makes no circle. At first the vertex of a group is its lane in
 -- the start.
 use Rattle.std.specs.Prelude.{◌≡◌, ◌≢◌, ◌↔◌, ℕ, ◌<◌, ◌⊎◌, List, Bool, Option, Some, None, length, slice_index, slice_index_or, Contains, AllPairs}
-use Rattle.std.specs.List.{All}
 use Rattle.wq_items.specs.Chain.{Circle}
 use Rattle.wq_graph.specs.declared.arc.WaitArc.{WaitArc}
 use Rattle.wq_graph.specs.Graph.{HasArc}
@@ -50,8 +49,8 @@ pub record WasInVain (graph : List (List WaitArc)) (lane_of : List ℕ) (homes :
   pub tried : List ℕ
   pub together : (h k : ℕ) → h < length at → k < length at → slice_index tried h ≡ slice_index tried k
       → (slice_index at h ≡ slice_index at k)
-          ⊎ (((h ≡ g) ⊎ IsAtHome lane_of homes at back h) × ((k ≡ g) ⊎ IsAtHome lane_of homes at back k)
-              × (slice_index lane_of h ≡ slice_index lane_of k))
+      ⊎ (((h ≡ g) ⊎ IsAtHome lane_of homes at back h) × ((k ≡ g) ⊎ IsAtHome lane_of homes at back k)
+      × (slice_index lane_of h ≡ slice_index lane_of k))
   pub circle : Circle (ArcBetween graph tried)
 
 -- these groups, in this order, were put together with those of the same lane, as far as that makes no circle. `at` has

@@ -4,6 +4,8 @@
 
 ghost use Rattle.std.specs.Prelude.{◌≡◌, ◌+◌, ◌-◌, ◌<◌, ◌≤◌, length, IfOk};
 ghost use Rattle.std.specs.List.{All};
+ghost use Rattle.wq_repair.specs.Changes.{IsBare};
+ghost use Rattle.wq_repair.specs.Marks.{Marks};
 ghost use Rattle.wq_repair.specs.Lanes.{nth_lane, AreFree, AreOwnLanes, AreBareNow};
 
 use crate::listing::either;
@@ -64,6 +66,21 @@ pub(crate) fn own_lanes<A: Allocator + Copy>(
     Ok((lane_of, taken))
 }
 
+/// For each lane whether it has no rescuer.
+fn bare_lanes<A: Allocator + Copy>(
+    alloc: A,
+    old: &Workqueues<A>,
+) -> Result<Vec<bool, A>, AllocError>
+    ensures { IfOk result (λ bare. Marks (IsBare old.now) old.now.assignment.lanes bare.items) }
+{
+    let lanes = old.assignment().lanes();
+    let mut bare = Vec::with_capacity(alloc, usize::from(lanes))?;
+    for lane in 0..lanes {
+        bare.push(old.is_bare(LaneId::new(lane)))?;
+    }
+    Ok(bare)
+}
+
 /// Which lanes are bare, where groups are on these lanes now. A lane has a rescuer if it had one, if one of those that
 /// came is on it, or if one is on it whose old lane is given one.
 pub(crate) fn bare_now<A: Allocator + Copy>(
@@ -81,8 +98,7 @@ pub(crate) fn bare_now<A: Allocator + Copy>(
         AreBareNow old.now comes.now given.now lane_of.now (length comes.now) bare.items) }
 {
     let _lanes = old.assignment().lanes();
-    let mut bare = Vec::new(alloc);
-    bare.extend_from_slice(old.bare())?;
+    let mut bare = bare_lanes(alloc, old)?;
     for (group, does_come) in comes.iter().enumerate() {
         let own = old.assignment().lane(GroupId::new(group as u16));
         let is_given = given[usize::from(own.get())];

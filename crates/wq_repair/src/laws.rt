@@ -48,7 +48,7 @@ pub fn names_are_too_few_where_the_start_deadlocks()
 pub fn no_change_can_be_left_out()
     ensures { (d : Declaration) (old new fewer : Workqueues) (names : List ℕ) (needed : List Bool) → IsDeclaration d →
         ((g : ℕ) → g < d.groups → IsMarked needed g →
-            IsRescued fewer (lane_in fewer g) ⊎ Deadlocks (wiring_of d fewer)) →
+        IsRescued fewer (lane_in fewer g) ⊎ Deadlocks (wiring_of d fewer)) →
         AreChangesNeeded d old new needed → IsToBeCompared d old names fewer → HasFewerChanges d old fewer new →
         Deadlocks (wiring_of d fewer) }
 {}
@@ -92,7 +92,8 @@ pub fn needed_changes_make_a_repair()
     ensures { (d : Declaration) (old new : Workqueues) (names : List ℕ) (needed : List Bool) (number : ℕ → ℕ) →
         IsDeclaration d → Deadlocks (wiring_of d old) → IsToBeCompared d old names new →
         NeedRescuers d old names new needed → AreChangesNeeded d old new needed → FallsAlongWaits d new needed number →
-        new.assignment.lanes ≤ max old.assignment.lanes d.groups → IsRepair d old names new }
+        new.assignment.lanes ≤ max old.assignment.lanes d.groups → length new.bare ≤ new.assignment.lanes →
+        IsRepair d old names new }
 {}
 
 /// What `place` makes of lists may be compared, all its changes are needed, and numbers fall along all waits, if those

@@ -21,6 +21,7 @@ mod repairing;
 mod scope;
 mod search;
 mod start;
+mod wider;
 
 pub use answer::Answer;
 pub use repairing::repair;

@@ -190,7 +190,14 @@ pub(crate) fn needed_groups<A: Allocator + Copy>(
     while done < found.list.len() {
         let group = found.list[done];
         done += 1;
-        found.follow(&graph, &on, workqueues, named.as_slice(), lanes.as_slice(), group)?;
+        found.follow(
+            &graph,
+            &on,
+            workqueues,
+            named.as_slice(),
+            lanes.as_slice(),
+            group,
+        )?;
     }
     Ok(found.marks)
 }

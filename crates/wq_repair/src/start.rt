@@ -95,10 +95,11 @@ pub(crate) fn start<A: Allocator + Copy>(
     ensures { IfOk result (IsStartBy workqueues.now movable.now given.now) }
 {
     let assignment = workqueues.assignment();
+    let there = assignment.lanes();
     let is_free = free_lanes(alloc, workqueues, movable)?;
     let free = listed(alloc, is_free.as_slice())?;
     let (lane_of, taken) = own_lanes(alloc, assignment, movable, free.as_slice())?;
-    let lanes = lanes_with(free.as_slice(), assignment.lanes(), taken);
+    let lanes = lanes_with(free.as_slice(), there, taken);
     let bare = bare_now(alloc, workqueues, movable, given, lane_of.as_slice())?;
     let assignment = Assignment::new(lanes, lane_of).unwrap();
     Ok(Workqueues::new(assignment, bare))

@@ -36,7 +36,7 @@ module _ (s : Declared) (sound : IsSound s) (old : Workqueues) (circle : List Wa
 
   -- groups wait in it
   waits : (v w : ℕ) → HasArc graph v w → GroupWaits d v w
-  waits v w arc = (GroupWaits-HasArc d is v w).1 ((HasArc-without needed.out (group_graph d) v w).0 arc).2.1
+  waits v w arc = (GroupWaits-HasArc d is v w).1 ((HasArc-without needed.out (group_graph d) v w).0 arc).2
 
   of_groups : Circle (GroupWaits d)
   of_groups =
@@ -53,7 +53,7 @@ module _ (s : Declared) (sound : IsSound s) (old : Workqueues) (circle : List Wa
   declared k e fits =
       let round = LeadsRound-walked graph circle needed.walked in
       let v = slice_index round.left k in
-      let there = (Contains-without needed.out (group_graph d) v (get_or circle k e) (round.leaves k e fits)).2.1 in
+      let there = (Contains-without needed.out (group_graph d) v (get_or circle k e) (round.leaves k e fits)).2 in
       (All-contains (λ (a : WaitArc). IsArc d.waits d.group_of a × (slice_index d.group_of a.src ≡ v)) (arcs_at (group_graph d) v) (get_or circle k e) (AreArcsFrom-group_graph d is v).declared there).0
 
   short : length circle ≤ 4096

@@ -1,9 +1,13 @@
 -- Items by their names, one after the other.
-use Rattle.std.proofs.Common.{◌≡◌, ℕ, List, [], ◌∷◌, ◌++◌, Option, Some, None, refl, sym, ap, ◌∙◌, append_assoc, append-nil}
+use Rattle.std.proofs.Common.{◌≡◌, ◌<◌, subst, length, ℕ, List, [], ◌∷◌, ◌++◌, Option, Some, None, refl, sym, ap, ◌∙◌, append_assoc, append-nil}
 use Rattle.std.specs.Prelude.{option_map}
+use Rattle.std.specs.List.{All, range_with_len}
 use Rattle.std.specs.Option.{option_zip}
 use Rattle.wq_items.specs.Table.{item_named}
+use Rattle.wq_items.proofs.Lists.{range_with_len-below}
 use Rattle.wq_cert.specs.Forms.{items_of}
+use Rattle.wq_cert.proofs.NotedLemmas.{below_all}
+use Rattle.wq_repair_command.specs.Movers.{movers}
 
 and_more : Option ℕ → Option (List ℕ) → Option (List ℕ)
 and_more item items = option_map (λ (p : ℕ × List ℕ). p.0 ∷ p.1) (option_zip item items)
@@ -44,3 +48,12 @@ found_with-unknown names items word rest absent =
 -- all
 pub found_with-all : (names : List (List ℕ)) (items : List ℕ) → Some items ≡ found_with names items []
 found_with-all names items = ap (λ (l : List ℕ). Some l) (sym (append-nil items))
+
+-- ---- who may move
+
+-- these are items
+pub movers-below : (items names : List (List ℕ)) (is : List ℕ) → movers items names ≡ Some is → All (λ i. i < length items) is
+movers-below items [] is e =
+    let same : range_with_len 0 (length items) ≡ is = cc in
+    subst (All (λ i. i < length items)) same (range_with_len-below (length items))
+movers-below items (name ∷ names) is e = below_all items (name ∷ names) is e

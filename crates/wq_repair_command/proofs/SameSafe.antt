@@ -100,6 +100,7 @@ module _ (w : Wiring) (one other : List Bool) (to : Rescues one other) (from : R
   same-stuck_end : (steps : List Step) → IsStuck (with_bare w one) (end_of (with_bare w one) steps) → IsStuck (with_bare w other) (end_of (with_bare w other) steps)
   same-stuck_end steps stuck = subst (IsStuck (with_bare w other)) (same-end w one other steps) (same-stuck (end_of (with_bare w one) steps) stuck)
 
+module _ (w : Wiring) (one other : List Bool) (to : Rescues one other) (from : Rescues other one) where
   pub same-safe : IsSafe (with_bare w one) → IsSafe (with_bare w other)
   same-safe safe n within steps run stuck =
       safe n within steps (same-run (with_helpers w n) other one steps run) (same-stuck_end (with_helpers w n) other one from to steps stuck)

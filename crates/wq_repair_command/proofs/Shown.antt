@@ -19,9 +19,9 @@ shown-none = record { above = tt; short = omega arith }
 
 shown-name : (bytes : List ℕ) → is_name bytes ≡ true → IsShown bytes
 shown-name bytes e =
-    let some = and_parts (nat_le 1 (length bytes)) (nat_le (length bytes) 63 && list_all is_printable bytes) e in
-    let most = and_parts (nat_le (length bytes) 63) (list_all is_printable bytes) some.1 in
-    record { above = above-printable bytes most.1; short = leb-true (length bytes) 63 most.0 }
+    let parts = and_parts (nat_le 1 (length bytes) && nat_le (length bytes) 63) (list_all is_printable bytes) e in
+    let most = and_parts (nat_le 1 (length bytes)) (nat_le (length bytes) 63) parts.0 in
+    record { above = above-printable bytes parts.1; short = leb-true (length bytes) 63 most.1 }
 
 shown-name_on : (bytes : List ℕ) → IsShown (name_on bytes)
 shown-name_on bytes = of (is_name (called bytes)) refl

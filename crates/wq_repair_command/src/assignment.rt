@@ -118,7 +118,14 @@ pub fn assignment_text<A: Allocator + Copy>(
     let mut out = Vec::new(alloc);
     for q in 0..lanes {
         let is_bare = workqueues.is_bare(LaneId::new(q));
-        put_line(&mut out, table, q, is_bare, items.places(q), name_at(names, q))?;
+        put_line(
+            &mut out,
+            table,
+            q,
+            is_bare,
+            items.places(q),
+            name_at(names, q),
+        )?;
     }
     Ok(out)
 }

@@ -38,8 +38,13 @@ impl<A: Allocator + Copy> Command<A> for RepairCommand<'_> {
     }
 
     fn answer(&self, alloc: A, texts: &Texts<A>) -> Result<(Outcome, Vec<u8, A>), AllocError> {
-        let Answered { end, text, why } =
-            repair_texts(alloc, self.seed, self.names, texts.first(), texts.second())?;
+        let Answered { end, text, why } = repair_texts(
+            alloc,
+            self.seed,
+            self.names,
+            texts.first(),
+            texts.second(),
+        )?;
         Ok((Outcome { end, why }, text))
     }
 }

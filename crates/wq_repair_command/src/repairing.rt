@@ -115,8 +115,7 @@ fn repair_assigned<A: Allocator + Copy>(
 {
     match items_that_may_move(alloc, table, names)? {
         Some(moving) => {
-            let answer =
-                repair_moving(alloc, table, groups, workqueues, called, moving.as_slice());
+            let answer = repair_moving(alloc, table, groups, workqueues, called, moving.as_slice());
             // Written as a call, so that the proof has one step for it.
             drop(moving);
             answer

@@ -61,8 +61,7 @@ pub(crate) const DRAWN_ASSIGN: &str =
     "As for `deadlock`. Without it the plan's workqueues are drawn";
 
 /// What NAME is.
-pub(crate) const NAME: &str =
-    "An item that may move, with its group. Without NAME all may";
+pub(crate) const NAME: &str = "An item that may move, with its group. Without NAME all may";
 
 /// What RUN is.
 pub(crate) const STEPS: &str = "The steps of a run";

@@ -23,6 +23,7 @@ use std::alloc::{AllocError, Global};
 use std::io::{self, Read, Write};
 use std::sync::Wait;
 use std::thread::Threads;
+use wq_changes::Repairing;
 use wq_circles::CirclesCommand;
 use wq_commands::{
     CheckCommand, Command, DeadlockCommand, End, Fault, Metered, Outcome, PlanCommand,
@@ -361,13 +362,12 @@ fn repair<'a, O: World<'a>, W: Write, E: Write>(
     let ended = carry_out_on(
         alloc,
         &RepairCommand { seed, names },
-        &Diagnosing::two(
+        &Repairing {
             seed,
-            shown_name(declaration),
-            CertificateKind::Assignment,
-            shown_name(assignment),
-            Beside::Other,
-        ),
+            declaration: shown_name(declaration),
+            assignment: shown_name(assignment),
+            names,
+        },
         declared,
         assigned,
         io::empty(),
@@ -699,7 +699,15 @@ fn carry_out_asked<'a, O: World<'a>, R: Threads + Wait + Sync, I: Read, W: Write
             declaration,
             assignment,
             names,
-        } => repair(world, alloc, declaration, assignment, names.as_slice(), writer, teller),
+        } => repair(
+            world,
+            alloc,
+            declaration,
+            assignment,
+            names.as_slice(),
+            writer,
+            teller,
+        ),
         Request::Replay {
             declaration,
             assignment,

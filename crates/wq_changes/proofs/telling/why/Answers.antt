@@ -11,8 +11,8 @@ use Rattle.wq_changes.specs.Without.{lane_without, without_change}
 use Rattle.wq_changes.specs.Words.{lead_of}
 use Rattle.wq_changes.proofs.telling.why.Goals as goal
 
-pub of_subject-said-requires-clause-assigned : goal.of_subject-said-requires-clause-assigned
-of_subject-said-requires-clause-assigned g c =
+pub of_subject-requires-clause-assigned : goal.of_subject-requires-clause-assigned
+of_subject-requires-clause-assigned g c =
     let r = c.args.repair.now in
     ap (λ (ws : Workqueues). length ws.assignment.lane_of_group) c.in_ok-workqueues.ensures
     ∙ length-map-range_with_len (lane_without r.old.now r.new.now c.args.change.now) 0 (length r.new.now.assignment.lane_of_group) ∙ c.requires.new
@@ -27,7 +27,7 @@ returns g c =
       said,
       c.or_nothing.ensures,
       subst (λ (ws : Workqueues). GivesReason first (lead_of c.args.change.now) (λ h. words_of OnWorkqueues s ws names h) (declared_waits s) ws said)
-      c.in_ok-workqueues.ensures
-      (subst (λ (lead : List ℕ). GivesReason first lead (λ h. words_of OnWorkqueues s c.in_ok-workqueues.workqueues names h) (declared_waits s) c.in_ok-workqueues.workqueues said)
-      c.lead_of.ensures c.in_ok-said.ensures),
+          c.in_ok-workqueues.ensures
+          (subst (λ (lead : List ℕ). GivesReason first lead (λ h. words_of OnWorkqueues s c.in_ok-workqueues.workqueues names h) (declared_waits s) c.in_ok-workqueues.workqueues said)
+          c.lead_of.ensures c.in_ok-said.ensures),
     )

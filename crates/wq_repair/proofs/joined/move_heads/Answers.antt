@@ -1,7 +1,6 @@
-use Rattle.std.proofs.Common.{◌≡◌, ◌<◌, ◌++◌, [], ℕ, List, length, map, get_or, set, sym, ap, ◌∙◌, arith}
-use Rattle.std.specs.Prelude.{Vec}
-use Rattle.std.proofs.lemmas.List.{length-map, length-set, map-set}
-use Rattle.wq_repair.specs.Vertices.{heads_at, heads_moved}
+use Rattle.std.proofs.Common.{◌≡◌, ◌++◌, [], ℕ, List, map, set, ap, ◌∙◌, arith}
+use Rattle.std.proofs.lemmas.List.{length-set, map-set}
+use Rattle.wq_repair.specs.Vertices.{heads_at}
 use Rattle.wq_repair.proofs.VertexLists.{heads_at-read}
 use Rattle.wq_repair.proofs.joined.move_heads.Goals as goal
 

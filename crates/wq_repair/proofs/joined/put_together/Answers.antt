@@ -1,6 +1,5 @@
-use Rattle.std.proofs.Common.{◌≡◌, ◌<◌, ◌+◌, ℕ, Bool, true, false, List, length, take, replicate, set, subst, sym, ap, ◌∙◌, arith, rules}
-use Rattle.std.specs.Prelude.{All, Contains, None, Some, slice_index, slice_index_or}
-use Rattle.std.proofs.lemmas.Bool.{false≢true}
+use Rattle.std.proofs.Common.{◌≡◌, ◌<◌, ◌+◌, ℕ, Bool, false, List, length, replicate, set, subst, sym, ap, ◌∙◌, arith, rules}
+use Rattle.std.specs.Prelude.{None, Some, slice_index, slice_index_or}
 use Rattle.std.proofs.lemmas.List.{length-replicate}
 use Rattle.std.proofs.lemmas.List.Elements.{All-contains}
 use Rattle.std.proofs.lemmas.Option.{get_or_from_slice_get}

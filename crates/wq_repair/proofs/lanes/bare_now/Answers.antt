@@ -1,5 +1,5 @@
-use Rattle.std.proofs.Common.{◌≡◌, ℕ, ◌+◌, ◌<◌, ◌≤◌, ◌++◌, inl, inr, Bool, List, length, refl, sym, ap, subst, ◌∙◌, arith}
-use Rattle.std.specs.Prelude.{◌⊎◌, false, slice_index, slice_set}
+use Rattle.std.proofs.Common.{◌≡◌, ℕ, ◌+◌, ◌<◌, inl, inr, length, sym, subst, ◌∙◌, arith}
+use Rattle.std.specs.Prelude.{false, slice_index, slice_set}
 use Rattle.std.proofs.lemmas.Bool.{false≢true}
 use Rattle.std.proofs.lemmas.List.{get_or_default}
 use Rattle.wq_repair.specs.Changes.{lane_in}
@@ -11,8 +11,7 @@ use Rattle.wq_repair.proofs.lanes.bare_now.Goals as goal
 
 pub loop-group-init : goal.loop-group-init
 loop-group-init g c =
-    AreBareNow-none c.args.old.now c.args.comes.now c.args.given.now c.args.lane_of.now c.extend_from_slice.new.self.items
-    (c.in_ok-extend_from_slice.ensures.items ∙ ap (λ (xs : List Bool). xs ++ c.bare.result.now) c.new-bare.ensures.items ∙ c.bare.ensures)
+    AreBareNow-none c.args.old.now c.args.comes.now c.args.given.now c.args.lane_of.now c.in_ok-bare.bare.items c.in_ok-bare.ensures
 
 pub bounds-given-from : goal.bounds-given-from
 bounds-given-from g c =

@@ -1,4 +1,4 @@
-use Rattle.std.proofs.Common.{◌≡◌, ◌≢◌, ℕ, ◌+◌, ◌<◌, ◌++◌, ◌∷◌, [], List, inl, inr, sym, subst, ◌∙◌, arith}
+use Rattle.std.proofs.Common.{◌≡◌, ◌≢◌, ℕ, ◌+◌, ◌<◌, List, inl, inr, sym, subst, ◌∙◌, arith}
 use Rattle.std.specs.Prelude.{◌↔◌, ◌⊎◌, Contains, AllPairs}
 use Rattle.std.proofs.lemmas.Bool.{cases_eq, false≢true}
 use Rattle.wq_repair.specs.Marks.{IsMarked}
@@ -35,9 +35,9 @@ loop-number-preserved g c =
     ) in
     record {
       exactly = λ k. subst (λ (ys : List ℕ). Contains ys k ↔ ((k < n + 1) × IsMarked marks k)) (sym c.in_ok-push.ensures.items)
-      (list-one_more (λ (k : ℕ). (k < n) × IsMarked marks k) (λ (k : ℕ). (k < n + 1) × IsMarked marks k) xs n c.loop-number.invariant.exactly more k);
+          (list-one_more (λ (k : ℕ). (k < n) × IsMarked marks k) (λ (k : ℕ). (k < n + 1) × IsMarked marks k) xs n c.loop-number.invariant.exactly more k);
       once = subst (λ (ys : List ℕ). AllPairs (λ (j k : ℕ). j ≢ k) ys) (sym c.in_ok-push.ensures.items)
-      (list-once_more (λ (k : ℕ). (k < n) × IsMarked marks k) xs n c.loop-number.invariant.exactly (λ is. omega (arith, is.0)) c.loop-number.invariant.once);
+          (list-once_more (λ (k : ℕ). (k < n) × IsMarked marks k) xs n c.loop-number.invariant.exactly (λ is. omega (arith, is.0)) c.loop-number.invariant.once);
     }
 
 pub returns : goal.returns

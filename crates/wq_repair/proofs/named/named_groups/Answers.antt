@@ -25,8 +25,8 @@ returns g c =
     Marks-as (SomeBelow (λ (m k : ℕ). get_or group_of (get_or names m 0) 0 ≡ k) i) (HasName group_of names) c.args.groups.now.groups c.loop-item.named.items
     (λ k lt. (
       λ some.
-      let within : some.0 < length names = omega (arith, some.1, c.loop-item.auto.item-index-end) in
-      (some.0, get_or names some.0 0, within, sym (get_or_default names some.0 0 (get_or names some.0 0) within), some.2),
+          let within : some.0 < length names = omega (arith, some.1, c.loop-item.auto.item-index-end) in
+          (some.0, get_or names some.0 0, within, sym (get_or_default names some.0 0 (get_or names some.0 0) within), some.2),
       λ any. (
         any.0,
         omega (arith, any.2, c.loop-item-test.false),

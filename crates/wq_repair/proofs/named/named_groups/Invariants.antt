@@ -1,4 +1,4 @@
-use Rattle.std.proofs.Common.{◌≡◌, ℕ}
+use Rattle.std.proofs.Common.{◌≡◌}
 use Rattle.std.specs.Prelude.{slice_index}
 use Rattle.wq_repair.specs.Marks.{Marks}
 use Rattle.wq_repair.proofs.Marks.{SomeBelow}

@@ -1,7 +1,5 @@
-use Rattle.std.proofs.Common.{◌≡◌, ℕ, ◌<◌, length}
+use Rattle.std.proofs.Common.{◌≡◌, ℕ, length}
 use Rattle.std.specs.Prelude.{◌↔◌}
-use Rattle.wq_repair.specs.Changes.{lane_in}
-use Rattle.wq_repair.specs.Marks.{IsMarked}
 use Rattle.wq_repair.specs.Together.{IsHomeOf}
 use Rattle.wq_repair.proofs.Homes.{HoldsBelow}
 use Rattle.wq_repair.proofs.repairing.homes.Given as goal

@@ -1,6 +1,5 @@
-use Rattle.std.proofs.Common.{◌≡◌, length, IfOk, ℕ, ◌+◌, ◌-◌, ◌*◌, ◌<◌, ◌≤◌}
 use Rattle.wq_repair.specs.Marks.{Marks}
-use Rattle.wq_repair.specs.Steps.{IsToBeGiven, IsMovable, IsStartBy}
+use Rattle.wq_repair.specs.Steps.{IsMovable}
 use Rattle.wq_repair.proofs.start.movable_groups.Given as goal
 
 abbrev pub invariant-loop-group : goal.invariant-loop-group

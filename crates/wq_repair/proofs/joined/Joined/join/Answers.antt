@@ -1,5 +1,5 @@
-use Rattle.std.proofs.Common.{◌≡◌, ℕ, Bool, true, false, subst, sym, ap, ◌∙◌, arith}
-use Rattle.wq_repair.specs.Vertices.{Vertices, IsLevelled, IsJoined}
+use Rattle.std.proofs.Common.{Bool, subst}
+use Rattle.wq_repair.specs.Vertices.{IsLevelled}
 use Rattle.wq_repair.proofs.Moved.{IsJoined-not, IsJoined-put}
 use Rattle.wq_repair.proofs.joined.Joined.join.Goals as goal
 

@@ -1,4 +1,4 @@
-use Rattle.std.proofs.Common.{◌≡◌, ◌<◌, ◌≤◌, ℕ, List, length, map, subst, sym, ap, ◌∙◌, arith}
+use Rattle.std.proofs.Common.{◌≡◌, ◌<◌, ◌≤◌, ℕ, List, length, map, subst, sym, ap, ◌∙◌}
 use Rattle.std.specs.Prelude.{All, slice_index}
 use Rattle.wq_repair.specs.Vertices.{Vertices, AreVertices}
 use Rattle.wq_repair.proofs.Lowered.{AreVertices-lowered}

@@ -1,4 +1,4 @@
-use Rattle.std.proofs.Common.{◌≡◌, ℕ, ◌+◌, ◌<◌, length, sym, ap, arith}
+use Rattle.std.proofs.Common.{◌≡◌, ℕ, ◌+◌, sym, ap, arith}
 use Rattle.wq_graph.specs.declared.arc.WaitArc.{WaitArc}
 use Rattle.std.specs.List.{Any}
 use Rattle.wq_repair.proofs.NeededFound.{HeadBelow, HeadBelow-last, HasGrown-none, HasGrown-then, HasGrown-as}

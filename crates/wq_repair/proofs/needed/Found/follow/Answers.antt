@@ -1,5 +1,5 @@
-use Rattle.std.proofs.Common.{◌≡◌, ℕ, ◌<◌, inl, inr, List, [], length, get_or, refl, sym, ap, subst, ◌∙◌, arith}
-use Rattle.std.specs.Prelude.{◌⊎◌, ◌↔◌, true, false, slice_index_or, Contains}
+use Rattle.std.proofs.Common.{◌≡◌, ℕ, ◌<◌, inl, inr, List, [], length, get_or, sym, ap, subst, ◌∙◌, arith}
+use Rattle.std.specs.Prelude.{◌↔◌, true, false, slice_index_or, Contains}
 use Rattle.std.specs.List.{Any}
 use Rattle.std.proofs.lemmas.Bool.{false≢true}
 use Rattle.std.proofs.lemmas.List.Elements.{Contains-get_or}
@@ -7,7 +7,7 @@ use Rattle.wq_graph.specs.declared.arc.WaitArc.{WaitArc}
 use Rattle.wq_graph.specs.Graph.{HasArc}
 use Rattle.wq_repair.specs.Changes.{lane_in}
 use Rattle.wq_repair.specs.Marks.{IsMarked}
-use Rattle.wq_repair.specs.Following.{HasGrown, IsBesideBy, BringsAlongBy}
+use Rattle.wq_repair.specs.Following.{HasGrown, BringsAlongBy}
 use Rattle.wq_repair.proofs.NeededFound.{HasGrown-as, HasGrown-then}
 use Rattle.wq_repair.proofs.LaneReads.{lane-read, lane-within}
 use Rattle.wq_repair.proofs.needed.Found.follow.Goals as goal
@@ -85,6 +85,6 @@ returns g c =
     HasGrown-then c.args.self.now c.add_awaited.new.self c.add_lane.new.self (HasArc graph i) (Contains c.places.result.now) (BringsAlongBy graph ws named lanes i) grown c.in_ok-add_lane.ensures
     (λ h arc. inl arc)
     (λ h there.
-      let known = (on h).0 there in
-      inr (record { unnamed = unnamed; bare = bare; named_lane = named_lane; is_group = known.0; beside = known.1 ∙ sym key }))
+    let known = (on h).0 there in
+    inr (record { unnamed = unnamed; bare = bare; named_lane = named_lane; is_group = known.0; beside = known.1 ∙ sym key }))
     (λ h by. elim by [ inl arc ↦ inl arc | inr beside ↦ inr ((on h).1 (beside.is_group, beside.beside ∙ key)) ])
