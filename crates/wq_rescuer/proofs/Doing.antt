@@ -1,5 +1,5 @@
 -- Jobs, and what came back of them, place by place.
-use Rattle.std.proofs.Common.{◌≡◌, ℕ, zero, suc, ◌+◌, List, [], ◌∷◌, ◌++◌, length, map, reverse, refl, sym, ap, subst, ◌∙◌, arith}
+use Rattle.std.proofs.Common.{◌≡◌, ℕ, zero, suc, List, [], ◌∷◌, ◌++◌, length, map, reverse, refl, sym, ap, subst, ◌∙◌}
 use Rattle.std.specs.Prelude.{Some, Result, slice_get}
 use Rattle.std.proofs.lemmas.List.{length-map, map-append, reverse-append, reverse-reverse}
 use Rattle.wq_held.specs.declared.fault.CallError.{CallError}
@@ -33,8 +33,8 @@ pub done_part : {J E X : Type 0} (done : J → E → Type 0) (f : J → X) (g : 
 done_part done f g same [] [] all = refl
 done_part done f g same [] (x ∷ xs) all = absurd all
 done_part done f g same (y ∷ ys) [] all = absurd all
-done_part {J} {E} {X} done f g same (y ∷ ys) (x ∷ xs) all =
-    ap (λ (z : X). z ∷ map g xs) (same y x all.0) ∙ ap (λ (zs : List X). f y ∷ zs) (done_part done f g same ys xs all.1)
+done_part done f g same (y ∷ ys) (x ∷ xs) all =
+    ap (λ z. z ∷ map g xs) (same y x all.0) ∙ ap (λ zs. f y ∷ zs) (done_part done f g same ys xs all.1)
 
 -- what is done with a part of each job
 pub done_of : {J E K : Type 0} (done : J → E → Type 0) (by_part : K → E → Type 0) (f : J → K) (weaker : (j : J) (e : E) → done j e → by_part (f j) e) (js : List J) (es : List E)
@@ -59,8 +59,8 @@ done_in_order {K} {E} done ks all es are before =
 
 pub map_reverse : {X Y : Type 0} (f : X → Y) (xs : List X) → map f (reverse xs) ≡ reverse (map f xs)
 map_reverse f [] = refl
-map_reverse {X} {Y} f (x ∷ xs) =
-    ap (map f) (reverse-append (x ∷ []) xs) ∙ map-append f (reverse xs) (x ∷ []) ∙ ap (λ (ys : List Y). ys ++ (f x ∷ [])) (map_reverse f xs)
+map_reverse f (x ∷ xs) =
+    ap (map f) (reverse-append (x ∷ []) xs) ∙ map-append f (reverse xs) (x ∷ []) ∙ ap (λ ys. ys ++ (f x ∷ [])) (map_reverse f xs)
     ∙ sym (reverse-append (f x ∷ []) (map f xs))
 
 some_is : {X : Type 0} (a b : X) → Some a ≡ Some b → a ≡ b
@@ -74,9 +74,9 @@ each_served : {B E : Type 0} (executed : B → List ℕ → Result Rescued CallE
 each_served executed seat answer [] [] all n b s a b_at s_at a_at = absurd cc
 each_served executed seat answer [] (x ∷ xs) all n b s a b_at s_at a_at = absurd all
 each_served executed seat answer (y ∷ ys) [] all n b s a b_at s_at a_at = absurd all
-each_served {B} {E} executed seat answer (y ∷ ys) (x ∷ xs) all zero b s a b_at s_at a_at =
-    subst (λ (z : B). executed z s a) (some_is y b b_at)
-    (subst (λ (z : List ℕ). executed y z a) (some_is (seat x) s s_at) (subst (λ (z : Result Rescued CallError). executed y (seat x) z) (some_is (answer x) a a_at) all.0))
+each_served executed seat answer (y ∷ ys) (x ∷ xs) all zero b s a b_at s_at a_at =
+    subst (λ z. executed z s a) (some_is y b b_at)
+    (subst (λ z. executed y z a) (some_is (seat x) s s_at) (subst (λ z. executed y (seat x) z) (some_is (answer x) a a_at) all.0))
 each_served executed seat answer (y ∷ ys) (x ∷ xs) all (suc n) b s a b_at s_at a_at = each_served executed seat answer ys xs all.1 n b s a b_at s_at a_at
 
 -- the contexts that were handed these bodies, in order; what came back of them came back in reverse
@@ -103,10 +103,10 @@ each_called : {C E : Type 0} (did : C → C → Result (Unit {0}) CallError → 
 each_called did caller result seat [] [] all n old new r s old_at new_at r_at s_at = absurd cc
 each_called did caller result seat [] (x ∷ xs) all n old new r s old_at new_at r_at s_at = absurd all
 each_called did caller result seat (y ∷ ys) [] all n old new r s old_at new_at r_at s_at = absurd all
-each_called {C} {E} did caller result seat (y ∷ ys) (x ∷ xs) all zero old new r s old_at new_at r_at s_at =
-    subst (λ (z : C). did z new r s) (some_is y old old_at)
-    (subst (λ (z : C). did y z r s) (some_is (caller x) new new_at)
-    (subst (λ (z : Result (Unit {0}) CallError). did y (caller x) z s) (some_is (result x) r r_at) (subst (λ (z : List ℕ). did y (caller x) (result x) z) (some_is (seat x) s s_at) all.0)))
+each_called did caller result seat (y ∷ ys) (x ∷ xs) all zero old new r s old_at new_at r_at s_at =
+    subst (λ z. did z new r s) (some_is y old old_at)
+    (subst (λ z. did y z r s) (some_is (caller x) new new_at)
+    (subst (λ z. did y (caller x) z s) (some_is (result x) r r_at) (subst (λ z. did y (caller x) (result x) z) (some_is (seat x) s s_at) all.0)))
 each_called did caller result seat (y ∷ ys) (x ∷ xs) all (suc n) old new r s old_at new_at r_at s_at = each_called did caller result seat ys xs all.1 n old new r s old_at new_at r_at s_at
 
 -- these callers were handed in, in order; what came back of them came back in reverse

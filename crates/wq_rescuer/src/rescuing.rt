@@ -79,6 +79,7 @@ fn execute<N: Naming, A: Allocator, R: Wait, B: Body>(
 /// the same context. Then what the seat counts as finished has risen by no more than what the body ran.
 ///
 /// What the seat counts besides is what the runs of the body may change, and nothing else.
+#[tactic(auto, using(crate::proofs::Executions::none_executed, crate::proofs::Executions::stopped_between, crate::proofs::Executions::stopped_at_once))]
 pub fn serve<N: Naming, A: Allocator, R: Wait, B: Body>(
     rt: &R,
     runtime: &WqRuntime<N, A>,
