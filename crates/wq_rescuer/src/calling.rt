@@ -15,11 +15,11 @@ use wq_api::{CallError, Naming, Seat, WqRuntime};
 pub trait Caller {
     ghost use Rattle.std.specs.Prelude.{ℕ, List, Result};
     ghost use Rattle.wq_core.specs.Wiring.{Wiring};
-    ghost use Rattle.wq_held.specs.declared.fault.CallError.{CallError};
+    ghost use Rattle.wq_held.specs.declared.fault.CallError.{CallError as Refusal};
 
     // in a runtime of this wiring, calls with this result that this caller made, and what it was afterwards; they turned these counts
     // of its seat into those
-    ghost did: { Wiring → Self → Self → Result (Unit {0}) CallError → List ℕ → List ℕ → Type 0 };
+    ghost did: { Wiring → Self → Self → Result (Unit {0}) Refusal → List ℕ → List ℕ → Type 0 };
 
     /// Makes the calls. The error is the first refusal that the caller doesn't handle.
     fn call<N: Naming, A: Allocator, R: Wait>(

@@ -10,7 +10,7 @@ ghost use Rattle.wq_held.specs.declared.fault.CallError.TheVariants.{WrongLane};
 ghost use Rattle.wq_held.specs.Locked.{IsOnLane};
 ghost use Rattle.wq_api.specs.WaitingCalls.{IsHelper};
 ghost use Rattle.wq_api.specs.Locking.{WasDone, WasDoneIn};
-ghost use Rattle.wq_rescuer.specs.declared.body.BodyFault.{BodyFault};
+ghost use Rattle.wq_rescuer.specs.declared.body.BodyFault.{BodyFault as Fault};
 ghost use Rattle.wq_rescuer.specs.Executing.{NeverRan, RanOnce, RanOnly, SameFinished, CountsRuns, CountsAtMost, HasExecuted, HasStopped, finished_in_all, faults_of, RefusesRescue, RefusesServe, RefusesHelper, WasDrivenIn};
 
 use crate::body::{Body, BodyFault};
@@ -65,7 +65,7 @@ fn execute<N: Naming, A: Allocator, R: Wait, B: Body>(
     ensures width { B.width body.new ≡ B.width body.old }
     ensures finished { SameFinished seat.old seat.new }
     ensures may { B.may N.wiring body.old item result seat.old seat.new }
-    ensures no_more { (i : ℕ) (answer : Result (Unit {0}) BodyFault) (before : List ℕ) (after : List ℕ) → B.may N.wiring body.new i answer before after → B.may N.wiring body.old i answer before after }
+    ensures no_more { (i : ℕ) (answer : Result (Unit {0}) Fault) (before : List ℕ) (after : List ℕ) → B.may N.wiring body.new i answer before after → B.may N.wiring body.old i answer before after }
 {
     let mut work = Work::new(runtime, seat, q, helper, item);
     body.run(rt, item, &mut work)

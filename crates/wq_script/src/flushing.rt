@@ -11,7 +11,7 @@ ghost use Rattle.wq_core.specs.Wiring.{items};
 ghost use Rattle.wq_held.specs.Locked.{seat_rows};
 ghost use Rattle.wq_under_lock.specs.Refusals.{RefusesWaitIn};
 ghost use Rattle.wq_api.specs.WaitingCalls.{waited_for, RefusedWaitIn};
-ghost use Rattle.wq_rescuer.specs.declared.body.BodyFault.{BodyFault};
+ghost use Rattle.wq_rescuer.specs.declared.body.BodyFault.{BodyFault as Fault};
 ghost use Rattle.wq_rescuer.specs.Executing.{NeverRan, RanOnce, SameFinished};
 ghost use Rattle.wq_script.specs.Scripts.{runs_of, CountsWaits, CountsFirstWaits, CountsOnlyWaits, CountsRun, IsFlushCode, IsCodeOf};
 
@@ -139,7 +139,7 @@ impl<'t, 'a, A: Allocator + Copy> Body for ScriptBody<'t, 'a, A> {
         ensures full { IfErr result (λ f. f.code ≡ 60 → seat_rows ≤ sum work.new.seat.now) }
         ensures cause { IfErr result (λ f. IsCodeOf work.new.flushed f.code) }
         ensures may { CountsRun (targets_of self.old.waits item) result work.old.seat.now work.new.seat.now }
-        ensures no_more { (i : ℕ) (answer : Result (Unit {0}) BodyFault) (before : List ℕ) (after : List ℕ) → CountsRun (targets_of self.new.waits i) answer before after → CountsRun (targets_of self.old.waits i) answer before after }
+        ensures no_more { (i : ℕ) (answer : Result (Unit {0}) Fault) (before : List ℕ) (after : List ℕ) → CountsRun (targets_of self.new.waits i) answer before after → CountsRun (targets_of self.old.waits i) answer before after }
     {
         self.counts[usize::from(item.get())] += 1;
         let table = self.table;
