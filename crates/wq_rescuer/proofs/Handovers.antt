@@ -17,7 +17,7 @@ use Rattle.wq_api.specs.Locking.{WasDoneIn}
 use Rattle.wq_rescuer.specs.Executing.{RanOnly, RefusesServe, WasDrivenIn, finished_of, finished_in_all, CountsRuns, CountsAtMost}
 use Rattle.wq_rescuer.specs.declared.running.RunWhy.{RunWhy}
 use Rattle.wq_rescuer.specs.declared.running.RunWhy.TheVariants.{BodiesDiffer, TooManySeats, OutOfMemory, NoThread}
-use Rattle.wq_rescuer.specs.Serving.{IsServed, AreServed, CameBack, AreBack, IsNoSeat, RefusesRun}
+use Rattle.wq_rescuer.specs.Serving.{IsServed, AreServed, CameBack, AreBack, IsNoSeat, IsOneLost, RefusesRun}
 
 -- ---- a seat without counts
 
@@ -254,6 +254,22 @@ contexts_first w all n context_seats seats runs rescued are first long =
     let at : length all ≡ n = omega (arith, long, are.a_seat_each) in
     let same : take (length all) seats ≡ context_seats = ap (λ (m : ℕ). take m seats) at ∙ first in
     subst (λ ss. AreServed w all ss runs rescued) (sym same) are
+
+-- one was lost before one more context came back
+pub one_lost_more : (contexts callers contexts_left callers_left all left : ℕ) → IsOneLost contexts callers contexts_left callers_left → all ≡ contexts + 1 → left ≡ contexts_left + 1
+    → IsOneLost all callers left callers_left
+one_lost_more contexts callers contexts_left callers_left all left lost more back = elim lost [
+  | inl one ↦ inl (omega (arith, one.0, more, back), one.1)
+  | inr one ↦ inr (omega (arith, one.0, more, back), one.1)
+]
+
+-- the same numbers, seen elsewhere
+pub one_lost_seen : (contexts callers contexts_left callers_left bodies calls bodies_left calls_left : ℕ) → IsOneLost contexts callers contexts_left callers_left
+    → contexts ≡ bodies → callers ≡ calls → contexts_left ≡ bodies_left → callers_left ≡ calls_left → IsOneLost bodies calls bodies_left calls_left
+one_lost_seen contexts callers contexts_left callers_left bodies calls bodies_left calls_left lost a b x y = elim lost [
+  | inl one ↦ inl (omega (arith, one.0, a, x), omega (arith, one.1, b, y))
+  | inr one ↦ inr (omega (arith, one.0, a, x), omega (arith, one.1, b, y))
+]
 
 -- ---- callers
 
