@@ -67,11 +67,7 @@ impl<N: Naming, A: Allocator, C: Caller + Drop> CallerJob<N, A, C> {
     }
 
     /// Makes the calls.
-    pub(crate) fn make_calls<R: Wait>(
-        self,
-        rt: &R,
-        runtime: &WqRuntime<N, A>,
-    ) -> CallerEnd<N, A, C>
+    pub(crate) fn make_calls<R: Wait>(self, rt: &R, runtime: &WqRuntime<N, A>) -> CallerEnd<N, A, C>
         ensures { C.did N.wiring self.caller result.caller result.result (no_counts N.wiring) result.seat }
     {
         let CallerJob {
