@@ -5,10 +5,16 @@ import os
 import pathlib
 import sys
 
+import hypothesis
 import pytest
 
 sys.dont_write_bytecode = True
 ROOT = pathlib.Path(__file__).resolve().parents[1]
+
+# The gate says the same each time, however much else the machine has to do.
+hypothesis.settings.register_profile("gate", deadline=None, derandomize=True, database=None, max_examples=200,
+                                        suppress_health_check=list(hypothesis.HealthCheck))
+hypothesis.settings.load_profile("gate")
 
 
 def pytest_addoption(parser):

@@ -1,45 +1,40 @@
-# Tests the model itself, without the program:
-#
-#     properties.py [SEED] [CASES]
-#
-# It makes up the same cases as compare.py, and looks at the model's answers with other means: with
-# a second reading of certificates that is one pattern for each kind of text, with a second reading
-# of the steps that keeps no state and looks at all steps before, with a second reading of circles
-# and of deadlocking runs, and with laws that docs/FORMAT.md implies. Of the reasons that are said of small cases it lists all
-# circular waits. It stops at the first case that breaks a law. Then the states of search.py must allow the same steps as those of the model, and
-# what that search finds must be what the model answers.
+"""The model itself, without the program: its answers to the cases of test_program.py by other means.
+
+There is a second reading of certificates that is one pattern for each kind of text, a second reading of the steps that keeps no state
+and looks at all steps before, a second reading of circles and of deadlocking runs, and laws that docs/FORMAT.md implies. Of the reasons
+that are said of small cases all circular waits are listed.
+"""
 
 import collections
 import dataclasses
-import importlib.util
 import itertools
-import pathlib
-import random
 import re
-import sys
 
-sys.dont_write_bytecode = True
-import certificate  # noqa: E402  (beside this file)
-import check  # noqa: E402
-import circles  # noqa: E402
-import compare  # noqa: E402
-import deadlock  # noqa: E402
-import diagnoses  # noqa: E402
-import dot  # noqa: E402
-import hang  # noqa: E402
-import make_certificates  # noqa: E402
-import plan  # noqa: E402
-import reasons  # noqa: E402
-import replay  # noqa: E402
-import run  # noqa: E402
-import search  # noqa: E402
-from command_line import seed_and_counts  # noqa: E402
-from declaration import FLUSHES_WHOLE, Refused, read_declaration  # noqa: E402
-from standard_error import fits  # noqa: E402  (in tests/lib)
-from steps import State  # noqa: E402
+import certificate
+import check
+import circles
+import deadlock
+import dot
+import drawn
+import hang
+import make_certificates
+import plan
+import pytest
+import reasons
+import replay
+import run
+import unrescued
+from declaration import FLUSHES_WHOLE, Refused, read_declaration
+from hypothesis import given, settings
+from models import ANSWERS
+from standard_error import fits
+from steps import State
+from strategies import CASES
+from test_program import COMMANDS
 
-DEFAULT_SEED = "1"
-DEFAULT_CASES = 500
+DRAWN = 250
+# Of the cases at the limits those are looked at whose texts have fewer bytes.
+SMALL = 20_000
 
 
 # A second reading of certificates ----------------------------------------------------------------
@@ -741,11 +736,13 @@ def right_reasons(command, declared, assignment):
 def look_at_reasons(command, texts):
     """What the model says is right, by itself and by all circular waits; what differs from that is wrong."""
     files = FILES[:len(texts)]
-    printed, status, said = diagnoses.answer(command, files, texts)
-    demand(fits(printed, said, files, command), "what the model says on standard error has its form")
+    printed, status = ANSWERS[command](*texts)
     if status == 2 or not read_declaration(texts[0]).items:
         return
-    said = said[len(diagnoses.said_first(command, files, texts, printed, status)):]
+    said = reasons.said_of(command, files, texts, printed)
+    safe = unrescued.said_of(command, files, texts, printed)
+    if not printed.startswith((b"no ", b"not lawful ")):
+        demand(fits(printed, safe + said, files, command), "what the model says on standard error has its form")
 
     def wrong(said):
         return reasons.wrong_with(command, files, texts, printed, said)
@@ -896,19 +893,6 @@ def look_at_circles(*texts):
     demand(parts_of(turned) == parts_of(printed), "the numbers of workqueues matter for the order alone")
 
 
-def load_reader():
-    """The reader of drawings, tests/lib/dot.py. The model's dot.py has the same name."""
-    place = pathlib.Path(__file__).resolve().parents[1] / "lib" / "dot.py"
-    spec = importlib.util.spec_from_file_location("dot_reader", place)
-    reader = importlib.util.module_from_spec(spec)
-    sys.modules[spec.name] = reader
-    spec.loader.exec_module(reader)
-    return reader
-
-
-READER = load_reader()
-
-
 def labels(assignment):
     """By number what the reader has as labels that aren't just the number."""
     names = [name.decode() for name in assignment.called.values()]
@@ -931,7 +915,7 @@ def look_at_dot(*texts):
     if status == 2:
         demand(printed == circled, "with the same refusal")
         return
-    drawing = READER.read(printed)
+    drawing = drawn.read(printed)
     declared, assignment = read_case(texts)
     word, bold = "safe" if of_circles == 0 else "every" if len(texts) == 1 else "can", []
     if len(texts) == 1 and of_circles == 0:
@@ -966,44 +950,6 @@ def look_at_dot(*texts):
         demand(dot.answer(texts[0], plain) == (printed, 0), "how an assignment is spelled means nothing, but for names")
 
 
-def look_at_search(choose):
-    """The states of search.py allow the same steps as those of the model, on a random way."""
-    declared = read_declaration(search.make_declaration(choose))
-    parts = choose.choice(list(search.partitions(len(declared.groups))))
-    count = max(parts, default=-1) + 1
-    workqueue_of = {name: parts[group] for name, group in declared.group_of.items()}
-    helpers = choose.choice([0, 0, 1, 2, 8])
-    ordered = {workqueue_of[group[0]] for group in declared.groups if len(group) > 1}
-    bare = frozenset(number for number in range(count) if choose.random() < 0.3)
-    state = State(declared, certificate.Assignment(workqueue_of, count, bare), helpers)
-    steps = search.Steps(search.waits_of(declared), workqueue_of, ordered, helpers)
-    found = steps.begin(count)
-    all_steps = [(word, None, name) for word in (b"queue", b"cancel") for name in declared.items]
-    all_steps += [search.named(word, number, name, context) for word in EXECUTIONS
-                  for number in range(count) for name in declared.items for context in range(helpers + 2)]
-    for _ in range(60):
-        behind = dict(steps.all_steps(found))
-        may = [step for step in all_steps if state.may(step[:3], *step[3:])]
-        demand(sorted(map(repr, may)) == sorted(map(repr, behind)), "both allow the same steps")
-        demand(state.is_stuck() == search.is_stuck(found, list(steps.executions(found)), bare), "both are stuck")
-        starts = {search.named(*step, helper) for step, helper in state.helper_starts()}
-        demand(starts == {step for step, _ in steps.helper_starts(found)}, "both have the same starts of helpers")
-        step = choose.choice(may)
-        state.make(step[:3], *step[3:])
-        found = behind[step]
-
-
-def look_at_searches(seed, walks, declarations):
-    """Walks through the states of search.py, and its searches, where the model is asked."""
-    for number in range(walks):
-        look_at_search(random.Random(f"{seed} walk {number}"))
-    for number in range(declarations):
-        text = search.make_declaration(random.Random(f"{seed} model {number}"))
-        of = number < declarations // 10, number < declarations // 2
-        *_, wrong = search.look_at_declaration(search.ask_model, itertools.repeat(1), text, *of)
-        demand(not wrong, f"the search finds what the model answers: {text!r}: {wrong}")
-
-
 # Of each command what looks at the model's answer to the cases of compare.py.
 LAWS = {
     "plan": look_at_plan, "check": look_at_check, "replay": look_at_replay, "deadlock": look_at_deadlock,
@@ -1011,34 +957,15 @@ LAWS = {
 }
 
 
-def main(arguments):
-    found = seed_and_counts(arguments, DEFAULT_SEED, DEFAULT_CASES)
-    if not found:
-        print("usage: properties.py [SEED] [CASES]", file=sys.stderr)
-        return 2
-    seed, count = found
-    looked = 0
-    for command, look_at in LAWS.items():
-        limit_cases, random_case, _ = compare.COMMANDS[command]
-        small = [texts for _, texts in limit_cases() if sum(map(len, texts)) < 20_000]
-        for number in range(len(small) + count):
-            texts = small[number] if number < len(small) else random_case(seed, number - len(small))
-            looked += 1
-            try:
-                look_at(*texts)
-                look_at_reasons(command, texts)
-            except AssertionError as error:
-                print(f"FAILED  {command}, case {number} (seed {seed}): {error}")
-                print("\n".join(f"    {text[:2_000]!r}" for text in texts))
-                return 1
-    try:
-        look_at_searches(seed, count // 2, count // 10)
-    except AssertionError as error:
-        print(f"FAILED  search (seed {seed}): {error}")
-        return 1
-    print(f"model: the laws hold of {looked} cases")
-    return 0
+@pytest.mark.parametrize("command", COMMANDS)
+def test_laws(command):
+    limit_cases, _, _ = COMMANDS[command]
 
+    def look(texts):
+        LAWS[command](*texts)
+        look_at_reasons(command, texts)
 
-if __name__ == "__main__":
-    sys.exit(main(sys.argv[1:]))
+    for _, texts in limit_cases():
+        if sum(map(len, texts)) < SMALL:
+            look(texts)
+    settings(max_examples=DRAWN)(given(CASES[command])(look))()

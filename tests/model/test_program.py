@@ -1,65 +1,47 @@
-# Compares the program with the model of it, which has a file for each command, as plan.py (models.py):
-#
-#     compare.py PROGRAM [SEED] [CASES] [RUNS] [--only COMMAND,..] [--with WORD]
-#
-# It makes up declarations, answers, assignments and runs, gives them to `PROGRAM plan` on standard
-# input, and to the other commands as files, and compares the bytes that are printed and the exit status
-# with the model's. Standard error must have what belongs to the answer (tests/lib/standard_error.py), and
-# right reasons why workqueues can hang (reasons.py). Of each command there are the cases at the limits of
-# docs/FORMAT.md and at each place of small texts, once each, and then CASES random ones; of `run`, which makes
-# threads, and of `hang`, RUNS, or a fifth as many. The same SEED makes the same cases. It fails where an answer
-# differs, and where some kind of answer or of reason never came, as may be with few CASES. Before all this the
-# model must answer the worked examples (examples.py).
-#
-# With --with WORD the cases are only those of which an assignment has a line with this first word: with
-# `--with norescuer` those of workqueues without a rescuer. Commands that read no assignment then have none.
-#
-# What the program prints is then given back to it: the plans and circles to `PROGRAM check`, the
-# plans as assignments to `PROGRAM deadlock`, and the runs, those behind circles too, to `PROGRAM
-# replay`. It must stand by its answers: `yes`, `safe` and `deadlock`; of what `hang` prints the model says
-# which of `deadlock` and `stuck`, and `PROGRAM dot` must draw the waits of that run bold red. Where it prints
-# `safe` by `circles`, it must print it by `deadlock` too.
-# What `hang` prints may be another run than the model's, if it is as good (hang.py), and what `dot` draws the waits of one (dot.py).
-#
-# With --only the program is asked for these commands alone; with `--only none` it isn't run at all.
-# The cases of the other commands are made all the same, and the model's answers must have one of
-# the forms of the page.
+"""The program answers as the model does, which has a file for each command, as plan.py (models.py).
+
+Of each command there are the cases at the limits of docs/FORMAT.md and at each place of small texts, and those that Hypothesis draws
+(strategies.py). The bytes that are printed and the exit status must be the model's; what `hang` prints may be another run, if it is as
+good (hang.py), and what `dot` draws the waits of one (dot.py). Standard error must have what belongs to the answer
+(tests/lib/standard_error.py), and right reasons why workqueues can hang (reasons.py).
+
+What the program prints is then given back to it: the plans and circles to `check`, the plans as assignments to `deadlock`, and the runs,
+those behind circles too, to `replay`. It must stand by its answers: `yes`, `safe` and `deadlock`; of what `hang` prints the model says
+which of `deadlock` and `stuck`, and `dot` must draw the waits of that run bold red. Where it prints `safe` by `circles`, it must print
+it by `deadlock` too.
+
+A test of a command fails, too, where some kind of answer or of reason never came.
+"""
 
 import collections
-import concurrent.futures
-import dataclasses
-import functools
-import itertools
 import os
-import pathlib
+import random
 import re
-import sys
-import tempfile
-import traceback
 
-sys.dont_write_bytecode = True
-sys.path.append(str(pathlib.Path(__file__).resolve().parents[1] / "lib"))
-import dot  # noqa: E402  (beside this file)
-import examples  # noqa: E402
-import make_assignments  # noqa: E402
-import make_certificates  # noqa: E402
-import make_circles  # noqa: E402
-import make_declarations  # noqa: E402
-import make_hangs  # noqa: E402
-import programs  # noqa: E402  (in tests/lib)
-import reasons  # noqa: E402
-import unrescued  # noqa: E402
-from command_line import seed_and_counts  # noqa: E402
-from commands import TEXTS_OF  # noqa: E402  (in tests/lib)
-from declaration import Refused, read_declaration  # noqa: E402
-from models import ANSWERS, agrees  # noqa: E402
-from records import records  # noqa: E402  (in tests/lib)
-from standard_error import STDIN, fits, note  # noqa: E402  (there, too)
+import dot
+import make_assignments
+import make_certificates
+import make_circles
+import make_declarations
+import make_hangs
+import programs
+import pytest
+import reasons
+import unrescued
+from commands import TEXTS_OF
+from declaration import Refused, read_declaration, split_lines
+from hypothesis import given, settings
+from models import ANSWERS, agrees
+from records import records
+from standard_error import HAS_FURTHER, STDIN, fits, note
+from strategies import CASES, HELPERS
+from tables import short
 
-DEFAULT_SEED = "1"
-DEFAULT_CASES = 2_000
-WORKERS = 2
-DIFFERENCES_SHOWN = 3
+# How many cases are drawn: fewer of `run`, which makes threads, and of `hang`, whose answers are judged by other means.
+DRAWN = {"run": 250, "hang": 250}
+MOST_DRAWN = 800
+# So many declarations that are about as long, or as many items or flushes, as they may be.
+LARGE = 8
 
 
 def refused_by(table):
@@ -119,20 +101,20 @@ def hanging_in_part(leading, work):
     return drawing(title, "color=red, (style=bold|penwidth=4)")
 
 
-# Of a command, where `like_others` isn't enough: the cases at the limits, the random cases, and the kinds
+# Of a command, where `like_others` isn't enough: the cases at the limits, the drawn ones, and the kinds
 # of answer, each with its exit status and its form. In a form N is a number, Z one or more names, A is an `arc` line, and S is a
 # step of a run that is printed, and W one of those that `hang` prints.
 COMMANDS = {
     "plan": (
         lambda: [(what, [text]) for what, text in make_declarations.limit_cases()],
-        lambda seed, number: [make_declarations.random_case(seed, number)],
+        CASES["plan"],
         [("plans", 0, r"plan N\n(wq N Z\n)*chain N\nA*"),
          ("circles", 1, r"circle N\nA+run N\nS+")]
         + DECLARATION_REFUSALS,
     ),
     "check": (
         make_certificates.limit_check_cases,
-        make_certificates.random_check_case,
+        CASES["check"],
         [("yes", 0, r"yes N\n"), ("yes circle", 0, r"yes circle N\n"), ("no 50", 1, r"no 50 Z\n"),
          ("no 51", 1, r"no 51 N\n"), ("no 52", 1, r"no 52\n"), ("no 53", 1, r"no 53 N\n"),
          ("no 54", 1, r"no 54\n")]
@@ -140,25 +122,25 @@ COMMANDS = {
     ),
     "replay": (
         make_certificates.limit_replay_cases,
-        make_certificates.random_replay_case,
+        CASES["replay"],
         [("open", 0, r"open\n"), ("stuck", 1, r"stuck\n"), ("deadlock", 1, r"deadlock\n"),
          ("not lawful", 1, r"not lawful N\n")]
         + CERTIFICATE_REFUSALS,
     ),
     "deadlock": (
         make_assignments.limit_deadlock_cases,
-        make_assignments.random_deadlock_case,
+        CASES["deadlock"],
         [("safe", 0, r"safe\n"), ("runs", 1, r"run N\nS+")] + CERTIFICATE_REFUSALS,
     ),
     "hang": (
         make_hangs.limit_hang_cases,
-        make_hangs.random_hang_case,
+        CASES["hang"],
         [("safe", 0, r"safe\n")] + [(f"runs of {steps}", 1, rf"run {steps}\nY+") for steps in (3, 4, 6)]
         + [("longer runs", 1, r"run N\nY+")] + CERTIFICATE_REFUSALS,
     ),
     "circles": (
         make_circles.limit_circles_cases,
-        make_circles.random_circles_case,
+        CASES["circles"],
         [("safe", 0, r"safe\n"), ("one component", 1, r"components 1\ncomponent N\nA+"),
          ("components", 1, r"components N\n(component N\nA+)+"),
          ("no rescuer", 1, r"components 0\nnorescuer N\nA+"),
@@ -167,7 +149,7 @@ COMMANDS = {
     ),
     "dot": (
         make_circles.limit_dot_cases,
-        lambda seed, number: make_circles.random_circles_case(f"{seed} dot", number),
+        CASES["dot"],
         [("plans", 0, drawing(PLANNED, "style=bold")), ("safe", 0, drawing("safe", NO_LOOK)),
          ("safe, dashed", 0, drawing(rf"safe{DASHED}\\l", NO_LOOK)),
          ("components", 0, hanging("", ON_CIRCLES)), ("no rescuer", 0, hanging(LEADING, ON_NONE)),
@@ -177,7 +159,7 @@ COMMANDS = {
     ),
     "run": (
         lambda: [(what, [text]) for what, text in make_declarations.limit_run_cases()],
-        lambda seed, number: [make_declarations.random_case(f"{seed} run", number)],
+        CASES["run"],
         [("plans that were run", 0,
           r"workqueues N\n(item Z wq N queued 1 cancelled 0 finished 1\n)*faults 0\n"),
          ("circles", 1, r"circle N\nA+run N\nS+"), ("refusals 69", 2, r"refused 69 line 0\n")]
@@ -193,22 +175,14 @@ def like_others(command):
     others = [other for other in COMMANDS if TEXTS_OF[other] == TEXTS_OF[command]]
     if not others:
         return None
-    limit_cases, random_case, _ = COMMANDS[others[0]]
+    limit_cases, drawn, _ = COMMANDS[others[0]]
     words = [row for row in records("words.txt") if "status" in row and f"`{command}`" in row["by"]]
     kinds = [(row["word"], int(row["status"]), rf"{row['word']}( [^\n]+)?\n([^\n]+\n)*") for row in words]
-    return limit_cases, random_case, kinds + (CERTIFICATE_REFUSALS if len(TEXTS_OF[command]) > 1 else DECLARATION_REFUSALS)
+    return limit_cases, drawn, kinds + (CERTIFICATE_REFUSALS if len(TEXTS_OF[command]) > 1 else DECLARATION_REFUSALS)
 
 
 WITHOUT = [command for command in ANSWERS if command not in COMMANDS and not like_others(command)]
 COMMANDS |= {command: like_others(command) for command in ANSWERS if command not in COMMANDS and command not in WITHOUT}
-
-# The words behind DECL of the cases of `run`, in turn. They change no answer.
-HELPERS = [[], ["2"], ["8"], ["0"], ["1"], ["5"]]
-
-# Each random case of `run` makes threads, and what `hang` prints is judged by other means than looking whether it is the same. So
-# there is one case of them for so many of the other commands.
-CASES_FOR_A_RUN = 5
-FEWER = ("run", "hang")
 
 
 def form(pattern):
@@ -233,22 +207,41 @@ def kind_of(command, answer):
     return None
 
 
-def words_behind(command, number):
-    """The words of the command line behind the files, in the case of this number."""
-    return HELPERS[number % len(HELPERS)] if command == "run" else []
+def kind_of(command, answer):
+    """The kind of the model's answer, or None where it has no form of the page."""
+    printed, status = answer
+    for kind, of_status, pattern in KINDS[command]:
+        if status == of_status and pattern.fullmatch(printed):
+            return kind
+    return None
 
 
-# How often the program said each kind of reason.
-SAID = collections.Counter()
+def refusal_alone(text, line):
+    """The number for which a declaration of this line alone is refused, at its place; None where it isn't."""
+    try:
+        read_declaration(b"\n" * (line - 1) + split_lines(text)[line - 1])
+    except Refused as refused:
+        return refused.code
+    return None
+
+
+def wrong_further(text, errors):
+    """What is wrong with the further mistakes of a declaration: each is of another line, and those that a line has by itself it has
+    where all other lines are blank.
+    """
+    heads = re.findall(rb"^[^ ].*?:(\d+):\d+: .*\[refused (\d+),", errors, re.M)
+    alone = [(int(line), int(code)) for line, code in heads[1:] if code in (b"3", b"4", b"5", b"6", b"12")]
+    is_right = len({line for line, _ in heads}) == len(heads) and all(refusal_alone(text, line) == code for line, code in alone)
+    return None if is_right else "a further mistake is none"
 
 
 def wrong_beside(command, files, texts, found):
-    """What is wrong with what the program says on standard error beside its answer, or None: its form, and where it isn't a diagnosis, or
-    behind the one of a `no`, the words.
-    """
+    """What is wrong with the program's words on standard error beside its answer, or None: their form, and of reasons the words."""
     printed, _, errors = found
     if not fits(printed, errors, files, command):
         return "standard error hasn't the form that belongs to this answer"
+    if printed.startswith(b"refused ") and printed.split()[1] in HAS_FURTHER:
+        return wrong_further(texts[0], errors)
     if printed.startswith((b"refused ", b"not lawful ")) or errors == note(files[0]):
         return None
     behind = errors.split(b"\n", reasons.BLOCK)[reasons.BLOCK] if printed.startswith(b"no ") else errors
@@ -264,19 +257,23 @@ def wrong_beside(command, files, texts, found):
         return "the texts are refused"
 
 
-def ask(program, command, texts, folder, number):
-    """The program's answer, what it prints to standard error, and whether that belongs to both."""
-    named, given = {}, None
-    if command == "plan":
-        given = texts[0]
-    else:
-        named = {f"{number}.{name}": text for name, text in zip(TEXTS_OF[command], texts)}
-    with programs.files(folder, named) as places:
-        found = programs.ask([program, command, *places, *words_behind(command, number)], input=given)
-    wrong = None if found.is_late() else wrong_beside(command, [os.fsencode(place) for place in places] or [STDIN], texts, found)
-    SAID.update(reasons.rows_in(found.errors))
-    errors = found.errors + (f"({wrong})".encode() if wrong else b"")
-    return (found.printed, found.status), errors, wrong is None and not found.is_late()
+@pytest.fixture
+def ask(program, tmp_path):
+    """ask(command, texts, *words): the program's answer. Fails where what is on standard error doesn't belong to it."""
+
+    def answer(command, texts, *words):
+        named = {} if command == "plan" else dict(zip(TEXTS_OF[command], texts))
+        with programs.files(tmp_path, named) as places:
+            found = programs.ask([program, command, *places, *words], input=texts[0] if command == "plan" else None)
+        wrong = None if found.is_late() else wrong_beside(command, [os.fsencode(place) for place in places] or [STDIN], texts, found)
+        assert wrong is None, f"{asked(command, texts, *words)}\n{found.printed.decode()}standard error:\n{found.errors.decode()}{wrong}"
+        return found
+
+    return answer
+
+
+def asked(command, texts, *words):
+    return "\n".join([f"wqplan {' '.join([command, *words])}", *map(short, texts)])
 
 
 def questions(command, texts, printed):
@@ -303,214 +300,58 @@ def questions(command, texts, printed):
         yield "deadlock", texts, (b"safe\n", 0)
 
 
-@dataclasses.dataclass
-class Difference:
-    """Where two answers differ, there is none, or standard error hasn't what belongs to it."""
-
-    what: str
-    command: str
-    texts: list
-    wanted: tuple = (b"", None)
-    found: tuple = (b"", None)
-    errors: bytes = b""
-
-
-def compare(program, asked, command, what, texts, folder, number):
-    """The kind of the model's answer, how often the program stood by its own, and a Difference.
-
-    The program is asked for the commands in `asked`.
+@pytest.fixture
+def compare(ask, same):
+    """compare(command, texts, *words): fails where the program answers otherwise than the model, or doesn't stand by its answer. Gives
+    the kind of the answer, and the rows of the reasons.
     """
-    try:
+
+    def compared(command, texts, *words):
         wanted = ANSWERS[command](*texts)
-    except Exception:
-        errors = traceback.format_exc().encode()
-        return None, 0, Difference(what, command, texts, errors=errors)
-    kind = kind_of(command, wanted)
-    if kind is None:
-        errors = b"(the model's answer has no form)"
-        return None, 0, Difference(what, command, texts, wanted, errors=errors)
-    if command not in asked:
-        return kind, 0, None
-    found, errors, is_right = ask(program, command, texts, folder, number)
-    if not is_right or not agrees(command, texts, wanted, found):
-        return kind, 0, Difference(what, command, texts, wanted, found, errors)
+        kind = kind_of(command, wanted)
+        assert kind, f"the model's answer has no form: {wanted}"
+        found = ask(command, texts, *words)
+        if not agrees(command, texts, wanted, found[:2]):
+            differs(same, command, texts, wanted, found)
+        for question, other_texts, other in questions(command, texts, found.printed):
+            stood = ask(question, other_texts)
+            if stood[:2] != other:
+                differs(same, question, other_texts, other, stood)
+        return [kind, *reasons.rows_in(found.errors)]
 
-    stood = 0
-    for question, asked_texts, wanted in questions(command, texts, found[0]):
-        if question in asked:
-            found, errors, is_right = ask(program, question, asked_texts, folder, number)
-            if found != wanted or not is_right:
-                what = f"what {command} answers to {what}"
-                difference = Difference(what, question, asked_texts, wanted, found, errors)
-                return kind, stood, difference
-            stood += 1
-    return kind, stood, None
+    return compared
 
 
-def show_bytes(text, folder, name):
-    if len(text) <= 2_000:
-        return repr(text)
-    place = os.path.join(folder(), name)
-    with open(place, "wb") as file:
-        file.write(text)
-    return f"{len(text)} bytes, in {place}"
+def differs(same, command, texts, wanted, found):
+    same(asked(command, texts), b"%sstatus %d" % wanted, b"%sstatus %s" % (found[0], str(found[1]).encode()))
 
 
-def show_difference(seed, number, difference, folder):
-    command = difference.command
-    print(f"FAILED  {command}, {difference.what} (seed {seed})")
-    for name, text in zip(TEXTS_OF[command], difference.texts):
-        print(f"    {name}: {show_bytes(text, folder, f'{command}{number}.{name}')}")
-    for word in words_behind(command, number):
-        print(f"    and behind it: {word}")
-    printed, status = difference.wanted
-    place = show_bytes(printed, folder, f"{command}{number}.wanted")
-    print(f"    wanted:  status {status}, {place}")
-    printed, status = difference.found
-    place = show_bytes(printed, folder, f"{command}{number}.program")
-    print(f"    program: status {status}, {place}")
-    errors = difference.errors.decode(errors="backslashreplace")
-    print(f"    standard error: {errors[-2_000:]}")
+# The rows of the reasons that must come.
+REASONS_OF = {"plan": ["beside a circle of plan"], "circles": [row for row in reasons.ROWS if row != "beside a circle of plan"]}
 
 
-def cases_with(command, seed, count, word):
-    """The cases of which an assignment has a line with this first word: at the limits, and so many random ones."""
-    limit_cases, random_case, _ = COMMANDS[command]
-    pattern = re.compile(rb"^[ \t]*" + re.escape(word.encode()) + rb"(?![^ \t\r\n#])", re.M)
-    limits = [(what, texts) for what, texts in limit_cases() if pattern.search(b"\n".join(texts[1:2]))]
-    random_cases = (random_case(seed, number) for number in itertools.count())
-    found = itertools.islice((texts for texts in random_cases if pattern.search(b"\n".join(texts[1:2]))), count)
-    return limits, list(found).__getitem__
+def test_each_command_has_cases():
+    assert WITHOUT == []
 
 
-def compare_all(program, asked, command, seed, random_count, word, folder):
-    """Counts the kinds of answer, and how often the program stood by its own.
+@pytest.mark.parametrize("command", COMMANDS)
+def test_program(compare, command):
+    limit_cases, drawn, kinds = COMMANDS[command]
+    came = collections.Counter()
+    for what, texts in limit_cases():
+        came.update(compare(command, texts))
 
-    Returns None where answers differ.
-    """
-    if word is None:
-        limit_cases, random_case, _ = COMMANDS[command]
-        limits = limit_cases()
-        random_texts = functools.partial(random_case, seed)
-    else:
-        limits, random_texts = cases_with(command, seed, random_count, word)
-    numbers = range(len(limits) + random_count)
+    @settings(max_examples=DRAWN.get(command, MOST_DRAWN))
+    @given(drawn, HELPERS)
+    def answers_as_the_model(texts, helpers):
+        came.update(compare(command, texts, *(helpers if command == "run" else [])))
 
-    def compare_case(number):
-        if number < len(limits):
-            what, texts = limits[number]
-            what = f"case {number}: {what}"
-        else:
-            what, texts = f"case {number}", random_texts(number - len(limits))
-        return compare(program, asked, command, what, texts, scratch, number)
-
-    kinds = collections.Counter()
-    stood = 0
-    differences = 0
-    with tempfile.TemporaryDirectory(prefix="model_") as scratch:
-        pool = concurrent.futures.ThreadPoolExecutor(WORKERS)
-        for number, compared in zip(numbers, pool.map(compare_case, numbers)):
-            kind, stood_here, difference = compared
-            kinds[kind] += 1
-            stood += stood_here
-            if difference is not None:
-                differences += 1
-                show_difference(seed, number, difference, folder)
-                if differences == DIFFERENCES_SHOWN:
-                    break
-        pool.shutdown(cancel_futures=True)
-    if differences:
-        compared = sum(kinds.values())
-        print(f"model: {command}: {differences} of the first {compared} cases differ (seed {seed})")
-        return None
-    return kinds, stood
+    answers_as_the_model()
+    wanted = [kind for kind, _, _ in kinds] + REASONS_OF.get(command, [])
+    assert [kind for kind in wanted if came[kind] == 0] == [], f"these never came: {came}"
 
 
-def show_counts(command, kinds, stood):
-    counts = ", ".join(f"{kind}: {kinds[kind]}" for kind, _, _ in KINDS[command])
-    print(f"model: {command}: {counts}")
-    if stood:
-        print(f"model: {command}: {stood} times the program stood by its answer")
-
-
-def options(arguments):
-    """The program, the seed, how many random cases, how many of `run`, what is asked for, and the word of --with."""
-    arguments = list(arguments)
-    asked = list(COMMANDS)
-    word = None
-    while "--with" in arguments[:-1]:
-        at = arguments.index("--with")
-        word = arguments[at + 1]
-        del arguments[at:at + 2]
-    while "--only" in arguments[:-1]:
-        at = arguments.index("--only")
-        asked = [] if arguments[at + 1] == "none" else arguments[at + 1].split(",")
-        del arguments[at:at + 2]
-    found = seed_and_counts(arguments[1:], DEFAULT_SEED, DEFAULT_CASES, None)
-    right = arguments and found and not any(word.startswith("--") for word in arguments)
-    return [arguments[0], *found, asked, word] if right and set(asked) <= set(COMMANDS) else None
-
-
-def main(arguments):
-    found = options(arguments)
-    if not found:
-        print("usage: compare.py PROGRAM [SEED] [CASES] [RUNS] [--only COMMAND,..] [--with WORD]", file=sys.stderr)
-        return 2
-    program, seed, random_count, run_count, asked, word = found
-    if run_count is None:
-        run_count = random_count // CASES_FOR_A_RUN
-    program = os.path.realpath(program)
-    if asked and not programs.is_there("model", program):
-        return 1
-    if WITHOUT:
-        print(f"model: FAILED: there are no cases of {', '.join(WITHOUT)} in COMMANDS of compare.py")
-        return 1
-
-    failed = examples.failures()
-    if failed:
-        print("\n".join(failed))
-        print(f"model: {len(failed)} of {examples.count()} worked examples differ")
-        return 1
-    print(f"model: {examples.count()} worked examples agree")
-
-    folders = []
-
-    def folder():
-        """A folder for what is too long to print. It is made once it is needed, and is kept."""
-        if not folders:
-            folders.append(tempfile.mkdtemp(prefix="model_"))
-        return folders[0]
-
-    agreed = 0
-    never = []
-    different = False
-    for command in COMMANDS:
-        cases = run_count if command in FEWER else random_count
-        if word is not None and "assignment" not in TEXTS_OF[command]:
-            continue
-        compared = compare_all(program, asked, command, seed, cases, word, folder)
-        if compared is None:
-            different = True
-            continue
-        kinds, stood = compared
-        show_counts(command, kinds, stood)
-        agreed += sum(kinds.values()) if command in asked else 0
-        if word is None:
-            never += [f"{command}: {kind}" for kind, _, _ in KINDS[command] if kinds[kind] == 0]
-    if set(asked) == set(COMMANDS) and word is None:
-        print(f"model: reasons: {', '.join(f'{row}: {SAID[row]}' for row in reasons.ROWS)}")
-        never += [f"reasons: {row}" for row in reasons.ROWS if SAID[row] == 0]
-    if different:
-        print("model: FAILED")
-        return 1
-    if never:
-        print(f"model: FAILED: with seed {seed} these never came: {', '.join(never)}")
-        return 1
-    alone = [command for command in COMMANDS if command not in asked]
-    note = f" (the model alone: {', '.join(alone)})" if alone else ""
-    print(f"model: {agreed} cases agree{note}")
-    return 0
-
-
-if __name__ == "__main__":
-    sys.exit(main(sys.argv[1:]))
+@pytest.mark.parametrize("make", [make_declarations.case_long_text, make_declarations.case_many_items, make_declarations.case_many_flushes])
+@pytest.mark.parametrize("seed", range(LARGE))
+def test_large_declarations(compare, make, seed):
+    compare("plan", [make(random.Random(seed))])

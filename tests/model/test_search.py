@@ -1,40 +1,33 @@
-# Looks for runs that end stuck among all runs, and compares the program with what it finds:
-#
-#     search.py PROGRAM [SEED] [DECLARATIONS] [WITHOUT] [HANGS]
-#
-# It makes up small declarations, and for each one all assignments, up to the numbers of the
-# workqueues. Of each assignment it goes through all states that steps lead to, by the rules of
-# docs/FORMAT.md, "Steps", and knows nothing of circles. `PROGRAM deadlock` must answer `safe` where
-# no run ends stuck, and where one deadlocks a run that does; `PROGRAM plan` must have as many
-# workqueues as the smallest assignment by which no run ends stuck, and a circle where there is
-# none. Where PROGRAM is `-`, the model is asked in its place. Of the smaller declarations all runs with one and
-# with two helpers are gone through, too: some run ends stuck exactly where one without helpers does.
-#
-# Of the first HANGS declarations the states are gone through by the number of steps that lead to them. So the first one in which a run
-# ends stuck says how many steps the shortest of these runs has: `hang` must answer `safe`, or such a run of that many steps. With helpers
-# no run that ends stuck has fewer. PROGRAM is asked for one of eight assignments, and the model for all of them.
-#
-# All this is so whichever workqueues have no rescuer. Of the first WITHOUT declarations each assignment is looked at with each
-# set of such workqueues, and else with none.
+"""All runs of small declarations, gone through: the program's answers, and the model's, are what is found.
+
+Hypothesis draws small declarations, and for each one all assignments are looked at, up to the numbers of the workqueues. Of each
+assignment all states are gone through that steps lead to, by the rules of docs/FORMAT.md, "Steps", without any notion of a circle.
+`deadlock` must answer `safe` where no run ends stuck, and where one deadlocks a run that does; `plan` must have as many workqueues as
+the smallest assignment by which no run ends stuck, and a circle where there is none. Of the smaller declarations all runs with one and
+with two helpers are gone through, too: some run ends stuck exactly where one without helpers does.
+
+Of some declarations the states are gone through by the number of steps that lead to them. So the first one in which a run ends stuck
+says how many steps the shortest of these runs has: `hang` must answer `safe`, or such a run of that many steps. With helpers no run that
+ends stuck has fewer. The program is asked for one of eight assignments, and the model for all of them.
+
+All this is so whichever workqueues have no rescuer: of some declarations each assignment is looked at with each set of such workqueues.
+"""
 
 import functools
 import itertools
-import os
-import random
-import sys
-import tempfile
 
-sys.dont_write_bytecode = True
-import compare  # noqa: E402  (beside this file)
-from certificate import read_run  # noqa: E402
-from command_line import seed_and_counts  # noqa: E402
-from declaration import Refused, read_declaration  # noqa: E402
-from make_declarations import join  # noqa: E402
+import certificate
+import programs
+import pytest
+from certificate import read_run
+from declaration import Refused, read_declaration
+from hypothesis import given, settings
+from hypothesis import strategies as st
+from make_declarations import join
+from models import ANSWERS
+from steps import State
+from test_laws import EXECUTIONS, demand
 
-DEFAULT_SEED = "1"
-DEFAULT_DECLARATIONS = 600
-DEFAULT_WITHOUT = 40
-DEFAULT_HANGS = 100
 ONE_OF = 8
 
 # With so many helpers a run ends stuck where one does without them. That is looked at where there are no more items and flushes than
@@ -42,12 +35,6 @@ ONE_OF = 8
 HELPERS = (1, 2)
 HELPED_ITEMS = 3
 HELPED_FLUSHES = 3
-
-# The numbers of items and of flushes of a declaration, each as often as it stands here. All states
-# of the larger ones take their time.
-SIZES = [(1, 1), (1, 2), (2, 1), (2, 2), (2, 3), (2, 4), (3, 1), (3, 2), (3, 3), (3, 4), (3, 4),
-         (4, 2), (4, 3), (4, 3), (4, 4), (4, 4)]
-
 
 # States ------------------------------------------------------------------------------------------
 # There is no end to the numbers of entries and marks, so they are left out of a state. The pending
@@ -362,27 +349,22 @@ def is_hang(all_steps, count, bare, run):
 # Declarations and assignments --------------------------------------------------------------------
 
 
-def make_declaration(choose):
-    """The bytes of a small declaration."""
-    count, flush_count = choose.choice(SIZES)
-    names = [b"a", b"b", b"c", b"d"][:count]
-    lines = [b"item " + name for name in names]
-    choose.shuffle(lines)
-
-    left = choose.sample(names, choose.choice([0, 0, 0, count, choose.randint(0, count)]))
-    while left:
-        size = choose.randint(1, len(left))
-        lines.append(b"ordered " + b" ".join(left[:size]))
-        del left[:size]
-
-    downward = choose.random() < 0.7
-    whole = choose.choice([0, 0.5, 0.5, 1])
-    for _ in range(flush_count):
-        item, target = choose.choice(names), choose.choice(names)
-        if downward and count > 1:
-            item, target = sorted(choose.sample(names, 2))
-        directive = b"flushwq" if choose.random() < whole else b"flush"
-        lines.append(b"%s %s %s" % (directive, item, target))
+@st.composite
+def small_declarations(draw):
+    """The bytes of a declaration of up to four items and four flushes."""
+    names = [b"a", b"b", b"c", b"d"][:draw(st.integers(1, 4))]
+    count = len(names)
+    lines = [b"item " + name for name in draw(st.permutations(names))]
+    places = draw(st.permutations(names))
+    for size in draw(st.lists(st.integers(1, 4), max_size=2)):
+        lines += [b"ordered " + b" ".join(places[:size])] if places[:size] else []
+        places = places[size:]
+    is_downward = draw(st.booleans())
+    item = st.integers(0, count - 1)
+    for first, second, is_whole in draw(st.lists(st.tuples(item, item, st.booleans()), min_size=1, max_size=4)):
+        first, second = sorted((first, second)) if is_downward else (first, second)
+        if first != second or not is_downward:
+            lines.append(b"%s %s %s" % (b"flushwq" if is_whole else b"flush", names[first], names[second]))
     return join(*lines)
 
 
@@ -500,39 +482,68 @@ def look_at_declaration(ask, turn, text, without, by_length):
 
 
 def ask_model(command, texts):
-    return compare.ANSWERS[command](*texts)
+    return ANSWERS[command](*texts)
 
 
-def main(arguments):
-    found = seed_and_counts(arguments[1:], DEFAULT_SEED, DEFAULT_DECLARATIONS, DEFAULT_WITHOUT, DEFAULT_HANGS)
-    if not arguments or not found:
-        print("usage: search.py PROGRAM [SEED] [DECLARATIONS] [WITHOUT] [HANGS]", file=sys.stderr)
-        return 2
-    seed, count, without, hangs = found
+@pytest.fixture
+def ask(program, tmp_path):
+    """ask(command, texts): the program's answer."""
+
+    def answer(command, texts):
+        with programs.files(tmp_path, dict(zip("dar", texts))) as places:
+            return programs.ask([program, command, *places])[:2]
+
+    return answer
+
+
+# How many declarations are drawn, with which sets of workqueues without a rescuer, and whether the states are gone through by length.
+PROGRAM = [("deadlock", 250, False, False), ("norescuer", 40, True, False), ("hang", 60, False, True), ("hang-norescuer", 20, True, True)]
+MODEL = [("model", 25, False, False), ("model-hang", 20, False, True), ("model-norescuer", 5, True, True)]
+
+
+@pytest.mark.parametrize("count, without, by_length", [row[1:] for row in PROGRAM], ids=[row[0] for row in PROGRAM])
+def test_program_by_search(ask, count, without, by_length):
     turn = itertools.cycle(range(ONE_OF))
-    program = os.path.realpath(arguments[0])
-    if arguments[0] != "-" and not compare.programs.is_there("search", program):
-        return 1
-
-    looked = helped = 0
-    with tempfile.TemporaryDirectory(prefix="search_") as folder:
-
-        def ask(command, texts):
-            if arguments[0] == "-":
-                return ask_model(command, texts)
-            return compare.ask(program, command, texts, folder, 0)[0]
-
-        for number in range(count):
-            text = make_declaration(random.Random(f"{seed} search {number}"))
-            assignments, with_helpers, wrong = look_at_declaration(ask, turn, text, number < without, number < hangs)
-            looked, helped = looked + assignments, helped + with_helpers
-            if wrong:
-                print(f"FAILED  search, declaration {number} (seed {seed}): {text!r}")
-                print("\n".join(f"    {line}" for line in wrong))
-                return 1
-    print(f"search: {count} declarations, {looked} assignments agree, {helped} of them with helpers, too")
-    return 0
+    search(lambda command, texts: ask(command, texts), turn, count, without, by_length)
 
 
-if __name__ == "__main__":
-    sys.exit(main(sys.argv[1:]))
+@pytest.mark.parametrize("count, without, by_length", [row[1:] for row in MODEL], ids=[row[0] for row in MODEL])
+def test_model_by_search(count, without, by_length):
+    search(ask_model, itertools.repeat(1), count, without, by_length)
+
+
+def search(ask, turn, count, without, by_length):
+    @settings(max_examples=count)
+    @given(small_declarations())
+    def is_found(text):
+        _, _, wrong = look_at_declaration(ask, turn, text, without, by_length)
+        assert not wrong, "\n".join([text.decode(), *wrong])
+
+    is_found()
+
+
+def look_at_search(choose):
+    """The states of py allow the same steps as those of the model, on a random way."""
+    declared = read_declaration(make_declaration(choose))
+    parts = choose.choice(list(partitions(len(declared.groups))))
+    count = max(parts, default=-1) + 1
+    workqueue_of = {name: parts[group] for name, group in declared.group_of.items()}
+    helpers = choose.choice([0, 0, 1, 2, 8])
+    ordered = {workqueue_of[group[0]] for group in declared.groups if len(group) > 1}
+    bare = frozenset(number for number in range(count) if choose.random() < 0.3)
+    state = State(declared, certificate.Assignment(workqueue_of, count, bare), helpers)
+    steps = Steps(waits_of(declared), workqueue_of, ordered, helpers)
+    found = steps.begin(count)
+    all_steps = [(word, None, name) for word in (b"queue", b"cancel") for name in declared.items]
+    all_steps += [named(word, number, name, context) for word in EXECUTIONS
+                  for number in range(count) for name in declared.items for context in range(helpers + 2)]
+    for _ in range(60):
+        behind = dict(steps.all_steps(found))
+        may = [step for step in all_steps if state.may(step[:3], *step[3:])]
+        demand(sorted(map(repr, may)) == sorted(map(repr, behind)), "both allow the same steps")
+        demand(state.is_stuck() == is_stuck(found, list(steps.executions(found)), bare), "both are stuck")
+        starts = {named(*step, helper) for step, helper in state.helper_starts()}
+        demand(starts == {step for step, _ in steps.helper_starts(found)}, "both have the same starts of helpers")
+        step = choose.choice(may)
+        state.make(step[:3], *step[3:])
+        found = behind[step]
