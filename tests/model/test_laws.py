@@ -950,7 +950,7 @@ def look_at_dot(*texts):
         demand(dot.answer(texts[0], plain) == (printed, 0), "how an assignment is spelled means nothing, but for names")
 
 
-# Of each command what looks at the model's answer to the cases of compare.py.
+# Of each command what looks at the model's answer to the cases of test_program.py.
 LAWS = {
     "plan": look_at_plan, "check": look_at_check, "replay": look_at_replay, "deadlock": look_at_deadlock,
     "hang": look_at_hang, "run": look_at_running, "circles": look_at_circles, "dot": look_at_dot,

@@ -4,7 +4,6 @@ The limits are those of "Limits" and "Certificates" in docs/FORMAT.md. A case is
 the texts: some are long, and only the process that asks about them makes them.
 """
 
-
 import limits
 from commands import given
 from limits import name
