@@ -26,7 +26,7 @@ def program():
     """The path of wqplan: WQPLAN, or the one that is built."""
     path = os.path.realpath(os.environ.get("WQPLAN") or ROOT / "crates/wqplan/out/wqplan")
     if not os.access(path, os.X_OK):
-        pytest.exit(f"there is nothing to run at {path}: WQPLAN names another program", 1)
+        pytest.fail(f"there is nothing to run at {path}: WQPLAN names another program", pytrace=False)
     return path
 
 

@@ -1,5 +1,5 @@
-# Makes up answers, assignments and runs, each with the declaration that it is for: those at the limits
-# of docs/FORMAT.md, and what strategies.py makes of a drawn declaration. Most begin with what the model answers or plays, and then something is changed. The
+# Makes up answers, assignments and runs, each with the declaration that it is for: those at the limits of docs/FORMAT.md, and what
+# strategies.py makes of a drawn declaration. Most begin with what the model answers or plays, and then something is changed. The
 # assignments for `deadlock` are in make_assignments.py.
 
 import re

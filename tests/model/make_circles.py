@@ -1,6 +1,5 @@
 """The cases of `circles` and `dot` at the limits of docs/FORMAT.md: declarations, and assignments for some of them."""
 
-
 import make_assignments
 import make_declarations
 from make_certificates import wq_lines

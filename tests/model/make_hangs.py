@@ -1,6 +1,5 @@
 """The cases of `hang` at the limits of docs/FORMAT.md: declarations, each with an assignment."""
 
-
 from declaration import ITEM_LIMIT
 from make_assignments import limit_deadlock_cases, merged
 from make_certificates import wq_lines

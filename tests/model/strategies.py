@@ -15,7 +15,7 @@ from make_certificates import (
     any_assignment, change_wq_empty, make_assignment_lines, make_circle_lines, make_plan_lines, make_run_lines, model_answer,
     own_assignment, some_bare, spell_mostly, spelled,
 )
-from make_declarations import TAKEN_WORDS, Line, alike, path, put_faults, spell
+from make_declarations import TAKEN_WORDS, Line, alike, join, put_faults, spell
 from make_hangs import without_own
 
 SEEDS = st.integers(0, 2**32 - 1)
@@ -29,39 +29,38 @@ NAMES = [
     [b"n" * 61 + letter for letter in LETTERS] + [b"n" * 62 + b"x"],
     [letter + more for more in (b"", b".", b"_") for letter in (b"a", b"A", b"Z", b"9", b"-")] + [b"z" * 63],
 ]
-# How flushes lead: nowhere back, as all drawn pairs are turned; the same behind a chain; anywhere; in a circle, with tails.
-WAYS = st.sampled_from(["down", "down", "down", "deep", "any", "any but itself", "circle", "circle"])
-# How many items there are.
-SIZES = st.sampled_from([0, 1, *range(2, 13), *range(2, 13), 40])
+# Where flushes lead: to items behind, which gives no circle; the same, behind a chain of all items; anywhere, or in a circle of all.
+WAYS = st.sampled_from(["down", "down", "down", "deep", "any", "circle"])
+# Which of the drawn numbers are flushes of a whole workqueue: none, some or all.
+WHOLE = st.sampled_from([32, 32, 24, 16, 0])
 
 
 @st.composite
 def drawn_lines(draw):
     """The lines of a declaration that breaks no rule."""
-    count = draw(SIZES)
+    # Of each item a number for each flush.
+    fewest, most = draw(st.sampled_from([(0, 6), (0, 12), (3, 12), (6, 12), (8, 40)]))
+    flushes_of = draw(st.lists(st.lists(st.integers(0, 31), max_size=3), min_size=fewest, max_size=most))
+    count = len(flushes_of)
     names = draw(st.sampled_from(NAMES))[:count]
     names += [b"i%d" % number for number in range(len(names), count)]
+    seed = draw(st.integers(0, 255))
+    choose = random.Random(seed)
     places = list(range(count))
-    seed = draw(SEEDS)
     if seed:
-        random.Random(seed).shuffle(places)
+        choose.shuffle(places)
     ordered = [places[first:first + size] for first, size in draw_groups(draw, count)]
     group_of = {item: number for number, members in enumerate(ordered) for item in members}
-    way = draw(WAYS)
-    fewest = draw(st.sampled_from([0, 0, count // 2, count]))
-    pairs = draw(st.lists(st.integers(0, 4 * count * count - 1), min_size=fewest, max_size=2 * count)) if count else []
-    pairs = [(pair % count, pair // count % count, pair // count // count) for pair in pairs]
-    if way == "any but itself":
-        pairs = [pair for pair in pairs if pair[0] != pair[1]]
-    elif way != "any":
-        pairs = [(*sorted(pair[:2]), pair[2]) for pair in pairs]
-        pairs = [(item, target, kind) for item, target, kind in pairs
-                 if item != target and group_of.get(places[item], -1) != group_of.get(places[target], -2)]
-    chain = list(range(count)) if way == "deep" else list(range(draw(st.integers(0, count)))) if way == "circle" else []
-    pairs += [(item, target, 0) for item, target in path(chain) + ([(chain[-1], chain[0])] if way == "circle" and chain else [])]
-    whole = draw(st.sampled_from([4, 4, 3, 3, 0]))  # from this kind on a flush is one of a whole workqueue
-    flushes = [[b"flushwq" if kind >= whole else b"flush", places[item], places[target]] for item, target, kind in pairs]
-    return lines_of(names, flushes, ordered, random.Random(seed), draw(st.booleans()), draw(st.booleans()))
+    way, whole = draw(WAYS), draw(WHOLE)
+    pairs = [(at, at + 1, 0) for at in range(count - 1)] if way in ("deep", "circle") else []
+    pairs += [(count - 1, 0, 0)] if way == "circle" and count else []
+    for at, numbers in enumerate(flushes_of):
+        pairs += [(at, (at + number) % count if way == "any" else at + 1 + number % 8, number) for number in numbers]
+    flushes = []
+    for item, target, number in pairs:
+        if way == "any" or target < count and group_of.get(places[item], -1) != group_of.get(places[target], -2):
+            flushes.append([b"flushwq" if number >= whole else b"flush", places[item], places[target]])
+    return lines_of(names, flushes, ordered, choose, draw(st.booleans()), draw(st.booleans()))
 
 
 def draw_groups(draw, count):
@@ -99,34 +98,42 @@ def declarations(draw):
     """The bytes of a declaration, mostly without a fault."""
     lines = draw(drawn_lines())
     faults = draw(st.sampled_from([0, 0, 0, 0, 0, 1, 1, 1, 1, 2, 3]))
-    choose = random.Random(draw(SEEDS) if faults else 0)
+    is_odd = draw(st.booleans())
+    choose = random.Random(draw(SEEDS) if faults or is_odd else 0)
     put_faults(choose, lines, faults)
-    return spell(choose, lines, plain=draw(st.booleans()))
+    return spell(choose, lines, not is_odd)
 
 
 @st.composite
 def declared_texts(draw):
-    """The bytes of a declaration, what it declares, or would if it had no fault, and by what all that is beside it is chosen."""
+    """The bytes of a declaration, what it declares, or would if it had no fault, by what all that is beside it is chosen, and how that is
+    spelled: plainly, or in any way and with faults.
+    """
     lines = draw(drawn_lines())
-    declared = read_declaration(spell(random.Random(0), lines, plain=True))
+    plain = spell(random.Random(0), lines, plain=True)
+    declared = read_declaration(plain)
+    is_odd = draw(st.booleans())
     choose = random.Random(draw(SEEDS))
-    if choose.random() < 0.06:
+    if not is_odd:
+        return plain, declared, choose, lambda lines, share, called=False: join(*[b" ".join(words) for words in lines])
+    if choose.random() < 0.1:
         put_faults(choose, lines, choose.randint(1, 2))
-    return spell_mostly(choose, lines, choose.random() < 0.8), declared, choose
+    text = spell_mostly(choose, lines, choose.random() < 0.7)
+    return text, declared, choose, lambda lines, share, called=False: spelled(choose, declared, lines, share, called)
 
 
 @st.composite
 def check_cases(draw):
-    text, declared, choose = draw(declared_texts())
+    text, declared, choose, spell_lines = draw(declared_texts())
     answer = model_answer(declared)
     share = 0.85 if answer[0][0] == b"plan" else 0.15
     make = make_plan_lines if choose.random() < share else make_circle_lines
-    return [text, spelled(choose, declared, make(choose, declared, answer), 0.27)]
+    return [text, spell_lines(make(choose, declared, answer), 0.5)]
 
 
 @st.composite
 def replay_cases(draw):
-    text, declared, choose = draw(declared_texts())
+    text, declared, choose, spell_lines = draw(declared_texts())
     answer = model_answer(declared)
     if answer[0][0] == b"plan" and choose.random() < 0.2:
         wqs = [words[2:] for words in answer if words[0] == b"wq"]
@@ -138,32 +145,32 @@ def replay_cases(draw):
     bare = some_bare(choose, wqs)
     run = make_run_lines(choose, declared, wqs, bare, first)
     assignment = make_assignment_lines(choose, declared, wqs, bare)
-    return [text, spelled(choose, declared, assignment, 0.15, called=True), spelled(choose, declared, run, 0.15)]
+    return [text, spell_lines(assignment, 0.3, called=True), spell_lines(run, 0.3)]
 
 
-def assigned(choose, declared, wqs, share, *bare):
-    """The bytes of an assignment, with a fault in such a share of them. Which workqueues have no rescuer is one of `bare`."""
+def assigned(choose, declared, wqs, *bare):
+    """The lines of an assignment. Which workqueues have no rescuer is one of `bare`, or drawn."""
     for _ in range(choose.choice([0, 0, 0, 1, 3])):
         change_wq_empty(choose, declared, wqs, [])
     bare = choose.choice([*bare, bare_above(choose, declared, wqs), some_bare(choose, wqs)])
-    return spelled(choose, declared, make_assignment_lines(choose, declared, wqs, bare), share, called=True)
+    return make_assignment_lines(choose, declared, wqs, bare)
 
 
 @st.composite
 def deadlock_cases(draw):
-    text, declared, choose = draw(declared_texts())
+    text, declared, choose, spell_lines = draw(declared_texts())
     way = choose.random()
     if way < 0.6:
         wqs = safe_assignment(choose, declared)
         wqs = merged(choose, wqs) if way < 0.1 else wqs
     else:
         wqs = own_assignment(declared) if way < 0.7 else any_assignment(choose, declared)
-    return [text, assigned(choose, declared, wqs, 0.25)]
+    return [text, spell_lines(assigned(choose, declared, wqs), 0.5, called=True)]
 
 
 @st.composite
 def hang_cases(draw):
-    text, declared, choose = draw(declared_texts())
+    text, declared, choose, spell_lines = draw(declared_texts())
     wqs = own_assignment(declared)
     choose.shuffle(wqs)
     way = choose.random()
@@ -171,7 +178,7 @@ def hang_cases(draw):
         wqs = without_own(choose, wqs, declared)
     elif way < 0.9:
         wqs = any_assignment(choose, declared)
-    return [text, assigned(choose, declared, wqs, 0.1, frozenset())]
+    return [text, spell_lines(assigned(choose, declared, wqs, frozenset()), 0.2, called=True)]
 
 
 @st.composite
@@ -179,12 +186,12 @@ def circles_cases(draw):
     """A declaration, or one with an assignment."""
     if draw(st.booleans()):
         return [draw(declarations())]
-    text, declared, choose = draw(declared_texts())
+    text, declared, choose, spell_lines = draw(declared_texts())
     wqs = own_assignment(declared)
     choose.shuffle(wqs)
     for _ in range(choose.choice([0, 0, 1, 2, 5, len(wqs) // 2])):
         wqs = merged(choose, wqs)
-    return [text, assigned(choose, declared, wqs, 0.2)]
+    return [text, spell_lines(assigned(choose, declared, wqs), 0.4, called=True)]
 
 
 def of_one_text(text):

@@ -207,15 +207,6 @@ def kind_of(command, answer):
     return None
 
 
-def kind_of(command, answer):
-    """The kind of the model's answer, or None where it has no form of the page."""
-    printed, status = answer
-    for kind, of_status, pattern in KINDS[command]:
-        if status == of_status and pattern.fullmatch(printed):
-            return kind
-    return None
-
-
 def refusal_alone(text, line):
     """The number for which a declaration of this line alone is refused, at its place; None where it isn't."""
     try:

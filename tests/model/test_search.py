@@ -522,9 +522,11 @@ def search(ask, turn, count, without, by_length):
     is_found()
 
 
-def look_at_search(choose):
-    """The states of py allow the same steps as those of the model, on a random way."""
-    declared = read_declaration(make_declaration(choose))
+@settings(max_examples=200)
+@given(small_declarations(), st.randoms(use_true_random=False))
+def test_both_machines_allow_the_same_steps(text, choose):
+    """The states here allow the same steps as those of the model, on a drawn way."""
+    declared = read_declaration(text)
     parts = choose.choice(list(partitions(len(declared.groups))))
     count = max(parts, default=-1) + 1
     workqueue_of = {name: parts[group] for name, group in declared.group_of.items()}
