@@ -39,7 +39,7 @@ def text_of(row):
     """The bytes of a text as the tables write it: bytes, or lines that ` / ` parts."""
     if isinstance(row, bytes):
         return row
-    return b"".join(line.encode("latin-1") + b"\n" for line in row.split(" / ")) if row else b""
+    return row.replace(" / ", "\n").encode("latin-1") + b"\n" if row else b""
 
 
 def short(text):
