@@ -29,8 +29,9 @@ NAMES = [
     [b"n" * 61 + letter for letter in LETTERS] + [b"n" * 62 + b"x"],
     [letter + more for more in (b"", b".", b"_") for letter in (b"a", b"A", b"Z", b"9", b"-")] + [b"z" * 63],
 ]
-# Where flushes lead: to items behind, which gives no circle; the same, behind a chain of all items; anywhere, or in a circle of all.
-WAYS = st.sampled_from(["down", "down", "down", "deep", "any", "circle"])
+# Where flushes lead: to items behind of other groups, which gives no circle; the same, behind a chain of all items; anywhere; in a circle
+# of all; or in one in which none flushes an item of its own group.
+WAYS = st.sampled_from(["down", "down", "down", "deep", "any", "circle", "circle apart"])
 # Which of the drawn numbers are flushes of a whole workqueue: none, some or all.
 WHOLE = st.sampled_from([32, 32, 24, 16, 0])
 
@@ -52,13 +53,14 @@ def drawn_lines(draw):
     ordered = [places[first:first + size] for first, size in draw_groups(draw, count)]
     group_of = {item: number for number, members in enumerate(ordered) for item in members}
     way, whole = draw(WAYS), draw(WHOLE)
-    pairs = [(at, at + 1, 0) for at in range(count - 1)] if way in ("deep", "circle") else []
-    pairs += [(count - 1, 0, 0)] if way == "circle" and count else []
+    pairs = [(at, at + 1, 0) for at in range(count - 1)] if way in ("deep", "circle", "circle apart") else []
+    pairs += [(count - 1, 0, 0)] if way in ("circle", "circle apart") and count else []
     for at, numbers in enumerate(flushes_of):
         pairs += [(at, (at + number) % count if way == "any" else at + 1 + number % 8, number) for number in numbers]
     flushes = []
     for item, target, number in pairs:
-        if way == "any" or target < count and group_of.get(places[item], -1) != group_of.get(places[target], -2):
+        is_apart = target < count and group_of.get(places[item], -1) != group_of.get(places[target], -2)
+        if is_apart or way == "any" or way == "circle" and target < count:
             flushes.append([b"flushwq" if number >= whole else b"flush", places[item], places[target]])
     return lines_of(names, flushes, ordered, choose, draw(st.booleans()), draw(st.booleans()))
 

@@ -318,7 +318,9 @@ def differs(same, command, texts, wanted, found):
 
 
 # The rows of the reasons that must come.
-REASONS_OF = {"plan": ["beside a circle of plan"], "circles": [row for row in reasons.ROWS if row != "beside a circle of plan"]}
+OF_GROUPS = [row for row in reasons.ROWS if row.startswith("groups: ")] + ["several parts"]
+REASONS_OF = {"plan": ["beside a circle of plan"], "circles": OF_GROUPS}
+REASONS_OF["deadlock"] = [row for row in reasons.ROWS if row not in REASONS_OF["plan"] + OF_GROUPS]
 
 
 def test_each_command_has_cases():
