@@ -341,7 +341,8 @@ def test_program(compare, command):
 
     answers_as_the_model()
     wanted = [kind for kind, _, _ in kinds] + REASONS_OF.get(command, [])
-    assert [kind for kind in wanted if came[kind] == 0] == [], f"these never came: {came}"
+    never = [kind for kind in wanted if came[kind] == 0]
+    assert not never, f"these never came: {never}; these did: {came}"
 
 
 @pytest.mark.parametrize("make", [make_declarations.case_long_text, make_declarations.case_many_items, make_declarations.case_many_flushes])
