@@ -65,12 +65,12 @@ _wqplan() {
     local files
     case $command in
         '')
-            mapfile -t COMPREPLY < <(compgen -W 'plan check deadlock hang replay circles dot run explain help' -- "$word")
+            mapfile -t COMPREPLY < <(compgen -W 'plan check deadlock hang repair replay circles dot run explain help' -- "$word")
             return
             ;;
         help)
             [ "$words" -gt 0 ] ||
-                mapfile -t COMPREPLY < <(compgen -W 'plan check deadlock hang replay circles dot run explain' -- "$word")
+                mapfile -t COMPREPLY < <(compgen -W 'plan check deadlock hang repair replay circles dot run explain' -- "$word")
             return
             ;;
         explain)
@@ -92,6 +92,9 @@ _wqplan() {
                 return
             fi
             files=1
+            ;;
+        repair)
+            files=2
             ;;
         plan) files=1 ;;
         check | deadlock | hang | circles | dot) files=2 ;;

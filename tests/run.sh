@@ -54,7 +54,7 @@ cli      examples     cli/examples.sh WQPLAN
 cli      explain      cli/explain.sh WQPLAN
 cli      diagnoses    pytest.sh WQPLAN cli/test_diagnoses.py
 cli      worst        cli/worst.py WQPLAN
-model    model        pytest.sh WQPLAN model
+model    model        pytest.sh WQPLAN model | model/repair_search.py WQPLAN
 source   source       source/main.sh
 runtime  book         runtime/book/main.py TEST_RUNTIME
 runtime  runtime      runtime/main.py TEST_RUNTIME | runtime/wakes.py TEST_RUNTIME | runtime/loads.py TEST_RUNTIME \

@@ -1,11 +1,11 @@
 #!/usr/bin/env bash
-# Runs `plan`, `check`, `deadlock`, `hang`, `replay`, `run`, `circles` and `dot` over the subsystems of Linux 6.1 in
-# examples/. What is expected of each (how many workqueues, which circle, whether the kernel's assignment is safe, how
-# long the run is) was worked out by hand from the kernel's sources, and stands in this script. Of all else that the
-# program prints the program's own checkers are asked: `check` says yes to each plan and circle, `replay` says deadlock
-# of each run. `run` has each item on the workqueue that `plan` gives it, queued once and finished once.
-# tests/lib/drawn.py reads each drawing, and what is drawn is what `plan` and `circles` print.
-# Run it once the gate or `rt run` has built the program. The argument, if there is one, names another program.
+# Runs `plan`, `check`, `deadlock`, `hang`, `repair`, `replay`, `run`, `circles` and `dot` over the subsystems of Linux
+# 6.1 in examples/. What is expected of each (how many workqueues, which circle, whether the kernel's assignment is
+# safe, how long the run is, what a repair changes) was worked out by hand from the kernel's sources, and stands in this
+# script. Of all else that the program prints the program's own checkers are asked: `check` says yes to each plan and
+# circle, `replay` says deadlock of each run. `run` has each item on the workqueue that `plan` gives it, queued once and
+# finished once. tests/lib/drawn.py reads each drawing, and what is drawn is what `plan` and `circles` print. Run it once
+# the gate or `rt run` has built the program. The argument, if there is one, names another program.
 set -u
 . "$(dirname "$0")/../lib/script.bash"
 root=$(realpath -- "$(dirname "$0")/../..")
@@ -140,6 +140,84 @@ to_no_rescuer() {
     is "$name: what is said" "\`$5\` \`$6\`" "$(head -n 1 err | grep -oE '`[a-z_.]+`' | xargs -d '\n')"
 }
 
+# changed ASSIGN: how the assignment in the file `out` differs from this one, sorted: `ITEM FROM TO` of each item that
+# is on another workqueue, and `rescuer Q` of each workqueue that has a rescuer in `out` alone.
+changed() {
+    awk '
+        { sub(/#.*/, "") }
+        $1 != "wq" && $1 != "norescuer" { next }
+        FILENAME == "out" && $1 == "wq" && bare[$2] { print "rescuer", $2 }
+        FILENAME != "out" { bare[$2] = $1 == "norescuer" }
+        FILENAME != "out" { for (at = 3; at <= NF; at++) lane[$at] = $2; next }
+        { for (at = 3; at <= NF; at++) if (lane[$at] != $2) print $at, lane[$at], $2 }' "$1" out | LC_ALL=C sort
+}
+
+# undone DECL CHANGE: the assignment of the file repaired.assign without a change that `changed` says: the item, and
+# whatever is `ordered` with it, is where it was, or the workqueue has no rescuer.
+undone() {
+    awk -v change="$2" '
+        BEGIN { split(change, word, " "); back[word[1]] = 1 }
+        { sub(/#.*/, "") }
+        $1 == "ordered" { for (at = 2; at <= NF; at++) if ($at == word[1]) for (at = 2; at <= NF; at++) back[$at] = 1 }
+        $1 != "wq" && $1 != "norescuer" { next }
+        word[1] == "rescuer" && $2 == word[2] { $1 = "norescuer" }
+        {
+            line = $1 " " $2
+            for (at = 3; at <= NF; at++) if (!($at in back)) line = line " " $at
+            if (word[1] != "rescuer" && $2 == word[2]) for (item in back) line = line " " item
+            print line
+        }' "$1" repaired.assign
+}
+
+# repairs NAME DECL ASSIGN CHANGES [ITEM..]: counts whether `repair` makes just these changes, with commas between them,
+# as `changed` says them; whether what it prints is safe, and is left as it is by another repair; and whether it
+# deadlocks without any one of the changes. It stays in the file repaired.assign.
+repairs() {
+    local name=$1 declaration=$2 assignment=$3 wanted=$4 change
+    shift 4
+    run repair "$declaration" "$assignment" "$@"
+    is "$name: repair" "0: $wanted" "$status: $(changed "$assignment" | paste -sd,)"
+    cp out repaired.assign
+    run deadlock "$declaration" repaired.assign
+    is "$name: what is repaired" '0: safe' "$status: $(cat out)"
+    run repair "$declaration" repaired.assign
+    is "$name: what is repaired, repaired" "0: $(cat repaired.assign)" "$status: $(cat out)"
+    while read -r change; do
+        undone "$declaration" "$change" >undone.assign
+        run deadlock "$declaration" undone.assign
+        is "$name: what is repaired, without $change" '1: run' "$status: $(head -n 1 out | cut -d' ' -f1)"
+    done < <(tr ',' '\n' <<<"$wanted" | grep .)
+}
+
+# too_few NAME DECL ASSIGN ITEM..: counts whether `repair` says that other items have to move too: by a run that
+# deadlocks on the workqueues beside it, in which only these items moved.
+too_few() {
+    local name=$1 declaration=$2 assignment=$3
+    shift 3
+    run repair "$declaration" "$assignment" "$@"
+    begins "$name: repair" 1 "$(head -n 1 out)"
+    cp out start.run
+    grep -E '^(wq|norescuer) ' err >out
+    cp out start.assign
+    is "$name: who moved in the start" '' "$(changed "$assignment" | cut -d' ' -f1 | grep -vxF "$(printf '%s\n' "$@")")"
+    run replay "$declaration" start.assign start.run
+    hanging "$name: the run of the start" deadlock
+}
+
+# like NAME ASSIGN: counts whether the workqueues of the file repaired.assign are those of another assignment, whatever
+# their numbers and names.
+like() {
+    is "$1" "$(unnumbered "$2")" "$(unnumbered repaired.assign)"
+}
+
+# unnumbered ASSIGN: its workqueues without numbers and names, sorted.
+unnumbered() {
+    local word lane items
+    sed 's/#.*//' "$1" | grep -E '^(wq|norescuer) ' | while read -r word lane items; do
+        echo "$word $(tr ' ' '\n' <<<"$items" | LC_ALL=C sort | paste -sd' ')"
+    done | LC_ALL=C sort
+}
+
 # without_cancel NAME K: counts whether there are K workqueues without the waits of cancel_work_sync.
 without_cancel() {
     grep -v '# cancel' "$1.wq" >"$1.nocancel.wq"
@@ -231,6 +309,10 @@ draws dm-snapshot 'plan of 3 workqueues, 2 waits in bold: items 6, workqueues 3,
 draws 'dm-snapshot: the kernel' 'safe: items 6, workqueues 6, arrows 4, red 0, bold 0' dm-snapshot.wq dm-snapshot.assign
 draws 'dm-snapshot: one kcopyd' 'can hang, 1 wait in red: items 6, workqueues 3, arrows 4, red 1, bold 1' \
     dm-snapshot.wq dm-snapshot.merged.assign
+repairs 'dm-snapshot: one kcopyd' dm-snapshot.wq dm-snapshot.merged.assign 'do_work.other 1 3'
+repairs 'dm-snapshot: one kcopyd, the merge moves' dm-snapshot.wq dm-snapshot.merged.assign \
+    'do_work.merging 1 2' do_work.merging
+repairs 'dm-snapshot: the kernel' dm-snapshot.wq dm-snapshot.assign ''
 
 # dm-integrity: six workqueues, safe; without dm-integrity-offload it hangs.
 counts dm-integrity 8 13 8 6
@@ -243,6 +325,11 @@ hangs 'dm-integrity: without dm-integrity-offload' dm-integrity.wq dm-integrity.
 why 'dm-integrity: without dm-integrity-offload' dm-integrity.wq dm-integrity.merged.assign \
     '`integrity_bio_wait.offload` `integrity_metadata`'
 draws dm-integrity 'plan of 3 workqueues, 2 waits in bold: items 8, workqueues 3, arrows 13, red 0, bold 2' dm-integrity.wq
+repairs 'dm-integrity: without dm-integrity-offload' dm-integrity.wq dm-integrity.merged.assign 'integrity_metadata 0 5'
+like 'dm-integrity: what is repaired is what the kernel has' dm-integrity.assign
+repairs 'dm-integrity: without dm-integrity-offload, the bios move' dm-integrity.wq dm-integrity.merged.assign \
+    'integrity_bio_wait.offload 0 3' integrity_bio_wait.offload
+repairs 'dm-integrity: the kernel' dm-integrity.wq dm-integrity.assign ''
 
 # nvmet-tcp: a circle, and waits by cancel_work_sync for what has no rescuer, so that every assignment hangs: the kernel's, one workqueue for all, and one for each item. The
 # last is the one whose run stands behind the circle. Without the flush of nvmet-wq it needs three: the release of a queue waits
@@ -272,6 +359,16 @@ answers nvmet-tcp.noflush 'plan 3' nvmet_tcp_release_queue_work nvmet_tcp_io_wor
 plan_is_least nvmet-tcp.noflush
 grep -v '# cancel' nvmet-tcp.noflush.wq >nvmet-tcp.requests.wq
 hangs 'nvmet-tcp: the kernel, without the flush, without cancel' nvmet-tcp.requests.wq nvmet-tcp.assign
+# No change helps against the circle. Without it the release of a queue has to leave the requests that it waits for.
+run repair nvmet-tcp.wq nvmet-tcp.assign
+hanging 'nvmet-tcp: the kernel: repair' "$(cat nvmet-tcp.answer)"
+run repair nvmet-tcp.wq nvmet-tcp.assign nvmet_tcp_release_queue_work
+hanging 'nvmet-tcp: the kernel: repair, the release moves' "$(cat nvmet-tcp.answer)"
+repairs 'nvmet-tcp: the kernel, without the flush, without cancel' nvmet-tcp.requests.wq nvmet-tcp.assign \
+    'nvmet_tcp_release_queue_work 1 0'
+grep -vE '^flush .*(timer.system|auth_expired_work) +# cancel' nvmet-tcp.noflush.wq >nvmet-tcp.mendable.wq
+repairs 'nvmet-tcp: the kernel, without the flush' nvmet-tcp.mendable.wq nvmet-tcp.assign \
+    'nvmet_tcp_release_queue_work 1 5'
 
 # nvme-auth: two workqueues, of which one hangs; three are enough, and a later kernel has them.
 counts nvme-auth 4 4 4 2
@@ -293,6 +390,12 @@ run plan nvme-auth.pool.wq
 begins 'nvme-auth: plan, with a pool of buffers' 1 'circle 2'
 draws 'nvme-auth: the kernel' 'can hang, 2 waits in red, 1 in bold: items 4, workqueues 2, arrows 4, red 2, bold 1' nvme-auth.wq nvme-auth.assign
 draws 'nvme-auth: a later kernel' 'safe: items 4, workqueues 3, arrows 4, red 0, bold 0' nvme-auth.wq nvme-auth.later.assign
+repairs 'nvme-auth: the kernel' nvme-auth.wq nvme-auth.assign 'auth_work 1 2'
+like 'nvme-auth: what is repaired is what a later kernel has' nvme-auth.later.assign
+repairs 'nvme-auth: the kernel, who flushes moves' nvme-auth.wq nvme-auth.assign \
+    'connect_work 1 2,dhchap_auth_work 1 2' dhchap_auth_work connect_work
+too_few 'nvme-auth: the kernel, one who flushes moves' nvme-auth.wq nvme-auth.assign connect_work
+repairs 'nvme-auth: a later kernel' nvme-auth.wq nvme-auth.later.assign ''
 
 # md: one workqueue for all arrays, which hangs where an array has arrays for disks; one for each array doesn't. The kernel's own
 # order of the first hang is a run too, and stuck as soon as the upper array waits.
@@ -313,6 +416,10 @@ run deadlock md.wq md.perarray.assign
 ends 'md: a workqueue for each array' 0 safe
 draws md 'plan of 2 workqueues, 1 wait in bold: items 4, workqueues 2, arrows 4, red 0, bold 1' md.wq
 draws 'md: the kernel' 'can hang, 4 waits in red, 1 in bold: items 4, workqueues 1, arrows 4, red 4, bold 1' md.wq md.assign
+repairs 'md: the kernel' md.wq md.assign 'data.upper 0 1,submit.upper 0 1'
+like 'md: what is repaired is a workqueue for each array' md.perarray.assign
+too_few 'md: the kernel, one of the upper items moves' md.wq md.assign submit.upper
+repairs 'md: a workqueue for each array' md.wq md.perarray.assign ''
 
 # nfs: four workqueues, of which rpciod waits for itself; nfsiod doesn't. Two more waits lead to what has no rescuer, wherever the
 # mount ends, but for an item that nobody waits for.
@@ -332,11 +439,15 @@ run deadlock nfs.wq nfs.moved.assign
 ends 'nfs: released by nfsiod' 0 safe
 draws nfs 'plan of 2 workqueues, 1 wait in bold: items 12, workqueues 2, arrows 24, red 0, bold 1' nfs.wq
 draws 'nfs: the kernel' 'can hang, 2 waits in red, 1 in bold: items 12, workqueues 4, arrows 24, red 2, bold 1' nfs.wq nfs.assign
+repairs 'nfs: the kernel' nfs.wq nfs.assign 'rpc_async.put 1 2'
+like 'nfs: what is repaired is released by nfsiod' nfs.moved.assign
+repairs 'nfs: released by nfsiod' nfs.wq nfs.moved.assign ''
 cat nfs.wq nfs.norescuer.wq >nfs.more.wq
 without=$'norescuer 4 wb_do_writeback\nnorescuer 5 inode_switch_wbs_work_fn'
 { cat nfs.moved.assign && echo "$without"; } >nfs.more.assign
 hangs 'nfs: released by nfsiod, with the flusher' nfs.more.wq nfs.more.assign 48
 to_no_rescuer 'nfs: released by nfsiod, with the flusher' 6 nfs.more.wq nfs.more.assign rpc_async.put wb_do_writeback
+too_few 'nfs: what ends a mount moves, with the flusher' nfs.more.wq nfs.more.assign rpc_async.put put_release dreq_work
 { echo 'item nfs_sb_end' &&
     grep -vE '^flush(wq)? (put_release|dreq_work)' nfs.more.wq | sed -E 's/^(flush|flushwq) rpc_async.put/\1 nfs_sb_end/'; } >nfs.own.wq
 { cat nfs.assign && echo "$without" && echo 'norescuer 6 nfs_sb_end'; } >nfs.own.assign
@@ -356,6 +467,17 @@ draws rbd 'plan of 3 workqueues, 2 waits in bold: items 13, workqueues 3, arrows
 draws 'rbd: the kernel' \
     'can hang, 14 waits in red, 14 to no rescuer, 1 in bold: items 13, workqueues 6, arrows 39, red 14, bold 1' rbd.wq rbd.assign
 draws 'rbd: the kernel, with rescuers' 'safe: items 13, workqueues 6, arrows 39, red 0, bold 0' rbd.wq rbd.rescued.assign
+repairs 'rbd: the kernel' rbd.wq rbd.assign 'rescuer 5'
+like 'rbd: what is repaired has rescuers' rbd.rescued.assign
+too_few 'rbd: the kernel, the lock moves' rbd.wq rbd.assign rbd_acquire_lock
+{
+    echo 'wq 0 ceph_con_workfn complete_request_workfn handle_timeout delayed_work'
+    echo 'wq 1 rbd_queue_workfn rbd_img_handle_request_work'
+    echo 'wq 2 rbd_acquire_lock rbd_release_lock_work rbd_notify_acquired_lock rbd_notify_released_lock' \
+        'rbd_reregister_watch do_watch_notify do_watch_error'
+} >rbd.together.assign
+repairs 'rbd: the answers to notifies beside the lock' rbd.wq rbd.together.assign \
+    'do_watch_error 2 1,do_watch_notify 2 1'
 
 # xfs: twelve workqueues; six are enough, with and without the two that have no rescuer. All that changes trees of extents waits for
 # one of these; if it had one, the twelve would be safe. Where there is no free block, an end of a write waits for the cleaners, which
@@ -371,6 +493,8 @@ run deadlock xfs.wq xfs.rescued.assign
 ends 'xfs: the kernel, with rescuers' 0 safe
 sed '/xfsdiscard/s/^norescuer/wq/' xfs.assign >xfs.discard.assign
 notes 'xfs: the kernel, with a rescuer of xfsdiscard' xfs.wq xfs.discard.assign xfs_flush_inodes_worker xfs_log_worker
+repairs 'xfs: the kernel' xfs.wq xfs.assign 'rescuer 2'
+like 'xfs: what is repaired has a rescuer of xfsdiscard' xfs.discard.assign
 draws 'xfs: the kernel' 'can hang, 6 waits in red, 6 to no rescuer, 1 in bold: items 13, workqueues 12, arrows 42, red 6, bold 1' xfs.wq xfs.assign
 grep -v '^flush .* xlog_discard_endio_work' xfs.wq >xfs.nodiscard.wq
 notes 'xfs: the kernel, without -o discard' xfs.nodiscard.wq xfs.assign \
@@ -386,6 +510,7 @@ to_no_rescuer "xfs: the kernel, with rescuers, and the flusher's list" 1 xfs.lis
 { cat xfs.discard.assign && echo 'wq 12 writer'; } >xfs.writer.assign
 hangs 'xfs: somebody who is needed flushes xfs-sync' xfs.writer.wq xfs.writer.assign
 to_no_rescuer 'xfs: somebody who is needed flushes xfs-sync' 1 xfs.writer.wq xfs.writer.assign writer xfs_flush_inodes_worker
+repairs 'xfs: somebody who is needed flushes xfs-sync' xfs.writer.wq xfs.writer.assign 'xfs_flush_inodes_worker 11 7'
 draws xfs 'plan of 6 workqueues, 5 waits in bold: items 13, workqueues 6, arrows 42, red 0, bold 5' xfs.wq
 grep -vE '^[^#]*(xfs_flush_inodes_worker|xfs_log_worker|xlog_discard_endio_work)' xfs.wq >xfs.rescuers.wq
 answers xfs.rescuers 'plan 6' xfs_blockgc_worker iomap_dio_complete_work xfs_end_io xfs_btree_split_worker xlog_cil_push_work \
@@ -426,6 +551,8 @@ draws 'nbd: the kernel' 'can hang, 4 waits in red, 4 to no rescuer, 1 in bold: i
 draws 'nbd: the kernel, with rescuers' 'safe: items 8, workqueues 5, arrows 15, red 0, bold 0' nbd.wq nbd.rescued.assign
 { cat nbd.wq && echo 'flush blk_mq_timeout_work blk_mq_run_work_fn'; } >nbd.alarm.wq
 hangs 'nbd: the kernel, with rescuers, with a line for what runs already' nbd.alarm.wq nbd.rescued.assign
+repairs 'nbd: the kernel' nbd.wq nbd.assign 'rescuer 0'
+like 'nbd: what is repaired has a rescuer of system_wq' nbd.system.assign
 
 # bcache: six workqueues, safe, though one has no rescuer; three are enough. With what is moved, or the journal, on the workqueue of the requests it hangs.
 # Where no bucket is left for the btree, what is moved waits for itself.
@@ -441,6 +568,15 @@ hangs 'bcache: what is moved among the requests' bcache.wq bcache.merged.assign 
 sed -e '/^wq 2/d' -e 's/^wq 0/& journal_write journal_discard_work/' -e 's/^norescuer 3/norescuer 2/' -e 's/^wq 4/wq 3/' -e 's/^wq 5/wq 4/' \
     bcache.assign >bcache.onejournal.assign
 hangs 'bcache: the journal among the requests' bcache.wq bcache.onejournal.assign
+repairs 'bcache: what is moved among the requests' bcache.wq bcache.merged.assign \
+    'bch_data_insert_keys.io 0 4,bch_data_insert_start.io 0 4,cache_lookup 0 4'
+repairs 'bcache: what is moved among the requests, and may move' bcache.wq bcache.merged.assign \
+    'bch_data_insert_keys.gc 0 5,bch_data_insert_start.gc 0 5,write_moving 0 5,write_moving_finish 0 5' \
+    write_moving bch_data_insert_start.gc bch_data_insert_keys.gc write_moving_finish
+like 'bcache: what is repaired is what the kernel has' bcache.assign
+repairs 'bcache: the journal among the requests' bcache.wq bcache.onejournal.assign \
+    'journal_discard_work 0 3,journal_write 0 3'
+repairs 'bcache: the kernel' bcache.wq bcache.assign ''
 draws bcache 'plan of 3 workqueues, 2 waits in bold: items 17, workqueues 3, arrows 30, red 0, bold 2' bcache.wq
 draws 'bcache: the kernel' 'safe: items 17, workqueues 6, arrows 30, red 0, bold 0' bcache.wq bcache.assign
 cat bcache.wq bcache.nobucket.wq >bcache.full.wq

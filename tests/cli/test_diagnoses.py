@@ -30,7 +30,7 @@ FOLDER = pathlib.Path(__file__).parent / "diagnoses"
 Case = collections.namedtuple("Case", "name words texts wanted")
 
 # Of these folders the cases whose standard error is closed or full, too: of each command some.
-STREAMS = ("file-names", "limits", "no", "accepted", "places-of-steps", "safe", "to-no-rescuer", "components", "below-no", "replayed")
+STREAMS = ("file-names", "limits", "no", "accepted", "places-of-steps", "safe", "to-no-rescuer", "components", "below-no", "replayed", "no-repair")
 # How a shell sends the streams elsewhere, and what of standard output and standard error is left in the pipes.
 NO_SPACE = b"", b"wqplan: <stdout>: no space left\nfault write\n"
 CLOSED = b"", b"wqplan: <stdout>: can't be written\nfault write\n"

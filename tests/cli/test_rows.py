@@ -18,6 +18,7 @@ import hangs
 import prefixes
 import programs
 import pytest
+import repairs
 import replays
 import runs
 from commands import TEXTS_OF
@@ -38,7 +39,8 @@ def row(table, command, texts, *answers, behind=(), is_long=False):
     """A row; what comes behind the texts are words of the command line."""
     answers = [text_of(answer) for answer in answers]
     words = [command, *range(len(texts)), *behind]
-    return Row(table, words, [text_of(text) for text in texts], answers, STATUS[answers[0].split()[0].decode()], is_long)
+    status = STATUS[answers[0].split()[0].decode()] if command != "repair" else repairs.status_of(answers[0].decode())
+    return Row(table, words, [text_of(text) for text in texts], answers, status, is_long)
 
 
 def rows_by_hand():
@@ -52,6 +54,8 @@ def rows_by_hand():
         yield row("the longest hangs", "hang", texts, answer, is_long=True)
     for *texts, answers in drawings.SEVERAL:
         yield row("drawings of which several are right", "dot", texts, *answers)
+    for text, assignment, words, answer in repairs.ROWS:
+        yield row("repairs", "repair", [text, assignment], answer, behind=words)
     for text, answer in runs.LIMITS:
         yield row("limits of what is run with helpers", "run", [text], answer, behind=["8"])
     for words in runs.WRONG_HELPERS:
@@ -127,7 +131,10 @@ def rows_that_follow(rows):
             yield row("circles that are checked", "check", [texts[0], answer], b"yes circle %s\n" % rest[0])
             run = answer[answer.index(b"run "):]
             yield row("runs of circles", "replay", [texts[0], own_workqueues(texts[0]), run], "deadlock")
-        elif word == b"run":
+        elif word in (b"wq", b"norescuer"):
+            yield row("repairs that are safe", "deadlock", [texts[0], answer], "safe")
+            yield row("repairs that need no repair", "repair", [texts[0], answer], answer)
+        elif word == b"run" and given.words[0] != "repair":
             yield row("runs that are printed", "replay", texts + [answer], "deadlock")
 
 
@@ -141,7 +148,8 @@ def by_question(rows):
 
 def name(given):
     texts = b"-".join(given.texts)[:300].decode("ascii", "replace").rstrip("\n")
-    return re.sub(r"[^\w./+-]+", "_", "-".join([given.table, texts.replace("\n", "/")]))[:90]
+    behind = [word for word in given.words[1:] if isinstance(word, str)]
+    return re.sub(r"[^\w./+-]+", "_", "-".join([given.table, texts.replace("\n", "/"), *behind]))[:90]
 
 
 BY_HAND = list(rows_by_hand())

@@ -286,15 +286,11 @@ def wrapped(text, width):
 
 def guide(numbers, commands):
     """docs/GUIDE.md with its table of statuses, and with the ranges of the numbers of refusals."""
-    columns = [row for row in commands if row.get("table") != "none"]
-    rows = [
-        ["Status", *(f"`{row['command']}`" for row in columns)], ["---"] * (len(columns) + 1),
-        ["0", *(row["zero"] for row in columns)], ["1", *(row.get("one", "") for row in columns)],
-        ["2", *["`refused ..`"] * len(columns)], ["3", *["a fault"] * len(columns)],
-    ]
+    rows = [["Command", "0", "1", "2", "3"], ["---"] * 5]
+    rows += [[f"`{row['command']}`", row["zero"], row.get("one", ""), "`refused ..`", "a fault"] for row in commands if row.get("table") != "none"]
     made = ["|---" * len(row) + "|" if row[0] == "---" else f"| {' | '.join(row)} |".replace("|  |", "| |") for row in rows]
     parts = Parts("docs/GUIDE.md")
-    parts.replace(r"^\| Status \| `plan` (?:.*\n)(?:\|.*\n)+", "".join(f"{row}\n" for row in made))
+    parts.replace(r"^\| Command \| 0 (?:.*\n)(?:\|.*\n)+", "".join(f"{row}\n" for row in made))
     parts.say(r"^\d+ to [\d, toand]+(?= are refusals of a declaration\.)", numbers_of(numbers, "table", "Refusals"))
     parts.say(r"\d+ to [\d, toand]+(?= are those of a plan, a circle,)", numbers_of(numbers, "table", "Refusals of certificates"))
     return parts

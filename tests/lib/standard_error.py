@@ -33,7 +33,7 @@ NO = re.compile(rb"(no) ([0-9]+)(?: [^\n]*)?\n")
 NUMBER = rb"[1-9][0-9]*"
 # Answers that only a declaration without an item has, and answers that others have, too.
 NO_ITEM = re.compile(rb"plan 0\nchain 0\n|yes 0\n|workqueues 0\nfaults 0\n")
-MAY_BE_NO_ITEM = re.compile(rb"safe\n|open\n|digraph [^\0]*")
+MAY_BE_NO_ITEM = re.compile(rb"safe\n|open\n|digraph [^\0]*|(?:(?:wq|norescuer) [0-9]+(?:  # [ -~]+)?\n)*")
 # The line that is meant, and below it the marks, with the hint if there is one; and where there is none.
 MARKED = rb"    [ -~]+\n {4,}\^+(?: [ -~]+)?\n"
 NO_HINT = MARKED.replace(rb"(?: [ -~]+)?", b"")
@@ -65,6 +65,14 @@ WAITS_FOR_NONE = (
 FRONT = rb"can hang: "
 FRONT_OF_PLAN = rb"can hang on any workqueues: "
 
+# What is said beside a repair: WHAT of a change, and the line where names are too few, behind the file of the assignment.
+CHANGE = (
+    WORKQUEUE + rb" is given a rescuer|" + ITEM + rb"(?:, with " + NUMBER + rb" more of its group,)? moves from " + WORKQUEUE + rb" to "
+    + WORKQUEUE + rb"(?:, a new one|, which is given a rescuer)?"
+)
+WITHOUT = rb"(?:if it stayed|without one): "
+TOO_FEW = rb": note: wherever these items move, the workqueues can hang; the run is on these:\n(?:(?:wq|norescuer) [ -~]+\n)+"
+
 # The further mistakes of a declaration: each is a diagnosis of a line, of which a byte is meant.
 FURTHER = rb"(?:[ -~]+:%s:%s: [ -~]+ \[refused ([0-9]+), `wqplan explain \1`\]\n%s){0,9}" % (NUMBER, NUMBER, MARKED)
 HAS_FURTHER = (b"3", b"4", b"5", b"6", b"7", b"8", b"11", b"12")
@@ -85,9 +93,24 @@ def circular_wait(file, waits, front=FRONT):
     return rb"%s(?:%s)*" % (block(file, front + waits), block(file, b"and " + waits))
 
 
-def to_no_rescuer(files):
+def to_no_rescuer(files, front=FRONT):
     """The form of what is said of a flush that leads to no rescuer."""
-    return block(files[0], FRONT + WAITS_FOR_NONE) + block(files[1], HAS_NONE)
+    return block(files[0], front + WAITS_FOR_NONE) + block(files[1], HAS_NONE)
+
+
+def either(files, front=FRONT):
+    """The form of how workqueues hang: by a circular wait, or by a flush that leads to no rescuer."""
+    return rb"(?:%s|%s)" % (circular_wait(files[0], WAITS, front), to_no_rescuer(files, front))
+
+
+def beside_repair(first, files):
+    """The form of what is said beside an answer of `repair` that begins so."""
+    if first == b"circle":
+        return circular_wait(files[0], WAITS_IN_GROUPS)
+    if first == b"run":
+        return files[1] + TOO_FEW + either(files)
+    changes = rb"(?:%s:%s:%s: (?:%s)\n%s?)*" % (files[1], NUMBER, NUMBER, CHANGE, either(files, WITHOUT))
+    return rb"%s|%s" % (changes, b"".join(files[1] + line for line in NOTES))
 
 
 @functools.cache
@@ -116,6 +139,8 @@ def said_beside(printed, files, command):
     files = [re.escape(shown(file)) for file in files]
     first = printed.split(None, 1)[0] if printed.strip() else b""
     count = len(files)
+    if command == "repair":
+        return beside_repair(first, files[:2])
     if first == b"safe" and count == 2:
         return b"(?:%s)?" % b"".join(files[1] + line for line in NOTES)
     if first == b"circle" and count == 1 and command != "run":
@@ -126,7 +151,7 @@ def said_beside(printed, files, command):
         to_none = to_no_rescuer(files) if b"\nnorescuer " in printed else b""
         return b"(?:%s){%s}%s" % (circular_wait(files[0], WAITS), printed.split()[1], to_none)
     if first == b"run" and count == 2 or first in (b"deadlock", b"stuck") and count == 3:
-        return b"%s|%s" % (circular_wait(files[0], WAITS), to_no_rescuer(files))
+        return either(files)
     return b""
 
 

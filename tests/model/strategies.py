@@ -13,10 +13,11 @@ from declaration import read_declaration
 from make_assignments import bare_above, merged, safe_assignment
 from make_certificates import (
     any_assignment, change_wq_empty, make_assignment_lines, make_circle_lines, make_plan_lines, make_run_lines, model_answer,
-    own_assignment, some_bare, spell_mostly, spelled,
+    own_assignment, some_bare, spell_mostly, spelled, wq_lines,
 )
 from make_declarations import TAKEN_WORDS, Line, alike, join, put_faults, spell
 from make_hangs import without_own
+from make_repairs import names_that_may_move, spread
 
 SEEDS = st.integers(0, 2**32 - 1)
 HELPERS = st.sampled_from([[], ["0"], ["1"], ["2"], ["5"], ["8"]])
@@ -184,6 +185,19 @@ def hang_cases(draw):
 
 
 @st.composite
+def repair_cases(draw):
+    """The two texts, and behind them the names of items that may move."""
+    text, declared, choose, spell_lines = draw(declared_texts())
+    way, count = choose.random(), len(declared.groups)
+    if way < 0.3:
+        wqs = own_assignment(declared) if way < 0.1 else any_assignment(choose, declared)
+    else:
+        wqs = spread(choose, declared, choose.choice([1, 2, 2, 3, 4, max(count // 3, 1), max(count // 2, 1)]))
+    lines = assigned(choose, declared, wqs) if choose.random() < 0.15 else wq_lines(wqs, some_bare(choose, wqs))
+    return [text, spell_lines(lines, 0.2, called=True), *names_that_may_move(choose, declared.items)]
+
+
+@st.composite
 def circles_cases(draw):
     """A declaration, or one with an assignment."""
     if draw(st.booleans()):
@@ -202,5 +216,5 @@ def of_one_text(text):
 
 CASES = {
     "plan": of_one_text(declarations()), "run": of_one_text(declarations()), "check": check_cases(), "replay": replay_cases(),
-    "deadlock": deadlock_cases(), "hang": hang_cases(), "circles": circles_cases(), "dot": circles_cases(),
+    "deadlock": deadlock_cases(), "hang": hang_cases(), "repair": repair_cases(), "circles": circles_cases(), "dot": circles_cases(),
 }

@@ -957,7 +957,7 @@ LAWS = {
 }
 
 
-@pytest.mark.parametrize("command", COMMANDS)
+@pytest.mark.parametrize("command", LAWS)
 def test_laws(command):
     limit_cases, _, _ = COMMANDS[command]
 

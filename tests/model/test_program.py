@@ -8,7 +8,7 @@ good (hang.py), and what `dot` draws the waits of one (dot.py). Standard error m
 What the program prints is then given back to it: the plans and circles to `check`, the plans as assignments to `deadlock`, and the runs,
 those behind circles too, to `replay`. It must stand by its answers: `yes`, `safe` and `deadlock`; of what `hang` prints the model says
 which of `deadlock` and `stuck`, and `dot` must draw the waits of that run bold red. Where it prints `safe` by `circles`, it must print
-it by `deadlock` too.
+it by `deadlock` too. What it prints by `repair` must be safe, and need no repair.
 
 A test of a command fails, too, where some kind of answer or of reason never came.
 """
@@ -24,6 +24,7 @@ import make_certificates
 import make_circles
 import make_declarations
 import make_hangs
+import make_repairs
 import programs
 import pytest
 import reasons
@@ -37,8 +38,9 @@ from standard_error import HAS_FURTHER, STDIN, fits, note
 from strategies import CASES, HELPERS
 from tables import short
 
-# How many cases are drawn: fewer of `run`, which makes threads, and of `hang`, whose answers are judged by other means.
-DRAWN = {"run": 250, "hang": 250}
+# How many cases are drawn: fewer of `run`, which makes threads, of `hang`, whose answers are judged by other means, and of `repair`, whose
+# answers are given back to three commands.
+DRAWN = {"run": 250, "hang": 250, "repair": 250}
 MOST_DRAWN = 800
 # So many declarations that are about as long, or as many items or flushes, as they may be.
 LARGE = 8
@@ -82,6 +84,7 @@ BOLD = r", N in bold"
 LEGEND = r"\\lBold: enough to hang it, in the fewest steps\."
 ESCAPE = r"([ !#-%\'-\[\]-~]|\\\"|\\\\|&amp;)"
 NO_LOOK = "(?!)"
+CALLED = "(  # [ -~]{1,63})?"
 
 
 def drawing(title, look):
@@ -137,6 +140,13 @@ COMMANDS = {
         CASES["hang"],
         [("safe", 0, r"safe\n")] + [(f"runs of {steps}", 1, rf"run {steps}\nY+") for steps in (3, 4, 6)]
         + [("longer runs", 1, r"run N\nY+")] + CERTIFICATE_REFUSALS,
+    ),
+    "repair": (
+        make_repairs.limit_repair_cases,
+        CASES["repair"],
+        [("all with a rescuer", 0, rf"(wq N( Z)?{CALLED}\n)*"), ("some without", 0, rf"((wq|norescuer) N( Z)?{CALLED}\n)+"),
+         ("circles", 1, r"circle N\nA+run N\nS+"), ("runs", 1, r"run N\nS+")]
+        + DECLARATION_REFUSALS + CERTIFICATE_REFUSALS[1:],
     ),
     "circles": (
         make_circles.limit_circles_cases,
@@ -233,7 +243,7 @@ def wrong_beside(command, files, texts, found):
         return "standard error hasn't the form that belongs to this answer"
     if printed.startswith(b"refused ") and printed.split()[1] in HAS_FURTHER:
         return wrong_further(texts[0], errors)
-    if printed.startswith((b"refused ", b"not lawful ")) or errors == note(files[0]):
+    if printed.startswith((b"refused ", b"not lawful ")) or errors == note(files[0]) or command == "repair":
         return None
     behind = errors.split(b"\n", reasons.BLOCK)[reasons.BLOCK] if printed.startswith(b"no ") else errors
     try:
@@ -255,12 +265,18 @@ def ask(program, tmp_path):
     def answer(command, texts, *words):
         named = {} if command == "plan" else dict(zip(TEXTS_OF[command], texts))
         with programs.files(tmp_path, named) as places:
-            found = programs.ask([program, command, *places, *words], input=texts[0] if command == "plan" else None)
+            found = programs.ask([program, command, *places, *words, *names_behind(command, texts)], input=texts[0] if command == "plan" else None)
         wrong = None if found.is_late() else wrong_beside(command, [os.fsencode(place) for place in places] or [STDIN], texts, found)
         assert wrong is None, f"{asked(command, texts, *words)}\n{found.printed.decode()}standard error:\n{found.errors.decode()}{wrong}"
         return found
 
     return answer
+
+
+def names_behind(command, texts):
+    """The names of a command line, which are behind the texts of a case."""
+    names = texts[len(TEXTS_OF[command]):]
+    return ["--", *names] if any(name.startswith(b"-") and name != b"-" for name in names) else names
 
 
 def asked(command, texts, *words):
@@ -287,6 +303,11 @@ def questions(command, texts, printed):
     if command == "hang" and head.startswith(b"run "):
         yield "replay", [*texts, printed], ANSWERS["replay"](*texts, printed)
         yield "dot", texts, (dot.text_with_waits_of(printed, *texts), 0)
+    if command == "repair" and head.startswith((b"wq ", b"norescuer ")):
+        yield "deadlock", [texts[0], printed], (b"safe\n", 0)
+        yield "repair", [texts[0], printed], (printed, 0)
+    if command == "repair" and head.startswith(b"circle "):
+        yield "check", [texts[0], printed], (b"yes " + head + b"\n", 0)
     if command == "circles" and head == b"safe" and len(texts) == 2:
         yield "deadlock", texts, (b"safe\n", 0)
 

@@ -7,6 +7,7 @@ mod deadlocks;
 mod drawings;
 mod hangs;
 mod plans;
+mod repairs;
 mod replays;
 
 use crate::command::checks::CHECKS;
@@ -15,16 +16,19 @@ use crate::command::deadlocks::DEADLOCKS;
 use crate::command::drawings::DRAWINGS;
 use crate::command::hangs::HANGS;
 use crate::command::plans::PLANS;
+use crate::command::repairs::REPAIRS;
 use crate::command::replays::REPLAYS;
 use std::alloc::{AllocError, Allocator};
 use std::io::{Read, Write};
+use wq_changes::Repairing;
 use wq_circles::CirclesCommand;
 use wq_commands::{
-    CheckCommand, DeadlockCommand, End, Fault, Metered, Outcome, PlanCommand, ReplayCommand,
+    CheckCommand, DeadlockCommand, End, Fault, Metered, Outcome, PlanCommand, ReplayCommand, Voice,
     carry_out, end_of,
 };
 use wq_dot::DotCommand;
 use wq_hang_command::HangCommand;
+use wq_repair_command::RepairCommand;
 use wq_voice::{Beside, CertificateKind, Diagnosing};
 
 /// The seed of the hashes of names. No answer depends on it.
@@ -37,6 +41,10 @@ pub enum PlainCommand {
     Check,
     Deadlock,
     Hang,
+    /// `repair`, where all items may move.
+    Repair,
+    /// `repair`, where only `a` may move.
+    RepairOne,
     Replay,
     /// `circles` of a declaration and an assignment.
     Circles,
@@ -56,6 +64,8 @@ impl PlainCommand {
             PlainCommand::Check
             | PlainCommand::Deadlock
             | PlainCommand::Hang
+            | PlainCommand::Repair
+            | PlainCommand::RepairOne
             | PlainCommand::Circles
             | PlainCommand::Dot => 2,
             PlainCommand::Replay => 3,
@@ -69,6 +79,8 @@ impl PlainCommand {
             PlainCommand::Check => "check DECL CERT",
             PlainCommand::Deadlock => "deadlock DECL ASSIGN",
             PlainCommand::Hang => "hang DECL ASSIGN",
+            PlainCommand::Repair => "repair DECL ASSIGN",
+            PlainCommand::RepairOne => "repair DECL ASSIGN a",
             PlainCommand::Replay => "replay DECL ASSIGN RUN",
             PlainCommand::Circles => "circles DECL ASSIGN",
             PlainCommand::OwnCircles => "circles DECL",
@@ -97,8 +109,10 @@ impl Case {
 
 /// The cases: one of each kind of answer, at least. Each is to be answered so over any devices, and with any heap that is large
 /// enough.
-pub fn cases() -> [&'static [Case]; 7] {
-    [PLANS, CHECKS, DEADLOCKS, HANGS, REPLAYS, CIRCLES, DRAWINGS]
+pub fn cases() -> [&'static [Case]; 8] {
+    [
+        PLANS, CHECKS, DEADLOCKS, HANGS, REPAIRS, REPLAYS, CIRCLES, DRAWINGS,
+    ]
 }
 
 /// What a command reads its texts from: the declaration first.
@@ -112,7 +126,13 @@ pub struct Readers<R> {
 /// What stands for the names of the files of a declaration, of the second text and of a run.
 const NAMES: (&str, &str, &str) = ("d", "c", "r");
 
-/// What is said of the texts of a command.
+/// The items that may move, where only `a` may.
+const ONE: &[&str] = &["a"];
+
+/// The items that may move, where all may.
+const ALL: &[&str] = &[];
+
+/// What is said of the texts of a command, if it isn't `repair`.
 fn voice(command: PlainCommand) -> Diagnosing<'static> {
     let (declaration, certificate, run) = NAMES;
     let kind = match command {
@@ -125,7 +145,11 @@ fn voice(command: PlainCommand) -> Diagnosing<'static> {
         PlainCommand::Replay => Beside::RunEnd,
         PlainCommand::Circles => Beside::Components,
         PlainCommand::OwnCircles => Beside::OwnComponents,
-        PlainCommand::Check | PlainCommand::Dot | PlainCommand::OwnDot => Beside::Other,
+        PlainCommand::Check
+        | PlainCommand::Repair
+        | PlainCommand::RepairOne
+        | PlainCommand::Dot
+        | PlainCommand::OwnDot => Beside::Other,
     };
     Diagnosing {
         seed: SEED,
@@ -138,16 +162,17 @@ fn voice(command: PlainCommand) -> Diagnosing<'static> {
 }
 
 /// Carries out a command over these readers, as the program does.
-fn carry<C, A, R, W, E>(
+fn carry<C, V, A, R, W, E>(
     alloc: A,
     command: &C,
-    voice: Diagnosing<'_>,
+    voice: &V,
     readers: &mut Readers<R>,
     writer: &mut Metered<W>,
     teller: &mut Metered<E>,
 ) -> Result<End, Fault>
 where
     C: wq_commands::Command<A, End = Outcome, Stop = AllocError>,
+    V: Voice<A, Outcome>,
     A: Allocator + Copy,
     R: Read,
     W: Write,
@@ -158,7 +183,33 @@ where
         second,
         third,
     } = readers;
-    end_of(carry_out(alloc, command, &voice, first, second, third, writer, teller))
+    end_of(carry_out(alloc, command, voice, first, second, third, writer, teller))
+}
+
+/// Repairs, where these items may move.
+fn repair<A: Allocator + Copy, R: Read, W: Write, E: Write>(
+    alloc: A,
+    names: &[&str],
+    readers: &mut Readers<R>,
+    writer: &mut Metered<W>,
+    teller: &mut Metered<E>,
+) -> Result<End, Fault> {
+    let seed = SEED;
+    let (declaration, assignment, _) = NAMES;
+    let voice = Repairing {
+        seed,
+        declaration,
+        assignment,
+        names,
+    };
+    carry(
+        alloc,
+        &RepairCommand { seed, names },
+        &voice,
+        readers,
+        writer,
+        teller,
+    )
 }
 
 /// Performs a command over as many of these readers as it has texts, and says on `teller` what there is to be said.
@@ -170,7 +221,7 @@ pub fn perform<A: Allocator + Copy, R: Read, W: Write, E: Write>(
     teller: &mut Metered<E>,
 ) -> Result<End, Fault> {
     let seed = SEED;
-    let voice = voice(command);
+    let voice = &voice(command);
     match command {
         PlainCommand::Plan => carry(alloc, &PlanCommand { seed }, voice, readers, writer, teller),
         PlainCommand::Check => carry(
@@ -190,6 +241,8 @@ pub fn perform<A: Allocator + Copy, R: Read, W: Write, E: Write>(
             teller,
         ),
         PlainCommand::Hang => carry(alloc, &HangCommand { seed }, voice, readers, writer, teller),
+        PlainCommand::Repair => repair(alloc, ALL, readers, writer, teller),
+        PlainCommand::RepairOne => repair(alloc, ONE, readers, writer, teller),
         PlainCommand::Replay => carry(
             alloc,
             &ReplayCommand { seed },

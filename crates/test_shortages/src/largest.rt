@@ -59,9 +59,10 @@ fn put_assigned<R: Print + AllocGlobal + Threads + Wait + Sync>(
 ) -> io::Result<bool> {
     let deadlock = put_with(rt, PlainCommand::Deadlock, name, lanes)?;
     let hang = put_with(rt, PlainCommand::Hang, name, lanes)?;
+    let repair = put_with(rt, PlainCommand::Repair, name, lanes)?;
     let circles = put_with(rt, PlainCommand::Circles, name, lanes)?;
     let dot = put_with(rt, PlainCommand::Dot, name, lanes)?;
-    Ok(deadlock && hang && circles && dot)
+    Ok(deadlock && hang && repair && circles && dot)
 }
 
 /// Checks the plan. Gives whether all runs ended as they should.
@@ -116,10 +117,11 @@ pub(crate) fn put_all_largest<R: Print + AllocGlobal + Threads + Wait + Sync>(
     let plan = put_plan(rt)?;
     let hanging = put_hanging(rt)?;
     let assigned = put_assigned(rt, "xfs and its workqueues", LARGEST_LANES.as_bytes())?;
+    let repair = put_with(rt, PlainCommand::Repair, "xfs on one workqueue", one)?;
     let circles = put_with(rt, PlainCommand::Circles, "xfs on one workqueue", one)?;
     let dot = put_with(rt, PlainCommand::Dot, "xfs on one workqueue", one)?;
     let own_circles = put_with(rt, PlainCommand::OwnCircles, "xfs", b"")?;
     let own_dot = put_with(rt, PlainCommand::OwnDot, "xfs", b"")?;
     let run = put_run(rt)?;
-    Ok(plan && hanging && assigned && circles && dot && own_circles && own_dot && run)
+    Ok(plan && hanging && assigned && repair && circles && dot && own_circles && own_dot && run)
 }

@@ -130,8 +130,8 @@ What to do:
 Look at the last `wait` or `waitwq` of each workqueue: each waits for an item
 that another one of them holds up, that is behind it, or that is on a workqueue
 without a rescuer. `wqplan hang` prints a run than which none is shorter,
-`wqplan circles` the flushes that cause it, and `wqplan plan` workqueues on
-which it can't happen.
+`wqplan circles` the flushes that cause it, `wqplan repair` what to change so
+that it can't happen, and `wqplan plan` other workqueues on which it can't.
 ",
 );
 
@@ -343,7 +343,8 @@ To see it:
 
 What to do:
 Allocate the workqueue of the target with `WQ_MEM_RECLAIM`, and write `wq` for
-it. Or queue the target on another workqueue that has a rescuer: ask again then.
+it. Or queue the target on another workqueue that has a rescuer. `wqplan repair`
+finds which of it is enough.
 Or take the wait out.
 ",
 );

@@ -96,7 +96,7 @@ fn whole_text<A: Allocator + Copy>(
 }
 
 /// The same, of this line and column.
-pub(crate) fn said_at<A: Allocator + Copy>(
+pub fn said_at<A: Allocator + Copy>(
     alloc: A,
     file: &str,
     line: u32,

@@ -22,7 +22,7 @@ struct FlushLine<'a> {
 
 /// The lines that declare flushes, and for each flush, by place, which of them declares it.
 #[derive(Drop)]
-pub(crate) struct FlushLines<'a, A: Allocator> {
+pub struct FlushLines<'a, A: Allocator> {
     lines: Vec<FlushLine<'a>, A>,
     line_of: Vec<usize, A>,
 }
@@ -45,7 +45,7 @@ fn flushes_on(line: &Line<'_>) -> usize {
 
 impl<'a, A: Allocator + Copy> FlushLines<'a, A> {
     /// Those of the text of a declaration.
-    pub(crate) fn new(alloc: A, text: &'a [u8]) -> Result<Self, AllocError> {
+    pub fn new(alloc: A, text: &'a [u8]) -> Result<Self, AllocError> {
         let mut lines = Vec::new(alloc);
         let mut line_of = Vec::new(alloc);
         for line in lines_of(text).lines() {

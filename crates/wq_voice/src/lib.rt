@@ -22,5 +22,13 @@ mod voice;
 mod waits;
 mod words;
 
+pub use block::said_at;
+pub use flush_lines::FlushLines;
+pub use reason::{CAN_HANG, of_subject};
+pub use rounds::put_round;
+pub use safe::safe_assigned;
+pub use subject::Subject;
 pub use voice::{Beside, Diagnosing};
+pub use waits::Wording;
+pub use words::{item_words, workqueue_words};
 pub use wq_diagnosis::CertificateKind;

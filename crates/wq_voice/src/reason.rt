@@ -25,7 +25,7 @@ use wq_hang::{Answer, hang};
 use wq_names::workqueue_names;
 
 /// What stands before the first wait of a walk.
-pub(crate) const CAN_HANG: &[u8] = b"can hang: ";
+pub const CAN_HANG: &[u8] = b"can hang: ";
 
 /// The same where it can be on any workqueues.
 const CAN_HANG_ON_ANY: &[u8] = b"can hang on any workqueues: ";
@@ -60,7 +60,7 @@ fn of_answer<A: Allocator + Copy>(
 }
 
 /// How these workqueues hang soonest; nothing where they can't.
-fn of_subject<A: Allocator + Copy>(
+pub fn of_subject<A: Allocator + Copy>(
     alloc: A,
     subject: &Subject<'_, '_, '_, '_, A>,
     lead: &[u8],

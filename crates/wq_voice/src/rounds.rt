@@ -62,7 +62,7 @@ fn lanes_of<A: Allocator + Copy>(
 }
 
 /// Adds the waits of a least round on the workqueues of a component, where there is one.
-fn put_round<A: Allocator + Copy>(
+pub fn put_round<A: Allocator + Copy>(
     alloc: A,
     out: &mut Vec<u8, A>,
     subject: &Subject<'_, '_, '_, '_, A>,

@@ -18,7 +18,7 @@ use wq_diagnosis::{Source, of_no_item};
 use wq_names::workqueue_names;
 
 /// What is said beside `safe` of these workqueues, whose text is that one.
-fn safe_assigned<A: Allocator + Copy>(
+pub fn safe_assigned<A: Allocator + Copy>(
     alloc: A,
     seed: u64,
     declaration: Source<'_>,

@@ -22,21 +22,21 @@ use wq_lines::put;
 
 /// Workqueues of the groups of a declaration, and the texts that say so.
 #[derive(Clone, Copy)]
-pub(crate) struct Subject<'a, 'b, 'c, 'd, A: Allocator> {
+pub struct Subject<'a, 'b, 'c, 'd, A: Allocator> {
     /// The text of the declaration.
-    pub(crate) declaration: Source<'a>,
+    pub declaration: Source<'a>,
     /// The text of the workqueues; without a byte where each group has one of its own.
-    pub(crate) assignment: Source<'a>,
+    pub assignment: Source<'a>,
     /// Which of the two it is.
-    pub(crate) wording: Wording,
+    pub wording: Wording,
     /// What is declared.
-    pub(crate) declared: &'b Declaration<'a, A>,
+    pub declared: &'b Declaration<'a, A>,
     /// The workqueues.
-    pub(crate) workqueues: &'c Workqueues<A>,
+    pub workqueues: &'c Workqueues<A>,
     /// Where the flushes are declared.
-    pub(crate) flushes: &'d FlushLines<'a, A>,
+    pub flushes: &'d FlushLines<'a, A>,
     /// The workqueues' names.
-    pub(crate) names: &'d [&'a [u8]],
+    pub names: &'d [&'a [u8]],
 }
 
 /// Adds the line of the workqueue of a wait's target, which has no rescuer, and says so.

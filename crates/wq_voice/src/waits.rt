@@ -17,7 +17,7 @@ use wq_lines::put;
 
 /// Whose workqueues are spoken of.
 #[derive(Clone, Copy, Debug, PartialEq, Eq)]
-pub(crate) enum Wording {
+pub enum Wording {
     /// Those of an assignment, by number and name.
     OnWorkqueues,
     /// Whichever these are: each group has one.

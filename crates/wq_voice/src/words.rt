@@ -27,7 +27,7 @@ fn put_name<A: Allocator + Copy>(out: &mut Vec<u8, A>, name: &[u8]) -> Result<()
 }
 
 /// A workqueue with its name, where it has one.
-pub(crate) fn workqueue_words<A: Allocator + Copy>(
+pub fn workqueue_words<A: Allocator + Copy>(
     alloc: A,
     names: &[&[u8]],
     q: LaneId,
@@ -67,7 +67,7 @@ fn item_name<'a, A: Allocator + Copy>(table: &ItemTable<'a, A>, item: ItemId) ->
 }
 
 /// An item.
-pub(crate) fn item_words<A: Allocator + Copy>(
+pub fn item_words<A: Allocator + Copy>(
     alloc: A,
     declared: &Declaration<'_, A>,
     item: ItemId,

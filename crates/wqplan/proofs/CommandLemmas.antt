@@ -1,18 +1,20 @@
 -- The command that a parse of the program's words entered, and the files that it was given.
 use Rattle.std.proofs.Common.{refl, ap, ap₂, sym, subst, arith, ℕ, zero, suc, ◌≤◌, ◌⊎◌, inl, inr, Result, Ok, Err, IsErrAnd, MatchResult, ◌∙◌, codes, Bool, true, false, cond, not, ◌==◌, ◌&&◌, [], ◌∷◌, List, Option, Some, None, ◌≡◌}
-use Rattle.std.specs.Prelude.{option_map, pos, unwrap_or}
+use Rattle.std.specs.Prelude.{IsSomeAnd, option_map, pos, unwrap_or}
 use Rattle.std.specs.Str.{bytes_eq}
 use Rattle.std.specs.Borrow.{Bor}
 use Rattle.clap.specs.Words.{Row, Text, first_of, first_value, is_simple, one_of, rows_of, takes}
 use Rattle.clap.specs.ValueTests.{accepts}
+use Rattle.clap.specs.declared.builder.range.ValueRange.{ValueRange}
 use Rattle.clap.specs.declared.builder.value_parser.ValueParser.TheVariants.{Signed, Unsigned}
 use Rattle.clap.proofs.ValueTestLemmas.{accepts-Accepts}
 use Rattle.clap.specs.declared.parser.matches.Found.{Found}
-use Rattle.clap.proofs.WalkLemmas.{first_value-rows}
-use Rattle.clap.specs.Lexer.{long_of, short_of, without_minus}
+use Rattle.clap.specs.Matches.{matched_of, raw_values}
+use Rattle.clap.proofs.WalkLemmas.{first_value-rows, raw_values-rows}
+use Rattle.clap.specs.Lexer.{long_of, short_of, usize_max, without_minus}
 use Rattle.clap.proofs.OnLiterals.{clap_on_literals}
-use Rattle.wqplan.specs.CommandLine.{wqplan, is_no_option, Asked, Asks, AsksFor, Calls, CallsRun, GivesArguments, HasFewHelpers, IsHelpers, command_name, digit, helpers_in}
-use Rattle.wqplan.specs.CommandLine.Asked.{plans, checks, judges, hangs, replays, finds, draws, runs, explains}
+use Rattle.wqplan.specs.CommandLine.{wqplan, is_no_option, many_rule, Asked, Asks, AsksFor, Calls, CallsRun, GivesArguments, HasFewHelpers, IsHelpers, IsRepair, command_name, digit, helpers_in, names_of}
+use Rattle.wqplan.specs.CommandLine.Asked.{plans, checks, judges, hangs, repairs, replays, finds, draws, runs, explains}
 
 -- if a negated part is one of those that hold, the part itself doesn't
 pub third_is_not : (x y z w : Bool) → x && (y && (not z && w)) ≡ true → z ≡ false
@@ -113,6 +115,38 @@ unfolding clap_on_literals
 asks_hang program declaration assignment p q =
     rw (bytes_eq-no_option declaration p, long_of-no_option declaration p, short_of-no_option declaration p)
     (rw (bytes_eq-no_option assignment q, long_of-no_option assignment q, short_of-no_option assignment q) (_, refl, (refl, refl)))
+
+-- `wqplan repair DECL ASSIGN` is taken, and gives both, and no NAME
+pub takes_repair : (program declaration assignment : Text) → is_no_option declaration ≡ true → is_no_option assignment ≡ true
+    → takes wqplan (program ∷ codes "repair" ∷ declaration ∷ assignment ∷ []) ≡ true
+unfolding clap_on_literals
+takes_repair program declaration assignment p q =
+    rw (bytes_eq-no_option declaration p, long_of-no_option declaration p, short_of-no_option declaration p)
+    (rw (bytes_eq-no_option assignment q, long_of-no_option assignment q, short_of-no_option assignment q) refl)
+
+pub asks_repair : (program declaration assignment : Text) → is_no_option declaration ≡ true → is_no_option assignment ≡ true
+    → Asks (program ∷ codes "repair" ∷ declaration ∷ assignment ∷ []) (repairs declaration assignment [])
+unfolding clap_on_literals
+asks_repair program declaration assignment p q =
+    rw (bytes_eq-no_option declaration p, long_of-no_option declaration p, short_of-no_option declaration p)
+    (rw (bytes_eq-no_option assignment q, long_of-no_option assignment q, short_of-no_option assignment q) (_, refl, (refl, refl, refl)))
+
+-- `wqplan repair DECL ASSIGN NAME` is taken, and gives all three
+pub takes_repair_of : (program declaration assignment name : Text) → is_no_option declaration ≡ true → is_no_option assignment ≡ true → is_no_option name ≡ true
+    → takes wqplan (program ∷ codes "repair" ∷ declaration ∷ assignment ∷ name ∷ []) ≡ true
+unfolding clap_on_literals
+takes_repair_of program declaration assignment name p q r =
+    rw (bytes_eq-no_option declaration p, long_of-no_option declaration p, short_of-no_option declaration p)
+    (rw (bytes_eq-no_option assignment q, long_of-no_option assignment q, short_of-no_option assignment q)
+    (rw (bytes_eq-no_option name r, long_of-no_option name r, short_of-no_option name r) refl))
+
+pub asks_repair_of : (program declaration assignment name : Text) → is_no_option declaration ≡ true → is_no_option assignment ≡ true → is_no_option name ≡ true
+    → Asks (program ∷ codes "repair" ∷ declaration ∷ assignment ∷ name ∷ []) (repairs declaration assignment (name ∷ []))
+unfolding clap_on_literals
+asks_repair_of program declaration assignment name p q r =
+    rw (bytes_eq-no_option declaration p, long_of-no_option declaration p, short_of-no_option declaration p)
+    (rw (bytes_eq-no_option assignment q, long_of-no_option assignment q, short_of-no_option assignment q)
+    (rw (bytes_eq-no_option name r, long_of-no_option name r, short_of-no_option name r) (_, refl, (refl, refl, refl))))
 
 -- `wqplan replay DECL ASSIGN RUN` is taken, and gives all three
 pub takes_replay : (program declaration assignment run : Text) → is_no_option declaration ≡ true → is_no_option assignment ≡ true → is_no_option run ≡ true
@@ -285,6 +319,9 @@ takes_Calls words (plans (Some file)) (program, are, p) = ap (takes wqplan) are 
 takes_Calls words (checks declaration certificate) (program, are, p, q) = ap (takes wqplan) are ∙ takes_check program declaration certificate p q
 takes_Calls words (judges declaration assignment) (program, are, p, q) = ap (takes wqplan) are ∙ takes_deadlock program declaration assignment p q
 takes_Calls words (hangs declaration assignment) (program, are, p, q) = ap (takes wqplan) are ∙ takes_hang program declaration assignment p q
+takes_Calls words (repairs declaration assignment []) (program, are, p, q) = ap (takes wqplan) are ∙ takes_repair program declaration assignment p q
+takes_Calls words (repairs declaration assignment (name ∷ [])) (program, are, p, q, r) = ap (takes wqplan) are ∙ takes_repair_of program declaration assignment name p q r
+takes_Calls words (repairs declaration assignment (name ∷ other ∷ names)) never = absurd never
 takes_Calls words (replays declaration assignment run) (program, are, p, q, r) = ap (takes wqplan) are ∙ takes_replay program declaration assignment run p q r
 takes_Calls words (finds declaration None) (program, are, p) = ap (takes wqplan) are ∙ takes_own_circles program declaration p
 takes_Calls words (finds declaration (Some assignment)) (program, are, p, q) = ap (takes wqplan) are ∙ takes_circles program declaration assignment p q
@@ -300,6 +337,11 @@ Asks_Calls words (plans (Some file)) (program, are, p) = subst (λ ws. Asks ws (
 Asks_Calls words (checks declaration certificate) (program, are, p, q) = subst (λ ws. Asks ws (checks declaration certificate)) (sym are) (asks_check program declaration certificate p q)
 Asks_Calls words (judges declaration assignment) (program, are, p, q) = subst (λ ws. Asks ws (judges declaration assignment)) (sym are) (asks_deadlock program declaration assignment p q)
 Asks_Calls words (hangs declaration assignment) (program, are, p, q) = subst (λ ws. Asks ws (hangs declaration assignment)) (sym are) (asks_hang program declaration assignment p q)
+Asks_Calls words (repairs declaration assignment []) (program, are, p, q) =
+    subst (λ ws. Asks ws (repairs declaration assignment [])) (sym are) (asks_repair program declaration assignment p q)
+Asks_Calls words (repairs declaration assignment (name ∷ [])) (program, are, p, q, r) =
+    subst (λ ws. Asks ws (repairs declaration assignment (name ∷ []))) (sym are) (asks_repair_of program declaration assignment name p q r)
+Asks_Calls words (repairs declaration assignment (name ∷ other ∷ names)) never = absurd never
 Asks_Calls words (replays declaration assignment run) (program, are, p, q, r) = subst (λ ws. Asks ws (replays declaration assignment run)) (sym are) (asks_replay program declaration assignment run p q r)
 Asks_Calls words (finds declaration None) (program, are, p) = subst (λ ws. Asks ws (finds declaration None)) (sym are) (asks_own_circles program declaration p)
 Asks_Calls words (finds declaration (Some assignment)) (program, are, p, q) = subst (λ ws. Asks ws (finds declaration (Some assignment))) (sym are) (asks_circles program declaration assignment p q)
@@ -347,10 +389,11 @@ asked_by name rows =
     (cond (bytes_eq name (codes "check")) (checks (file_of rows (codes "DECL")) (file_of rows (codes "CERT")))
     (cond (bytes_eq name (codes "deadlock")) (judges (file_of rows (codes "DECL")) (file_of rows (codes "ASSIGN")))
     (cond (bytes_eq name (codes "hang")) (hangs (file_of rows (codes "DECL")) (file_of rows (codes "ASSIGN")))
+    (cond (bytes_eq name (codes "repair")) (repairs (file_of rows (codes "DECL")) (file_of rows (codes "ASSIGN")) (names_of rows))
     (cond (bytes_eq name (codes "replay")) (replays (file_of rows (codes "DECL")) (file_of rows (codes "ASSIGN")) (file_of rows (codes "RUN")))
     (cond (bytes_eq name (codes "circles")) (finds (file_of rows (codes "DECL")) (first_of (codes "ASSIGN") rows))
     (cond (bytes_eq name (codes "dot")) (draws (file_of rows (codes "DECL")) (first_of (codes "ASSIGN") rows))
-    (cond (bytes_eq name (codes "run")) (runs (file_of rows (codes "DECL")) (helpers_in (one_of (codes "HELPERS") rows))) (explains (first_of (codes "CODE") rows)))))))))
+    (cond (bytes_eq name (codes "run")) (runs (file_of rows (codes "DECL")) (helpers_in (one_of (codes "HELPERS") rows))) (explains (first_of (codes "CODE") rows))))))))))
 
 file_of-is : (rows : List Row) (name file : Text) → first_of name rows ≡ Some file → file_of rows name ≡ file
 file_of-is rows name file is = ap (λ (o : Option Text). unwrap_or o []) is
@@ -361,6 +404,8 @@ asked_by-is rows (plans f) g = ap plans g
 asked_by-is rows (checks d c) (gd, gc) = ap₂ checks (file_of-is rows (codes "DECL") d gd) (file_of-is rows (codes "CERT") c gc)
 asked_by-is rows (judges d a) (gd, ga) = ap₂ judges (file_of-is rows (codes "DECL") d gd) (file_of-is rows (codes "ASSIGN") a ga)
 asked_by-is rows (hangs d a) (gd, ga) = ap₂ hangs (file_of-is rows (codes "DECL") d gd) (file_of-is rows (codes "ASSIGN") a ga)
+asked_by-is rows (repairs d a ns) (gd, ga, gn) =
+    rw (file_of-is rows (codes "DECL") d gd, file_of-is rows (codes "ASSIGN") a ga, gn) refl
 asked_by-is rows (replays d a r) (gd, ga, gr) =
     rw (file_of-is rows (codes "DECL") d gd, file_of-is rows (codes "ASSIGN") a ga, file_of-is rows (codes "RUN") r gr) refl
 asked_by-is rows (finds d a) (gd, ga) = ap₂ finds (file_of-is rows (codes "DECL") d gd) ga
@@ -386,6 +431,7 @@ few_helpers rows (plans f) g = tt
 few_helpers rows (checks d c) g = tt
 few_helpers rows (judges d a) g = tt
 few_helpers rows (hangs d a) g = tt
+few_helpers rows (repairs d a ns) g = tt
 few_helpers rows (replays d a r) g = tt
 few_helpers rows (finds d a) g = tt
 few_helpers rows (draws d a) g = tt
@@ -410,3 +456,43 @@ replays_of met rows wanted is (others, also, given) =
     let is_replay : wanted ≡ asked_by (codes "replay") rows =
     sym (asked_by-is rows wanted gives) ∙ ap (λ (name : Text). asked_by name rows) (ap (λ (p : Text × List Row). p.0) both) in
     (file_of rows (codes "DECL"), file_of rows (codes "ASSIGN"), file_of rows (codes "RUN"), subst (GivesArguments rows) is_replay gives)
+
+-- what asks for `repair` gives it its two files and names
+pub repairs_of : (met : Option (Text × List Row)) (rows : List Row) (wanted : Asked) → met ≡ Some (codes "repair", rows) → AsksFor met wanted
+    → (declaration : Text) × (assignment : Text) × (names : List Text) × GivesArguments rows (repairs declaration assignment names)
+repairs_of met rows wanted is (others, also, given) =
+    let both : (command_name wanted, others) ≡ (codes "repair", rows) = same_value {T = Text × List Row} met (command_name wanted, others) (codes "repair", rows) also is in
+    let gives = subst (λ (rs : List Row). GivesArguments rs wanted) (ap (λ (p : Text × List Row). p.1) both) given in
+    let is_repair : wanted ≡ asked_by (codes "repair") rows =
+    sym (asked_by-is rows wanted gives) ∙ ap (λ (name : Text). asked_by name rows) (ap (λ (p : Text × List Row). p.0) both) in
+    (file_of rows (codes "DECL"), file_of rows (codes "ASSIGN"), names_of rows, subst (GivesArguments rows) is_repair gives)
+
+-- who asks for `repair` has met it
+pub met_repair : (met : Option (Text × List Row)) (wanted : Asked) → IsRepair wanted → AsksFor met wanted → option_map (λ (p : Text × List Row). p.0) met ≡ Some (codes "repair")
+met_repair met (repairs d a ns) repair (rows, is, gives) = ap (option_map (λ (p : Text × List Row). p.0)) is
+met_repair met (plans f) repair asked = absurd repair
+met_repair met (checks d c) repair asked = absurd repair
+met_repair met (judges d a) repair asked = absurd repair
+met_repair met (hangs d a) repair asked = absurd repair
+met_repair met (replays d a r) repair asked = absurd repair
+met_repair met (finds d a) repair asked = absurd repair
+met_repair met (draws d a) repair asked = absurd repair
+met_repair met (runs d n) repair asked = absurd repair
+met_repair met (explains n) repair asked = absurd repair
+
+-- as many values as one likes, but at least one
+abbrev pub many : ValueRange
+many = record { start_inclusive = 1; end_inclusive = usize_max }
+
+pub range_given : (o : Option ValueRange) → IsSomeAnd o (λ r. r ≡ many) → o ≡ Some many
+range_given None is = absurd is
+range_given (Some r) is = ap Some is
+
+-- the names that a getter returns are those of its rows; if it returns none, there is none
+pub names_given : {S : Type 0} (names : S → List Text) (r : Option S) (s : S) (f : Found) → option_map names r ≡ option_map raw_values (matched_of f (codes "NAME")) → r ≡ Some s
+    → names s ≡ names_of (rows_of f)
+names_given names r s f read is = ap (λ (o : Option (List Text)). unwrap_or o []) (sym (ap (option_map names) is) ∙ read ∙ raw_values-rows f (codes "NAME"))
+
+pub no_names_given : {S : Type 0} (names : S → List Text) (r : Option S) (f : Found) → option_map names r ≡ option_map raw_values (matched_of f (codes "NAME")) → r ≡ None
+    → [] ≡ names_of (rows_of f)
+no_names_given names r f read is = ap (λ (o : Option (List Text)). unwrap_or o []) (sym (ap (option_map names) is) ∙ read ∙ raw_values-rows f (codes "NAME"))

@@ -9,7 +9,7 @@ use Rattle.wq_commands.specs.YesIsTrue.{YesIsTrue}
 use Rattle.wq_commands.proofs.PromiseLemmas.{KeepsPromise-answers, YesIsTrue-checks}
 use Rattle.wq_circles.proofs.Promised.{KeepsCircles-answers, KeepsOwnCircles-answers}
 use Rattle.wq_run.specs.declared.fault.CommandFault.{CommandFault}
-use Rattle.wqplan.specs.CommandLine.{Asked, plans, checks, judges, hangs, replays, finds, draws, runs, explains}
+use Rattle.wqplan.specs.CommandLine.{Asked, plans, checks, judges, hangs, repairs, replays, finds, draws, runs, explains}
 use Rattle.wqplan.specs.Ended.{EndsAsAsked, EndsCircles, EndsPlan, EndedBy}
 use Rattle.wqplan.specs.Promised.{PromisesAsAsked, PromisesCircles, PromisesPlan}
 
@@ -31,6 +31,7 @@ module _ (Holds : List ℕ → List ℕ → Type 0) (Input : List ℕ → Type 0
   PromisesAsAsked-ends (finds declaration assignment) h = of_circles declaration assignment h
   PromisesAsAsked-ends (judges declaration assignment) h = h
   PromisesAsAsked-ends (hangs declaration assignment) h = h
+  PromisesAsAsked-ends (repairs declaration assignment names) h = h
   PromisesAsAsked-ends (replays declaration assignment run) h = h
   PromisesAsAsked-ends (draws declaration assignment) h = h
   PromisesAsAsked-ends (runs declaration helpers) h = h

@@ -1,10 +1,11 @@
 -- The command line of the program, in the words of `clap`.
-use Rattle.std.specs.Prelude.{◌≡◌, ◌==◌, ◌+◌, ◌≤◌, ◌⊎◌, ℕ, Bool, not, [], ◌∷◌, List, Option, Some, None, codes, true, option_map, option_to_list, pos, nat_lt, if◌then◌else◌, Result, Ok, Err}
+use Rattle.std.specs.Prelude.{◌≡◌, ◌==◌, ◌+◌, ◌≤◌, ◌⊎◌, ℕ, Bool, not, [], ◌∷◌, List, Option, Some, None, codes, true, map, option_map, option_to_list, unwrap_or, pos, nat_lt, if◌then◌else◌, Result, Ok, Err}
 use Rattle.std.specs.Str.Parse.{digits_value, without_leading_plus}
-use Rattle.clap.specs.Words.{App, IsUnsignedIn, Row, Rule, Text, first_of, new_app, new_rule, one_of, subcommand_of, with_rule, with_subcommand}
+use Rattle.clap.specs.Lexer.{usize_max}
+use Rattle.clap.specs.Words.{App, IsUnsignedIn, Row, Rule, Text, all_of, first_of, new_app, new_rule, one_of, subcommand_of, with_rule, with_subcommand}
 use Rattle.clap.specs.declared.builder.value_parser.ValueParser.TheVariants.{Signed}
 use Rattle.wqplan.specs.declared.command_line.Request.{Request}
-use Rattle.wqplan.specs.declared.command_line.Request.TheVariants.{Plan, Check, Deadlock, Hang, Replay, Circles, Dot, Run, Explain}
+use Rattle.wqplan.specs.declared.command_line.Request.TheVariants.{Plan, Check, Deadlock, Hang, Repair, Replay, Circles, Dot, Run, Explain}
 
 -- a positional argument that must be given
 abbrev pub needed : Text → Rule
@@ -25,6 +26,14 @@ deadlock = with_rule (with_rule (new_app (codes "deadlock")) (needed (codes "DEC
 -- `hang DECL ASSIGN`
 abbrev pub hang : App
 hang = with_rule (with_rule (new_app (codes "hang")) (needed (codes "DECL"))) (needed (codes "ASSIGN"))
+
+-- a positional argument that may come any number of times
+abbrev pub many_rule : Text → Rule
+many_rule name = record (new_rule name) { range = Some (record { start_inclusive = 1; end_inclusive = usize_max }) }
+
+-- `repair DECL ASSIGN [NAME]..`
+abbrev pub repair : App
+repair = with_rule (with_rule (with_rule (new_app (codes "repair")) (needed (codes "DECL"))) (needed (codes "ASSIGN"))) (many_rule (codes "NAME"))
 
 -- `replay DECL ASSIGN RUN`
 abbrev pub replay : App
@@ -59,15 +68,16 @@ bare =
 -- the program
 abbrev pub wqplan : App
 wqplan =
-    with_subcommand (with_subcommand (with_subcommand (with_subcommand (with_subcommand (with_subcommand (with_subcommand (with_subcommand (with_subcommand bare plan.top) check.top)
-    deadlock.top) hang.top) replay.top) circles.top) dot.top) run.top) explain.top
+    with_subcommand (with_subcommand (with_subcommand (with_subcommand (with_subcommand (with_subcommand (with_subcommand (with_subcommand (with_subcommand (with_subcommand bare plan.top) check.top)
+    deadlock.top) hang.top) repair.top) replay.top) circles.top) dot.top) run.top) explain.top
 
--- a command and the paths of its files and, for `run`, how many helpers there are, or the word that it explains
+-- a command and the paths of its files; for `repair` the names, and for `run` how many helpers there are; or the word that it explains
 pub data Asked : Type 0 where
   plans : Option Text → Asked
   checks : Text → Text → Asked
   judges : Text → Text → Asked
   hangs : Text → Text → Asked
+  repairs : Text → Text → List Text → Asked
   replays : Text → Text → Text → Asked
   finds : Text → Option Text → Asked
   draws : Text → Option Text → Asked
@@ -80,6 +90,7 @@ spelled (Plan file) = plans (option_map (λ s. s.now) file)
 spelled (Check declaration certificate) = checks declaration.now certificate.now
 spelled (Deadlock declaration assignment) = judges declaration.now assignment.now
 spelled (Hang declaration assignment) = hangs declaration.now assignment.now
+spelled (Repair declaration assignment names) = repairs declaration.now assignment.now (map (λ s. s.now) names.items)
 spelled (Replay declaration assignment steps) = replays declaration.now assignment.now steps.now
 spelled (Circles declaration assignment) = finds declaration.now (option_map (λ s. s.now) assignment)
 spelled (Dot declaration assignment) = draws declaration.now (option_map (λ s. s.now) assignment)
@@ -92,6 +103,7 @@ command_name (plans file) = codes "plan"
 command_name (checks declaration certificate) = codes "check"
 command_name (judges declaration assignment) = codes "deadlock"
 command_name (hangs declaration assignment) = codes "hang"
+command_name (repairs declaration assignment names) = codes "repair"
 command_name (replays declaration assignment steps) = codes "replay"
 command_name (finds declaration assignment) = codes "circles"
 command_name (draws declaration assignment) = codes "dot"
@@ -104,11 +116,21 @@ files_of (plans file) = option_to_list file
 files_of (checks declaration certificate) = declaration ∷ certificate ∷ []
 files_of (judges declaration assignment) = declaration ∷ assignment ∷ []
 files_of (hangs declaration assignment) = declaration ∷ assignment ∷ []
+files_of (repairs declaration assignment names) = declaration ∷ assignment ∷ []
 files_of (replays declaration assignment run) = declaration ∷ assignment ∷ run ∷ []
 files_of (finds declaration assignment) = declaration ∷ option_to_list assignment
 files_of (draws declaration assignment) = declaration ∷ option_to_list assignment
 files_of (runs declaration helpers) = declaration ∷ []
 files_of (explains code) = []
+
+-- the names that the matches give, in their order
+abbrev pub names_of : List Row → List Text
+names_of rows = unwrap_or (all_of (codes "NAME") rows) []
+
+-- `repair` is asked for
+abbrev pub IsRepair : Asked → Type 0
+IsRepair (repairs declaration assignment names) = Unit {0}
+IsRepair _ = ⊥
 
 -- a word for the number of helpers is a number from 0 to 8
 abbrev pub IsHelpers : Option Text → Type 0
@@ -126,12 +148,14 @@ few_read (Ok None) = Some 0
 few_read (Ok (Some n)) = if nat_lt 8 n then None else Some n
 few_read (Err e) = None
 
--- the matches of the command give it these files and this number, or this word
+-- the matches of the command give it these files, and these names or this number, or this word
 abbrev pub GivesArguments : List Row → Asked → Type 0
 GivesArguments rows (plans file) = first_of (codes "FILE") rows ≡ file
 GivesArguments rows (checks declaration certificate) = (first_of (codes "DECL") rows ≡ Some declaration) × (first_of (codes "CERT") rows ≡ Some certificate)
 GivesArguments rows (judges declaration assignment) = (first_of (codes "DECL") rows ≡ Some declaration) × (first_of (codes "ASSIGN") rows ≡ Some assignment)
 GivesArguments rows (hangs declaration assignment) = (first_of (codes "DECL") rows ≡ Some declaration) × (first_of (codes "ASSIGN") rows ≡ Some assignment)
+GivesArguments rows (repairs declaration assignment names) =
+    (first_of (codes "DECL") rows ≡ Some declaration) × (first_of (codes "ASSIGN") rows ≡ Some assignment) × (names_of rows ≡ names)
 GivesArguments rows (replays declaration assignment steps) =
     (first_of (codes "DECL") rows ≡ Some declaration) × (first_of (codes "ASSIGN") rows ≡ Some assignment) × (first_of (codes "RUN") rows ≡ Some steps)
 GivesArguments rows (finds declaration assignment) = (first_of (codes "DECL") rows ≡ Some declaration) × (first_of (codes "ASSIGN") rows ≡ assignment)
@@ -166,8 +190,8 @@ digit n = (48 + n) ∷ []
 abbrev pub CallsRun : List Text → Text → ℕ → Type 0
 CallsRun words declaration helpers = ((words ≡ declaration ∷ []) × (helpers ≡ 0)) ⊎ ((words ≡ declaration ∷ digit helpers ∷ []) × (helpers ≤ 8))
 
--- the words are the program's name, a command, and after it its files, for `run` maybe the number of helpers, or the word to
--- explain. No file and no word looks like an option
+-- the words are the program's name, a command, and after it its files, for `repair` one name at most, for `run` maybe the number of
+-- helpers, or the word to explain. No file and no word looks like an option
 abbrev pub Calls : List Text → Asked → Type 0
 Calls words (plans None) = (program : Text) × (words ≡ program ∷ codes "plan" ∷ [])
 Calls words (plans (Some file)) = (program : Text) × (words ≡ program ∷ codes "plan" ∷ file ∷ []) × (is_no_option file ≡ true)
@@ -177,6 +201,12 @@ Calls words (judges declaration assignment) = (program : Text) × (words ≡ pro
     × (is_no_option declaration ≡ true) × (is_no_option assignment ≡ true)
 Calls words (hangs declaration assignment) = (program : Text) × (words ≡ program ∷ codes "hang" ∷ declaration ∷ assignment ∷ [])
     × (is_no_option declaration ≡ true) × (is_no_option assignment ≡ true)
+Calls words (repairs declaration assignment []) = (program : Text) × (words ≡ program ∷ codes "repair" ∷ declaration ∷ assignment ∷ [])
+    × (is_no_option declaration ≡ true) × (is_no_option assignment ≡ true)
+Calls words (repairs declaration assignment (name ∷ [])) =
+    (program : Text) × (words ≡ program ∷ codes "repair" ∷ declaration ∷ assignment ∷ name ∷ [])
+    × (is_no_option declaration ≡ true) × (is_no_option assignment ≡ true) × (is_no_option name ≡ true)
+Calls words (repairs declaration assignment (name ∷ other ∷ names)) = ⊥
 Calls words (replays declaration assignment steps) = (program : Text) × (words ≡ program ∷ codes "replay" ∷ declaration ∷ assignment ∷ steps ∷ [])
     × (is_no_option declaration ≡ true) × (is_no_option assignment ≡ true) × (is_no_option steps ≡ true)
 Calls words (finds declaration None) = (program : Text) × (words ≡ program ∷ codes "circles" ∷ declaration ∷ []) × (is_no_option declaration ≡ true)

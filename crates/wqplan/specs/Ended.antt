@@ -9,6 +9,7 @@ use Rattle.wq_commands.specs.Answer.{Answers}
 use Rattle.wq_commands.specs.Checking.{Checks}
 use Rattle.wq_commands.specs.Deadlocking.{Judges}
 use Rattle.wq_hang_command.specs.Hanging.{Hangs}
+use Rattle.wq_repair_command.specs.Repairing.{Repairs}
 use Rattle.wq_commands.specs.Replaying.{ReplaysRun}
 use Rattle.wq_circles.specs.Circling.{Circles, OwnCircles}
 use Rattle.wq_dot.specs.Dotting.{Draws, OwnDraws}
@@ -16,7 +17,7 @@ use Rattle.wq_run.specs.declared.fault.CommandFault.{CommandFault}
 use Rattle.wq_run.specs.declared.fault.CommandFault.TheVariants.{Common, Tally, Thread}
 use Rattle.wq_run.specs.Running.{RunsPlan}
 use Rattle.wq_explain.specs.Explaining.{explained_end, explained_text}
-use Rattle.wqplan.specs.CommandLine.{Asked, plans, checks, judges, hangs, replays, finds, draws, runs, explains}
+use Rattle.wqplan.specs.CommandLine.{Asked, plans, checks, judges, hangs, repairs, replays, finds, draws, runs, explains}
 use Rattle.wqplan.specs.Status.{explain_end}
 
 -- a reader that is asked only if there is a limit had this text
@@ -57,6 +58,11 @@ EndsDeadlock Holds declaration assignment end out = (text lanes : List ℕ) × H
 abbrev pub EndsHang : (List ℕ → List ℕ → Type 0) → List ℕ → List ℕ → End → List ℕ → Type 0
 EndsHang Holds declaration assignment end out = (text lanes : List ℕ) × Holds declaration text × Holds assignment lanes × Hangs text lanes end out
 
+-- `repair`, where the items with these names may move
+abbrev pub EndsRepair : (List ℕ → List ℕ → Type 0) → List ℕ → List ℕ → List (List ℕ) → End → List ℕ → Type 0
+EndsRepair Holds declaration assignment names end out =
+    (text lanes : List ℕ) × Holds declaration text × Holds assignment lanes × Repairs names text lanes end out
+
 -- `replay`
 abbrev pub EndsReplay : (List ℕ → List ℕ → Type 0) → List ℕ → List ℕ → List ℕ → End → List ℕ → Type 0
 EndsReplay Holds declaration assignment run end out =
@@ -76,6 +82,7 @@ EndsAsAsked Holds Input (plans file) end out = EndsPlan Holds Input file end out
 EndsAsAsked Holds Input (checks declaration certificate) end out = EndsCheck Holds declaration certificate end out
 EndsAsAsked Holds Input (judges declaration assignment) end out = EndsDeadlock Holds declaration assignment end out
 EndsAsAsked Holds Input (hangs declaration assignment) end out = EndsHang Holds declaration assignment end out
+EndsAsAsked Holds Input (repairs declaration assignment names) end out = EndsRepair Holds declaration assignment names end out
 EndsAsAsked Holds Input (replays declaration assignment run) end out = EndsReplay Holds declaration assignment run end out
 EndsAsAsked Holds Input (finds declaration assignment) end out = EndsCircles Holds declaration assignment end out
 EndsAsAsked Holds Input (draws declaration assignment) end out = EndsDot Holds declaration assignment end out

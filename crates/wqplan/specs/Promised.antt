@@ -8,7 +8,7 @@ use Rattle.wq_commands.specs.Promise.{KeepsPromise}
 use Rattle.wq_commands.specs.YesIsTrue.{YesIsTrue}
 use Rattle.wq_circles.specs.Circling.{Circles, OwnCircles}
 use Rattle.wq_circles.specs.CirclesPromise.{KeepsCircles, KeepsOwnCircles}
-use Rattle.wqplan.specs.CommandLine.{Asked, plans, checks, judges, hangs, replays, finds, draws, runs, explains}
+use Rattle.wqplan.specs.CommandLine.{Asked, plans, checks, judges, hangs, repairs, replays, finds, draws, runs, explains}
 use Rattle.wqplan.specs.Ended.{EndsAsAsked}
 
 -- `plan`, of a file or of standard input: what is printed is the answer to the text, and keeps its promise
@@ -34,6 +34,7 @@ PromisesAsAsked Holds Input (checks declaration certificate) end out = PromisesC
 PromisesAsAsked Holds Input (finds declaration assignment) end out = PromisesCircles Holds declaration assignment end out
 PromisesAsAsked Holds Input (judges declaration assignment) end out = EndsAsAsked Holds Input (judges declaration assignment) end out
 PromisesAsAsked Holds Input (hangs declaration assignment) end out = EndsAsAsked Holds Input (hangs declaration assignment) end out
+PromisesAsAsked Holds Input (repairs declaration assignment names) end out = EndsAsAsked Holds Input (repairs declaration assignment names) end out
 PromisesAsAsked Holds Input (replays declaration assignment run) end out = EndsAsAsked Holds Input (replays declaration assignment run) end out
 PromisesAsAsked Holds Input (draws declaration assignment) end out = EndsAsAsked Holds Input (draws declaration assignment) end out
 PromisesAsAsked Holds Input (runs declaration helpers) end out = EndsAsAsked Holds Input (runs declaration helpers) end out

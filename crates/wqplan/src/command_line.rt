@@ -5,7 +5,7 @@
 ghost use Rattle.std.specs.Prelude.{◌≡◌, ◌≤◌, ℕ, List, Option, Some, codes, false, IfOk, IfSome, IsSome, MatchResult, map};
 ghost use Rattle.clap.specs.Words.{app_of, found_of, kind_of, one_of, rows_of, rule_of, subcommand_rows_of};
 ghost use Rattle.clap.specs.declared.error.kind.ErrorKind.TheVariants.{OutOfMemory};
-ghost use Rattle.wqplan.specs.CommandLine.{bare, check, circles, number_rule, deadlock, hang, dot, explain, needed, plan, replay, run, spelled, wqplan, Asked, Asks, AsksFor, Calls, GivesArguments, HasFewHelpers, IsHelpers, few_read, helpers_in, checks, draws, finds, hangs, judges, replays, runs};
+ghost use Rattle.wqplan.specs.CommandLine.{bare, check, circles, number_rule, many_rule, deadlock, hang, dot, explain, needed, plan, repair, replay, run, spelled, wqplan, Asked, Asks, AsksFor, Calls, GivesArguments, HasFewHelpers, IsHelpers, IsRepair, few_read, helpers_in, names_of, checks, draws, finds, hangs, judges, repairs, replays, runs};
 
 use crate::world::INPUT;
 use crate::{help, statuses};
@@ -18,7 +18,7 @@ use std::rt::Env;
 use std::{env, io};
 
 /// What a command line asks for.
-#[derive(Clone, Copy, Debug, PartialEq, Eq)]
+#[derive(Debug, Drop)]
 pub(crate) enum Request<'a> {
     /// A plan of the declaration in this file, or in standard input.
     Plan {
@@ -38,6 +38,13 @@ pub(crate) enum Request<'a> {
     Hang {
         declaration: &'a str,
         assignment: &'a str,
+    },
+    /// What to change in the assignment in the second file, for the declaration in the first, so that it is safe. The items with
+    /// these names may move, or all, if there is no name.
+    Repair {
+        declaration: &'a str,
+        assignment: &'a str,
+        names: Vec<&'a str>,
     },
     /// How the run in the third file ends under the assignment in the second, for the declaration in the first.
     Replay {
@@ -69,12 +76,12 @@ pub(crate) enum Request<'a> {
 
 impl Request<'_> {
     /// Whether it has standard input in the place of more than one file, though it can be read only once.
-    pub(crate) fn repeats_input(self) -> bool {
+    pub(crate) fn repeats_input(&self) -> bool {
         let (first, second, third) = match self {
             Request::Check {
                 declaration,
                 certificate,
-            } => (declaration, certificate, ""),
+            } => (*declaration, *certificate, ""),
             Request::Deadlock {
                 declaration,
                 assignment,
@@ -82,12 +89,17 @@ impl Request<'_> {
             | Request::Hang {
                 declaration,
                 assignment,
-            } => (declaration, assignment, ""),
+            }
+            | Request::Repair {
+                declaration,
+                assignment,
+                ..
+            } => (*declaration, *assignment, ""),
             Request::Replay {
                 declaration,
                 assignment,
                 run,
-            } => (declaration, assignment, run),
+            } => (*declaration, *assignment, *run),
             Request::Circles {
                 declaration,
                 assignment,
@@ -95,7 +107,7 @@ impl Request<'_> {
             | Request::Dot {
                 declaration,
                 assignment,
-            } => (declaration, assignment.unwrap_or(""), ""),
+            } => (*declaration, assignment.unwrap_or(""), ""),
             Request::Plan { .. } | Request::Run { .. } | Request::Explain { .. } => ("", "", ""),
         };
         (first == INPUT && (second == INPUT || third == INPUT))
@@ -165,6 +177,29 @@ fn hang<'a>(alloc: Global) -> Result<Command<'a>, AllocError>
         .after_long_help(statuses::HANG)
         .arg(declaration)?
         .arg(assignment)
+}
+
+/// The argument NAME of `repair`, which may come any number of times.
+fn names<'a>(alloc: Global) -> Arg<'a>
+    ensures rule { rule_of result ≡ many_rule (codes "NAME") }
+    ensures own { result.global ≡ false }
+{
+    Arg::new(alloc, "NAME").help(help::NAME).num_args(1..)
+}
+
+/// The command `repair`.
+fn repair<'a>(alloc: Global) -> Result<Command<'a>, AllocError>
+    ensures { IfOk result (λ command. app_of command ≡ repair) }
+{
+    let declaration = file(alloc, "DECL", help::DECL);
+    let assignment = file(alloc, "ASSIGN", help::ASSIGN);
+    let names = names(alloc);
+    Command::new(alloc, "repair")
+        .about(help::REPAIR)
+        .after_long_help(statuses::REPAIR)
+        .arg(declaration)?
+        .arg(assignment)?
+        .arg(names)
 }
 
 /// The command `replay`.
@@ -262,6 +297,7 @@ fn program<'a>(alloc: Global) -> Result<Command<'a>, AllocError>
         .subcommand(check(alloc)?)?
         .subcommand(deadlock(alloc)?)?
         .subcommand(hang(alloc)?)?
+        .subcommand(repair(alloc)?)?
         .subcommand(replay(alloc)?)?
         .subcommand(circles(alloc)?)?
         .subcommand(dot(alloc)?)?
@@ -306,6 +342,51 @@ fn hang_request<'a>(given: &ArgMatches<'a>) -> Option<Request<'a>>
         declaration,
         assignment,
     })
+}
+
+/// These names, in a vector of their own.
+fn copied<'a>(alloc: Global, names: &[&'a str]) -> Result<Vec<&'a str>, AllocError>
+    ensures { IfOk result (λ copy. copy.items ≡ names.now) }
+{
+    let mut copy = Vec::with_capacity(alloc, names.len())?;
+    for name in names {
+        copy.push(*name)?;
+    }
+    Ok(copy)
+}
+
+/// The names that a parse gave, in their order.
+fn names_given<'a>(alloc: Global, given: &ArgMatches<'a>) -> Result<Vec<&'a str>, AllocError>
+    ensures { IfOk result (λ names. map (λ n. n.now) names.items ≡ names_of (rows_of (found_of given.now))) }
+{
+    match given.get_strs("NAME") {
+        Some(names) => copied(alloc, names),
+        None => Ok(Vec::new(alloc)),
+    }
+}
+
+/// The request for `repair`. Its two files are in all matches that a parse gives.
+fn repair_request<'a>(
+    alloc: Global,
+    given: &ArgMatches<'a>,
+) -> Result<Option<Request<'a>>, AllocError>
+    ensures asked { IfOk result (λ found. IfSome found (λ request.
+        AsksFor (Some (codes "repair", rows_of (found_of given.now))) (spelled request))) }
+    ensures all { IfOk result (λ found. (declaration assignment : List ℕ) (names : List (List ℕ)) →
+        GivesArguments (rows_of (found_of given.now)) (repairs declaration assignment names) → IsSome found) }
+{
+    let Some(declaration) = given.get_str("DECL") else {
+        return Ok(None);
+    };
+    let Some(assignment) = given.get_str("ASSIGN") else {
+        return Ok(None);
+    };
+    let names = names_given(alloc, given)?;
+    Ok(Some(Request::Repair {
+        declaration,
+        assignment,
+        names,
+    }))
 }
 
 /// The request for `replay`. Its three files are in all matches that a parse gives.
@@ -388,9 +469,20 @@ fn run_request<'a>(given: &ArgMatches<'a>) -> Option<Request<'a>>
 }
 
 /// The request of the command that a parse has entered. There is none where that is `help`.
-fn entered<'a>(matches: &ArgMatches<'a>) -> Option<Request<'a>>
+fn entered<'a>(alloc: Global, matches: &ArgMatches<'a>) -> Result<Option<Request<'a>>, AllocError>
+    ensures asked { IfOk result (λ found. IfSome found (λ request. AsksFor (subcommand_rows_of matches.now) (spelled request))) }
+    ensures all { IfOk result (λ found. (wanted : Asked) → AsksFor (subcommand_rows_of matches.now) wanted → IsSome found) }
+{
+    if let Some(given) = matches.subcommand_matches("repair") {
+        return repair_request(alloc, given);
+    }
+    Ok(entered_other(matches))
+}
+
+/// The request of the command that a parse has entered. There is none where that is `repair` or `help`.
+fn entered_other<'a>(matches: &ArgMatches<'a>) -> Option<Request<'a>>
     ensures asked { IfSome result (λ request. AsksFor (subcommand_rows_of matches.now) (spelled request)) }
-    ensures all { (wanted : Asked) → AsksFor (subcommand_rows_of matches.now) wanted → IsSome result }
+    ensures all { (wanted : Asked) → (¬ IsRepair wanted) → AsksFor (subcommand_rows_of matches.now) wanted → IsSome result }
 {
     if let Some(given) = matches.subcommand_matches("plan") {
         return Some(Request::Plan {
@@ -435,7 +527,7 @@ pub(crate) fn parse<'a, S: AsStr>(alloc: Global, words: &'a [S]) -> Result<Reque
 {
     let mut command = program(alloc)?;
     let matches = command.try_get_matches_from_mut(words)?;
-    match entered(&matches) {
+    match entered(alloc, &matches)? {
         Some(request) => Ok(request),
         // `help` is a command too, but the parse itself answers it.
         None => Err(command.error(ErrorKind::MissingSubcommand, "a command is needed")?),

@@ -20,6 +20,9 @@ pub(crate) const DEADLOCK: &str =
 /// What `hang` does.
 pub(crate) const HANG: &str = "Reads what `deadlock` reads, prints the shortest hang, or `safe`";
 
+/// What `repair` does.
+pub(crate) const REPAIR: &str = "Reads what `deadlock` reads, prints workqueues that can't hang";
+
 /// What `replay` does.
 pub(crate) const REPLAY: &str = "Reads a declaration, an assignment and a run, prints how it ends";
 
@@ -56,6 +59,9 @@ pub(crate) const ANY_ASSIGN: &str =
 /// What ASSIGN is for a command that, without it, draws the plan.
 pub(crate) const DRAWN_ASSIGN: &str =
     "As for `deadlock`. Without it the plan's workqueues are drawn";
+
+/// What NAME is.
+pub(crate) const NAME: &str = "An item that may move, with its group. Without NAME all may";
 
 /// What RUN is.
 pub(crate) const STEPS: &str = "The steps of a run";

@@ -15,7 +15,7 @@ ghost use Rattle.wqplan.specs.CommandLine.{HasFewHelpers, plans, spelled};
 ghost use Rattle.wqplan.specs.Cause.{EndsAlone, EndsReady, IsCaused, IsReady, IsUnready, ReadsInput};
 ghost use Rattle.wqplan.specs.Promised.{PromisesAsAsked};
 ghost use Rattle.wqplan.specs.Status.{end_or_common, explained_or_common, unheld};
-ghost use Rattle.wqplan.specs.Ended.{EndedBy, EndsAsAsked, EndsCheck, EndsCircles, EndsDeadlock, EndsDot, EndsExplain, EndsHang, EndsPlan, EndsReplay, EndsRun, Has, IsInputIf};
+ghost use Rattle.wqplan.specs.Ended.{EndedBy, EndsAsAsked, EndsCheck, EndsCircles, EndsDeadlock, EndsDot, EndsExplain, EndsHang, EndsPlan, EndsRepair, EndsReplay, EndsRun, Has, IsInputIf};
 
 use crate::command_line::Request;
 use crate::world::{STDIN, World, shown_name};
@@ -23,6 +23,7 @@ use std::alloc::{AllocError, Global};
 use std::io::{self, Read, Write};
 use std::sync::Wait;
 use std::thread::Threads;
+use wq_changes::Repairing;
 use wq_circles::CirclesCommand;
 use wq_commands::{
     CheckCommand, Command, DeadlockCommand, End, Fault, Metered, Outcome, PlanCommand,
@@ -32,6 +33,7 @@ use wq_dot::DotCommand;
 use wq_explain::{Explained, explain_cmd};
 use wq_hang_command::HangCommand;
 use wq_meter::write_text;
+use wq_repair_command::RepairCommand;
 use wq_run::{CommandFault, RunStop, carry_out_run, end_of_run};
 use wq_voice::{Beside, CertificateKind, Diagnosing};
 
@@ -330,6 +332,42 @@ fn hang<'a, O: World<'a>, W: Write, E: Write>(
             shown_name(assignment),
             Beside::Verdict,
         ),
+        declared,
+        assigned,
+        io::empty(),
+        writer,
+        teller,
+    );
+    end_of(ended)
+}
+
+/// Repairs the assignment in the second file, for the declaration in the first, where the items with these names may move.
+fn repair<'a, O: World<'a>, W: Write, E: Write>(
+    world: &O,
+    alloc: Global,
+    declaration: &'a str,
+    assignment: &'a str,
+    names: &[&str],
+    writer: &mut Metered<W>,
+    teller: &mut Metered<E>,
+) -> Result<End, CommandFault>
+    ensures ended { EndedBy W.contents writer.old writer.new (EndsRepair (Has (O.opens world.now) O.File.Read.remaining)
+        declaration.now assignment.now (map (λ n. n.now) names.now)) result }
+    ensures caused { EndsReady (O.seeds world.now) (O.opens world.now) (declaration.now ∷ assignment.now ∷ []) (Unit {0}) ⊥ result }
+    ensures unsaid { OnErr result (teller.new ≡ teller.old) }
+{
+    let Some((seed, declared, assigned)) = two_files(world, declaration, assignment) else {
+        return Err(CommandFault::Common(Fault::Read));
+    };
+    let ended = carry_out_on(
+        alloc,
+        &RepairCommand { seed, names },
+        &Repairing {
+            seed,
+            declaration: shown_name(declaration),
+            assignment: shown_name(assignment),
+            names,
+        },
         declared,
         assigned,
         io::empty(),
@@ -657,6 +695,19 @@ fn carry_out_asked<'a, O: World<'a>, R: Threads + Wait + Sync, I: Read, W: Write
             declaration,
             assignment,
         } => hang(world, alloc, declaration, assignment, writer, teller),
+        Request::Repair {
+            declaration,
+            assignment,
+            names,
+        } => repair(
+            world,
+            alloc,
+            declaration,
+            assignment,
+            names.as_slice(),
+            writer,
+            teller,
+        ),
         Request::Replay {
             declaration,
             assignment,

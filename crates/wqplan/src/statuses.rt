@@ -4,7 +4,7 @@
 /// Of the program.
 pub(crate) const PROGRAM: &str = "\
 `wqplan COMMAND --help` has those of one command. Exit status:
-  0    the answer is a plan, `yes ..`, `safe`, `open`, a drawing,
+  0    the answer is a plan, `yes ..`, `safe`, an assignment, `open`, a drawing,
        `workqueues ..`, an explanation or the titles of all; or help or the
        version was printed
   1    the answer is a circle, `no ..`, a run that deadlocks, a run that ends
@@ -66,6 +66,20 @@ pub(crate) const HANG: &str = "\
 Exit status:
   0    the answer is `safe`
   1    the answer is a run that ends stuck
+  2    the answer is `refused CODE line N`: a text isn't of its form; or the
+       command line is wrong, and standard error says how
+  3    a fault: the last line of standard error is `fault memory`, `fault read`
+       or `fault write`
+  141  nobody reads standard output any more
+
+docs/FORMAT.md describes the texts and the answers, `wqplan explain CODE` each
+number and word.";
+
+/// Of `repair`.
+pub(crate) const REPAIR: &str = "\
+Exit status:
+  0    the answer is an assignment
+  1    the answer is a circle or a run that deadlocks
   2    the answer is `refused CODE line N`: a text isn't of its form; or the
        command line is wrong, and standard error says how
   3    a fault: the last line of standard error is `fault memory`, `fault read`

@@ -1,5 +1,7 @@
-# "Faults and exit statuses": the status that goes with the first word of an answer, by docs/tables/words.txt, or of a drawing.
+# "Faults and exit statuses": the status that goes with the first word of an answer, by docs/tables/words.txt, of a drawing,
+# or of an assignment.
 
 from records import records  # in tests/lib
 
-STATUS = {row["word"].split()[0]: int(row["status"]) for row in records("words.txt") if "status" in row} | {"digraph": 0}
+STATUS = {row["word"].split()[0]: int(row["status"]) for row in records("words.txt") if "status" in row}
+STATUS |= {"digraph": 0, "wq": 0, "norescuer": 0}

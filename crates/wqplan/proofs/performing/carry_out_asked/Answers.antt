@@ -19,6 +19,11 @@ returns-in-Hang-clause-ended g c =
     subst (λ r. EndedBy g.W.Write.contents c.args.writer.now c.hang.new.writer (EndsAsAsked (Has (g.O.World.opens c.args.world.now) g.O.File.Read.remaining) (IsInput (g.I.Read.remaining c.args.input.now.device)) (spelled r)) c.hang.result)
     (sym c.in-Hang.is) c.hang.ensures.ended
 
+pub returns-in-Repair-clause-ended : goal.returns-in-Repair-clause-ended
+returns-in-Repair-clause-ended g c =
+    subst (λ r. EndedBy g.W.Write.contents c.args.writer.now c.repair.new.writer (EndsAsAsked (Has (g.O.World.opens c.args.world.now) g.O.File.Read.remaining) (IsInput (g.I.Read.remaining c.args.input.now.device)) (spelled r)) c.repair.result)
+    (sym c.in-Repair.is) c.repair.ensures.ended
+
 pub returns-in-Replay-clause-ended : goal.returns-in-Replay-clause-ended
 returns-in-Replay-clause-ended g c =
     subst (λ r. EndedBy g.W.Write.contents c.args.writer.now c.replay.new.writer (EndsAsAsked (Has (g.O.World.opens c.args.world.now) g.O.File.Read.remaining) (IsInput (g.I.Read.remaining c.args.input.now.device)) (spelled r)) c.replay.result)

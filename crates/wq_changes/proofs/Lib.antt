@@ -1,0 +1,5 @@
+pub mod Ranges
+pub mod Lanes
+pub mod Each
+pub mod Exact
+pub mod Circled

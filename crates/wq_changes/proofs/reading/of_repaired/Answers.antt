@@ -1,0 +1,20 @@
+use Rattle.std.proofs.Common.{◌≡◌, ℕ, List, map, ap, subst, ◌∙◌}
+use Rattle.std.specs.Prelude.{IfOk}
+use Rattle.wq_names.specs.Names.{names_of}
+use Rattle.wq_commands.specs.Declaration.{Declared}
+use Rattle.wq_voice.proofs.BareNotes.{limits-read}
+use Rattle.wq_changes.specs.Told.{TellsChanges}
+use Rattle.wq_changes.proofs.reading.of_repaired.Goals as goal
+
+pub returns : goal.returns
+returns g c =
+    let a = c.args.assigned.now in
+    let t = a.declared.now.table in
+    let p = a.declared.now.groups in
+    let s : Declared = record { table = t; partition = p } in
+    let old = a.workqueues.now in
+    let text = a.assignment.text.now in
+    let names : map (λ n. n.now) c.deref.result.now ≡ names_of text =
+    ap (λ ns. map (λ n. n.now) ns) c.deref.ensures.value ∙ c.in_ok-names.ensures (limits-read t.names p text old c.requires.read) in
+    subst (λ (ns : List (List ℕ)). IfOk c.of_changes.result (λ said. TellsChanges a.declaration.file.now a.assignment.file.now s ns old c.args.new.now said.items))
+    names c.of_changes.ensures

@@ -1,0 +1,11 @@
+use Rattle.std.proofs.Common.{map, take}
+use Rattle.wq_changes.specs.Told.{AreEach, IsTold}
+use Rattle.wq_changes.proofs.telling.all_told.Given as goal
+
+-- of the changes so far
+abbrev pub invariant-loop-change : goal.invariant-loop-change
+invariant-loop-change g l =
+    AreEach
+    (IsTold l.repair.assignment.file.now (record { table = l.repair.declared.now.table; partition = l.repair.declared.now.groups })
+    (map (λ n. n.now) l.repair.names.now) l.repair.old.now l.repair.new.now)
+    (take l.change-index l.changes) l.text.items

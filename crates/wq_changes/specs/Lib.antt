@@ -1,0 +1,10 @@
+pub use Rattle.wq_names.specs.Names
+pub use Rattle.wq_repair.specs.Repair
+pub use Rattle.wq_voice.specs.Reasons
+pub mod Changes
+pub mod Without
+pub mod Words
+pub mod Told
+pub mod Few
+pub mod Circles
+pub mod Voice

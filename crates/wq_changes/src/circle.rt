@@ -1,0 +1,49 @@
+//! What is said beside a circle of groups that need a rescuer: how they hang where each has a workqueue of its own.
+//!
+//! The form is that of "Changes" in docs/FORMAT.md. It takes the time of a search from each of its items.
+
+ghost use Rattle.std.specs.Prelude.{◌≡◌, IfOk, length};
+ghost use Rattle.wq_circles.specs.ComponentsText.{AreBetween};
+ghost use Rattle.wq_changes.specs.Circles.{TellsCircle};
+
+use std::alloc::{AllocError, Allocator};
+use wq_commands::Declaration;
+use wq_core::Workqueues;
+use wq_deadlock::own_lanes;
+use wq_diagnosis::Source;
+use wq_graph::WaitArc;
+use wq_hang::Rounds;
+use wq_voice::{FlushLines, Subject, Wording, put_round};
+
+/// What is said of this circle.
+pub(crate) fn of_circle<'a, A: Allocator + Copy>(
+    alloc: A,
+    declaration: Source<'a>,
+    declared: &Declaration<'a, A>,
+    circle: &[WaitArc],
+) -> Result<Vec<u8, A>, AllocError>
+    requires grouped { length declared.now.groups.group_of ≡ length declared.now.table.names }
+    requires between { AreBetween (length declared.now.groups.group_of) circle.now }
+    ensures { IfOk result (λ text. TellsCircle declaration.entry.file.now
+        (record { table = declared.now.table; partition = declared.now.groups }) circle.now text.items) }
+{
+    let assignment = own_lanes(alloc, &declared.groups)?;
+    let workqueues = Workqueues::new(assignment, Vec::new(alloc));
+    let flushes = FlushLines::new(alloc, declaration.text)?;
+    let subject = Subject {
+        declaration,
+        assignment: Source {
+            file: "",
+            text: b"",
+        },
+        wording: Wording::OfGroups,
+        declared,
+        workqueues: &workqueues,
+        flushes: &flushes,
+        names: &[],
+    };
+    let mut rounds = Rounds::new(alloc, &declared.table, &declared.groups, &workqueues)?;
+    let mut text = Vec::new(alloc);
+    put_round(alloc, &mut text, &subject, &mut rounds, circle)?;
+    Ok(text)
+}

@@ -1,0 +1,74 @@
+//! What is said where too few items may move: the workqueues of the run that is printed, and how they hang soonest.
+//!
+//! The form is that of "Changes" in docs/FORMAT.md. It takes the time of a search for a shortest run.
+
+ghost use Rattle.std.specs.Prelude.{◌≡◌, ◌++◌, [], IfOk, OnOk, length, map, option_map, unwrap_or};
+ghost use Rattle.wq_changes.specs.Few.{TellsFew, few_line};
+
+use std::alloc::{AllocError, Allocator};
+use wq_commands::Declaration;
+use wq_core::Workqueues;
+use wq_diagnosis::{Source, put_line};
+use wq_lines::put;
+use wq_repair_command::assignment_text;
+use wq_voice::{CAN_HANG, FlushLines, Subject, Wording, of_subject};
+
+/// That too few items may move.
+fn few_line<A: Allocator + Copy>(alloc: A, file: &str) -> Result<Vec<u8, A>, AllocError>
+    ensures { IfOk result (λ text. text.items ≡ few_line file.now) }
+{
+    let mut line = Vec::new(alloc);
+    put(&mut line, file.as_bytes())?;
+    put(
+        &mut line,
+        b": note: wherever these items move, the workqueues can hang; the run is on these:",
+    )?;
+    let mut text = Vec::new(alloc);
+    put_line(alloc, &mut text, &line)?;
+    Ok(text)
+}
+
+/// Adds this, if there is something.
+fn put_said<A: Allocator + Copy>(
+    text: &mut Vec<u8, A>,
+    said: &Option<Vec<u8, A>>,
+) -> Result<(), AllocError>
+    ensures { OnOk result (text.new.items ≡ text.old.items ++ unwrap_or (option_map (λ s. s.items) said.now) []) }
+{
+    match said {
+        Some(said) => put(text, said),
+        None => Ok(()),
+    }
+}
+
+/// What is said of the workqueues on which items hang where too few may move.
+pub(crate) fn of_few<'a, A: Allocator + Copy>(
+    alloc: A,
+    declaration: Source<'a>,
+    assignment: Source<'a>,
+    declared: &Declaration<'a, A>,
+    start: &Workqueues<A>,
+    names: &[&'a [u8]],
+) -> Result<Vec<u8, A>, AllocError>
+    requires grouped { length declared.now.groups.group_of ≡ length declared.now.table.names }
+    requires assigned { length start.now.assignment.lane_of_group ≡ declared.now.groups.groups }
+    ensures { IfOk result (λ text. TellsFew declaration.entry.file.now assignment.entry.file.now
+        (record { table = declared.now.table; partition = declared.now.groups }) (map (λ n. n.now) names.now) start.now text.items) }
+{
+    let flushes = FlushLines::new(alloc, declaration.text)?;
+    let subject = Subject {
+        declaration,
+        assignment,
+        wording: Wording::OnWorkqueues,
+        declared,
+        workqueues: start,
+        flushes: &flushes,
+        names,
+    };
+    let lines = assignment_text(alloc, &declared.table, &declared.groups, start, names)?;
+    let said = of_subject(alloc, &subject, CAN_HANG)?;
+    let mut text = few_line(alloc, assignment.file)?;
+    put(&mut text, &lines)?;
+    put_said(&mut text, &said)?;
+    Ok(text)
+}

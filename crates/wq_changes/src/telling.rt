@@ -1,0 +1,205 @@
+//! What is said of changes: for each in turn what is changed, and for the first ones how the workqueues hang without it.
+//!
+//! The form is that of "Changes" in docs/FORMAT.md. It takes the time of a search for a shortest run for each of the
+//! first changes.
+
+ghost use Rattle.std.specs.Prelude.{◌≡◌, ◌≤◌, [], IfOk, length, map, option_map, unwrap_or};
+ghost use Rattle.std.specs.List.{All};
+ghost use Rattle.wq_changes.specs.Changes.{IsOf};
+ghost use Rattle.wq_changes.specs.Told.{AreEach, GivesWhy, IsTold, IsToldWhy, TellsChanges};
+
+use crate::change::{Change, changes};
+use crate::places::Places;
+use crate::without::without_change;
+use crate::words::{change_words, lead_of};
+use std::alloc::{AllocError, Allocator};
+use wq_commands::Declaration;
+use wq_core::Workqueues;
+use wq_diagnosis::Source;
+use wq_lines::put;
+use wq_voice::{FlushLines, Subject, Wording, of_subject, said_at};
+
+/// Of how many changes it is said why.
+const MOST_REASONS: usize = 10;
+
+/// Workqueues that are repaired, and the texts that say so.
+#[derive(Clone, Copy)]
+pub(crate) struct Repair<'a, 'b, 'c, 'd, A: Allocator> {
+    /// The text of the declaration.
+    pub(crate) declaration: Source<'a>,
+    /// The text of the old workqueues.
+    pub(crate) assignment: Source<'a>,
+    /// What is declared.
+    pub(crate) declared: &'b Declaration<'a, A>,
+    /// The old workqueues.
+    pub(crate) old: &'c Workqueues<A>,
+    /// The new ones.
+    pub(crate) new: &'c Workqueues<A>,
+    /// Where the flushes are declared.
+    pub(crate) flushes: &'d FlushLines<'a, A>,
+    /// Where the old workqueues and their items are.
+    pub(crate) places: &'d Places<A>,
+    /// The old workqueues' names.
+    pub(crate) names: &'d [&'a [u8]],
+}
+
+/// What is changed.
+fn told<A: Allocator + Copy>(
+    alloc: A,
+    repair: &Repair<'_, '_, '_, '_, A>,
+    change: &Change,
+) -> Result<Vec<u8, A>, AllocError>
+    requires change { IsOf repair.now.declared.now.groups.groups change.now }
+    requires old { length repair.now.old.now.assignment.lane_of_group ≡ repair.now.declared.now.groups.groups }
+    requires new { length repair.now.new.now.assignment.lane_of_group ≡ repair.now.declared.now.groups.groups }
+    ensures { IfOk result (λ text. IsTold repair.now.assignment.file.now
+        (record { table = repair.now.declared.now.table; partition = repair.now.declared.now.groups })
+        (map (λ n. n.now) repair.now.names.now) repair.now.old.now repair.now.new.now change.now text.items) }
+{
+    let Repair {
+        assignment,
+        declared,
+        old,
+        new,
+        places,
+        names,
+        ..
+    } = *repair;
+    let what = change_words(alloc, declared, names, old, new, change)?;
+    let place = places.of_change(declared, change);
+    let more = Vec::new(alloc);
+    said_at(
+        alloc,
+        assignment.file,
+        place.line,
+        place.column,
+        &what,
+        &more,
+    )
+}
+
+/// This, or no byte if there is nothing.
+fn or_nothing<A: Allocator>(alloc: A, said: Option<Vec<u8, A>>) -> Vec<u8, A>
+    ensures { result.items ≡ unwrap_or (option_map (λ s. s.items) said) [] }
+{
+    match said {
+        Some(said) => said,
+        None => Vec::new(alloc),
+    }
+}
+
+/// How the workqueues hang without a change.
+fn why<A: Allocator + Copy>(
+    alloc: A,
+    repair: &Repair<'_, '_, '_, '_, A>,
+    change: &Change,
+) -> Result<Vec<u8, A>, AllocError>
+    requires grouped { length repair.now.declared.now.groups.group_of ≡ length repair.now.declared.now.table.names }
+    requires old { length repair.now.old.now.assignment.lane_of_group ≡ repair.now.declared.now.groups.groups }
+    requires new { length repair.now.new.now.assignment.lane_of_group ≡ repair.now.declared.now.groups.groups }
+    requires lanes { repair.now.old.now.assignment.lanes ≤ repair.now.new.now.assignment.lanes }
+    ensures { IfOk result (λ text. GivesWhy repair.now.declaration.file.now
+        (record { table = repair.now.declared.now.table; partition = repair.now.declared.now.groups })
+        (map (λ n. n.now) repair.now.names.now) repair.now.old.now repair.now.new.now change.now text.items) }
+{
+    let groups = repair.declared.groups.len();
+    let workqueues = without_change(alloc, repair.old, repair.new, change, groups)?;
+    let subject = Subject {
+        declaration: repair.declaration,
+        assignment: repair.assignment,
+        wording: Wording::OnWorkqueues,
+        declared: repair.declared,
+        workqueues: &workqueues,
+        flushes: repair.flushes,
+        names: repair.names,
+    };
+    let said = of_subject(alloc, &subject, lead_of(change))?;
+    Ok(or_nothing(alloc, said))
+}
+
+/// What is changed, and how the workqueues hang without it.
+fn told_why<A: Allocator + Copy>(
+    alloc: A,
+    repair: &Repair<'_, '_, '_, '_, A>,
+    change: &Change,
+) -> Result<Vec<u8, A>, AllocError>
+    requires change { IsOf repair.now.declared.now.groups.groups change.now }
+    requires grouped { length repair.now.declared.now.groups.group_of ≡ length repair.now.declared.now.table.names }
+    requires old { length repair.now.old.now.assignment.lane_of_group ≡ repair.now.declared.now.groups.groups }
+    requires new { length repair.now.new.now.assignment.lane_of_group ≡ repair.now.declared.now.groups.groups }
+    requires lanes { repair.now.old.now.assignment.lanes ≤ repair.now.new.now.assignment.lanes }
+    ensures { IfOk result (λ text. IsToldWhy repair.now.declaration.file.now repair.now.assignment.file.now
+        (record { table = repair.now.declared.now.table; partition = repair.now.declared.now.groups })
+        (map (λ n. n.now) repair.now.names.now) repair.now.old.now repair.now.new.now change.now text.items) }
+{
+    let why = why(alloc, repair, change)?;
+    let mut text = told(alloc, repair, change)?;
+    put(&mut text, &why)?;
+    Ok(text)
+}
+
+/// The same of each of these changes.
+fn all_whys<A: Allocator + Copy>(
+    alloc: A,
+    repair: &Repair<'_, '_, '_, '_, A>,
+    changes: &[Change],
+) -> Result<Vec<u8, A>, AllocError>
+    requires changes { All (IsOf repair.now.declared.now.groups.groups) changes.now }
+    requires grouped { length repair.now.declared.now.groups.group_of ≡ length repair.now.declared.now.table.names }
+    requires old { length repair.now.old.now.assignment.lane_of_group ≡ repair.now.declared.now.groups.groups }
+    requires new { length repair.now.new.now.assignment.lane_of_group ≡ repair.now.declared.now.groups.groups }
+    requires lanes { repair.now.old.now.assignment.lanes ≤ repair.now.new.now.assignment.lanes }
+    ensures { IfOk result (λ text. AreEach (IsToldWhy repair.now.declaration.file.now repair.now.assignment.file.now
+        (record { table = repair.now.declared.now.table; partition = repair.now.declared.now.groups })
+        (map (λ n. n.now) repair.now.names.now) repair.now.old.now repair.now.new.now) changes.now text.items) }
+{
+    let mut text = Vec::new(alloc);
+    for change in changes {
+        let one = told_why(alloc, repair, change)?;
+        put(&mut text, &one)?;
+    }
+    Ok(text)
+}
+
+/// What is changed, of each of these changes.
+fn all_told<A: Allocator + Copy>(
+    alloc: A,
+    repair: &Repair<'_, '_, '_, '_, A>,
+    changes: &[Change],
+) -> Result<Vec<u8, A>, AllocError>
+    requires changes { All (IsOf repair.now.declared.now.groups.groups) changes.now }
+    requires old { length repair.now.old.now.assignment.lane_of_group ≡ repair.now.declared.now.groups.groups }
+    requires new { length repair.now.new.now.assignment.lane_of_group ≡ repair.now.declared.now.groups.groups }
+    ensures { IfOk result (λ text. AreEach (IsTold repair.now.assignment.file.now
+        (record { table = repair.now.declared.now.table; partition = repair.now.declared.now.groups })
+        (map (λ n. n.now) repair.now.names.now) repair.now.old.now repair.now.new.now) changes.now text.items) }
+{
+    let mut text = Vec::new(alloc);
+    for change in changes {
+        let one = told(alloc, repair, change)?;
+        put(&mut text, &one)?;
+    }
+    Ok(text)
+}
+
+/// What is said of the changes from the old workqueues to the new ones.
+pub(crate) fn of_changes<A: Allocator + Copy>(
+    alloc: A,
+    repair: &Repair<'_, '_, '_, '_, A>,
+) -> Result<Vec<u8, A>, AllocError>
+    requires grouped { length repair.now.declared.now.groups.group_of ≡ length repair.now.declared.now.table.names }
+    requires old { length repair.now.old.now.assignment.lane_of_group ≡ repair.now.declared.now.groups.groups }
+    requires new { length repair.now.new.now.assignment.lane_of_group ≡ repair.now.declared.now.groups.groups }
+    requires lanes { repair.now.old.now.assignment.lanes ≤ repair.now.new.now.assignment.lanes }
+    ensures { IfOk result (λ text. TellsChanges repair.now.declaration.file.now repair.now.assignment.file.now
+        (record { table = repair.now.declared.now.table; partition = repair.now.declared.now.groups })
+        (map (λ n. n.now) repair.now.names.now) repair.now.old.now repair.now.new.now text.items) }
+{
+    let groups = repair.declared.groups.len();
+    let all = changes(alloc, repair.old, repair.new, groups)?;
+    let (first, others) = all.as_slice().split_at(all.len().min(MOST_REASONS));
+    let mut text = all_whys(alloc, repair, first)?;
+    let alone = all_told(alloc, repair, others)?;
+    put(&mut text, &alone)?;
+    Ok(text)
+}

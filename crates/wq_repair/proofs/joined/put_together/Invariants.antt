@@ -1,0 +1,5 @@
+use Rattle.wq_repair.proofs.Putting.{IsPutting}
+use Rattle.wq_repair.proofs.joined.put_together.Given as goal
+
+abbrev pub invariant-loop-group : goal.invariant-loop-group
+invariant-loop-group g l = IsPutting l.old.lane_of_group l.initial.joined l.initial.homes l.order l.group-index l.at_home.items l.homes l.joined

@@ -1,0 +1,66 @@
+-- Lanes of ranks, and how groups come to them.
+use Rattle.std.specs.Prelude.{◌≡◌, ◌≢◌, ◌↔◌, ℕ, ◌<◌, ◌≤◌, List, Bool, Option, Some, None, length, slice_index, slice_index_or, Contains}
+use Rattle.wq_core.specs.Workqueues.{Workqueues}
+use Rattle.wq_repair.specs.Changes.{lane_in}
+use Rattle.wq_repair.specs.Marks.{IsMarked}
+use Rattle.wq_repair.specs.Lanes.{nth_lane}
+
+-- the lane of a rank, if there is one
+abbrev pub IsLaneOfRank : List (Option ℕ) → ℕ → ℕ → Type 0
+IsLaneOfRank of_rank r q = slice_index_or of_rank r None ≡ Some q
+
+-- there is none
+abbrev pub HasNoLane : List (Option ℕ) → ℕ → Type 0
+HasNoLane of_rank r = slice_index_or of_rank r None ≡ None
+
+-- a marked group of this rank is on the lane
+pub record HoldsRanked (old : Workqueues) (marks : List Bool) (ranks : List ℕ) (r q : ℕ) : Type 0 where
+  pub group : ℕ
+  pub marked : IsMarked marks group
+  pub ranked : slice_index ranks group ≡ r
+  pub on : lane_in old group ≡ q
+
+-- for each of `most` ranks a lane on which a marked group of this rank is, if one of the first `groups` is
+pub record AreLanesOfRanks (old : Workqueues) (marks : List Bool) (ranks : List ℕ) (most groups : ℕ)
+    (of_rank : List (Option ℕ)) : Type 0 where
+  pub one_each : length of_rank ≡ most
+  pub holds : (r q : ℕ) → IsLaneOfRank of_rank r q → HoldsRanked old marks ranks r q
+  pub all : (g : ℕ) → g < groups → IsMarked marks g → ¬ HasNoLane of_rank (slice_index ranks g)
+
+-- a marked group has this rank
+pub record HasRanked (marks : List Bool) (ranks : List ℕ) (r : ℕ) : Type 0 where
+  pub group : ℕ
+  pub marked : IsMarked marks group
+  pub ranked : slice_index ranks group ≡ r
+
+-- a group is on lane q
+pub record HoldsAny (old : Workqueues) (q : ℕ) : Type 0 where
+  pub group : ℕ
+  pub is_group : group < length old.assignment.lane_of_group
+  pub on : lane_in old group ≡ q
+
+-- just these lanes hold no group
+abbrev pub AreEmpty : Workqueues → List ℕ → Type 0
+AreEmpty old empty = (q : ℕ) → Contains empty q ↔ ((q < old.assignment.lanes) × (¬ HoldsAny old q))
+
+-- of the first `most` ranks, each that is marked and had no lane has one of those that are taken, each another one; all
+-- others have the lane that they had
+pub record AreTaken (leave : List Bool) (empty : List ℕ) (there most : ℕ) (before after : List (Option ℕ)) (taken : ℕ)
+    : Type 0 where
+  pub one_each : length after ≡ length before
+  pub kept : (r q : ℕ) → IsLaneOfRank before r q → IsLaneOfRank after r q
+  pub took : (r : ℕ) → r < most → IsMarked leave r → HasNoLane before r
+      → (n : ℕ) × (n < taken) × IsLaneOfRank after r (nth_lane empty there n)
+  pub only : (r q : ℕ) → HasNoLane before r → IsLaneOfRank after r q
+      → (n : ℕ) × (n < taken) × (q ≡ nth_lane empty there n)
+  pub all : (n : ℕ) → n < taken → (r : ℕ) × (r < most) × IsMarked leave r × IsLaneOfRank after r (nth_lane empty there n)
+  pub once : (r s n : ℕ) → HasNoLane before r → HasNoLane before s → IsLaneOfRank after r (nth_lane empty there n)
+      → IsLaneOfRank after s (nth_lane empty there n) → n < taken → r ≡ s
+  pub few : taken ≤ most
+
+-- marked groups are on the lanes of their ranks, all others on theirs
+pub record AreRankedLanes (old : Workqueues) (marks : List Bool) (ranks : List ℕ) (of_rank : List (Option ℕ))
+    (groups : ℕ) (lane_of : List ℕ) : Type 0 where
+  pub one_each : length lane_of ≡ groups
+  pub marked : (g : ℕ) → g < groups → IsMarked marks g → IsLaneOfRank of_rank (slice_index ranks g) (slice_index lane_of g)
+  pub others : (g : ℕ) → g < groups → (¬ IsMarked marks g) → slice_index lane_of g ≡ lane_in old g

@@ -1,0 +1,203 @@
+//! The groups that need a rescuer.
+//!
+//! Those on lanes that have one do, and whom such a group waits for does. If one of them may not move and its lane has
+//! none, the lane has to be given one, if it may; so who else is on it needs one too. What is found is followed once,
+//! so it takes time and memory in the number of groups, lanes and flushes.
+
+ghost use Rattle.std.specs.Prelude.{◌≡◌, ◌<◌, ◌≤◌, ◌↔◌, ℕ, [], length, slice_index, slice_index_or, IfOk, Contains};
+ghost use Rattle.std.specs.List.{All, Any};
+ghost use Rattle.wq_groups.specs.Declaration.{declaration_of};
+ghost use Rattle.wq_repair.specs.Changes.{IsRescued, lane_in};
+ghost use Rattle.wq_repair.specs.Needed.{NeedsRescuerOf};
+ghost use Rattle.wq_repair.specs.Following.{HasGrown, BringsAlongBy};
+ghost use Rattle.wq_repair.specs.Marks.{IsMarked, Marks};
+ghost use Rattle.wq_repair.specs.Together.{Lists};
+
+use crate::named::{named_groups, named_lanes};
+use std::alloc::{AllocError, Allocator};
+use std::marker::Model;
+use wq_buckets::Buckets;
+use wq_core::Workqueues;
+use wq_graph::{WaitArc, WaitGraph};
+use wq_groups::{Assignment, GroupId, Groups};
+use wq_items::{ItemId, ItemTable};
+
+/// Which groups are found, and in which order.
+#[derive(Drop)]
+struct Found<A: Allocator> {
+    marks: Vec<bool, A>,
+    list: Vec<u16, A>,
+}
+
+impl<A: Allocator> Model for Found<A> {
+    ghost use Rattle.wq_repair.specs.Following.{FoundGroups};
+
+    ghost Value = { FoundGroups };
+
+    ghost view = { λ f. record { marks = f.marks.items; list = f.list.items } };
+}
+
+impl<A: Allocator + Copy> Found<A> {
+    /// A group is found.
+    fn add(&mut self, group: u16) -> Result<(), AllocError>
+        requires { group < length self.old.marks }
+        ensures { IfOk result (λ _. HasGrown self.old self.new (λ g. g ≡ group)) }
+    {
+        let at = usize::from(group);
+        if self.marks[at] {
+            return Ok(());
+        }
+        self.marks[at] = true;
+        self.list.push(group)?;
+        Ok(())
+    }
+
+    /// The heads of these arcs are found.
+    fn add_awaited(&mut self, arcs: &[WaitArc]) -> Result<(), AllocError>
+        requires { All (λ a. a.head < length self.old.marks) arcs.now }
+        ensures { IfOk result (λ _. HasGrown self.old self.new (λ h. Any (λ a. a.head ≡ h) arcs.now)) }
+    {
+        for arc in arcs {
+            self.add(arc.head)?;
+        }
+        Ok(())
+    }
+
+    /// All that are on a lane are found.
+    fn add_lane(&mut self, on: &[u32]) -> Result<(), AllocError>
+        requires within { All (λ g. g < length self.old.marks) on.now }
+        requires few { length self.old.marks ≤ 4096 }
+        ensures { IfOk result (λ _. HasGrown self.old self.new (Contains on.now)) }
+    {
+        for group in on {
+            self.add(*group as u16)?;
+        }
+        Ok(())
+    }
+
+    /// Whom a group brings along is found.
+    fn follow(
+        &mut self,
+        graph: &WaitGraph<A>,
+        on: &Buckets<A>,
+        workqueues: &Workqueues<A>,
+        named: &[bool],
+        lanes: &[bool],
+        group: u16,
+    ) -> Result<(), AllocError>
+        requires group { group < length named.now }
+        requires few { length named.now ≤ 4096 }
+        requires marks { length self.old.marks ≡ length named.now }
+        requires graph { length graph.now ≡ length named.now }
+        requires assigned { length workqueues.now.assignment.lane_of_group ≡ length named.now }
+        requires lanes { length lanes.now ≡ workqueues.now.assignment.lanes }
+        requires on_each { length on.now ≡ workqueues.now.assignment.lanes }
+        requires on { (q g : ℕ) → Contains (slice_index_or on.now q []) g
+            ↔ ((g < length named.now) × (lane_in workqueues.now g ≡ q)) }
+        ensures { IfOk result (λ _.
+            HasGrown self.old self.new (BringsAlongBy graph.now workqueues.now named.now lanes.now group)) }
+    {
+        // Each arc leads to a group, and each lane is there.
+        let _vertices = graph.vertices();
+        let _lanes = workqueues.assignment().lanes();
+        self.add_awaited(graph.arcs(group))?;
+        let lane = workqueues.assignment().lane(GroupId::new(group));
+        if named[usize::from(group)] {
+            return Ok(());
+        }
+        if !workqueues.is_bare(lane) {
+            return Ok(());
+        }
+        if !lanes[usize::from(lane.get())] {
+            return Ok(());
+        }
+        self.add_lane(on.places(lane.get()))?;
+        Ok(())
+    }
+}
+
+/// The groups on lanes that have a rescuer.
+fn on_rescuers<A: Allocator + Copy>(
+    alloc: A,
+    workqueues: &Workqueues<A>,
+    groups: u16,
+) -> Result<Found<A>, AllocError>
+    requires { length workqueues.now.assignment.lane_of_group ≡ groups }
+    ensures one_each { IfOk result (λ found. length found.marks ≡ groups) }
+    ensures exactly { IfOk result (λ found. (g : ℕ) → g < groups →
+        IsMarked found.marks g ↔ IsRescued workqueues.now (lane_in workqueues.now g)) }
+    ensures lists { IfOk result (λ found. Lists found.marks found.list) }
+{
+    let mut found = Found {
+        marks: vec![in alloc; false; usize::from(groups)]?,
+        list: Vec::new(alloc),
+    };
+    for group in 0..groups {
+        let lane = workqueues.assignment().lane(GroupId::new(group));
+        if workqueues.is_bare(lane) {
+            continue;
+        }
+        found.add(group)?;
+    }
+    Ok(found)
+}
+
+/// The groups on each lane.
+fn groups_on_lanes<A: Allocator + Copy>(
+    alloc: A,
+    assignment: &Assignment<A>,
+    groups: u16,
+) -> Result<Buckets<A>, AllocError>
+    requires { length assignment.now.lane_of_group ≡ groups }
+    ensures one_each { IfOk result (λ on. length on ≡ assignment.now.lanes) }
+    ensures on { IfOk result (λ on. (q g : ℕ) → Contains (slice_index_or on q []) g
+        ↔ ((g < groups) × (slice_index assignment.now.lane_of_group g ≡ q))) }
+{
+    let count = assignment.lanes();
+    let mut lanes = Vec::with_capacity(alloc, usize::from(groups))?;
+    for group in 0..groups {
+        lanes.push(assignment.lane(GroupId::new(group)).get())?;
+    }
+    let on = Buckets::new(alloc, lanes.as_slice(), count)?;
+    Ok(on)
+}
+
+/// For each group whether it needs a rescuer, if only the groups of these items may move.
+pub(crate) fn needed_groups<A: Allocator + Copy>(
+    alloc: A,
+    table: &ItemTable<'_, A>,
+    groups: &Groups<A>,
+    workqueues: &Workqueues<A>,
+    names: &[ItemId],
+) -> Result<Vec<bool, A>, AllocError>
+    requires grouped { length groups.now.group_of ≡ length table.now.names }
+    requires assigned { length workqueues.now.assignment.lane_of_group ≡ groups.now.groups }
+    requires names { All (λ i. i < length groups.now.group_of) names.now }
+    ensures { IfOk result (λ needed.
+        Marks (NeedsRescuerOf (declaration_of table.now groups.now) workqueues.now names.now)
+        groups.now.groups needed.items) }
+{
+    // What holds of every table, of its groups and of every assignment.
+    let _items = table.len();
+    let _groups = groups.len();
+    let _lanes = workqueues.assignment().lanes();
+    let graph = WaitGraph::of_groups(alloc, table, groups)?;
+    let on = groups_on_lanes(alloc, workqueues.assignment(), groups.len())?;
+    let named = named_groups(alloc, groups, names)?;
+    let lanes = named_lanes(alloc, workqueues, named.as_slice())?;
+    let mut found = on_rescuers(alloc, workqueues, groups.len())?;
+    let mut done = 0;
+    while done < found.list.len() {
+        let group = found.list[done];
+        done += 1;
+        found.follow(
+            &graph,
+            &on,
+            workqueues,
+            named.as_slice(),
+            lanes.as_slice(),
+            group,
+        )?;
+    }
+    Ok(found.marks)
+}

@@ -1,0 +1,448 @@
+//! Repairs: from workqueues that deadlock to such that don't.
+//!
+//! The groups that need a rescuer are found, and wait in no circle, or nothing helps. If each of them that may move has
+//! a lane for itself and there is still a deadlock, too few may move. Otherwise they are put back one by one where that
+//! makes no circle; those that can't be put back are kept together as far as possible, and go to lanes of their rank.
+
+ghost use Rattle.std.specs.Prelude.{◌≡◌, ◌↔◌, ◌<◌, ◌≤◌, ℕ, Bool, List, length, map, not, slice_index, IfOk, OnErr, IfSome, IfNone};
+ghost use Rattle.std.specs.List.{All};
+ghost use Rattle.wq_groups.specs.Declaration.{Declaration, IsDeclaration, declaration_of};
+ghost use Rattle.wq_graph.specs.declared.arc.WaitArc.{WaitArc};
+ghost use Rattle.wq_core.specs.Workqueues.{Workqueues as WorkqueuesView, wiring_of};
+ghost use Rattle.wq_core.specs.Deadlock.{Deadlocks};
+ghost use Rattle.wq_items.specs.Chain.{Circle, HasCircle};
+ghost use Rattle.wq_graph.specs.Graph.{HasArc, group_graph, without};
+ghost use Rattle.wq_levels.specs.Ranks.{AreRanks};
+ghost use Rattle.wq_deadlock.specs.Judging.{rescued_graph};
+ghost use Rattle.wq_repair.specs.Marks.{IsMarked};
+ghost use Rattle.wq_repair.specs.Together.{IsAlone, IsHomeOf};
+ghost use Rattle.wq_repair.specs.Vertices.{AreVertices, AreHeads};
+ghost use Rattle.wq_repair.specs.Ready.{Scope as ScopeView, HoldsNeeded, IsReady, IsGraphOfNeeded, IsPutBack, IsKeptTogether, IsMinimal, AreRanksOfGroups, placed_at};
+ghost use Rattle.wq_repair.specs.Joined.{NeededWaits};
+ghost use Rattle.wq_repair.specs.Repair.{IsAnswer, IsNeededCircle};
+
+use crate::answer::Answer;
+use crate::joined::{Joined, put_together};
+use crate::listing::listed;
+use crate::named::{named_groups, named_lanes};
+use crate::needed::needed_groups;
+use crate::order::order_of_trial;
+use crate::placing::place;
+use crate::scope::{Scope, all_but, but_not, scope_of, tried_groups};
+use crate::start::start;
+use crate::wider::better_repair;
+use std::alloc::{AllocError, Allocator};
+use wq_buckets::Buckets;
+use wq_core::Workqueues;
+use wq_deadlock::{Judged, judge, rescued_graph};
+use wq_graph::{WaitArc, WaitGraph};
+use wq_groups::{Assignment, GroupId, Groups, LaneId};
+use wq_items::{ItemId, ItemTable};
+use wq_levels::{Ranked, rank};
+
+/// All items of a table.
+fn all_items<A: Allocator + Copy>(
+    alloc: A,
+    table: &ItemTable<'_, A>,
+) -> Result<Vec<ItemId, A>, AllocError>
+    ensures below { IfOk result (λ items. All (λ i. i < length table.now.names) items.items) }
+    ensures all { IfOk result (λ items. (i : ℕ) → i < length table.now.names → slice_index items.items i ≡ i) }
+    ensures one_each { IfOk result (λ items. length items.items ≡ length table.now.names) }
+{
+    let mut items = Vec::with_capacity(alloc, usize::from(table.len()))?;
+    for item in 0..table.len() {
+        items.push(ItemId::new(item))?;
+    }
+    Ok(items)
+}
+
+/// The wait graph of the groups that need a rescuer. All groups are vertices, and the others have no arcs.
+fn graph_of_needed<A: Allocator + Copy>(
+    alloc: A,
+    table: &ItemTable<'_, A>,
+    groups: &Groups<A>,
+    needed: &[bool],
+) -> Result<WaitGraph<A>, AllocError>
+    requires { length groups.now.group_of ≡ length table.now.names }
+    ensures { IfOk result (λ graph.
+        graph ≡ without (map not needed.now) (group_graph (declaration_of table.now groups.now))) }
+{
+    let out = all_but(alloc, needed)?;
+    WaitGraph::of_groups(alloc, table, groups)?.without(alloc, out.as_slice())
+}
+
+/// The vertex at which the groups of each lane are that need a rescuer and can't move, if there are any. It has the
+/// number of the lane.
+fn homes<A: Allocator + Copy>(
+    alloc: A,
+    old: &Workqueues<A>,
+    scope: &Scope<A>,
+) -> Result<Vec<Option<u16>, A>, AllocError>
+    requires needed { length scope.now.needed ≡ length old.now.assignment.lane_of_group }
+    requires movable { length scope.now.movable ≡ length old.now.assignment.lane_of_group }
+    requires few { length scope.now.needed ≤ 4096 }
+    ensures one_each { IfOk result (λ homes. length homes.items ≡ old.now.assignment.lanes) }
+    ensures homes { IfOk result (λ homes. (q v : ℕ) →
+        IsHomeOf homes.items q v ↔ ((v ≡ q) × HoldsNeeded old.now scope.now q)) }
+{
+    let assignment = old.assignment();
+    let _lanes = assignment.lanes();
+    let mut homes: Vec<Option<u16>, A> = vec![in alloc; None; usize::from(assignment.lanes())]?;
+    for (group, is_needed) in scope.needed.iter().enumerate() {
+        if !*is_needed {
+            continue;
+        }
+        if scope.movable[group] {
+            continue;
+        }
+        let lane = assignment.lane(GroupId::new(group as u16)).get();
+        homes[usize::from(lane)] = Some(lane);
+    }
+    Ok(homes)
+}
+
+/// All groups, those of lower rank first.
+fn by_rank<A: Allocator + Copy>(alloc: A, ranks: &[u16]) -> Result<Vec<u16, A>, AllocError>
+    requires few { length ranks.now ≤ 4096 }
+    requires below { All (λ r. r < length ranks.now) ranks.now }
+    ensures { IfOk result (λ groups. All (λ g. g < length ranks.now) groups.items) }
+{
+    let (places, _) = Buckets::new(alloc, ranks, ranks.len() as u16)?.into_parts();
+    let mut groups = Vec::with_capacity(alloc, ranks.len())?;
+    for place in &places {
+        if (*place as usize) < ranks.len() {
+            groups.push(*place as u16)?;
+        }
+    }
+    Ok(groups)
+}
+
+/// The workqueues whose lanes are the vertices.
+fn vertices_as_lanes<A: Allocator + Copy>(
+    alloc: A,
+    start: &Workqueues<A>,
+    joined: &Joined<A>,
+) -> Result<Workqueues<A>, AllocError>
+    requires groups { length joined.now.at ≡ length start.now.assignment.lane_of_group }
+    requires few { length joined.now.at ≤ 4096 }
+    requires within { All (λ v. v < start.now.assignment.lanes) joined.now.at }
+    requires bare { length start.now.bare ≤ start.now.assignment.lanes }
+    ensures { IfOk result (λ ws. ws ≡ placed_at start.now joined.now.at) }
+{
+    let mut of_group = Vec::with_capacity(alloc, start.assignment().groups())?;
+    for group in 0..start.assignment().groups() as u16 {
+        of_group.push(LaneId::new(joined.vertex(group)))?;
+    }
+    let mut bare = Vec::new(alloc);
+    bare.extend_from_slice(start.bare())?;
+    let assignment = Assignment::new(start.assignment().lanes(), of_group).unwrap();
+    Ok(Workqueues::new(assignment, bare))
+}
+
+/// The rank of the vertex of each group.
+fn ranks_of_groups<A: Allocator + Copy>(
+    alloc: A,
+    vertices: &Assignment<A>,
+    ranks: &[u16],
+    groups: u16,
+) -> Result<Vec<u16, A>, AllocError>
+    requires groups { length vertices.now.lane_of_group ≡ groups }
+    requires one_each { length ranks.now ≡ vertices.now.lanes }
+    ensures one_each { IfOk result (λ of_group. length of_group.items ≡ groups) }
+    ensures ranks { IfOk result (λ of_group. (g : ℕ) → g < groups →
+        slice_index of_group.items g ≡ slice_index ranks.now (slice_index vertices.now.lane_of_group g)) }
+{
+    let _lanes = vertices.lanes();
+    let mut of_group = Vec::with_capacity(alloc, usize::from(groups))?;
+    for group in 0..groups {
+        let vertex = vertices.lane(GroupId::new(group)).get();
+        of_group.push(ranks[usize::from(vertex)])?;
+    }
+    Ok(of_group)
+}
+
+/// The ranks of a graph that has no circle.
+fn ranks_of<A: Allocator + Copy>(alloc: A, graph: &WaitGraph<A>) -> Result<Vec<u16, A>, AllocError>
+    requires { ¬ HasCircle (HasArc graph.now) (length graph.now) }
+    ensures { IfOk result (λ ranks. AreRanks graph.now ranks.items) }
+{
+    let _vertices = graph.vertices();
+    match rank(alloc, graph)? {
+        Ranked::Ranks(ranks) => Ok(ranks),
+        Ranked::Circle(_) => unreachable!(),
+    }
+}
+
+/// The groups that are put back on their lanes, in the order of trial, as far as that makes no circle.
+fn put_back<A: Allocator + Copy>(
+    alloc: A,
+    graph: &WaitGraph<A>,
+    old: &Workqueues<A>,
+    scope: &Scope<A>,
+    joined: &mut Joined<A>,
+) -> Result<Vec<bool, A>, AllocError>
+    requires vertices { AreVertices joined.old }
+    requires heads { AreHeads graph.now joined.old.at joined.old.heads }
+    requires ready { (d : Declaration) × (names : List ℕ) × (start : WorkqueuesView) × IsDeclaration d
+        × IsReady d old.now names scope.now start × IsGraphOfNeeded d scope.now.needed graph.now
+        × (joined.old.at ≡ start.assignment.lane_of_group) }
+    ensures vertices { IfOk result (λ _. AreVertices joined.new) }
+    ensures heads { IfOk result (λ _. AreHeads graph.now joined.new.at joined.new.heads) }
+    ensures back { IfOk result (λ back. IsPutBack graph.now old.now scope.now joined.old.at joined.new.at back.items) }
+{
+    let _groups = graph.vertices();
+    let tried = tried_groups(alloc, old, scope)?;
+    let ranks = ranks_of(alloc, graph)?;
+    let by_rank = by_rank(alloc, ranks.as_slice())?;
+    let assignment = old.assignment();
+    let order = order_of_trial(
+        alloc,
+        graph,
+        by_rank.as_slice(),
+        assignment,
+        tried.as_slice(),
+    )?;
+    let mut homes = homes(alloc, old, scope)?;
+    put_together(
+        alloc,
+        joined,
+        assignment,
+        homes.as_mut_slice(),
+        order.as_slice(),
+    )
+}
+
+/// Keeps those together that leave the same lane, as far as that makes no circle.
+fn keep_together<A: Allocator + Copy>(
+    alloc: A,
+    old: &Assignment<A>,
+    leaves: &[bool],
+    joined: &mut Joined<A>,
+) -> Result<(), AllocError>
+    requires few { length leaves.now ≤ 4096 }
+    requires one_each { length joined.old.at ≡ length old.now.lane_of_group }
+    requires leaves { length leaves.now ≡ length old.now.lane_of_group }
+    requires vertices { AreVertices joined.old }
+    requires alone { (g : ℕ) → IsMarked leaves.now g → IsAlone joined.old.at g }
+    ensures vertices { IfOk result (λ _. AreVertices joined.new) }
+    ensures together { IfOk result (λ _. (graph : List (List WaitArc)) →
+        AreHeads graph joined.old.at joined.old.heads →
+        IsKeptTogether graph old.now leaves.now joined.old.at joined.new.at) }
+{
+    let out = listed(alloc, leaves)?;
+    let mut none: Vec<Option<u16>, A> = vec![in alloc; None; usize::from(old.lanes())]?;
+    put_together(alloc, joined, old, none.as_mut_slice(), out.as_slice())?;
+    Ok(())
+}
+
+/// Each group at its lane in the start. Lanes are as high as their ranks say.
+fn start_vertices<A: Allocator + Copy>(
+    alloc: A,
+    table: &ItemTable<'_, A>,
+    groups: &Groups<A>,
+    start: &Workqueues<A>,
+    graph: &WaitGraph<A>,
+) -> Result<Joined<A>, AllocError>
+    requires grouped { length groups.now.group_of ≡ length table.now.names }
+    requires ready { (old : WorkqueuesView) × (names : List ℕ) × (s : ScopeView)
+        × IsReady (declaration_of table.now groups.now) old names s start.now
+        × IsGraphOfNeeded (declaration_of table.now groups.now) s.needed graph.now }
+    ensures vertices { IfOk result AreVertices }
+    ensures at { IfOk result (λ joined. joined.at ≡ start.now.assignment.lane_of_group) }
+    ensures heads { IfOk result (λ joined. AreHeads graph.now joined.at joined.heads) }
+{
+    // What holds of every table, of its groups and of every assignment.
+    let _items = table.len();
+    let _groups = groups.len();
+    let _lanes = start.assignment().lanes();
+    let start_graph = rescued_graph(alloc, table, groups, start)?;
+    let ranks = ranks_of(alloc, &start_graph)?;
+    Joined::new(alloc, graph, start.assignment(), ranks.as_slice())
+}
+
+/// For each group the rank of its vertex, if the vertices are the lanes of the start.
+fn ranks_of_vertices<A: Allocator + Copy>(
+    alloc: A,
+    table: &ItemTable<'_, A>,
+    groups: &Groups<A>,
+    start: &Workqueues<A>,
+    joined: &Joined<A>,
+) -> Result<Vec<u16, A>, AllocError>
+    requires grouped { length groups.now.group_of ≡ length table.now.names }
+    requires assigned { length start.now.assignment.lane_of_group ≡ groups.now.groups }
+    requires groups { length joined.now.at ≡ groups.now.groups }
+    requires within { All (λ v. v < start.now.assignment.lanes) joined.now.at }
+    requires bare { length start.now.bare ≤ start.now.assignment.lanes }
+    requires no_circle { (n : ℕ) → ¬ HasCircle
+        (HasArc (rescued_graph (declaration_of table.now groups.now) (placed_at start.now joined.now.at))) n }
+    ensures { IfOk result (λ ranks. AreRanksOfGroups (declaration_of table.now groups.now)
+        (placed_at start.now joined.now.at) ranks.items) }
+{
+    // What holds of every table, of its groups and of every assignment.
+    let _items = table.len();
+    let _groups = groups.len();
+    let _lanes = start.assignment().lanes();
+    let merged = vertices_as_lanes(alloc, start, joined)?;
+    let graph = rescued_graph(alloc, table, groups, &merged)?;
+    let ranks = ranks_of(alloc, &graph)?;
+    let of_groups = ranks_of_groups(alloc, merged.assignment(), ranks.as_slice(), groups.len())?;
+    Ok(of_groups)
+}
+
+/// Of workqueues that can be repaired: the repair.
+pub(crate) fn repaired<A: Allocator + Copy>(
+    alloc: A,
+    table: &ItemTable<'_, A>,
+    groups: &Groups<A>,
+    old: &Workqueues<A>,
+    start: &Workqueues<A>,
+    scope: &Scope<A>,
+) -> Result<Workqueues<A>, AllocError>
+    requires grouped { length groups.now.group_of ≡ length table.now.names }
+    requires ready { (names : List ℕ)
+        × IsReady (declaration_of table.now groups.now) old.now names scope.now start.now }
+    ensures { IfOk result (λ new. (names : List ℕ) →
+        IsReady (declaration_of table.now groups.now) old.now names scope.now start.now →
+        IsMinimal (declaration_of table.now groups.now) old.now names scope.now.needed new) }
+{
+    // What holds of every table, of its groups and of every assignment.
+    let _items = table.len();
+    let _groups = groups.len();
+    let lanes = start.assignment().lanes();
+    let graph = graph_of_needed(alloc, table, groups, scope.needed.as_slice())?;
+    let mut joined = start_vertices(alloc, table, groups, start, &graph)?;
+    let back = put_back(alloc, &graph, old, scope, &mut joined)?;
+    let leaves = but_not(alloc, scope.movable.as_slice(), back.as_slice())?;
+    let stays = but_not(alloc, scope.needed.as_slice(), leaves.as_slice())?;
+    keep_together(alloc, old.assignment(), leaves.as_slice(), &mut joined)?;
+    let ranks = ranks_of_vertices(alloc, table, groups, start, &joined)?;
+    place(
+        alloc,
+        old,
+        scope.given.as_slice(),
+        stays.as_slice(),
+        leaves.as_slice(),
+        ranks.as_slice(),
+        usize::from(lanes),
+    )
+}
+
+/// The circle in which groups wait that need a rescuer whatever may move, if there is one.
+fn needed_circle<A: Allocator + Copy>(
+    alloc: A,
+    table: &ItemTable<'_, A>,
+    groups: &Groups<A>,
+    workqueues: &Workqueues<A>,
+) -> Result<Option<Vec<WaitArc, A>>, AllocError>
+    requires grouped { length groups.now.group_of ≡ length table.now.names }
+    requires assigned { length workqueues.now.assignment.lane_of_group ≡ groups.now.groups }
+    ensures some { IfOk result (λ circle. IfSome circle (λ arcs.
+        IsNeededCircle (declaration_of table.now groups.now) workqueues.now arcs.items)) }
+    ensures none { IfOk result (λ circle. IfNone circle
+        (¬ Circle (NeededWaits (declaration_of table.now groups.now) workqueues.now))) }
+{
+    // What holds of every table, of its groups and of every assignment.
+    let _items = table.len();
+    let _groups = groups.len();
+    let _lanes = workqueues.assignment().lanes();
+    let all = all_items(alloc, table)?;
+    let always = needed_groups(alloc, table, groups, workqueues, all.as_slice())?;
+    let graph = graph_of_needed(alloc, table, groups, always.as_slice())?;
+    match rank(alloc, &graph)? {
+        Ranked::Ranks(_) => Ok(None),
+        Ranked::Circle(arcs) => Ok(Some(arcs)),
+    }
+}
+
+/// The answer for workqueues that deadlock, if no groups that need a rescuer wait in a circle.
+fn repair_without_circle<A: Allocator + Copy>(
+    alloc: A,
+    table: &ItemTable<'_, A>,
+    groups: &Groups<A>,
+    workqueues: &Workqueues<A>,
+    names: &[ItemId],
+) -> Result<Answer<A>, AllocError>
+    requires grouped { length groups.now.group_of ≡ length table.now.names }
+    requires assigned { length workqueues.now.assignment.lane_of_group ≡ groups.now.groups }
+    requires names { All (λ i. i < length table.now.names) names.now }
+    requires deadlocked { Deadlocks (wiring_of (declaration_of table.now groups.now) workqueues.now) }
+    requires no_circle { ¬ Circle (NeededWaits (declaration_of table.now groups.now) workqueues.now) }
+    ensures { IfOk result (IsAnswer (declaration_of table.now groups.now) workqueues.now names.now) }
+{
+    // What holds of every table, of its groups and of every assignment.
+    let _items = table.len();
+    let _groups = groups.len();
+    let _lanes = workqueues.assignment().lanes();
+    let needed = needed_groups(alloc, table, groups, workqueues, names)?;
+    let named = named_groups(alloc, groups, names)?;
+    let lanes = named_lanes(alloc, workqueues, named.as_slice())?;
+    let scope = scope_of(
+        alloc,
+        workqueues,
+        named.as_slice(),
+        lanes.as_slice(),
+        needed,
+    )?;
+    let begin = start(
+        alloc,
+        workqueues,
+        scope.movable.as_slice(),
+        scope.given.as_slice(),
+    )?;
+    match judge(alloc, table, groups, &begin)? {
+        Judged::Deadlock(steps) => Ok(Answer::TooFewNames(begin, steps)),
+        Judged::Safe => {
+            let new = better_repair(alloc, table, groups, workqueues, names, &begin, &scope)?;
+            Ok(Answer::Repaired(new))
+        }
+    }
+}
+
+/// The answer for workqueues that deadlock.
+fn repair_deadlocked<A: Allocator + Copy>(
+    alloc: A,
+    table: &ItemTable<'_, A>,
+    groups: &Groups<A>,
+    workqueues: &Workqueues<A>,
+    names: &[ItemId],
+) -> Result<Answer<A>, AllocError>
+    requires grouped { length groups.now.group_of ≡ length table.now.names }
+    requires assigned { length workqueues.now.assignment.lane_of_group ≡ groups.now.groups }
+    requires names { All (λ i. i < length table.now.names) names.now }
+    requires deadlocked { Deadlocks (wiring_of (declaration_of table.now groups.now) workqueues.now) }
+    ensures { IfOk result (IsAnswer (declaration_of table.now groups.now) workqueues.now names.now) }
+{
+    match needed_circle(alloc, table, groups, workqueues)? {
+        Some(arcs) => Ok(Answer::Circle(arcs)),
+        None => repair_without_circle(alloc, table, groups, workqueues, names),
+    }
+}
+
+/// Repairs workqueues of a table's items, of which only these may move, each with its group. The groups are those of
+/// this table, and each has a workqueue.
+///
+/// `Safe` says that nothing has to be done. `Repaired` has workqueues that are safe: what has only some of their
+/// changes deadlocks. A change is a group on another workqueue, or a rescuer for a workqueue that had none and on which
+/// a group stays. `TooFewNames` and `Circle` say that whatever is changed deadlocks, if only these may move, and
+/// whatever may move. The only error is out of memory (20), which can't occur where there is no workqueue.
+pub fn repair<A: Allocator + Copy>(
+    alloc: A,
+    table: &ItemTable<'_, A>,
+    groups: &Groups<A>,
+    workqueues: &Workqueues<A>,
+    names: &[ItemId],
+) -> Result<Answer<A>, AllocError>
+    requires grouped { length groups.now.group_of ≡ length table.now.names }
+    requires assigned { length workqueues.now.assignment.lane_of_group ≡ groups.now.groups }
+    requires names { All (λ i. i < length table.now.names) names.now }
+    ensures answer { IfOk result (IsAnswer (declaration_of table.now groups.now) workqueues.now names.now) }
+    ensures memory { OnErr result (0 < workqueues.now.assignment.lanes) }
+{
+    // What holds of every table, of its groups and of every assignment.
+    let _items = table.len();
+    let _groups = groups.len();
+    match judge(alloc, table, groups, workqueues)? {
+        Judged::Safe => Ok(Answer::Safe),
+        Judged::Deadlock(_) => repair_deadlocked(alloc, table, groups, workqueues, names),
+    }
+}

@@ -1,0 +1,384 @@
+//! Another repair, in which more lanes are given a rescuer.
+//!
+//! A repair gives a lane a rescuer only if all groups on it need one. If two or more of them do, and the others wait for
+//! nobody who needs none, one rescuer may be fewer changes than a move of each. So all groups of such lanes count here
+//! as needing one. If each of these lanes keeps a group that does need one, no change can be left out in this repair,
+//! either. It takes the time of a repair.
+
+ghost use Rattle.std.specs.Prelude.{◌≡◌, ◌<◌, ◌≤◌, ◌⊎◌, ℕ, length, IfOk, IfSome, IsTrue, List, Some};
+ghost use Rattle.std.specs.List.{All};
+ghost use Rattle.wq_groups.specs.Declaration.{declaration_of};
+ghost use Rattle.wq_core.specs.Workqueues.{wiring_of};
+ghost use Rattle.wq_core.specs.Deadlock.{Deadlocks};
+ghost use Rattle.wq_repair.specs.Changes.{IsRescued, lane_in};
+ghost use Rattle.wq_repair.specs.Marks.{IsMarked, Marks};
+ghost use Rattle.wq_repair.specs.Needed.{NeedsRescuerOf};
+ghost use Rattle.wq_repair.specs.Ready.{IsReady, IsMinimal};
+ghost use Rattle.wq_repair.specs.Repair.{IsRepair};
+ghost use Rattle.wq_repair.specs.Wider.{IsScope, KeepsNeeded};
+
+use crate::listing::either;
+use crate::named::{named_groups, named_lanes};
+use crate::repairing::repaired;
+use crate::scope::{Scope, scope_of};
+use crate::start::{given_lanes, start};
+use std::alloc::{AllocError, Allocator};
+use wq_core::Workqueues;
+use wq_deadlock::{Judged, judge};
+use wq_graph::{WaitArc, WaitGraph};
+use wq_groups::{GroupId, Groups, LaneId};
+use wq_items::{ItemId, ItemTable};
+
+/// For each lane how many of these groups are on it, up to 2.
+fn counts_on_lanes<A: Allocator + Copy>(
+    alloc: A,
+    workqueues: &Workqueues<A>,
+    groups: &[bool],
+) -> Result<Vec<u8, A>, AllocError>
+    requires one_each { length groups.now ≡ length workqueues.now.assignment.lane_of_group }
+    requires few { length groups.now ≤ 4096 }
+    ensures { IfOk result (λ counts. length counts.items ≡ workqueues.now.assignment.lanes) }
+{
+    let mut counts = vec![in alloc; 0u8; usize::from(workqueues.assignment().lanes())]?;
+    for (group, is_one) in groups.iter().enumerate() {
+        if !*is_one {
+            continue;
+        }
+        let lane = usize::from(
+            workqueues
+                .assignment()
+                .lane(GroupId::new(group as u16))
+                .get(),
+        );
+        if counts[lane] < 2 {
+            counts[lane] += 1;
+        }
+    }
+    Ok(counts)
+}
+
+/// Whether these arcs lead to groups that need a rescuer.
+fn lead_to(arcs: &[WaitArc], needed: &[bool]) -> bool
+    requires { All (λ a. a.head < length needed.now) arcs.now }
+{
+    for arc in arcs {
+        if !needed[usize::from(arc.head)] {
+            return false;
+        }
+    }
+    true
+}
+
+/// The lanes that may be given a rescuer and aren't, on which two or more groups need one, and whose groups all wait
+/// for such groups only.
+fn shared_lanes<A: Allocator + Copy>(
+    alloc: A,
+    graph: &WaitGraph<A>,
+    workqueues: &Workqueues<A>,
+    named_lanes: &[bool],
+    needed: &[bool],
+) -> Result<Vec<bool, A>, AllocError>
+    requires one_each { length needed.now ≡ length workqueues.now.assignment.lane_of_group }
+    requires lanes { length named_lanes.now ≡ workqueues.now.assignment.lanes }
+    requires graph { length graph.now ≡ length needed.now }
+    requires few { length needed.now ≤ 4096 }
+    ensures { IfOk result (λ shared. length shared.items ≡ workqueues.now.assignment.lanes) }
+{
+    // Each arc leads to a group, and each lane is there.
+    let _vertices = graph.vertices();
+    let _lanes = workqueues.assignment().lanes();
+    let given = given_lanes(alloc, workqueues, named_lanes, needed)?;
+    let counts = counts_on_lanes(alloc, workqueues, needed)?;
+    let mut shared = Vec::with_capacity(alloc, named_lanes.len())?;
+    for (lane, is_named) in named_lanes.iter().enumerate() {
+        let is_bare = workqueues.is_bare(LaneId::new(lane as u16));
+        shared.push(*is_named && is_bare && !given[lane] && counts[lane] == 2)?;
+    }
+    for group in 0..needed.len() as u16 {
+        if lead_to(graph.arcs(group), needed) {
+            continue;
+        }
+        let lane = workqueues.assignment().lane(GroupId::new(group));
+        shared[usize::from(lane.get())] = false;
+    }
+    Ok(shared)
+}
+
+/// For each group whether it is one of these, or on one of these lanes.
+fn with_all_on<A: Allocator + Copy>(
+    alloc: A,
+    workqueues: &Workqueues<A>,
+    groups: &[bool],
+    lanes: &[bool],
+) -> Result<Vec<bool, A>, AllocError>
+    requires one_each { length groups.now ≡ length workqueues.now.assignment.lane_of_group }
+    requires lanes { length lanes.now ≡ workqueues.now.assignment.lanes }
+    requires few { length groups.now ≤ 4096 }
+    ensures { IfOk result (λ all.
+        Marks (λ g. IsMarked groups.now g ⊎ IsMarked lanes.now (lane_in workqueues.now g)) (length groups.now) all.items) }
+{
+    let _lanes = workqueues.assignment().lanes();
+    let mut all = Vec::with_capacity(alloc, groups.len())?;
+    for (group, is_one) in groups.iter().enumerate() {
+        let lane = workqueues.assignment().lane(GroupId::new(group as u16));
+        all.push(either(*is_one, lanes[usize::from(lane.get())]))?;
+    }
+    Ok(all)
+}
+
+/// For each group whether it is one of these and stays on its lane.
+fn staying<A: Allocator + Copy>(
+    alloc: A,
+    old: &Workqueues<A>,
+    new: &Workqueues<A>,
+    groups: &[bool],
+) -> Result<Vec<bool, A>, AllocError>
+    requires one_each { length groups.now ≡ length old.now.assignment.lane_of_group }
+    requires new { length groups.now ≡ length new.now.assignment.lane_of_group }
+    requires few { length groups.now ≤ 4096 }
+    ensures { IfOk result (λ staying.
+        Marks (λ g. IsMarked groups.now g × (lane_in new.now g ≡ lane_in old.now g)) (length groups.now) staying.items) }
+{
+    let mut staying = Vec::with_capacity(alloc, groups.len())?;
+    for (group, is_one) in groups.iter().enumerate() {
+        let was = old.assignment().lane(GroupId::new(group as u16)).get();
+        let is = new.assignment().lane(GroupId::new(group as u16)).get();
+        staying.push(*is_one && is == was)?;
+    }
+    Ok(staying)
+}
+
+/// Whether each of these groups is on a lane that has a rescuer.
+fn all_rescued<A: Allocator>(workqueues: &Workqueues<A>, groups: &[bool]) -> bool
+    requires one_each { length groups.now ≡ length workqueues.now.assignment.lane_of_group }
+    requires few { length groups.now ≤ 4096 }
+    ensures { IsTrue result → (g : ℕ) → g < length groups.now → IsMarked groups.now g →
+        IsRescued workqueues.now (lane_in workqueues.now g) }
+{
+    for (group, is_one) in groups.iter().enumerate() {
+        if !*is_one {
+            continue;
+        }
+        let lane = workqueues.assignment().lane(GroupId::new(group as u16));
+        if workqueues.is_bare(lane) {
+            return false;
+        }
+    }
+    true
+}
+
+/// Whether each of these groups needs a rescuer, or is on one of these lanes.
+fn are_beside<A: Allocator>(
+    workqueues: &Workqueues<A>,
+    groups: &[bool],
+    needed: &[bool],
+    lanes: &[bool],
+) -> bool
+    requires one_each { length groups.now ≡ length workqueues.now.assignment.lane_of_group }
+    requires needed { length needed.now ≡ length groups.now }
+    requires lanes { length lanes.now ≡ workqueues.now.assignment.lanes }
+    requires few { length groups.now ≤ 4096 }
+    ensures { IsTrue result → (g : ℕ) → g < length groups.now → IsMarked groups.now g →
+        IsMarked needed.now g ⊎ IsMarked lanes.now (lane_in workqueues.now g) }
+{
+    let _lanes = workqueues.assignment().lanes();
+    for (group, is_one) in groups.iter().enumerate() {
+        if !*is_one {
+            continue;
+        }
+        let lane = workqueues.assignment().lane(GroupId::new(group as u16));
+        if !either(needed[group], lanes[usize::from(lane.get())]) {
+            return false;
+        }
+    }
+    true
+}
+
+/// A repair in which all of this scope have a rescuer, if its start is safe.
+fn repaired_in<A: Allocator + Copy>(
+    alloc: A,
+    table: &ItemTable<'_, A>,
+    groups: &Groups<A>,
+    old: &Workqueues<A>,
+    scope: &Scope<A>,
+) -> Result<Option<Workqueues<A>>, AllocError>
+    requires grouped { length groups.now.group_of ≡ length table.now.names }
+    requires scope { (names : List ℕ) × IsScope (declaration_of table.now groups.now) old.now names scope.now }
+    ensures { IfOk result (λ new. IfSome new (λ new. (names : List ℕ) →
+        IsScope (declaration_of table.now groups.now) old.now names scope.now →
+        IsMinimal (declaration_of table.now groups.now) old.now names scope.now.needed new)) }
+{
+    // What holds of every table and of its groups.
+    let _items = table.len();
+    let _groups = groups.len();
+    let begin = start(alloc, old, scope.movable.as_slice(), scope.given.as_slice())?;
+    if !all_rescued(&begin, scope.needed.as_slice()) {
+        return Ok(None);
+    }
+    match judge(alloc, table, groups, &begin)? {
+        Judged::Deadlock(_) => Ok(None),
+        Judged::Safe => {
+            let new = repaired(alloc, table, groups, old, &begin, scope)?;
+            Ok(Some(new))
+        }
+    }
+}
+
+/// Whether each lane that holds another group than those that need a rescuer, of all these, keeps one that does.
+fn keeps_needed<A: Allocator + Copy>(
+    alloc: A,
+    old: &Workqueues<A>,
+    new: &Workqueues<A>,
+    groups: &[bool],
+    needed: &[bool],
+) -> Result<bool, AllocError>
+    requires one_each { length groups.now ≡ length old.now.assignment.lane_of_group }
+    requires new { length groups.now ≡ length new.now.assignment.lane_of_group }
+    requires needed { length needed.now ≡ length groups.now }
+    requires few { length groups.now ≤ 4096 }
+    ensures { IfOk result (λ keeps. IsTrue keeps → (g : ℕ) → g < length groups.now → IsMarked groups.now g →
+        IsMarked needed.now g ⊎ KeepsNeeded old.now new.now needed.now (lane_in old.now g)) }
+{
+    let stay = staying(alloc, old, new, needed)?;
+    let kept = named_lanes(alloc, old, stay.as_slice())?;
+    Ok(are_beside(old, groups, needed, kept.as_slice()))
+}
+
+/// What such a repair is about, if there are lanes on which groups are that need a rescuer and others that don't.
+fn wider_scope<A: Allocator + Copy>(
+    alloc: A,
+    table: &ItemTable<'_, A>,
+    groups: &Groups<A>,
+    old: &Workqueues<A>,
+    names: &[ItemId],
+    needed: &[bool],
+) -> Result<Option<Scope<A>>, AllocError>
+    requires grouped { length groups.now.group_of ≡ length table.now.names }
+    requires assigned { length old.now.assignment.lane_of_group ≡ groups.now.groups }
+    requires names { All (λ i. i < length groups.now.group_of) names.now }
+    requires needed { Marks (NeedsRescuerOf (declaration_of table.now groups.now) old.now names.now)
+        groups.now.groups needed.now }
+    ensures { IfOk result (λ scope. IfSome scope
+        (IsScope (declaration_of table.now groups.now) old.now names.now)) }
+{
+    // What holds of every table, of its groups and of every assignment.
+    let _items = table.len();
+    let _groups = groups.len();
+    let _lanes = old.assignment().lanes();
+    let named = named_groups(alloc, groups, names)?;
+    let lanes = named_lanes(alloc, old, named.as_slice())?;
+    let graph = WaitGraph::of_groups(alloc, table, groups)?;
+    let shared = shared_lanes(alloc, &graph, old, lanes.as_slice(), needed)?;
+    if !shared.iter().any(|is_shared| *is_shared) {
+        return Ok(None);
+    }
+    let all = with_all_on(alloc, old, needed, shared.as_slice())?;
+    let scope = scope_of(alloc, old, named.as_slice(), lanes.as_slice(), all)?;
+    Ok(Some(scope))
+}
+
+/// A repair in which lanes are given a rescuer on which groups are that need one and others that don't, if there is one.
+fn wider<A: Allocator + Copy>(
+    alloc: A,
+    table: &ItemTable<'_, A>,
+    groups: &Groups<A>,
+    old: &Workqueues<A>,
+    names: &[ItemId],
+    needed: &[bool],
+) -> Result<Option<Workqueues<A>>, AllocError>
+    requires grouped { length groups.now.group_of ≡ length table.now.names }
+    requires assigned { length old.now.assignment.lane_of_group ≡ groups.now.groups }
+    requires names { All (λ i. i < length groups.now.group_of) names.now }
+    requires needed { Marks (NeedsRescuerOf (declaration_of table.now groups.now) old.now names.now)
+        groups.now.groups needed.now }
+    requires deadlocked { Deadlocks (wiring_of (declaration_of table.now groups.now) old.now) }
+    ensures { IfOk result (λ new. IfSome new
+        (IsRepair (declaration_of table.now groups.now) old.now names.now)) }
+{
+    // What holds of every table, of its groups and of every assignment.
+    let _items = table.len();
+    let _groups = groups.len();
+    let _lanes = old.assignment().lanes();
+    let Some(scope) = wider_scope(alloc, table, groups, old, names, needed)? else {
+        return Ok(None);
+    };
+    let Some(new) = repaired_in(alloc, table, groups, old, &scope)? else {
+        return Ok(None);
+    };
+    if keeps_needed(alloc, old, &new, scope.needed.as_slice(), needed)? {
+        return Ok(Some(new));
+    }
+    Ok(None)
+}
+
+/// How many changes there are: groups on other lanes, and lanes that are given a rescuer and keep a group.
+fn changes<A: Allocator + Copy>(
+    alloc: A,
+    old: &Workqueues<A>,
+    new: &Workqueues<A>,
+) -> Result<usize, AllocError>
+    requires new { length new.now.assignment.lane_of_group ≡ length old.now.assignment.lane_of_group }
+    requires few { length old.now.assignment.lane_of_group ≤ 4096 }
+{
+    let all = vec![in alloc; true; old.assignment().groups()]?;
+    let stay = staying(alloc, old, new, all.as_slice())?;
+    let mut given = named_lanes(alloc, old, stay.as_slice())?;
+    for lane in 0..old.assignment().lanes() {
+        let id = LaneId::new(lane);
+        if old.is_bare(id) && !new.is_bare(id) {
+            continue;
+        }
+        given[usize::from(lane)] = false;
+    }
+    let moved = stay.iter().filter(|stays| !**stays).count();
+    let given = given.iter().filter(|is_given| **is_given).count();
+    Ok(moved + given)
+}
+
+/// Of a repair and perhaps another, the one with fewer changes; the first if both have as many.
+pub(crate) fn with_fewer_changes<A: Allocator + Copy>(
+    alloc: A,
+    old: &Workqueues<A>,
+    one: Workqueues<A>,
+    other: Option<Workqueues<A>>,
+) -> Result<Workqueues<A>, AllocError>
+    requires one { length one.assignment.lane_of_group ≡ length old.now.assignment.lane_of_group }
+    requires other { IfSome other (λ o.
+        length o.assignment.lane_of_group ≡ length old.now.assignment.lane_of_group) }
+    requires few { length old.now.assignment.lane_of_group ≤ 4096 }
+    ensures { IfOk result (λ best. (best ≡ one) ⊎ (other ≡ Some best)) }
+{
+    let Some(other) = other else {
+        return Ok(one);
+    };
+    if changes(alloc, old, &other)? < changes(alloc, old, &one)? {
+        return Ok(other);
+    }
+    Ok(one)
+}
+
+/// The repair of workqueues that can be repaired: of two, the one with fewer changes.
+pub(crate) fn better_repair<A: Allocator + Copy>(
+    alloc: A,
+    table: &ItemTable<'_, A>,
+    groups: &Groups<A>,
+    old: &Workqueues<A>,
+    names: &[ItemId],
+    start: &Workqueues<A>,
+    scope: &Scope<A>,
+) -> Result<Workqueues<A>, AllocError>
+    requires grouped { length groups.now.group_of ≡ length table.now.names }
+    requires names { All (λ i. i < length groups.now.group_of) names.now }
+    requires ready { IsReady (declaration_of table.now groups.now) old.now names.now scope.now start.now }
+    requires needed { Marks (NeedsRescuerOf (declaration_of table.now groups.now) old.now names.now)
+        groups.now.groups scope.now.needed }
+    requires deadlocked { Deadlocks (wiring_of (declaration_of table.now groups.now) old.now) }
+    ensures { IfOk result (IsRepair (declaration_of table.now groups.now) old.now names.now) }
+{
+    // What holds of every table and of its groups.
+    let _items = table.len();
+    let _groups = groups.len();
+    let one = repaired(alloc, table, groups, old, start, scope)?;
+    let other = wider(alloc, table, groups, old, names, scope.needed.as_slice())?;
+    with_fewer_changes(alloc, old, one, other)
+}

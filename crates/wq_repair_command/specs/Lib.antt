@@ -1,0 +1,4 @@
+pub mod AssignmentText
+pub mod Movers
+pub mod ReadBack
+pub mod Repairing

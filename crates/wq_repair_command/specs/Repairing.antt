@@ -1,0 +1,81 @@
+-- The answer to a declaration, an assignment, and the names of the items that may move: repaired workqueues, or what shows that
+-- nothing helps.
+use Rattle.std.specs.Prelude.{◌≡◌, ◌⊎◌, ℕ, List, Option, Some, None, MatchResult}
+use Rattle.wq_graph.specs.declared.arc.WaitArc.{WaitArc}
+use Rattle.wq_core.specs.declared.step.Step.{Step}
+use Rattle.wq_core.specs.Wiring.{own_lanes}
+use Rattle.wq_core.specs.Workqueues.{Workqueues}
+use Rattle.wq_deadlock.specs.Judging.{AreSafe}
+use Rattle.wq_deadlock.specs.Verdict.{IsDeadlock}
+use Rattle.wq_repair.specs.Repair.{IsRepair, AreNamesTooFew, IsNeededCircle}
+use Rattle.wq_cert.specs.RunText.{run_text}
+use Rattle.wq_cert.specs.Texts.{workqueues_of_text, cert_refusal}
+use Rattle.wq_names.specs.Names.{names_of}
+use Rattle.wq_meter.specs.Shell.{Given}
+use Rattle.wq_commands.specs.declared.end.End.{End}
+use Rattle.wq_commands.specs.declared.end.End.TheVariants.{Good, Bad, Refused}
+use Rattle.wq_commands.specs.declared.why.Outcome.{Outcome}
+use Rattle.wq_commands.specs.Answer.{declared_waits, text_of_circle, PrintsRefusal}
+use Rattle.wq_commands.specs.Declaration.{Declared, declaration}
+use Rattle.wq_commands.specs.Why.{SaysAssigned}
+use Rattle.wq_repair_command.specs.AssignmentText.{assignment_text}
+use Rattle.wq_repair_command.specs.Movers.{movers}
+
+-- ---- what is printed
+
+-- workqueues are printed, by the names of the old ones: the old ones themselves, if they are safe, or a repair of them
+pub record PrintsWorkqueues (s : Declared) (old : Workqueues) (called : List (List ℕ)) (moving : List ℕ) (out : List ℕ)
+    : Type 0 where
+  pub new : Workqueues
+  pub are : (AreSafe (declared_waits s) old × (new ≡ old)) ⊎ IsRepair (declared_waits s) old moving new
+  pub text : out ≡ assignment_text s.table.names s.partition new called
+
+-- too few items may move, and the run is printed by which the workqueues deadlock in which each group that may move and needs a
+-- rescuer is alone
+pub record PrintsTooFew (s : Declared) (old : Workqueues) (moving : List ℕ) (out : List ℕ) : Type 0 where
+  pub start : Workqueues
+  pub steps : List Step
+  pub few : AreNamesTooFew (declared_waits s) old moving start steps
+  pub text : out ≡ run_text s.table.names steps
+
+-- the circle is printed in which groups wait that need a rescuer, with the run by which all items hang where each group has its own
+-- workqueue
+pub record PrintsNeededCircle (s : Declared) (old : Workqueues) (out : List ℕ) : Type 0 where
+  pub circle : List WaitArc
+  pub needed : IsNeededCircle (declared_waits s) old circle
+  pub steps : List Step
+  pub run : IsDeadlock (declared_waits s) (own_lanes s.partition.groups) steps
+  pub text : out ≡ text_of_circle s circle steps
+
+-- ---- the answer
+
+-- the answer where these items may move: workqueues that are safe; or else a circle, or a run, which shows that nothing helps
+abbrev pub RepairsMoving : Declared → Workqueues → List (List ℕ) → List ℕ → End → List ℕ → Type 0
+RepairsMoving s old called moving Good out = PrintsWorkqueues s old called moving out
+RepairsMoving s old called moving Bad out = PrintsNeededCircle s old out ⊎ PrintsTooFew s old moving out
+RepairsMoving s old called moving Refused out = ⊥
+
+-- the answer where these items may move, or one of the names that were given is that of no item (8, at no line)
+abbrev pub RepairsIf : Declared → Workqueues → List (List ℕ) → Option (List ℕ) → End → List ℕ → Type 0
+RepairsIf s old called None end out = PrintsRefusal (record { code = 8; line = 0 }) end out
+RepairsIf s old called (Some moving) end out = RepairsMoving s old called moving end out
+
+-- the answer to workqueues of a declaration's groups, which are called so, where the items with these names may move
+abbrev pub RepairsAssigned : Declared → Workqueues → List (List ℕ) → List (List ℕ) → End → List ℕ → Type 0
+RepairsAssigned s old called names end out = RepairsIf s old called (movers s.table.names names) end out
+
+-- the answer to the text of an assignment of a declaration, or its refusal
+abbrev pub RepairsDeclared : Declared → List (List ℕ) → List ℕ → End → List ℕ → Type 0
+RepairsDeclared s names text end out =
+    MatchResult (workqueues_of_text s.table.names s.partition text) (λ ws. RepairsAssigned s ws (names_of text) names end out)
+    (λ fault. PrintsRefusal (cert_refusal fault) end out)
+
+-- the answer to the texts of a declaration and an assignment: a refusal of the declaration comes first
+abbrev pub Repairs : List (List ℕ) → List ℕ → List ℕ → End → List ℕ → Type 0
+Repairs names declared text end out =
+    MatchResult (declaration declared) (λ s. RepairsDeclared s names text end out) (λ r. PrintsRefusal r end out)
+
+-- the answer of the command, and which text is refused, if one is
+abbrev pub RepairsTexts : List (List ℕ) → Given → Outcome → List ℕ → Type 0
+RepairsTexts names texts outcome out =
+    Repairs names texts.first texts.second outcome.end out × SaysAssigned texts.first texts.second outcome.why

@@ -1,0 +1,131 @@
+//! The text of workqueues: a line for each, with its items, and with the name that it has.
+//!
+//! The format is that of "The command `repair`" in docs/FORMAT.md. Printing takes time and memory in the number of items and the
+//! length of the text.
+
+ghost use Rattle.std.specs.Prelude.{◌≡◌, ◌<◌, ◌++◌, length, map, flat_map, IfOk, OnOk};
+ghost use Rattle.std.specs.List.{All};
+ghost use Rattle.wq_groups.specs.Assignment.{item_lanes};
+ghost use Rattle.wq_lines.specs.LineText.{spaced};
+ghost use Rattle.wq_cert.specs.PlanText.{name_of};
+ghost use Rattle.wq_repair_command.specs.AssignmentText.{keyword, name_comment, named_line, assignment_text};
+
+use std::alloc::{AllocError, Allocator};
+use wq_buckets::Buckets;
+use wq_core::Workqueues;
+use wq_groups::{Assignment, Groups, LaneId};
+use wq_items::{ItemId, ItemTable};
+use wq_lines::{put, put_end, put_number, put_word};
+use wq_names::name_at;
+
+/// The workqueue of each item's group, in turn.
+fn item_lanes<A: Allocator + Copy>(
+    alloc: A,
+    items: u16,
+    groups: &Groups<A>,
+    assignment: &Assignment<A>,
+) -> Result<Vec<u16, A>, AllocError>
+    requires items { length groups.now.group_of ≡ items }
+    requires groups { length assignment.now.lane_of_group ≡ groups.now.groups }
+    ensures { IfOk result (λ lane. lane.items ≡ item_lanes assignment.now groups.now.group_of) }
+{
+    let mut lane = Vec::new(alloc);
+    for i in 0..items {
+        let group = groups.of(ItemId::new(i));
+        lane.push(assignment.lane(group).get())?;
+    }
+    Ok(lane)
+}
+
+/// The first word of the line of a workqueue.
+fn keyword(is_bare: bool) -> &'static [u8]
+    ensures { result.now ≡ keyword is_bare }
+{
+    if is_bare { b"norescuer" } else { b"wq" }
+}
+
+/// Adds the name of a workqueue as a comment. Nothing is added if it has none.
+fn put_name<A: Allocator + Copy>(out: &mut Vec<u8, A>, name: &[u8]) -> Result<(), AllocError>
+    ensures { OnOk result (out.new.items ≡ out.old.items ++ name_comment name.now) }
+{
+    if name.is_empty() {
+        return Ok(());
+    }
+    put(out, b"  #")?;
+    put_word(out, name)
+}
+
+/// Adds the names of these items.
+fn put_items<A: Allocator + Copy>(
+    out: &mut Vec<u8, A>,
+    table: &ItemTable<'_, A>,
+    items: &[u32],
+) -> Result<(), AllocError>
+    requires { All (λ i. i < length table.now.names) items.now }
+    ensures { OnOk result (out.new.items ≡ out.old.items ++ flat_map spaced (map (name_of table.now.names) items.now)) }
+{
+    // What holds of every table.
+    let _items = table.len();
+    for item in items {
+        put_word(out, table.name(ItemId::new(*item as u16)))?;
+    }
+    Ok(())
+}
+
+/// Adds the line of a workqueue, with the names of these items.
+fn put_line<A: Allocator + Copy>(
+    out: &mut Vec<u8, A>,
+    table: &ItemTable<'_, A>,
+    q: u16,
+    is_bare: bool,
+    items: &[u32],
+    name: &[u8],
+) -> Result<(), AllocError>
+    requires { All (λ i. i < length table.now.names) items.now }
+    ensures { OnOk result (out.new.items
+        ≡ out.old.items ++ named_line table.now.names q is_bare items.now name.now) }
+{
+    put(out, keyword(is_bare))?;
+    put_number(out, u32::from(q))?;
+    put_items(out, table, items)?;
+    put_name(out, name)?;
+    put_end(out)
+}
+
+/// The text of workqueues of these groups: a line for each, with its items in the order of their declaration, and with its name,
+/// where it has one among these.
+///
+/// The groups are those of the table's items, and each has a workqueue. The only error is out of memory (20).
+pub fn assignment_text<A: Allocator + Copy>(
+    alloc: A,
+    table: &ItemTable<'_, A>,
+    groups: &Groups<A>,
+    workqueues: &Workqueues<A>,
+    names: &[&[u8]],
+) -> Result<Vec<u8, A>, AllocError>
+    requires grouped { length groups.now.group_of ≡ length table.now.names }
+    requires assigned { length workqueues.now.assignment.lane_of_group ≡ groups.now.groups }
+    ensures { IfOk result (λ text. text.items
+        ≡ assignment_text table.now.names groups.now workqueues.now (map (λ n. n.now) names.now)) }
+{
+    // What holds of every table and of all groups.
+    let _items = table.len();
+    let _groups = groups.len();
+    let assignment = workqueues.assignment();
+    let lanes = assignment.lanes();
+    let lane = item_lanes(alloc, table.len(), groups, assignment)?;
+    let items = Buckets::new(alloc, &lane, lanes)?;
+    let mut out = Vec::new(alloc);
+    for q in 0..lanes {
+        let is_bare = workqueues.is_bare(LaneId::new(q));
+        put_line(
+            &mut out,
+            table,
+            q,
+            is_bare,
+            items.places(q),
+            name_at(names, q),
+        )?;
+    }
+    Ok(out)
+}
