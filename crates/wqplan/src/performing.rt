@@ -4,7 +4,7 @@
 //! `carry_out` reads them, writes the answer, and says what is wrong, where something is; for `run`, `carry_out_run` does. The
 //! running time is that of the command.
 
-ghost use Rattle.std.specs.Prelude.{◌≡◌, ◌≢◌, ◌≤◌, ◌∷◌, ℕ, List, [], Err, IfErr, IfOk, IfSome, None, OnErr, Some, option_map, option_to_list};
+ghost use Rattle.std.specs.Prelude.{◌≡◌, ◌≢◌, ◌≤◌, ◌∷◌, ℕ, List, [], Err, IfErr, IfOk, IfSome, None, OnErr, Some, map, option_map, option_to_list};
 ghost use Rattle.wq_meter.specs.Input.{HasFailed, IsInput};
 ghost use Rattle.wq_meter.specs.Meter.{count_after, WritesPrefix, WritesWhole};
 ghost use Rattle.wq_meter.specs.Shell.{AreFrom, Given, kept};
