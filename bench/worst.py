@@ -166,6 +166,25 @@ def across():
     return [(i, (i + numbers.choice((1, 2, 3, 16))) % ITEMS) for i in range(ITEMS) for _ in range(4)]
 
 
+def near(width):
+    """Each item flushes four random ones of the next so many."""
+    numbers = random.Random(1)
+    return [(i, min(LAST, i + 1 + numbers.randrange(width))) for i in range(LAST) for _ in range(4)]
+
+
+def shuffled(flushes):
+    """The same flushes, of other items."""
+    others = list(range(ITEMS))
+    random.Random(3).shuffle(others)
+    return [(others[source], others[target]) for source, target in flushes]
+
+
+def blob(count):
+    """Random flushes among the first so many items, which lead on."""
+    numbers = random.Random(2)
+    return [tuple(sorted(numbers.sample(range(count), 2))) for _ in range(FLUSHES)]
+
+
 def between(count, half):
     """Items that lie on so many workqueues in turn, each of which flushes random ones of the next workqueue; if `half`, of each
     workqueue every other item flushes, and the others are flushed."""
@@ -206,6 +225,17 @@ def own():
 
 def in_turn(count):
     return workqueues(range(queue, ITEMS, count) for queue in range(count))
+
+
+def in_turn_with_bare(count, step):
+    """The same, where of every so many workqueues the first one has no rescuer."""
+    lines = in_turn(count).splitlines(True)
+    return "".join(line.replace("wq", "norescuer") if q % step == 0 else line for q, line in enumerate(lines))
+
+
+def all_but_one_bare():
+    """Each item on its own workqueue, of which only the first has a rescuer."""
+    return "".join(f"{'norescuer' if i else 'wq'} {i} {short(i)}\n" for i in range(ITEMS))
 
 
 def backwards():
@@ -313,9 +343,27 @@ def long_rounds():
     yield "four flushes on, around", declaration(ITEMS, around()), own()
     yield "four flushes on, and one back from the last", declaration(ITEMS, one_back()), own()
     yield "random flushes on, around", declaration(ITEMS, across(), words=["flush", "flushwq"]), own()
+    yield "flushes of the next 512, 2,048 workqueues", declaration(ITEMS, near(512)), in_turn(2_048)
     for count in 3, 64:
         yield f"{count} workqueues around, each item flushes the next one", declaration(ITEMS, between(count, False)), in_turn(count)
         yield f"{count} workqueues around, half of the items flush others that don't", declaration(ITEMS, between(count, True)), in_turn(count)
+
+
+def repairs():
+    """Of each a name, the declaration, the assignment, and the items that may move, if not all."""
+    half = [short(i) for i in range(0, ITEMS, 2)]
+    chained, on_near = declaration(ITEMS, chain()), declaration(ITEMS, near(512))
+    yield "a chain, one workqueue", chained, one(), []
+    yield "a chain, one workqueue, half may move", chained, one(), half
+    yield "a chain, 64 workqueues, every other without a rescuer", chained, in_turn_with_bare(64, 2), []
+    yield "a chain, 4,096 workqueues, one with a rescuer", chained, all_but_one_bare(), []
+    yield "a chain of other items, 64 workqueues", declaration(ITEMS, shuffled(chain())), in_turn(64), []
+    yield "a dense blob of 3,900, one workqueue", declaration(ITEMS, blob(3_900)), one(), []
+    yield "a dense blob of 3,900, 2,048 workqueues", declaration(ITEMS, blob(3_900)), in_turn(2_048), []
+    yield "half wait for the other half, one workqueue", declaration(ITEMS, all_lead()), one(), []
+    yield "flushes of the next 512, 64 workqueues", on_near, in_turn(64), []
+    yield "flushes of the next 512, 2,048 workqueues", on_near, in_turn(2_048), []
+    yield "layers, 64 workqueues, every other without a rescuer", declaration(ITEMS, layers()), in_turn_with_bare(64, 2), []
 
 
 COLLIDING = "names that collide for the seed 0"
@@ -391,6 +439,8 @@ def cases(program, folder, write, most_run=MOST_CERTIFICATE):
         path, queues = write(text), write(assignment)
         for command in "deadlock", "hang", "circles":
             yield command, name, [path, queues]
+    for name, text, assignment, names in repairs():
+        yield "repair", name, [write(text), write(assignment), *names]
     for name, text in texts():
         path = write(text)
         yield "plan", name, [path]
@@ -403,7 +453,7 @@ def cases(program, folder, write, most_run=MOST_CERTIFICATE):
             yield "check", name, [path, write(plan)]
             yield "replay", name, [path, queues, write(f"run {len(steps)}\n" + "".join(steps))]
             yield "run", name, [path]
-            for command in "deadlock", "hang", "circles", "dot":
+            for command in "deadlock", "hang", "repair", "circles", "dot":
                 yield command, name, [path, queues]
     path = write(declaration(ITEMS, [(0, 1), (1, 0)]))
     circle_alone = program.answer("plan", folder, path).partition("run ")[0]
@@ -412,7 +462,7 @@ def cases(program, folder, write, most_run=MOST_CERTIFICATE):
         yield "check", name, [write(declaration(ITEMS, [])) if "plan" in name else path, write(text)]
     for kind, line in WORDLESS.items():
         refused = write(below(line, one() + "?\n", most_run))
-        for command in "deadlock", "hang", "circles", "dot":
+        for command in "deadlock", "hang", "repair", "circles", "dot":
             yield command, f"an assignment below {kind}, refused at its last line", [path, refused]
     falling = write(declaration(ITEMS, [(0, 1)]))
     low = f"plan 1\n{one()}chain 1\n"

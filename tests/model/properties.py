@@ -30,6 +30,7 @@ import hang  # noqa: E402
 import make_certificates  # noqa: E402
 import plan  # noqa: E402
 import reasons  # noqa: E402
+import repair  # noqa: E402
 import replay  # noqa: E402
 import run  # noqa: E402
 import search  # noqa: E402
@@ -1004,10 +1005,55 @@ def look_at_searches(seed, walks, declarations):
         demand(not wrong, f"the search finds what the model answers: {text!r}: {wrong}")
 
 
+# Repairs -----------------------------------------------------------------------------------------
+
+
+def one_change_less(case, new):
+    """Assignments as this repair, but for one change each: a group is where it was, or a workqueue to which none went has no rescuer."""
+    moved, given = case.changes(new)
+    for group in moved:
+        back = {name: case.at[group] for name in case.declared.groups[group]}
+        yield dataclasses.replace(new, workqueue_of=new.workqueue_of | back)
+    went_to = {new.workqueue_of[case.declared.groups[group][0]] for group in moved}
+    for number in given - went_to:
+        yield dataclasses.replace(new, bare=new.bare | {number})
+
+
+def look_at_repair(*texts):
+    """A repair is safe and needs none, and without any of its changes it isn't; names are a set, and all of them are as none."""
+    printed, status = repair.answer(*texts)
+    names = list(texts[2:])
+    safe, of_safe = deadlock.answer(*texts[:2])
+    if status == 2:
+        demand(of_safe == 2 and safe == printed or printed == b"refused 8 line 0\n", "repair refuses what deadlock does, and names")
+        return
+    declared, assignment = read_case(texts[:2])
+    demand(repair.answer(*texts[:2], *names[::-1], *names[:1]) == (printed, status), "names are a set")
+    without = repair.answer(*texts[:2])
+    demand(repair.answer(*texts[:2], *declared.items) == without, "all names are as none")
+    demand(not without[0].startswith(b"run "), "without names there is a repair or a circle")
+    demand(without[0].startswith(b"circle ") == printed.startswith(b"circle "), "a circle is printed whatever the names are")
+    if status == 1:
+        demand(of_safe == 1, "what is safe needs no repair")
+        demand(not printed.startswith(b"circle ") or check.answer(texts[0], printed)[1] == 0, "the circle is one")
+        return
+    new = certificate.read_assignment(printed, declared)
+    demand(deadlock.answer(texts[0], printed) == (b"safe\n", 0), "it is safe")
+    demand(repair.answer(texts[0], printed, *names) == (printed, 0), "it needs no repair")
+    case = repair.Case(declared, assignment, names)
+    moved, given = case.changes(new)
+    demand((of_safe == 0) == (not moved and not given), "something changes where it isn't safe")
+    demand(new.called == assignment.called and new.count <= max(assignment.count, len(declared.groups)), "names of workqueues stay")
+    demand(moved <= case.named and given <= case.workqueue_named, "only what is named changes")
+    for other in one_change_less(case, new) if len(moved) < 100 else []:
+        other_moved, other_given = case.changes(other)
+        demand(other_moved <= moved and other_given <= given and not case.is_safe(other), "no change can be left out alone")
+
+
 # Of each command what looks at the model's answer to the cases of compare.py.
 LAWS = {
     "plan": look_at_plan, "check": look_at_check, "replay": look_at_replay, "deadlock": look_at_deadlock,
-    "hang": look_at_hang, "run": look_at_running, "circles": look_at_circles, "dot": look_at_dot,
+    "hang": look_at_hang, "repair": look_at_repair, "run": look_at_running, "circles": look_at_circles, "dot": look_at_dot,
 }
 
 
@@ -1026,7 +1072,8 @@ def main(arguments):
             looked += 1
             try:
                 look_at(*texts)
-                look_at_reasons(command, texts)
+                if command != "repair":
+                    look_at_reasons(command, texts)
             except AssertionError as error:
                 print(f"FAILED  {command}, case {number} (seed {seed}): {error}")
                 print("\n".join(f"    {text[:2_000]!r}" for text in texts))

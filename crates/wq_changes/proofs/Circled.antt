@@ -1,5 +1,5 @@
 -- The flushes of a circle of groups: few, and each of an item.
-use Rattle.std.proofs.Common.{◌≡◌, ℕ, ◌<◌, Bool, List, length, get_or, subst, arith}
+use Rattle.std.proofs.Common.{◌≡◌, ◌<◌, Bool, List, length, get_or, arith}
 use Rattle.std.proofs.lemmas.List.Elements.{All-contains}
 use Rattle.std.proofs.lemmas.List.FromFn.{length-map-range_with_len}
 use Rattle.wq_items.specs.Table.{ItemWaits}
@@ -28,8 +28,8 @@ module _ (d : Declaration) (declaration : IsDeclaration d) where
       let few = IsWalkedCircle-few (without out (group_graph d)) circle walked in (
         omega (arith, few, length-without out (group_graph d), length-map-range_with_len (arcs_from d.waits d.group_of) 0 d.groups, declaration.partition.few_groups, declaration.partition.few_items),
         λ k e within.
-        let v = get_or round.left k 0 in
-        let there = Contains-without out (group_graph d) v (get_or circle k e) (round.leaves k e within) in
-        let own = All-contains (λ (b : WaitArc). IsArc d.waits d.group_of b × (get_or d.group_of b.src 0 ≡ v)) (arcs_at (group_graph d) v) (get_or circle k e) (AreArcsFrom-group_graph d declaration v).declared there.2 in
-        joins (get_or circle k e) own.0,
+            let v = get_or round.left k 0 in
+            let there = Contains-without out (group_graph d) v (get_or circle k e) (round.leaves k e within) in
+            let own = All-contains (λ (b : WaitArc). IsArc d.waits d.group_of b × (get_or d.group_of b.src 0 ≡ v)) (arcs_at (group_graph d) v) (get_or circle k e) (AreArcsFrom-group_graph d declaration v).declared there.2 in
+            joins (get_or circle k e) own.0,
       )

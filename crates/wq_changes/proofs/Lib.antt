@@ -3,3 +3,4 @@ pub mod Lanes
 pub mod Each
 pub mod Exact
 pub mod Circled
+pub mod Refused

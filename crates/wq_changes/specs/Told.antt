@@ -1,5 +1,5 @@
 -- What is said of changes: for each in turn what is changed, and for the first ones how the workqueues hang without it.
-use Rattle.std.specs.Prelude.{◌≡◌, ℕ, List, [], ◌∷◌, ◌++◌, Option, drop, take, unwrap_or}
+use Rattle.std.specs.Prelude.{◌≡◌, ℕ, List, [], ◌∷◌, ◌++◌, Option, drop, take, unwrap_or, nat_lt, if◌then◌else◌, length}
 use Rattle.wq_core.specs.Workqueues.{Workqueues}
 use Rattle.wq_commands.specs.Answer.{declared_waits}
 use Rattle.wq_commands.specs.Declaration.{Declared}
@@ -11,9 +11,9 @@ use Rattle.wq_changes.specs.Changes.{changes_of}
 use Rattle.wq_changes.specs.Without.{without_change}
 use Rattle.wq_changes.specs.Words.{change_words, lead_of}
 
--- of how many changes it is said why
-abbrev pub most_reasons : ℕ
-most_reasons = 10
+-- of how many changes it is said why, at most, if there are so many items
+abbrev pub most_reasons : ℕ → ℕ
+most_reasons items = if nat_lt 512 items then 1 else 10
 
 -- how the workqueues hang soonest without this change; nothing if no run of them ends stuck
 abbrev pub GivesWhy : List ℕ → Declared → List (List ℕ) → Workqueues → Workqueues → Change → List ℕ → Type 0
@@ -45,6 +45,7 @@ AddsEach Says cs old new = (added : List ℕ) × (new ≡ old ++ added) × AreEa
 abbrev pub TellsChanges : List ℕ → List ℕ → Declared → List (List ℕ) → Workqueues → Workqueues → List ℕ → Type 0
 TellsChanges first second s names old new text =
     let cs = changes_of s.partition.groups old new in
+    let most = most_reasons (length s.table.names) in
     (whys : List ℕ) × (others : List ℕ) × (text ≡ whys ++ others)
-    × AreEach (IsToldWhy first second s names old new) (take most_reasons cs) whys
-    × AreEach (IsTold second s names old new) (drop most_reasons cs) others
+    × AreEach (IsToldWhy first second s names old new) (take most cs) whys
+    × AreEach (IsTold second s names old new) (drop most cs) others

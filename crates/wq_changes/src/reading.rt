@@ -3,9 +3,10 @@
 //! The form is that of "Changes" in docs/FORMAT.md. A call takes the time and the memory of reading the texts, of a
 //! repair, and of what is said of it.
 
-ghost use Rattle.std.specs.Prelude.{◌≡◌, ◌≤◌, IfOk, Ok, length, map, option_map};
+ghost use Rattle.std.specs.Prelude.{◌≡◌, ◌≢◌, ◌≤◌, IfOk, Ok, length, map, option_map};
 ghost use Rattle.wq_groups.specs.Declaration.{declaration_of};
 ghost use Rattle.wq_cert.specs.Texts.{workqueues_of_text};
+ghost use Rattle.wq_cert.specs.declared.fault.CertError.TheVariants.{OutOfMemory};
 ghost use Rattle.wq_names.specs.Names.{names_of};
 ghost use Rattle.wq_repair.specs.Repair.{IsAnswer};
 ghost use Rattle.wq_voice.specs.Note.{NotesBare};
@@ -144,8 +145,12 @@ fn of_answer<A: Allocator + Copy>(
     requires old { length assigned.now.workqueues.now.assignment.lane_of_group ≡ assigned.now.declared.now.groups.groups }
     requires answer { IsAnswer (declaration_of assigned.now.declared.now.table assigned.now.declared.now.groups) assigned.now.workqueues.now
         moving.now answer.now }
-    ensures { IfOk result (λ said. SaysMoving (record { first = assigned.now.declaration.file.now; second = assigned.now.assignment.file.now;
-        text = assigned.now.declaration.text.now; lanes = assigned.now.assignment.text.now })
+    ensures { IfOk result (λ said. SaysMoving (record {
+      first = assigned.now.declaration.file.now;
+      second = assigned.now.assignment.file.now;
+      text = assigned.now.declaration.text.now;
+      lanes = assigned.now.assignment.text.now;
+    })
         (record { table = assigned.now.declared.now.table; partition = assigned.now.declared.now.groups }) assigned.now.workqueues.now
         moving.now (option_map (λ text. text.items) said)) }
 {
@@ -174,8 +179,12 @@ fn of_assigned<A: Allocator + Copy>(
     requires read { workqueues_of_text assigned.now.declared.now.table.names assigned.now.declared.now.groups assigned.now.assignment.text.now
         ≡ Ok assigned.now.workqueues.now }
     requires old { length assigned.now.workqueues.now.assignment.lane_of_group ≡ assigned.now.declared.now.groups.groups }
-    ensures { IfOk result (λ said. SaysNamed (record { first = assigned.now.declaration.file.now; second = assigned.now.assignment.file.now;
-        text = assigned.now.declaration.text.now; lanes = assigned.now.assignment.text.now }) (map (λ n. n.now) names.now)
+    ensures { IfOk result (λ said. SaysNamed (record {
+      first = assigned.now.declaration.file.now;
+      second = assigned.now.assignment.file.now;
+      text = assigned.now.declaration.text.now;
+      lanes = assigned.now.assignment.text.now;
+    }) (map (λ n. n.now) names.now)
         (record { table = assigned.now.declared.now.table; partition = assigned.now.declared.now.groups }) assigned.now.workqueues.now
         (option_map (λ text. text.items) said)) }
 {
@@ -189,6 +198,19 @@ fn of_assigned<A: Allocator + Copy>(
     }
 }
 
+/// An error if memory ran out.
+fn unless_memory(fault: CertError) -> Result<(), AllocError>
+    ensures { IfOk result (λ _. fault ≢ OutOfMemory) }
+{
+    match fault {
+        CertError::OutOfMemory => Err(AllocError),
+        CertError::BadCertLine { .. }
+        | CertError::NotAllItems { .. }
+        | CertError::GroupSplit { .. }
+        | CertError::NumberOutOfRange { .. } => Ok(()),
+    }
+}
+
 /// What is said of the text of an assignment. Nothing if it is refused.
 fn of_declared<'a, A: Allocator + Copy>(
     alloc: A,
@@ -199,8 +221,12 @@ fn of_declared<'a, A: Allocator + Copy>(
     names: &[&str],
 ) -> Result<Option<Vec<u8, A>>, AllocError>
     requires { length declared.now.groups.group_of ≡ length declared.now.table.names }
-    ensures { IfOk result (λ said. SaysDeclared (record { first = declaration.entry.file.now; second = assignment.entry.file.now;
-        text = declaration.entry.text.now; lanes = assignment.entry.text.now }) (map (λ n. n.now) names.now)
+    ensures { IfOk result (λ said. SaysDeclared (record {
+      first = declaration.entry.file.now;
+      second = assignment.entry.file.now;
+      text = declaration.entry.text.now;
+      lanes = assignment.entry.text.now;
+    }) (map (λ n. n.now) names.now)
         (record { table = declared.now.table; partition = declared.now.groups }) (option_map (λ text. text.items) said)) }
 {
     // What holds of every table and of all groups.
@@ -219,13 +245,10 @@ fn of_declared<'a, A: Allocator + Copy>(
             drop(workqueues);
             said
         }
-        Err(CertError::OutOfMemory) => Err(AllocError),
-        Err(
-            CertError::BadCertLine { .. }
-            | CertError::NotAllItems { .. }
-            | CertError::GroupSplit { .. }
-            | CertError::NumberOutOfRange { .. },
-        ) => Ok(None),
+        Err(fault) => {
+            unless_memory(fault)?;
+            Ok(None)
+        }
     }
 }
 
@@ -240,8 +263,12 @@ pub(crate) fn of_repair<'a, A: Allocator + Copy>(
     assignment: Source<'a>,
     names: &[&str],
 ) -> Result<Option<Vec<u8, A>>, AllocError>
-    ensures { IfOk result (λ said. SaysRepair (record { first = declaration.entry.file.now; second = assignment.entry.file.now;
-        text = declaration.entry.text.now; lanes = assignment.entry.text.now }) (map (λ n. n.now) names.now)
+    ensures { IfOk result (λ said. SaysRepair (record {
+      first = declaration.entry.file.now;
+      second = assignment.entry.file.now;
+      text = declaration.entry.text.now;
+      lanes = assignment.entry.text.now;
+    }) (map (λ n. n.now) names.now)
         (option_map (λ text. text.items) said)) }
 {
     match read_declaration(alloc, seed, declaration.text) {

@@ -6,7 +6,7 @@
 ghost use Rattle.std.specs.Prelude.{◌≡◌, ◌≤◌, [], IfOk, length, map, option_map, unwrap_or};
 ghost use Rattle.std.specs.List.{All};
 ghost use Rattle.wq_changes.specs.Changes.{IsOf};
-ghost use Rattle.wq_changes.specs.Told.{AreEach, GivesWhy, IsTold, IsToldWhy, TellsChanges};
+ghost use Rattle.wq_changes.specs.Told.{AreEach, GivesWhy, IsTold, IsToldWhy, TellsChanges, most_reasons};
 
 use crate::change::{Change, changes};
 use crate::places::Places;
@@ -19,8 +19,12 @@ use wq_diagnosis::Source;
 use wq_lines::put;
 use wq_voice::{FlushLines, Subject, Wording, of_subject, said_at};
 
-/// Of how many changes it is said why.
-const MOST_REASONS: usize = 10;
+/// Of how many changes it is said why, at most, if there are so many items. Each takes a search for a shortest run.
+fn most_reasons(items: u16) -> usize
+    ensures { result ≡ most_reasons items }
+{
+    if items > 512 { 1 } else { 10 }
+}
 
 /// Workqueues that are repaired, and the texts that say so.
 #[derive(Clone, Copy)]
@@ -197,7 +201,9 @@ pub(crate) fn of_changes<A: Allocator + Copy>(
 {
     let groups = repair.declared.groups.len();
     let all = changes(alloc, repair.old, repair.new, groups)?;
-    let (first, others) = all.as_slice().split_at(all.len().min(MOST_REASONS));
+    let list = all.as_slice();
+    let items = repair.declared.table.len();
+    let (first, others) = list.split_at(list.len().min(most_reasons(items)));
     let mut text = all_whys(alloc, repair, first)?;
     let alone = all_told(alloc, repair, others)?;
     put(&mut text, &alone)?;

@@ -1,4 +1,4 @@
-use Rattle.std.proofs.Common.{◌≡◌, ℕ, sym, ap, ◌∙◌}
+use Rattle.std.proofs.Common.{sym, ap, ◌∙◌}
 use Rattle.wq_changes.specs.Changes.{stays_on}
 use Rattle.wq_changes.proofs.Ranges.{none_passes, some_passes}
 use Rattle.wq_changes.proofs.change.has_stayed.Goals as goal

@@ -1,4 +1,4 @@
-use Rattle.std.proofs.Common.{◌≡◌, ◌++◌, ◌∷◌, [], ℕ, sym, ap, ◌∙◌}
+use Rattle.std.proofs.Common.{◌++◌, ◌∷◌, [], ℕ, sym, ap, ◌∙◌}
 use Rattle.wq_changes.specs.Changes.{has_moved}
 use Rattle.wq_changes.specs.declared.change.Change.TheVariants as change
 use Rattle.wq_changes.proofs.Ranges.{passed, failed}

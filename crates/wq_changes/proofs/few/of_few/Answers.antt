@@ -11,8 +11,8 @@ returns g c =
       said = said;
       reason = c.in_ok-said.ensures;
       is =
-        c.in_ok-put_said.ensures
-        ∙ ap (λ (text : List ℕ). text ++ unwrap_or said [])
-        (c.in_ok-put.ensures.added ∙ ap (λ (text : List ℕ). text ++ c.deref.result.now) c.in_ok-text.ensures
-        ∙ ap (λ (lines : List ℕ). few_line file ++ lines) (c.deref.ensures.value ∙ c.in_ok-lines.ensures));
+          c.in_ok-put_said.ensures
+          ∙ ap (λ (text : List ℕ). text ++ unwrap_or said [])
+          (c.in_ok-put.ensures.added ∙ ap (λ (text : List ℕ). text ++ c.deref.result.now) c.in_ok-text.ensures
+          ∙ ap (λ (lines : List ℕ). few_line file ++ lines) (c.deref.ensures.value ∙ c.in_ok-lines.ensures));
     }

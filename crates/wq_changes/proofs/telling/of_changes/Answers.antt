@@ -12,17 +12,17 @@ pub all_whys-requires-clause-changes : goal.all_whys-requires-clause-changes
 all_whys-requires-clause-changes g c =
     let r = c.args.repair.now in
     let groups = r.declared.now.groups.groups in
-    let all : c.as_slice.result.now ≡ changes_of groups r.old.now r.new.now = c.as_slice.ensures.value ∙ c.in_ok-all.ensures ∙ ap (λ (n : ℕ). changes_of n r.old.now r.new.now) c.len-groups.ensures.len in
+    let all : c.as_slice-list.result.now ≡ changes_of groups r.old.now r.new.now = c.as_slice-list.ensures.value ∙ c.in_ok-all.ensures ∙ ap (λ (n : ℕ). changes_of n r.old.now r.new.now) c.len-groups.ensures.len in
     subst (All (IsOf groups)) (sym c.split_at.ensures.front)
-    (All-take (IsOf groups) c.min.result c.as_slice.result.now (subst (All (IsOf groups)) (sym all) (All-IsOf groups r.old.now r.new.now)))
+    (All-take (IsOf groups) c.min.result c.as_slice-list.result.now (subst (All (IsOf groups)) (sym all) (All-IsOf groups r.old.now r.new.now)))
 
 pub all_told-requires-clause-changes : goal.all_told-requires-clause-changes
 all_told-requires-clause-changes g c =
     let r = c.args.repair.now in
     let groups = r.declared.now.groups.groups in
-    let all : c.as_slice.result.now ≡ changes_of groups r.old.now r.new.now = c.as_slice.ensures.value ∙ c.in_ok-all.ensures ∙ ap (λ (n : ℕ). changes_of n r.old.now r.new.now) c.len-groups.ensures.len in
+    let all : c.as_slice-list.result.now ≡ changes_of groups r.old.now r.new.now = c.as_slice-list.ensures.value ∙ c.in_ok-all.ensures ∙ ap (λ (n : ℕ). changes_of n r.old.now r.new.now) c.len-groups.ensures.len in
     subst (All (IsOf groups)) (sym c.split_at.ensures.back)
-    (All-drop (IsOf groups) c.min.result c.as_slice.result.now (subst (All (IsOf groups)) (sym all) (All-IsOf groups r.old.now r.new.now)))
+    (All-drop (IsOf groups) c.min.result c.as_slice-list.result.now (subst (All (IsOf groups)) (sym all) (All-IsOf groups r.old.now r.new.now)))
 
 pub returns : goal.returns
 returns g c =
@@ -31,13 +31,15 @@ returns g c =
     let s : Declared = record { table = r.declared.now.table; partition = r.declared.now.groups } in
     let names = map (λ n. n.now) r.names.now in
     let cs = changes_of groups r.old.now r.new.now in
-    let all : c.as_slice.result.now ≡ cs = c.as_slice.ensures.value ∙ c.in_ok-all.ensures ∙ ap (λ (n : ℕ). changes_of n r.old.now r.new.now) c.len-groups.ensures.len in
-    let mid : c.min.result ≡ min (length cs) most_reasons =
-    c.min.ensures ∙ ap (λ (n : ℕ). min n most_reasons) (c.len.ensures ∙ ap (λ (l : List Change). length l) (c.in_ok-all.ensures ∙ ap (λ (n : ℕ). changes_of n r.old.now r.new.now) c.len-groups.ensures.len)) in
-    let front : c.split_at.result.0.now ≡ take most_reasons cs =
-    c.split_at.ensures.front ∙ ap (λ (n : ℕ). take n c.as_slice.result.now) mid ∙ ap (λ (l : List Change). take (min (length cs) most_reasons) l) all ∙ take_least most_reasons cs in
-    let back : c.split_at.result.1.now ≡ drop most_reasons cs =
-    c.split_at.ensures.back ∙ ap (λ (n : ℕ). drop n c.as_slice.result.now) mid ∙ ap (λ (l : List Change). drop (min (length cs) most_reasons) l) all ∙ drop_least most_reasons cs in (
+    let all : c.as_slice-list.result.now ≡ cs = c.as_slice-list.ensures.value ∙ c.in_ok-all.ensures ∙ ap (λ (n : ℕ). changes_of n r.old.now r.new.now) c.len-groups.ensures.len in
+    let most : ℕ = most_reasons (length s.table.names) in
+    let is_most : c.most_reasons.result ≡ most = c.most_reasons.ensures ∙ ap most_reasons c.len-items.ensures.len in
+    let mid : c.min.result ≡ min (length cs) most =
+    c.min.ensures ∙ ap (λ (l : List Change). min (length l) c.most_reasons.result) all ∙ ap (min (length cs)) is_most in
+    let front : c.split_at.result.0.now ≡ take most cs =
+    c.split_at.ensures.front ∙ ap (λ (n : ℕ). take n c.as_slice-list.result.now) mid ∙ ap (λ (l : List Change). take (min (length cs) most) l) all ∙ take_least most cs in
+    let back : c.split_at.result.1.now ≡ drop most cs =
+    c.split_at.ensures.back ∙ ap (λ (n : ℕ). drop n c.as_slice-list.result.now) mid ∙ ap (λ (l : List Change). drop (min (length cs) most) l) all ∙ drop_least most cs in (
       c.in_ok-text.text.items,
       c.in_ok-alone.alone.items,
       c.in_ok-put.ensures.added ∙ ap (λ (b : List ℕ). c.in_ok-text.text.items ++ b) c.deref.ensures.value,

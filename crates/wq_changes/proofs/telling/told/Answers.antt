@@ -1,4 +1,4 @@
-use Rattle.std.proofs.Common.{List, ℕ, map, subst, ◌∙◌}
+use Rattle.std.proofs.Common.{List, ℕ, subst, ◌∙◌}
 use Rattle.std.specs.Prelude.{IfOk}
 use Rattle.wq_voice.specs.Reasons.{IsSaidOf}
 use Rattle.wq_changes.proofs.telling.told.Goals as goal

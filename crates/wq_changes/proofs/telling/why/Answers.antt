@@ -1,4 +1,4 @@
-use Rattle.std.proofs.Common.{◌≡◌, ℕ, List, length, map, ap, subst, ◌∙◌}
+use Rattle.std.proofs.Common.{ℕ, List, length, map, ap, subst, ◌∙◌}
 use Rattle.std.specs.Prelude.{Option, option_map}
 use Rattle.std.proofs.lemmas.List.FromFn.{length-map-range_with_len}
 use Rattle.wq_core.specs.Workqueues.{Workqueues}
@@ -7,7 +7,7 @@ use Rattle.wq_commands.specs.Declaration.{Declared}
 use Rattle.wq_voice.specs.Reasons.{GivesReason}
 use Rattle.wq_voice.specs.Waits.{words_of}
 use Rattle.wq_voice.specs.declared.waits.Wording.TheVariants.{OnWorkqueues}
-use Rattle.wq_changes.specs.Without.{lane_without, without_change}
+use Rattle.wq_changes.specs.Without.{lane_without}
 use Rattle.wq_changes.specs.Words.{lead_of}
 use Rattle.wq_changes.proofs.telling.why.Goals as goal
 
@@ -27,7 +27,7 @@ returns g c =
       said,
       c.or_nothing.ensures,
       subst (λ (ws : Workqueues). GivesReason first (lead_of c.args.change.now) (λ h. words_of OnWorkqueues s ws names h) (declared_waits s) ws said)
-      c.in_ok-workqueues.ensures
-      (subst (λ (lead : List ℕ). GivesReason first lead (λ h. words_of OnWorkqueues s c.in_ok-workqueues.workqueues names h) (declared_waits s) c.in_ok-workqueues.workqueues said)
-      c.lead_of.ensures c.in_ok-said.ensures),
+          c.in_ok-workqueues.ensures
+          (subst (λ (lead : List ℕ). GivesReason first lead (λ h. words_of OnWorkqueues s c.in_ok-workqueues.workqueues names h) (declared_waits s) c.in_ok-workqueues.workqueues said)
+          c.lead_of.ensures c.in_ok-said.ensures),
     )

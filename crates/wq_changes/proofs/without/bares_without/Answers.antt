@@ -1,4 +1,4 @@
-use Rattle.std.proofs.Common.{◌≡◌, ◌++◌, ◌∷◌, [], Bool, ap, ◌∙◌}
+use Rattle.std.proofs.Common.{◌++◌, ◌∷◌, [], Bool, ap, ◌∙◌}
 use Rattle.wq_changes.specs.Without.{bare_without}
 use Rattle.wq_changes.proofs.Ranges.{made}
 use Rattle.wq_changes.proofs.without.bares_without.Goals as goal

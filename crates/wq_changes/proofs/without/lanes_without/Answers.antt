@@ -1,4 +1,4 @@
-use Rattle.std.proofs.Common.{◌≡◌, ◌++◌, ◌∷◌, [], ℕ, List, ap, ◌∙◌}
+use Rattle.std.proofs.Common.{◌++◌, ◌∷◌, [], ℕ, ap, ◌∙◌}
 use Rattle.wq_changes.specs.Without.{lane_without}
 use Rattle.wq_changes.proofs.Ranges.{made}
 use Rattle.wq_changes.proofs.without.lanes_without.Goals as goal

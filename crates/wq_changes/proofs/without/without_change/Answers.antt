@@ -1,10 +1,10 @@
-use Rattle.std.proofs.Common.{◌≡◌, ℕ, ◌<◌, ◌≤◌, Bool, List, Option, length, map, sym, ap, subst, ◌∙◌, arith}
+use Rattle.std.proofs.Common.{◌≡◌, ℕ, ◌<◌, Bool, List, Option, length, sym, ap, subst, ◌∙◌, arith}
 use Rattle.std.specs.Prelude.{IfSome}
-use Rattle.std.specs.List.{All, range_with_len}
+use Rattle.std.specs.List.{All}
 use Rattle.std.proofs.lemmas.List.FromFn.{length-map-range_with_len}
 use Rattle.wq_groups.specs.Assignment.{Assignment}
 use Rattle.wq_changes.specs.Without.{bare_without}
-use Rattle.wq_changes.proofs.Lanes.{lanes-within, without_made}
+use Rattle.wq_changes.proofs.Lanes.{lanes-within}
 use Rattle.wq_changes.proofs.without.without_change.Goals as goal
 
 pub unwrap-assignment-requires : goal.unwrap-assignment-requires
