@@ -1,7 +1,8 @@
-use Rattle.std.proofs.Common.{refl, subst, sym}
+use Rattle.std.proofs.Common.{ℕ, List, map, refl, subst, sym}
+use Rattle.std.specs.Borrow.{Bor}
 use Rattle.wq_meter.specs.Input.{IsInput}
 use Rattle.wqplan.specs.CommandLine.{HasFewHelpers, spelled}
-use Rattle.wqplan.specs.Ended.{EndedBy, EndsAsAsked, Has}
+use Rattle.wqplan.specs.Ended.{EndedBy, EndsAsAsked, EndsRepair, Has}
 use Rattle.wqplan.proofs.performing.carry_out_asked.Goals as goal
 
 pub returns-in-Check-clause-ended : goal.returns-in-Check-clause-ended
@@ -22,7 +23,10 @@ returns-in-Hang-clause-ended g c =
 pub returns-in-Repair-clause-ended : goal.returns-in-Repair-clause-ended
 returns-in-Repair-clause-ended g c =
     subst (λ r. EndedBy g.W.Write.contents c.args.writer.now c.repair.new.writer (EndsAsAsked (Has (g.O.World.opens c.args.world.now) g.O.File.Read.remaining) (IsInput (g.I.Read.remaining c.args.input.now.device)) (spelled r)) c.repair.result)
-    (sym c.in-Repair.is) c.repair.ensures.ended
+    (sym c.in-Repair.is)
+    (subst
+    (λ (names : List (Bor (List ℕ))). EndedBy g.W.Write.contents c.args.writer.now c.repair.new.writer (EndsRepair (Has (g.O.World.opens c.args.world.now) g.O.File.Read.remaining) c.in-Repair.declaration.now c.in-Repair.assignment.now (map (λ n. n.now) names)) c.repair.result)
+    c.as_slice.ensures.value c.repair.ensures.ended)
 
 pub returns-in-Replay-clause-ended : goal.returns-in-Replay-clause-ended
 returns-in-Replay-clause-ended g c =
