@@ -2,9 +2,9 @@ use Rattle.std.proofs.Common.{◌≡◌, ℕ, refl, sym, ◌∙◌, Bool, true, 
 use Rattle.std.specs.Prelude.{None, MatchBool}
 use Rattle.wq_core.specs.Wiring.{HasContext}
 use Rattle.wq_core.specs.State.{lane_at, run_by}
-use Rattle.wq_history.specs.Book.{BookView, state, IsWrongToStart}
+use Rattle.wq_history.specs.Book.{BookView, state, HasNothingToStart, IsWrongToStart}
 use Rattle.wq_history.proofs.Deeds.{start_is_lawful}
-use Rattle.wq_history.proofs.book.Book.start_in.Goals as goal
+use Rattle.wq_history.proofs.book.Book.answer_start.Goals as goal
 
 -- the context exists, and runs nothing
 is_idle : (b : BookView) (q c : ℕ) (is : Bool) → is ≡ true
@@ -16,16 +16,7 @@ is_idle b q c false same says = absurd cc
 pub make_in-requires-clause-lawful : goal.make_in-requires-clause-lawful
 make_in-requires-clause-lawful g c =
     let b = c.args.self.now in
-    let q = c.args.q in
-    let h = c.args.helper in
+    let q = c.args.context.lane in
+    let h = c.args.context.helper in
     let idle = is_idle b q h _ c.if-not-is_idle_context.false c.is_idle_context.ensures in
     start_is_lawful b.wiring (state b) q h c.in-Some.next idle.0 idle.1 (sym c.in-Some.ensures.next)
-
-pub returns-in_default-clause-row : goal.returns-in_default-clause-row
-returns-in_default-clause-row g c =
-    let b = c.args.self.now in
-    let idle = is_idle b c.args.q c.args.helper _ c.if-not-is_idle_context.false c.is_idle_context.ensures in
-    ((idle.0, idle.1, sym c.next_on.ensures.next ∙ c.in_default.is), refl)
-
-pub returns-clause-row : goal.returns-clause-row
-returns-clause-row g c = ((c.in-Some.next, sym c.in-Some.ensures.next, refl), c.make_in.ensures)
