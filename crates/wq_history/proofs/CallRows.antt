@@ -9,6 +9,7 @@ use Rattle.wq_core.specs.Wiring.{Wiring, helpers_of, HasContext}
 use Rattle.wq_core.specs.State.{State, lane_at}
 use Rattle.wq_core.specs.Rules.{IsHeldBack}
 use Rattle.wq_rows.specs.declared.event.Event.{Event}
+use Rattle.wq_rows.specs.declared.event.Event.TheVariants.{Cancel as CancelEvent}
 use Rattle.wq_rows.specs.declared.event.Row.{Row}
 use Rattle.wq_rows.specs.Packing.{lane_in, item_in}
 use Rattle.wq_history.specs.declared.asking.Subject.{Subject}
@@ -17,8 +18,7 @@ use Rattle.wq_history.specs.declared.fault.CallError.{CallError}
 use Rattle.wq_history.specs.declared.fault.CallError.TheVariants.{HistoryFull, Closed, Undeclared, TooManyWaits, WrongLane, NotAsked, NoItem}
 use Rattle.wq_history.specs.Events.{event_in, ask_event, told_event, start_event, over_event, finish_event}
 use Rattle.wq_history.specs.History.{state_after, asks_waiting, IsThere, SaysUnfinishedOf, MayCome}
-use Rattle.wq_history.specs.Reserve.{rows_needed}
-use Rattle.wq_history.specs.Book.{BookView, state, IsBook, HasPendingOn, Appends, AppendsOne}
+use Rattle.wq_history.specs.Book.{BookView, state, free, IsBook, HasPendingOn, LacksRows, Appends, AppendsOne}
 use Rattle.wq_history.specs.Calls.{subject_of, IsUnfinishedBelow, RefusesIf, Writes}
 use Rattle.wq_history.proofs.KeptRows.{exist}
 
@@ -76,10 +76,10 @@ pub told-may : (w : Wiring) (rows : List Row) (x : Subject) (n : ℕ) → 0 < as
 told-may w rows (OfItem i) n some done = (refl, some, done)
 told-may w rows (OfLane q) n some done = (refl, some, done)
 
--- how many free rows an ask needs
-pub ask-needs : (w : Wiring) (x : Subject) → (rows_needed w (ask_event x) true ≡ 2) × (rows_needed w (ask_event x) false ≡ 1)
-ask-needs w (OfItem i) = (refl, refl)
-ask-needs w (OfLane q) = (refl, refl)
+-- a cancellation lacks a row only if none is free
+pub cancel-lacks : (b : BookView) (i : ℕ) → LacksRows b (CancelEvent i) → free b ≡ 0
+cancel-lacks b i (true, n, may, less) = absurd (omega (arith, less))
+cancel-lacks b i (false, n, may, less) = omega (arith, less)
 
 -- ---- contexts
 

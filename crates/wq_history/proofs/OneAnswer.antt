@@ -251,7 +251,7 @@ two-refused b new _ ask taken e two why = absurd two
 
 early-done : (b : BookView) (call : Call) → IsEarly b call → IsDone b call → ⊥
 early-done b (Start c) early done = early.1 done.1
-early-done b Drain early done = done early
+early-done b Drain early done = early done
 early-done b Close early done = absurd early
 early-done b (Told x mark) early done = absurd done
 early-done b (Over c f) early done = absurd done

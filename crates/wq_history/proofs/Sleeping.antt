@@ -61,7 +61,7 @@ early-sleeps b (Over c f) condition early awaits =
     let same : early.0 ≡ awaits.0 = one-mark b c f early.0 awaits.0 early.1 awaits.1 in
     same-condition b (Over c f) (done_below x awaits.0) condition awaits.2
     (not-done b x awaits.0 (subst (λ (m : ℕ). IsUnfinishedBelow (state b) x m) same early.2), among-waiters x awaits.0)
-early-sleeps b Drain condition early awaits = same-condition b Drain AllDone condition awaits ((λ met. met early), refl)
+early-sleeps b Drain condition early awaits = same-condition b Drain AllDone condition awaits (early, refl)
 early-sleeps b (Queue i) condition early awaits = absurd early
 early-sleeps b (Cancel i) condition early awaits = absurd early
 early-sleeps b (Ask x) condition early awaits = absurd early

@@ -10,7 +10,7 @@ use Rattle.wq_core.specs.declared.step.Context.{Context}
 use Rattle.wq_core.specs.declared.entry.Running.{Running}
 use Rattle.wq_core.specs.declared.entry.Waiting.{Waiting}
 use Rattle.wq_core.specs.Wiring.{Wiring, items, lane_of, declared_by}
-use Rattle.wq_core.specs.State.{State, lane_at, HasUnfinished, HasUnfinishedBelow, IsBusyBelow}
+use Rattle.wq_core.specs.State.{State, lane_at, HasUnfinishedBelow, IsBusyBelow}
 use Rattle.wq_rows.specs.declared.event.Event.TheVariants.{Queue as QueueEvent, Cancel as CancelEvent, Ask as AskEvent, AskLane as AskLaneEvent}
 use Rattle.wq_rows.specs.declared.event.Row.{Row}
 use Rattle.wq_history.specs.declared.asking.Subject.{Subject}
@@ -145,7 +145,7 @@ WritesTwo old _ ask taken new = ⊥
 abbrev pub IsDone : BookView → Call → Type 0
 IsDone b (Start c) = HasNothingToStart b c.lane c.helper × IsMet b (EndOf c.lane)
 IsDone b Close = Unit {0}
-IsDone b Drain = ¬ HasUnfinished (state b)
+IsDone b Drain = IsMet b AllDone
 IsDone b _ = ⊥
 
 -- the book after such a call
@@ -160,7 +160,7 @@ IsEarly b (Told x mark) = (0 < asks_waiting x b.rows) × IsUnfinishedBelow (stat
 IsEarly b (Start c) = HasNothingToStart b c.lane c.helper × (¬ IsMet b (EndOf c.lane))
 IsEarly b (Over c f) = (mark : ℕ) × WaitsWith b c f mark
     × IsUnfinishedBelow (state b) (subject_of b.wiring f.whole f.target) mark
-IsEarly b Drain = HasUnfinished (state b)
+IsEarly b Drain = ¬ IsMet b AllDone
 IsEarly b _ = ⊥
 
 -- a book replies so, and this is the book after

@@ -48,8 +48,11 @@ impl<A: Allocator> Book<A> {
                 Ok(Reply::Done)
             }
             Call::Drain => {
-                let idle = self.is_idle();
-                Ok(if idle { Reply::Done } else { Reply::NotYet })
+                if self.is_idle() {
+                    Ok(Reply::Done)
+                } else {
+                    Ok(Reply::NotYet)
+                }
             }
         }
     }
@@ -213,8 +216,10 @@ impl<A: Allocator> Book<A> {
             return Err(CallError::WrongLane);
         }
         let Some(next) = self.next_on(q) else {
-            let ended = self.has_ended(q);
-            return Ok(if ended { Reply::Done } else { Reply::NotYet });
+            if self.has_ended(q) {
+                return Ok(Reply::Done);
+            }
+            return Ok(Reply::NotYet);
         };
         let row = self.make_in(q, helper, &HelpStep::Start(next.item), true);
         Ok(Reply::Wrote(row))
@@ -253,7 +258,9 @@ impl<A: Allocator> Book<A> {
         ensures none { IfNone result
             (¬ WaitsFor self.now context.now.lane context.now.helper flush.now.whole flush.now.target) }
     {
-        let waits = self.wait_of(context.lane, context.helper)?;
+        let Some(waits) = self.wait_of(context.lane, context.helper) else {
+            return None;
+        };
         if waits.whole != flush.whole || waits.target != flush.target {
             return None;
         }

@@ -10,7 +10,7 @@ ghost use Rattle.std.specs.List.{count_by};
 ghost use Rattle.wq_core.specs.declared.entry.Running.{Running};
 ghost use Rattle.wq_core.specs.declared.entry.Waiting.{Waiting};
 ghost use Rattle.wq_core.specs.Wiring.{IsWiring, items, lane_of, declared_by, helpers_of, HasContext};
-ghost use Rattle.wq_core.specs.State.{empty_state, lane_at, run_by, next_of, HasPending, HasUnfinished};
+ghost use Rattle.wq_core.specs.State.{empty_state, lane_at, run_by, next_of, HasPending, HasUnfinished, IsBusy};
 ghost use Rattle.wq_core.specs.Rules.{Lawful, Gives, IsHeldBack, step_in};
 ghost use Rattle.wq_rows.specs.declared.event.Event.TheVariants.{Queue, Cancel, Wait, WaitAll, Finish, Ask as AskEvent};
 ghost use Rattle.wq_rows.specs.Packing.{packed_rows};
@@ -220,13 +220,20 @@ impl<A: Allocator> Book<A> {
         }
     }
 
+    /// Whether a lane has an unfinished entry.
+    fn is_busy(&self, q: LaneId) -> bool
+        ensures { IsTrue result ↔ IsBusy (lane_at (state self.now) q) }
+    {
+        is_busy(&self.core, q)
+    }
+
     /// Whether an item or a lane has an unfinished entry.
     pub(crate) fn is_unfinished(&self, subject: &Subject) -> bool
         ensures { SaysUnfinishedOf (state self.now) subject.now result }
     {
         match *subject {
             Subject::Item(item) => self.core.has_unfinished(item),
-            Subject::Lane(q) => is_busy(&self.core, q),
+            Subject::Lane(q) => self.is_busy(q),
         }
     }
 

@@ -9,8 +9,8 @@ use Rattle.wq_history.proofs.Deeds.{over_says, over_is_lawful}
 use Rattle.wq_history.proofs.CallRows.{held-back}
 use Rattle.wq_history.proofs.book.Book.answer_over.Goals as goal
 
-pub make_in-requires-clause-lawful : goal.make_in-requires-clause-lawful
-make_in-requires-clause-lawful g c =
+pub make_in-row-requires-clause-lawful : goal.make_in-row-requires-clause-lawful
+make_in-row-requires-clause-lawful g c =
     let b = c.args.self.now in
     let q = c.args.context.lane in
     let h = c.args.context.helper in
@@ -20,8 +20,8 @@ make_in-requires-clause-lawful g c =
     subst (λ (d : HelpStep). Lawful b.wiring (state b) (step_in q h d)) (sym c.over_of-deed.ensures)
     (over_is_lawful b q h f c.in-Some.ensures.known c.in-Some.ensures.some.0.0 done)
 
-pub make_in-requires-clause-says : goal.make_in-requires-clause-says
-make_in-requires-clause-says g c =
+pub make_in-row-requires-clause-says : goal.make_in-row-requires-clause-says
+make_in-row-requires-clause-says g c =
     let b = c.args.self.now in
     subst (λ (d : HelpStep). Says b.wiring (state b) d true) (sym c.over_of-deed.ensures)
     (over_says b.wiring (state b) c.in-Some.waits.whole c.in-Some.waits.target)
@@ -41,6 +41,6 @@ returns g c =
     let q = c.args.context.lane in
     let h = c.args.context.helper in
     let waits = c.in-Some.ensures.some in
-    (c.make_in.ensures.event ∙ (ap (λ (d : HelpStep). event_in q h d) c.over_of-deed.ensures
+    (c.make_in-row.ensures.event ∙ (ap (λ (d : HelpStep). event_in q h d) c.over_of-deed.ensures
     ∙ (ap (λ (k : Bool). over_event k q h c.in-Some.waits.target) waits.0.1
-    ∙ ap (λ (t : ℕ). over_event c.args.flush.whole q h t) waits.1)), c.make_in.ensures.writes)
+    ∙ ap (λ (t : ℕ). over_event c.args.flush.whole q h t) waits.1)), c.make_in-row.ensures.writes)

@@ -1,8 +1,8 @@
-use Rattle.std.proofs.Common.{◌≡◌, ℕ, refl, sym, ◌∙◌, Bool, true, false}
+use Rattle.std.proofs.Common.{◌≡◌, ℕ, sym, Bool, true, false}
 use Rattle.std.specs.Prelude.{None, MatchBool}
 use Rattle.wq_core.specs.Wiring.{HasContext}
 use Rattle.wq_core.specs.State.{lane_at, run_by}
-use Rattle.wq_history.specs.Book.{BookView, state, HasNothingToStart, IsWrongToStart}
+use Rattle.wq_history.specs.Book.{BookView, state, IsWrongToStart}
 use Rattle.wq_history.proofs.Deeds.{start_is_lawful}
 use Rattle.wq_history.proofs.book.Book.answer_start.Goals as goal
 
@@ -13,8 +13,8 @@ is_idle : (b : BookView) (q c : ℕ) (is : Bool) → is ≡ true
 is_idle b q c true same says = says
 is_idle b q c false same says = absurd cc
 
-pub make_in-requires-clause-lawful : goal.make_in-requires-clause-lawful
-make_in-requires-clause-lawful g c =
+pub make_in-row-requires-clause-lawful : goal.make_in-row-requires-clause-lawful
+make_in-row-requires-clause-lawful g c =
     let b = c.args.self.now in
     let q = c.args.context.lane in
     let h = c.args.context.helper in

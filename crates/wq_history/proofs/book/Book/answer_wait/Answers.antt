@@ -9,8 +9,8 @@ use Rattle.wq_history.specs.Book.{BookView, state}
 use Rattle.wq_history.proofs.Deeds.{wait_says, wait_is_lawful}
 use Rattle.wq_history.proofs.book.Book.answer_wait.Goals as goal
 
-pub make_in-requires-clause-lawful : goal.make_in-requires-clause-lawful
-make_in-requires-clause-lawful g c =
+pub make_in-row-requires-clause-lawful : goal.make_in-row-requires-clause-lawful
+make_in-row-requires-clause-lawful g c =
     let b = c.args.self.now in
     let q = c.args.context.lane in
     let h = c.args.context.helper in
@@ -26,8 +26,8 @@ make_in-requires-clause-lawful g c =
           (omega (arith, c.if-made-waits.false, ap length c.waits.ensures));
     }))
 
-pub make_in-requires-clause-says : goal.make_in-requires-clause-says
-make_in-requires-clause-says g c =
+pub make_in-row-requires-clause-says : goal.make_in-row-requires-clause-says
+make_in-row-requires-clause-says g c =
     let b = c.args.self.now in
     subst (λ (d : HelpStep). Says b.wiring (state b) d c.is_awaited-unfinished.result) (sym c.wait_of-deed.ensures)
     (wait_says b.wiring (state b) c.args.flush.whole c.args.flush.target c.is_awaited-unfinished.result c.is_awaited-unfinished.ensures.item c.is_awaited-unfinished.ensures.lane)
@@ -35,4 +35,4 @@ make_in-requires-clause-says g c =
 pub returns : goal.returns
 returns g c =
     let deed = ap (λ (d : HelpStep). event_in c.args.context.lane c.args.context.helper d) c.wait_of-deed.ensures in
-    (c.make_in.ensures.event ∙ deed, c.make_in.ensures.writes)
+    (c.make_in-row.ensures.event ∙ deed, c.make_in-row.ensures.writes)
