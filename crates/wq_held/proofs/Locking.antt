@@ -1,34 +1,28 @@
 -- What the lock guards stays as it has to be: one more row, counted or not, and a book that is closed.
 use Rattle.std.proofs.Common.{◌≡◌, ℕ, zero, suc, ◌+◌, ◌*◌, ◌<◌, ◌≤◌, replicate, refl, Bool, true, false, cond, List, [], ◌∷◌, ◌++◌, length, sym, ap, subst, ◌∙◌, arith}
-use Rattle.std.specs.Prelude.{Some, Contains, sum, not, IsTrue, ◌↔◌}
+use Rattle.std.specs.Prelude.{Some, sum, not}
 use Rattle.std.proofs.lemmas.List.{length-replicate}
 use Rattle.std.proofs.lemmas.List.Folds.{sum_by-replicate}
-use Rattle.wq_core.specs.Wiring.{Wiring, items, max_helpers, helpers_of, HasContext}
-use Rattle.wq_items.proofs.Lists.{Contains-first}
-use Rattle.wq_core.specs.declared.entry.Entry.{Entry}
-use Rattle.wq_core.specs.State.{lane_at}
+use Rattle.wq_core.specs.Wiring.{Wiring, items, max_helpers}
 use Rattle.wq_core.specs.Deadlock.{IsSafe, IsStuck}
 use Rattle.wq_core.specs.Rules.{IsHeldBack, deed_item}
 use Rattle.wq_core.specs.declared.entry.Running.{Running}
 use Rattle.wq_core.specs.declared.entry.Waiting.{Waiting}
-use Rattle.wq_core.specs.declared.step.HelpStep.{HelpStep}
-use Rattle.wq_core.specs.declared.step.HelpStep.TheVariants.{Start as DoStart, Wait as DoWait, WaitAll as DoWaitAll, Over as DoOver, OverAll as DoOverAll, Finish as DoFinish}
 use Rattle.wq_rows.specs.declared.event.Event.{Event}
 use Rattle.wq_rows.specs.declared.event.Event.TheVariants.{Queue, Cancel, Start, Wait, Over, Finish, Ask, Told, WaitAll, OverAll, AskLane, ToldLane, Help}
 use Rattle.wq_rows.specs.declared.event.Row.{Row}
-use Rattle.wq_rows.specs.Packing.{lane_in}
 use Rattle.wq_counts.specs.declared.kind.Kind.TheVariants.{Finish as FinishKind}
 use Rattle.wq_counts.specs.Counting.{counts_each, wait_kind, over_kind, slot_in, is_counted, AreTallies, raised, noted_as, counted_rows}
 use Rattle.wq_counts.proofs.Tallies.{AreTallies-more, HasCountsOf-noted_as, sum-noted_as, counted_rows-more, counted_rows-le-length, AreTallies-none, item_within}
 use Rattle.wq_history.specs.declared.fault.BookError.{BookError}
 use Rattle.wq_history.specs.declared.fault.BookError.TheVariants.{HistoryFull, Closed, Undeclared, TooManyWaits, WrongLane, NoItem, TooManyRows, OutOfMemory}
-use Rattle.wq_history.specs.Events.{steps_of, subject_in, event_in, wait_event, over_event, finish_event}
-use Rattle.wq_history.specs.History.{state_after, IsThere, MayCome, IsLegal}
+use Rattle.wq_history.specs.Events.{steps_of, subject_in, wait_event, over_event, finish_event}
+use Rattle.wq_history.specs.History.{state_after, IsThere, IsLegal}
 use Rattle.wq_history.proofs.LegalRows.{IsRun-legal}
-use Rattle.wq_history.specs.Book.{BookView, state, IsBook, LaneRuns, HasPendingOn, Appends, AppendsOne, IsWaiting, IsNotWaiting, RefusesLane, RunsItem, WaitsFor}
+use Rattle.wq_history.specs.Book.{BookView, state, IsBook, LaneRuns, Appends, AppendsOne, IsWaiting, IsNotWaiting, RefusesLane, RunsItem, WaitsFor}
 use Rattle.wq_history.specs.Answers.{AnswersOver}
 use Rattle.wq_history.proofs.KeptRows.{exist}
-use Rattle.wq_held.specs.Locked.{max_runtime_lanes, slots, IsProtected, Holds, HasNothingPending, AnswersOverOf}
+use Rattle.wq_held.specs.Locked.{max_runtime_lanes, slots, IsProtected, Holds, AnswersOverOf}
 
 -- ---- slots of counts
 
@@ -83,12 +77,6 @@ there-appended w b new event said n of_wiring book appends =
 pub slot-appended : (w : Wiring) (b new : BookView) (event : Event) (said : Bool) (n : ℕ) → b.wiring ≡ w → IsBook b → Appends b new event said n
     → slot_in event < slots w
 slot-appended w b new event said n of_wiring book appends = in_slots w event (there-appended w b new event said n of_wiring book appends)
-
--- and its lane, if it has one
-pub lane-appended : (w : Wiring) (b new : BookView) (event : Event) (said : Bool) (n : ℕ) → b.wiring ≡ w → IsBook b → Appends b new event said n
-    → lane_in event < w.lanes
-lane-appended w b new event said n of_wiring book appends =
-    subst (λ (x : Wiring). lane_in event < x.lanes) of_wiring (exist b.wiring b.rows event said n book.wiring book.legal appends.may).1
 
 -- a row is appended, and counted, unless it is one that isn't counted
 pub IsProtected-noted : (w : Wiring) (rows parts : ℕ) (b new : BookView) (tallies sums : List ℕ) (seats left amount : ℕ) (event : Event) (said : Bool) (n : ℕ)
