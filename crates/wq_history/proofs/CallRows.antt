@@ -1,5 +1,5 @@
 -- Rows of calls: what they say, and what they are about.
-use Rattle.std.proofs.Common.{◌≡◌, ℕ, zero, suc, ◌<◌, ◌≤◌, Bool, true, false, List, [], ◌∷◌, refl, sym, subst, ◌∙◌, arith}
+use Rattle.std.proofs.Common.{◌≡◌, ℕ, zero, suc, ◌<◌, ◌≤◌, Bool, true, false, List, [], ◌∷◌, refl, subst, arith}
 use Rattle.std.specs.Prelude.{◌↔◌, IsTrue, not, Contains}
 use Rattle.wq_items.proofs.Lists.{Contains-first}
 use Rattle.wq_core.specs.declared.entry.Entry.{Entry}
@@ -9,17 +9,19 @@ use Rattle.wq_core.specs.Wiring.{Wiring, helpers_of, HasContext}
 use Rattle.wq_core.specs.State.{State, lane_at}
 use Rattle.wq_core.specs.Rules.{IsHeldBack}
 use Rattle.wq_rows.specs.declared.event.Event.{Event}
-use Rattle.wq_rows.specs.declared.event.Event.TheVariants.{Cancel as CancelEvent}
+use Rattle.wq_rows.specs.declared.event.Event.TheVariants.{Queue as QueueEvent, Cancel as CancelEvent}
 use Rattle.wq_rows.specs.declared.event.Row.{Row}
 use Rattle.wq_rows.specs.Packing.{lane_in, item_in}
 use Rattle.wq_history.specs.declared.asking.Subject.{Subject}
 use Rattle.wq_history.specs.declared.asking.Subject.TheVariants.{Item as OfItem, Lane as OfLane}
+use Rattle.wq_history.specs.declared.call.Call.TheVariants.{Queue as QueueCall, Cancel as CancelCall}
+use Rattle.wq_history.specs.declared.call.Reply.TheVariants.{Wrote}
 use Rattle.wq_history.specs.declared.fault.CallError.{CallError}
 use Rattle.wq_history.specs.declared.fault.CallError.TheVariants.{HistoryFull, Closed, Undeclared, TooManyWaits, WrongLane, NotAsked, NoItem}
 use Rattle.wq_history.specs.Events.{event_in, ask_event, told_event, start_event, over_event, finish_event}
 use Rattle.wq_history.specs.History.{state_after, asks_waiting, IsThere, SaysUnfinishedOf, MayCome}
 use Rattle.wq_history.specs.Book.{BookView, state, free, IsBook, HasPendingOn, LacksRows, Appends, AppendsOne}
-use Rattle.wq_history.specs.Calls.{subject_of, IsUnfinishedBelow, RefusesIf, Writes}
+use Rattle.wq_history.specs.Calls.{subject_of, IsUnfinishedBelow, RefusesIf, Writes, Replies}
 use Rattle.wq_history.proofs.KeptRows.{exist}
 
 -- ---- the same row
@@ -33,10 +35,18 @@ appends-as old new event other said answer n m events answers numbers row =
     (subst (λ (k : Event). Appends old new k said n) events row))
 
 -- a row that is written, as one of its event
-pub appends-event : (old new : BookView) (row : Row) (event : Event) → row.event ≡ event → Writes old row new
+pub appends_event : (old new : BookView) (row : Row) (event : Event) → row.event ≡ event → Writes old row new
     → AppendsOne old new event row.yes
-appends-event old new row event is writes =
+appends_event old new row event is writes =
     (row.number, subst (λ (e : Event). Appends old new e row.yes row.number) is writes)
+
+pub appends_queue : (old new : BookView) (i : ℕ) (row : Row) → Replies old (QueueCall i) (Wrote row) new
+    → AppendsOne old new (QueueEvent i) row.yes
+appends_queue old new i row replies = appends_event old new row (QueueEvent i) replies.0.0 replies.1
+
+pub appends_cancel : (old new : BookView) (i : ℕ) (row : Row) → Replies old (CancelCall i) (Wrote row) new
+    → AppendsOne old new (CancelEvent i) row.yes
+appends_cancel old new i row replies = appends_event old new row (CancelEvent i) replies.0 replies.1
 
 -- ---- rows that say yes
 

@@ -1,8 +1,6 @@
 -- What holds of a book after an answer, and what an answer is about.
-use Rattle.std.proofs.Common.{◌≡◌, ℕ, zero, suc, ◌+◌, ◌<◌, ◌≤◌, inl, inr, Bool, true, false, cond, List, [], ◌∷◌, ◌++◌, length, length-append, refl, sym, ap, subst, ◌∙◌, arith}
-use Rattle.std.specs.Prelude.{Some, None, Result, Ok, Err, ◌&&◌}
-use Rattle.std.specs.List.{count_by}
-use Rattle.wq_core.specs.declared.entry.Entry.{Entry}
+use Rattle.std.proofs.Common.{◌≡◌, ℕ, zero, suc, ◌+◌, ◌<◌, ◌≤◌, inl, inr, Bool, true, false, cond, List, [], ◌∷◌, ◌++◌, length-append, refl, sym, ap, subst, ◌∙◌, arith}
+use Rattle.std.specs.Prelude.{None, Result, Ok, Err, ◌&&◌}
 use Rattle.wq_core.specs.declared.step.Context.{Context}
 use Rattle.wq_core.specs.declared.step.Step.TheVariants.{Queue as QueueStep}
 use Rattle.wq_core.specs.declared.step.HelpStep.{HelpStep}
@@ -18,7 +16,6 @@ use Rattle.wq_rows.specs.declared.event.Event.TheVariants.{Queue, Cancel, Start,
 use Rattle.wq_rows.specs.declared.event.Row.{Row}
 use Rattle.wq_rows.specs.Packing.{item_in}
 use Rattle.wq_history.specs.declared.asking.Subject.{Subject}
-use Rattle.wq_history.specs.declared.asking.Subject.TheVariants.{Item as OfItem, Lane as OfLane}
 use Rattle.wq_history.specs.declared.call.Flush.{Flush}
 use Rattle.wq_history.specs.declared.call.Call.{Call}
 use Rattle.wq_history.specs.declared.call.Call.TheVariants.{Queue as QueueCall, Cancel as CancelCall, Ask as AskCall, Told as ToldCall, CancelSync, Start as StartCall, Wait as WaitCall, Over as OverCall, Finish as FinishCall, Close, Drain}
@@ -26,12 +23,12 @@ use Rattle.wq_history.specs.declared.call.Reply.{Reply}
 use Rattle.wq_history.specs.declared.call.Reply.TheVariants.{Wrote, WroteTwo, Done, NotYet}
 use Rattle.wq_history.specs.declared.fault.CallError.{CallError}
 use Rattle.wq_history.specs.Events.{step_of, subject_in, event_in, is_ask, is_told, ask_event, start_event, wait_event, over_event, finish_event}
-use Rattle.wq_history.specs.History.{state_after, IsThere, MayCome, MayFollow, IsLegal}
+use Rattle.wq_history.specs.History.{state_after, IsThere, MayCome, IsLegal}
 use Rattle.wq_history.specs.Reserve.{reserved, rows_needed}
 use Rattle.wq_history.specs.Book.{BookView, state, free, IsBook, Appends, IsNext}
 use Rattle.wq_history.specs.Calls.{Writes, WritesTwo, after, Replies, Answers}
 use Rattle.wq_history.proofs.Histories.{state_after-step, state_after-none, IsLegal-more}
-use Rattle.wq_history.proofs.Counting.{count-more, is_ask-ask_event}
+use Rattle.wq_history.proofs.Counting.{count-more}
 use Rattle.wq_history.proofs.Holding.{free_rows-noted}
 use Rattle.wq_history.proofs.LegalRows.{IsSoundState-legal}
 use Rattle.wq_history.proofs.KeptRows.{kept_row, exist}
@@ -50,12 +47,13 @@ noted_row w rows row none not_told =
     ap (work_left w) (state_after-none w rows row none) in
     let asked = count-more (λ (r : Row). is_ask r.event && r.yes) rows row in
     let told = count-more (λ (r : Row). is_told r.event) rows row in
-    let none_told : cond (is_told row.event) 1 0 ≡ 0 = ap (λ (b : Bool). cond b 1 0) not_told in
+    let none_told = ap {B = ℕ} (λ (b : Bool). cond b 1 0) not_told in
     omega (arith, work, asked, told, none_told)
 
 -- a queueing that is accepted keeps the rows of an execution
 queued_row : (w : Wiring) (rows : List Row) (i n : ℕ) → IsWiring w → IsLegal w rows → i < items w
-    → reserved w (rows ++ (record { event = Queue i; yes = true; number = n } ∷ [])) + 1 ≤ reserved w rows + rows_needed w (Queue i) true
+    → reserved w (rows ++ (record { event = Queue i; yes = true; number = n } ∷ [])) + 1
+    ≤ reserved w rows + rows_needed w (Queue i) true
 queued_row w rows i n wiring legal there =
     let row : Row = record { event = Queue i; yes = true; number = n } in
     let s : State = state_after w rows in
@@ -68,7 +66,8 @@ queued_row w rows i n wiring legal there =
 
 paid_row : (w : Wiring) (rows : List Row) (event : Event) (said : Bool) (n : ℕ) → IsWiring w → IsLegal w rows
     → MayCome w rows event said n
-    → reserved w (rows ++ (record { event = event; yes = said; number = n } ∷ [])) + 1 ≤ reserved w rows + rows_needed w event said
+    → reserved w (rows ++ (record { event = event; yes = said; number = n } ∷ [])) + 1
+    ≤ reserved w rows + rows_needed w event said
 paid_row w rows event said n wiring legal may = by_event event said may where
   row : Event → Bool → Row
   row e k = record { event = e; yes = k; number = n }
@@ -114,8 +113,13 @@ appended-upheld old event said n book may room =
       wiring = book.wiring;
       legal = IsLegal-more old.wiring old.rows row book.legal may;
       limit = book.limit;
-      enough = omega (arith, length-append old.rows (row ∷ []), book.enough, room,
-          paid_row old.wiring old.rows event said n book.wiring book.legal may);
+      enough = omega (
+        arith,
+        length-append old.rows (row ∷ []),
+        book.enough,
+        room,
+        paid_row old.wiring old.rows event said n book.wiring book.legal may,
+      );
     }
 
 row-upheld : (old new : BookView) (row : Row) → IsBook old → Writes old row new → IsUpheld old new
@@ -167,13 +171,13 @@ asked-takes old new x said n row =
     let one : cond (is_ask (ask_event x) && said) 1 0 ≤ 1 = at_most_one (is_ask (ask_event x) && said) in
     omega (arith, ap free row.is_new, one, free_rows-noted old.wiring old.room old.rows r (step_of-ask_event x said))
   where
-    at_most_one : (k : Bool) → cond {ℕ} k 1 0 ≤ 1
+    at_most_one : (k : Bool) → cond k 1 0 ≤ 1
     at_most_one true = omega arith
     at_most_one false = omega arith
 
-pub ask-takes : (old new : BookView) (x : Subject) (row : Row) → Replies old (AskCall x) (Wrote row) new
+pub ask_takes : (old new : BookView) (x : Subject) (row : Row) → Replies old (AskCall x) (Wrote row) new
     → free old ≤ free new + 2
-ask-takes old new x row replies =
+ask_takes old new x row replies =
     asked-takes old new x row.yes row.number
     (appends-as old new row.event (ask_event x) row.yes row.yes row.number row.number replies.0 refl refl replies.1)
 
@@ -188,15 +192,15 @@ next-there b q i book next =
     subst (λ (k : ℕ). (k < items b.wiring) × (lane_of b.wiring k ≡ q)) next.2 own
 
 -- what is started: its context exists, and its item is one of the lane
-pub start-there : (old new : BookView) (c : Context) (row : Row) → IsBook old → Replies old (StartCall c) (Wrote row) new
+pub start_there : (old new : BookView) (c : Context) (row : Row) → IsBook old
+    → Replies old (StartCall c) (Wrote row) new
     → HasContext old.wiring c.lane c.helper × (item_in row.event < items old.wiring)
     × (lane_of old.wiring (item_in row.event) ≡ c.lane)
-start-there old new c row book replies =
+start_there old new c row book replies =
     let i : ℕ = replies.0.0 in
     let item : item_in row.event ≡ i = ap item_in replies.0.2 ∙ start-item c.lane c.helper i in
     let there = subst (λ (k : ℕ). (k < items old.wiring) × (lane_of old.wiring k ≡ c.lane)) (sym item)
-    (next-there old c.lane i book replies.0.1) in
-    (
+    (next-there old c.lane i book replies.0.1) in (
       context-appended old.wiring old new c.lane c.helper (DoStart i) row.yes row.number refl book
           (appends-as old new row.event
           (start_event c.lane c.helper i) row.yes row.yes row.number row.number replies.0.2 refl refl replies.1),
@@ -253,3 +257,11 @@ finish-there old new c i row book replies =
     let own = sound.own_lane c.lane done.0.entry (inr (c.helper, done.0, done.1, refl)) in
     let item = subst (λ (k : ℕ). (k < items old.wiring) × (lane_of old.wiring k ≡ c.lane)) done.2.entry own in
     (there.0, item.0, item.1)
+
+-- the same of a start by name
+pub started_there : (old new : BookView) (q h item : ℕ) (row : Row) → IsBook old → item ≡ item_in row.event
+    → Replies old (StartCall (record { lane = q; helper = h })) (Wrote row) new
+    → (item < items old.wiring) × (lane_of old.wiring item ≡ q)
+started_there old new q h item row book is replies =
+    subst (λ (k : ℕ). (k < items old.wiring) × (lane_of old.wiring k ≡ q)) (sym is)
+    (start_there old new (record { lane = q; helper = h }) row book replies).1

@@ -315,6 +315,7 @@ impl<A: Allocator> Book<A> {
     }
 
     /// Makes a call that isn't refused but with a row, which it gives.
+    #[tactic(auto, using(crate::proofs::Answered::row_of_book, crate::proofs::Answered::never_two, crate::proofs::Answered::never_done, crate::proofs::Answered::never_not_yet))]
     fn row(&mut self, call: Call) -> Result<Row, BookError>
         requires { AlwaysWrites call }
         ensures row { IfOk result (λ row. Replies self.old call (Wrote row) self.new) }
@@ -322,7 +323,9 @@ impl<A: Allocator> Book<A> {
     {
         match self.answer(call) {
             Ok(Reply::Wrote(row)) => Ok(row),
-            Ok(_) => unreachable!(),
+            Ok(Reply::WroteTwo(_, _)) => unreachable!(),
+            Ok(Reply::Done) => unreachable!(),
+            Ok(Reply::NotYet) => unreachable!(),
             Err(e) => Err(BookError::of(e)),
         }
     }
@@ -331,6 +334,7 @@ impl<A: Allocator> Book<A> {
     ///
     /// The error is the first of these that holds: `NoItem` (66), `Closed` (61), `HistoryFull` (60). After an error nothing is
     /// changed.
+    #[tactic(auto, using(crate::proofs::Answered::queue_refused, crate::proofs::CallRows::appends_queue))]
     pub fn queue(&mut self, item: ItemId) -> Result<bool, BookError>
         ensures row { IfOk result (λ accepted. AppendsOne self.old self.new (Queue item) accepted) }
         ensures open { IfOk result (λ _. self.old.closed ≡ false) }
@@ -344,6 +348,7 @@ impl<A: Allocator> Book<A> {
     ///
     /// The error is `NoItem` (66), or else `HistoryFull` (60), which occurs only where none is pending. After an error nothing is
     /// changed.
+    #[tactic(auto, using(crate::proofs::Answered::cancel_refused, crate::proofs::CallRows::appends_cancel))]
     pub fn cancel(&mut self, item: ItemId) -> Result<bool, BookError>
         ensures row { IfOk result (λ taken. AppendsOne self.old self.new (Cancel item) taken) }
         ensures refused { IfErr result (λ e. RefusesItem self.old item Cancel e × (self.new ≡ self.old)) }
@@ -356,6 +361,7 @@ impl<A: Allocator> Book<A> {
     /// most.
     ///
     /// The error is `NoItem` (66), or else `HistoryFull` (60). After an error nothing is changed.
+    #[tactic(auto, using(crate::proofs::Answered::ask_refused, crate::proofs::Answered::ask_idle, crate::proofs::Answered::ask_waits, crate::proofs::Upheld::ask_takes))]
     pub fn ask(&mut self, item: ItemId) -> Result<Ask, BookError>
         ensures row { IfOk result (λ answer. AnswersAsk self.old self.new item answer) }
         ensures left { OnOk result (free self.old ≤ free self.new + 2) }
@@ -372,15 +378,18 @@ impl<A: Allocator> Book<A> {
     /// Tells a waiting caller whether its wait is over. The answer is `NotAsked` (65) exactly where no ask about its item waits,
     /// and otherwise `NotYet` exactly where an unfinished entry of the item has a number below the mark. In both cases nothing is
     /// changed, and the ask is given back.
+    #[tactic(auto, using(crate::proofs::Answered::told_done, crate::proofs::Answered::told_not_yet, crate::proofs::Answered::told_not_asked))]
     pub fn told(&mut self, asked: Asked) -> Told
         ensures { AnswersTold self.old self.new asked result }
     {
         match self.answer(Call::Told(Subject::Item(asked.item()), asked.mark())) {
-            Ok(Reply::NotYet) => Told::NotYet(asked),
-            Ok(_) => {
+            Ok(Reply::Wrote(_)) => {
                 asked.give_up();
                 Told::Done
             }
+            Ok(Reply::NotYet) => Told::NotYet(asked),
+            Ok(Reply::WroteTwo(_, _)) => unreachable!(),
+            Ok(Reply::Done) => unreachable!(),
             Err(_) => Told::NotAsked(asked),
         }
     }
@@ -389,6 +398,7 @@ impl<A: Allocator> Book<A> {
     /// rows at most.
     ///
     /// The error is `WrongLane` (64), where there is no such lane, or else `HistoryFull` (60). After an error nothing is changed.
+    #[tactic(auto, using(crate::proofs::Answered::ask_lane_refused, crate::proofs::Answered::ask_lane_idle, crate::proofs::Answered::ask_lane_waits, crate::proofs::Upheld::ask_takes))]
     pub fn ask_lane(&mut self, q: LaneId) -> Result<LaneAsk, BookError>
         ensures row { IfOk result (λ answer. AnswersAskLane self.old self.new q answer) }
         ensures left { OnOk result (free self.old ≤ free self.new + 2) }
@@ -405,15 +415,18 @@ impl<A: Allocator> Book<A> {
     /// Tells a caller who waits for a whole lane whether its wait is over. The answer is `NotAsked` (65) exactly where no ask about
     /// its lane waits, and otherwise `NotYet` exactly where an unfinished entry of the lane has a number below the mark. In both
     /// cases nothing is changed, and the ask is given back.
+    #[tactic(auto, using(crate::proofs::Answered::told_lane_done, crate::proofs::Answered::told_lane_not_yet, crate::proofs::Answered::told_lane_not_asked))]
     pub fn told_lane(&mut self, asked: LaneAsked) -> LaneTold
         ensures { AnswersToldLane self.old self.new asked result }
     {
         match self.answer(Call::Told(Subject::Lane(asked.lane()), asked.mark())) {
-            Ok(Reply::NotYet) => LaneTold::NotYet(asked),
-            Ok(_) => {
+            Ok(Reply::Wrote(_)) => {
                 asked.give_up();
                 LaneTold::Done
             }
+            Ok(Reply::NotYet) => LaneTold::NotYet(asked),
+            Ok(Reply::WroteTwo(_, _)) => unreachable!(),
+            Ok(Reply::Done) => unreachable!(),
             Err(_) => LaneTold::NotAsked(asked),
         }
     }
@@ -423,6 +436,7 @@ impl<A: Allocator> Book<A> {
     ///
     /// The error is `WrongLane` (64), exactly where there is no such lane or no such context, or it runs an entry. After an error
     /// nothing is changed.
+    #[tactic(auto, using(crate::proofs::Answered::start_some, crate::proofs::Answered::start_none, crate::proofs::Answered::start_later, crate::proofs::Answered::lane_refused, crate::proofs::Answered::lane_of_book, crate::proofs::Upheld::started_there))]
     pub fn start_in(&mut self, q: LaneId, helper: u8) -> Result<Option<ItemId>, BookError>
         ensures row { IfOk result (λ answer. AnswersStart self.old self.new q helper answer) }
         ensures known { IfOk result (λ answer. IfSome answer (λ item.
@@ -433,13 +447,16 @@ impl<A: Allocator> Book<A> {
         self.legal();
         match self.answer(Call::Start(Context { lane: q, helper })) {
             Ok(Reply::Wrote(row)) => Ok(Some(row.event.item())),
-            Ok(_) => Ok(None),
+            Ok(Reply::Done) => Ok(None),
+            Ok(Reply::NotYet) => Ok(None),
+            Ok(Reply::WroteTwo(_, _)) => unreachable!(),
             Err(e) => Err(BookError::of(e)),
         }
     }
 
     /// Makes what a context runs begin to wait for an item, as `wait`, or for the whole lane of the item, as `wait_all`: true where
     /// that has an unfinished entry. The errors are theirs.
+    #[tactic(auto, using(crate::proofs::Answered::wait_refused, crate::proofs::Answered::wait_row))]
     pub fn wait_in(
         &mut self,
         q: LaneId,
@@ -462,6 +479,7 @@ impl<A: Allocator> Book<A> {
     ///
     /// The error is `WrongLane` (64), exactly where there is no such lane or no such context, it runs nothing, or its entry doesn't
     /// wait. After an error nothing is changed.
+    #[tactic(auto, using(crate::proofs::Answered::over_true, crate::proofs::Answered::over_false, crate::proofs::Answered::over_not_refused))]
     pub fn over_in(&mut self, q: LaneId, helper: u8) -> Result<bool, BookError>
         ensures row { IfOk result (λ answer. AnswersOver self.old self.new q helper answer) }
         ensures refused { IfErr result (λ e. RefusesLane (IsNotWaiting self.old q helper) e
@@ -470,14 +488,15 @@ impl<A: Allocator> Book<A> {
         let Some(waits) = self.wait_of(q, helper) else {
             return Err(BookError::WrongLane);
         };
-        let context = Context { lane: q, helper };
         let flush = Flush {
             target: waits.target,
             whole: waits.whole,
         };
-        match self.answer(Call::Over(context, flush)) {
+        match self.answer(Call::Over(Context { lane: q, helper }, flush)) {
+            Ok(Reply::Wrote(_)) => Ok(true),
             Ok(Reply::NotYet) => Ok(false),
-            Ok(_) => Ok(true),
+            Ok(Reply::WroteTwo(_, _)) => unreachable!(),
+            Ok(Reply::Done) => unreachable!(),
             Err(_) => unreachable!(),
         }
     }
@@ -486,6 +505,7 @@ impl<A: Allocator> Book<A> {
     ///
     /// The error is `WrongLane` (64), exactly where there is no such lane or no such context, it runs nothing, or its entry waits.
     /// After an error nothing is changed.
+    #[tactic(auto, using(crate::proofs::Answered::finish_done, crate::proofs::Answered::finish_refused, crate::proofs::Answered::not_awake))]
     pub fn finish_in(&mut self, q: LaneId, helper: u8) -> Result<(), BookError>
         ensures row { IfOk result (λ _. (r : Running) × LaneRuns self.old q helper r
             × AppendsOne self.old self.new (finish_event q helper r.entry.item) true) }

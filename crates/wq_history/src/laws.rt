@@ -2,7 +2,7 @@
 //!
 //! They are about rows and books alone, whatever code wrote these.
 
-ghost use Rattle.std.specs.Prelude.{◌≡◌, ℕ, ◌+◌, ◌<◌, ◌≤◌, ◌↔◌, ◌⊎◌, List, [], ◌∷◌, ◌++◌, length, Bool, true, false, ◌&&◌, Result, Ok};
+ghost use Rattle.std.specs.Prelude.{◌≡◌, ℕ, ◌+◌, ◌<◌, ◌≤◌, ◌↔◌, ◌⊎◌, List, [], ◌∷◌, ◌++◌, length, Bool, true, false, ◌&&◌, Result};
 ghost use Rattle.std.specs.List.{All, count_by};
 ghost use Rattle.wq_core.specs.declared.step.Context.{Context};
 ghost use Rattle.wq_core.specs.Wiring.{Wiring, IsWiring, items, lane_of, max_helpers, HasContext};

@@ -1,8 +1,8 @@
-use Rattle.wq_history.proofs.Upheld.{start-there, wait-there, over-there, finish-there}
+use Rattle.wq_history.proofs.Upheld.{start_there, wait-there, over-there, finish-there}
 use Rattle.wq_history.proofs.laws.what_is_answered_exists.Goals as goal
 
 pub returns-clause-started : goal.returns-clause-started
-returns-clause-started c = start-there
+returns-clause-started c = start_there
 
 pub returns-clause-waits : goal.returns-clause-waits
 returns-clause-waits c = wait-there

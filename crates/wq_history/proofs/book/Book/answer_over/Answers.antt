@@ -40,7 +40,9 @@ pub returns : goal.returns
 returns g c =
     let q = c.args.context.lane in
     let h = c.args.context.helper in
-    let waits = c.in-Some.ensures.some in
-    (c.make_in-row.ensures.event ∙ (ap (λ (d : HelpStep). event_in q h d) c.over_of-deed.ensures
-    ∙ (ap (λ (k : Bool). over_event k q h c.in-Some.waits.target) waits.0.1
-    ∙ ap (λ (t : ℕ). over_event c.args.flush.whole q h t) waits.1)), c.make_in-row.ensures.writes)
+    let waits = c.in-Some.ensures.some in (
+      c.make_in-row.ensures.event ∙ (ap (λ (d : HelpStep). event_in q h d) c.over_of-deed.ensures
+          ∙ (ap (λ (k : Bool). over_event k q h c.in-Some.waits.target) waits.0.1
+          ∙ ap (λ (t : ℕ). over_event c.args.flush.whole q h t) waits.1)),
+      c.make_in-row.ensures.writes,
+    )

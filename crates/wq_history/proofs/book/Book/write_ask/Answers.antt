@@ -1,4 +1,4 @@
-use Rattle.std.proofs.Common.{◌≡◌, ℕ, false, sym, ap, subst, ◌∙◌}
+use Rattle.std.proofs.Common.{◌≡◌, false, sym, ap, subst, ◌∙◌}
 use Rattle.wq_core.specs.State.{State}
 use Rattle.wq_rows.specs.declared.event.Event.{Event}
 use Rattle.wq_history.specs.History.{MayCome}
