@@ -169,32 +169,32 @@ never_not_yet old new _ writes replies = absurd writes
 -- an ask: the item is idle, or the caller waits, with the number of the row as its mark
 pub ask_idle : (old new : BookView) (i : ℕ) (row : Row) → row.yes ≡ false → Replies old (Ask (OfItem i)) (Wrote row) new
     → AnswersAsk old new i ItemIdle
-ask_idle old new i row no replies = (
+ask_idle old new i row is replies = (
   row.number,
-  appends-as old new row.event (AskEvent i) row.yes false row.number row.number replies.0 no refl replies.1,
+  appends-as old new row.event (AskEvent i) row.yes false row.number row.number replies.0 is refl replies.1,
 )
 
 pub ask_waits : (old new : BookView) (i : ℕ) (row : Row) (asked : Asked) → row.yes ≡ true → asked.item ≡ i
     → asked.mark ≡ row.number → Replies old (Ask (OfItem i)) (Wrote row) new → AnswersAsk old new i (ItemWaiting asked)
-ask_waits old new i row asked yes item mark replies = (
+ask_waits old new i row asked is item mark replies = (
   item,
-  appends-as old new row.event (AskEvent i) row.yes true row.number asked.mark replies.0 yes (sym mark) replies.1,
+  appends-as old new row.event (AskEvent i) row.yes true row.number asked.mark replies.0 is (sym mark) replies.1,
 )
 
 -- the same of a lane
 pub ask_lane_idle : (old new : BookView) (q : ℕ) (row : Row) → row.yes ≡ false
     → Replies old (Ask (OfLane q)) (Wrote row) new → AnswersAskLane old new q LaneIdle
-ask_lane_idle old new q row no replies = (
+ask_lane_idle old new q row is replies = (
   row.number,
-  appends-as old new row.event (AskLaneEvent q) row.yes false row.number row.number replies.0 no refl replies.1,
+  appends-as old new row.event (AskLaneEvent q) row.yes false row.number row.number replies.0 is refl replies.1,
 )
 
 pub ask_lane_waits : (old new : BookView) (q : ℕ) (row : Row) (asked : LaneAsked) → row.yes ≡ true → asked.lane ≡ q
     → asked.mark ≡ row.number → Replies old (Ask (OfLane q)) (Wrote row) new
     → AnswersAskLane old new q (LaneWaiting asked)
-ask_lane_waits old new q row asked yes lane mark replies = (
+ask_lane_waits old new q row asked is lane mark replies = (
   lane,
-  appends-as old new row.event (AskLaneEvent q) row.yes true row.number asked.mark replies.0 yes (sym mark) replies.1,
+  appends-as old new row.event (AskLaneEvent q) row.yes true row.number asked.mark replies.0 is (sym mark) replies.1,
 )
 
 -- no ask waits

@@ -263,5 +263,5 @@ pub started_there : (old new : BookView) (q h item : ℕ) (row : Row) → IsBook
     → Replies old (StartCall (record { lane = q; helper = h })) (Wrote row) new
     → (item < items old.wiring) × (lane_of old.wiring item ≡ q)
 started_there old new q h item row book is replies =
-    subst (λ (k : ℕ). (k < items old.wiring) × (lane_of old.wiring k ≡ q)) (sym is)
-    (start_there old new (record { lane = q; helper = h }) row book replies).1
+    let there = start_there old new (record { lane = q; helper = h }) row book replies in
+    subst (λ (k : ℕ). (k < items old.wiring) × (lane_of old.wiring k ≡ q)) (sym is) (there.1, there.2)

@@ -361,7 +361,7 @@ impl<A: Allocator> Book<A> {
     /// most.
     ///
     /// The error is `NoItem` (66), or else `HistoryFull` (60). After an error nothing is changed.
-    #[tactic(auto, using(crate::proofs::Answered::ask_refused, crate::proofs::Answered::ask_idle, crate::proofs::Answered::ask_waits, crate::proofs::Upheld::ask_takes))]
+    #[tactic(auto, using(crate::proofs::Answered::ask_refused, crate::proofs::Answered::ask_idle, crate::proofs::Answered::ask_waits))]
     pub fn ask(&mut self, item: ItemId) -> Result<Ask, BookError>
         ensures row { IfOk result (λ answer. AnswersAsk self.old self.new item answer) }
         ensures left { OnOk result (free self.old ≤ free self.new + 2) }
@@ -378,7 +378,7 @@ impl<A: Allocator> Book<A> {
     /// Tells a waiting caller whether its wait is over. The answer is `NotAsked` (65) exactly where no ask about its item waits,
     /// and otherwise `NotYet` exactly where an unfinished entry of the item has a number below the mark. In both cases nothing is
     /// changed, and the ask is given back.
-    #[tactic(auto, using(crate::proofs::Answered::told_done, crate::proofs::Answered::told_not_yet, crate::proofs::Answered::told_not_asked))]
+    #[tactic(auto, using(crate::proofs::Answered::told_done, crate::proofs::Answered::told_not_yet))]
     pub fn told(&mut self, asked: Asked) -> Told
         ensures { AnswersTold self.old self.new asked result }
     {
@@ -398,7 +398,7 @@ impl<A: Allocator> Book<A> {
     /// rows at most.
     ///
     /// The error is `WrongLane` (64), where there is no such lane, or else `HistoryFull` (60). After an error nothing is changed.
-    #[tactic(auto, using(crate::proofs::Answered::ask_lane_refused, crate::proofs::Answered::ask_lane_idle, crate::proofs::Answered::ask_lane_waits, crate::proofs::Upheld::ask_takes))]
+    #[tactic(auto, using(crate::proofs::Answered::ask_lane_refused, crate::proofs::Answered::ask_lane_idle, crate::proofs::Answered::ask_lane_waits))]
     pub fn ask_lane(&mut self, q: LaneId) -> Result<LaneAsk, BookError>
         ensures row { IfOk result (λ answer. AnswersAskLane self.old self.new q answer) }
         ensures left { OnOk result (free self.old ≤ free self.new + 2) }
@@ -415,7 +415,7 @@ impl<A: Allocator> Book<A> {
     /// Tells a caller who waits for a whole lane whether its wait is over. The answer is `NotAsked` (65) exactly where no ask about
     /// its lane waits, and otherwise `NotYet` exactly where an unfinished entry of the lane has a number below the mark. In both
     /// cases nothing is changed, and the ask is given back.
-    #[tactic(auto, using(crate::proofs::Answered::told_lane_done, crate::proofs::Answered::told_lane_not_yet, crate::proofs::Answered::told_lane_not_asked))]
+    #[tactic(auto, using(crate::proofs::Answered::told_lane_done, crate::proofs::Answered::told_lane_not_yet))]
     pub fn told_lane(&mut self, asked: LaneAsked) -> LaneTold
         ensures { AnswersToldLane self.old self.new asked result }
     {
@@ -436,7 +436,7 @@ impl<A: Allocator> Book<A> {
     ///
     /// The error is `WrongLane` (64), exactly where there is no such lane or no such context, or it runs an entry. After an error
     /// nothing is changed.
-    #[tactic(auto, using(crate::proofs::Answered::start_some, crate::proofs::Answered::start_none, crate::proofs::Answered::start_later, crate::proofs::Answered::lane_refused, crate::proofs::Answered::lane_of_book, crate::proofs::Upheld::started_there))]
+    #[tactic(auto, using(crate::proofs::Answered::start_some, crate::proofs::Answered::start_none, crate::proofs::Answered::start_later, crate::proofs::Answered::lane_refused, crate::proofs::Answered::lane_of_book))]
     pub fn start_in(&mut self, q: LaneId, helper: u8) -> Result<Option<ItemId>, BookError>
         ensures row { IfOk result (λ answer. AnswersStart self.old self.new q helper answer) }
         ensures known { IfOk result (λ answer. IfSome answer (λ item.
