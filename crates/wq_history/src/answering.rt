@@ -1,7 +1,7 @@
 //! What a book answers to a call, one function for each.
 //!
-//! All of it is said by one relation, `Answers` of `specs/Calls`. A call takes the time of the step that it makes, and no memory.
-//! Whoever calls under a lock calls `answer`; the named calls of `book` are made of it.
+//! All of it is said by one relation, `Answers` of `specs/Calls`. A call takes the time of the step that it makes, and no
+//! memory. Whoever calls under a lock calls `answer`; the named calls of `book` are made of it.
 
 ghost use Rattle.std.specs.Prelude.{◌≡◌, ◌<◌, ◌↔◌, IsTrue, IfErr, IfSome, IfNone, OnOk};
 ghost use Rattle.wq_core.specs.declared.entry.Waiting.{Waiting};
@@ -25,11 +25,11 @@ use wq_items::ItemId;
 use wq_rows::{Event, Row};
 
 impl<A: Allocator> Book<A> {
-    /// Answers a call: by the row or the two rows that it wrote, by `Done` or `NotYet` where there is none to write, or by a
-    /// refusal. Only a row that was written, and `Close`, change the book.
+    /// Answers a call: by the row or the two rows that it wrote, by `Done` or `NotYet` where there is none to write, or
+    /// by a refusal. Only a row that was written, and `Close`, change the book.
     ///
-    /// An ask that is told is named by its subject and its mark alone, which anybody may make up: whoever uses `answer` tells each
-    /// ask once, with the mark that its own row has. `told` and `told_lane` take an ask that can't be copied.
+    /// An ask that is told is named by its subject and its mark alone, which anybody may make up: whoever uses `answer`
+    /// tells each ask once, with the mark that its own row has. `told` and `told_lane` take an ask that can't be copied.
     pub fn answer(&mut self, call: Call) -> Result<Reply, CallError>
         ensures { Answers self.old call result self.new }
     {
