@@ -436,7 +436,7 @@ impl<A: Allocator> Book<A> {
     ///
     /// The error is `WrongLane` (64), exactly where there is no such lane or no such context, or it runs an entry. After an error
     /// nothing is changed.
-    #[tactic(auto, using(crate::proofs::Answered::start_some, crate::proofs::Answered::start_none, crate::proofs::Answered::start_later, crate::proofs::Answered::lane_refused, crate::proofs::Answered::lane_of_book, crate::proofs::Upheld::started_there))]
+    #[tactic(auto, using(crate::proofs::Answered::start_some, crate::proofs::Answered::start_none, crate::proofs::Answered::start_later, crate::proofs::Answered::lane_refused, crate::proofs::Answered::lane_of_book))]
     pub fn start_in(&mut self, q: LaneId, helper: u8) -> Result<Option<ItemId>, BookError>
         ensures row { IfOk result (λ answer. AnswersStart self.old self.new q helper answer) }
         ensures known { IfOk result (λ answer. IfSome answer (λ item.
