@@ -1,5 +1,5 @@
 -- A book has one answer to a call.
-use Rattle.std.proofs.Common.{◌≡◌, ℕ, zero, suc, ◌+◌, ◌<◌, ◌≤◌, ◌⊎◌, inl, inr, Bool, true, false, [], ◌∷◌, ◌++◌, length, refl, sym, ap, subst, ◌∙◌, arith}
+use Rattle.std.proofs.Common.{◌≡◌, ℕ, zero, suc, ◌<◌, ◌≤◌, ◌⊎◌, inl, inr, Bool, true, false, [], ◌∷◌, ◌++◌, length, refl, sym, ap, subst, ◌∙◌, arith}
 use Rattle.std.specs.Prelude.{Some, None, Result, Ok, Err}
 use Rattle.wq_items.specs.Table.{ItemWaitsBy}
 use Rattle.wq_core.specs.declared.step.Context.{Context}
@@ -27,7 +27,7 @@ use Rattle.wq_history.specs.declared.call.Call.{Call}
 use Rattle.wq_history.specs.declared.call.Call.TheVariants.{Queue, Cancel, Ask, Told, CancelSync, Start, Wait, Over, Finish, Close, Drain}
 use Rattle.wq_history.specs.declared.call.Reply.{Reply}
 use Rattle.wq_history.specs.declared.call.Reply.TheVariants.{Wrote, WroteTwo, Done, NotYet}
-use Rattle.wq_history.specs.Calls.{IsUnfinishedBelow, RefusesToQueue, RefusesToCancel, RefusesToAsk, RefusesToTell, RefusesToCancelSync, RefusesToWait, RefusesIf, Refuses, IsRowOf, Writes, WritesTwo, IsDone, after, IsEarly, Answers}
+use Rattle.wq_history.specs.Calls.{IsUnfinishedBelow, RefusesToQueue, RefusesToCancel, RefusesToAsk, RefusesToTell, RefusesToCancelSync, RefusesToWait, RefusesIf, Refuses, IsRowOf, Writes, WritesTwo, IsDone, IsEarly, Answers}
 use Rattle.wq_history.proofs.CallRows.{appends-as, wrong-only, held-back, context-appended}
 use Rattle.wq_history.proofs.Sleeping.{one-wait}
 use Rattle.wq_history.proofs.Uniqueness.{same-row, comes, same-event, one-row}
