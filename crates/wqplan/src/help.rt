@@ -50,7 +50,7 @@ pub(crate) const CERT: &str = "A plan or a circle, in the form in which `plan` p
 
 /// What ASSIGN is.
 pub(crate) const ASSIGN: &str =
-    "Which item is on which workqueue: lines `wq`, `norescuer`, or a plan";
+    "Which item is on which workqueue: `wq`, `norescuer` lines or a plan";
 
 /// What ASSIGN is for a command that works without it too.
 pub(crate) const ANY_ASSIGN: &str =
