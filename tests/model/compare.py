@@ -162,8 +162,8 @@ COMMANDS = {
         make_repairs.limit_repair_cases,
         make_repairs.random_repair_case,
         [("all with a rescuer", 0, rf"(wq N( Z)?{CALLED}\n)*"), ("some without", 0, rf"((wq|norescuer) N( Z)?{CALLED}\n)+"),
-         ("circles", 1, r"circle N\nA+run N\nS+"), ("runs", 1, r"run N\nS+")]
-        + DECLARATION_REFUSALS + CERTIFICATE_REFUSALS[1:],
+         ("circles", 1, r"circle N\nA+run N\nS+"), ("runs", 1, r"run N\nS+"), ("names of no item", 2, r"refused 8 line 0\n")]
+        + CERTIFICATE_REFUSALS,
     ),
     "circles": (
         make_circles.limit_circles_cases,
