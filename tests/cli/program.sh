@@ -624,7 +624,7 @@ done < <(python3 -B "$root/tests/lib/commands.py" forms)
 for command in "${!longest[@]}"; do
     # Each file is an argument of its own. Behind those of `repair` a word is a NAME, here of no item.
     answer=
-    [ "$command" != repair ] || answer='refused 8 line 0'
+    [ "$command" != repair ] || answer='refused 8 line 0\n'
     run "$command" ${longest[$command]} more </dev/null
     check "$command ${longest[$command]}: one file more" 2 "$answer" some
 done
