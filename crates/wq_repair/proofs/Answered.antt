@@ -1,6 +1,6 @@
 -- From the steps of a repair to its answer.
 use Rattle.std.proofs.Common.{◌≡◌, ℕ, ◌<◌, ◌≤◌, ◌⊎◌, inl, inr, Bool, true, false, not, List, [], ◌∷◌, length, get_or, refl, sym, ap, subst, ◌∙◌, arith}
-use Rattle.std.specs.Prelude.{◌↔◌, map, slice_index, slice_index_or, Contains}
+use Rattle.std.specs.Prelude.{◌↔◌, max, map, slice_index, slice_index_or, Contains}
 use Rattle.std.specs.List.{All}
 use Rattle.std.proofs.lemmas.Bool.{cases_lt, false≢true}
 use Rattle.std.proofs.lemmas.List.{get_or-map, get_or_default, length-map}
@@ -219,14 +219,18 @@ module _ (d : Declaration) (old start : Workqueues) (names : List ℕ) (declarat
     | inl lt ↦ elim (cases_named d names k) [ inl named ↦ inl (λ below. named) | inr not ↦ inr (lt, not) ]
   ]
 
-  pub AreNamesTooFew-start : start.assignment.lanes ≤ 4096 → (¬ Circle (NeededWaits d old)) → (steps : List Step) → IsHang d start steps → AreNamesTooFew d old names start steps
-  AreNamesTooFew-start few no_circle steps hang = record {
+  pub AreNamesTooFew-start : start.assignment.lanes ≤ 4096 → start.assignment.lanes ≤ max old.assignment.lanes d.groups → length start.bare ≤ start.assignment.lanes → (¬ Circle (NeededWaits d old))
+      → (steps : List Step) → IsHang d start steps → AreNamesTooFew d old names start steps
+  AreNamesTooFew-start few most bare no_circle steps hang = record {
     no_circle = no_circle;
     some_stay = elim (all_or_one (λ (k : ℕ). (k < d.groups) → IsNamed d names k) (λ (k : ℕ). (k < d.groups) × (¬ IsNamed d names k)) named_or_not d.groups) [
       | inr one ↦ (one.0, one.1, one.2.1)
       | inl all ↦ absurd (never_hangs (λ g below. all g below below) no_circle few (bare_waits d start) refl hang.first hang.are_first)
     ];
     compared = is.compared;
+    is = is;
+    few = most;
+    bare = bare;
     hang = hang;
     all = λ new compared. Deadlocks-hanging d old start new names declaration before is few compared (bare_waits d start) refl hang.first hang.are_first;
   }
@@ -289,4 +293,4 @@ pub IsRepair-minimal : (d : Declaration) (old new : Workqueues) (names : List �
 IsRepair-minimal d old new names needed declaration before are_needed dead is =
     IsRepair-needed d old new names needed is.number declaration dead is.compared
     (λ fewer compared less g below marked. rescued-needed d old fewer names declaration before compared g ((are_needed.exactly g below).0 marked))
-    is.changes is.falls is.few is.bare
+    is.changes is.falls is.few is.bare is.used is.only

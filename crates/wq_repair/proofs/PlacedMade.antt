@@ -5,11 +5,11 @@ use Rattle.std.proofs.lemmas.Bool.{cases_eq, cases_lt}
 use Rattle.std.proofs.lemmas.List.{get_or_default}
 use Rattle.std.proofs.lemmas.List.Elements.{Contains-get_or}
 use Rattle.wq_core.specs.Workqueues.{Workqueues}
-use Rattle.wq_repair.specs.Changes.{IsRescued, lane_in}
+use Rattle.wq_repair.specs.Changes.{IsRescued, HoldsAny, lane_in}
 use Rattle.wq_repair.specs.Marks.{IsMarked, Marks}
 use Rattle.wq_repair.specs.Steps.{ArePlacedBy}
 use Rattle.wq_repair.specs.Lanes.{nth_lane, AreFree, AreBareNow}
-use Rattle.wq_repair.specs.Placing.{IsLaneOfRank, HasNoLane, HoldsRanked, AreLanesOfRanks, HasRanked, HoldsAny, AreEmpty, AreTaken, AreRankedLanes}
+use Rattle.wq_repair.specs.Placing.{IsLaneOfRank, HasNoLane, HoldsRanked, AreLanesOfRanks, HasRanked, AreEmpty, AreTaken, AreRankedLanes}
 use Rattle.wq_repair.proofs.StartsBy.{cases_marked}
 use Rattle.wq_repair.proofs.Readied.{all_or_one}
 use Rattle.wq_repair.proofs.Taking.{nth_lane-in, nth_lane-new, nth_lane-below, few-held}
@@ -150,13 +150,16 @@ module _ (old : Workqueues) (given stays leaves leave bare : List Bool) (ranks e
         one_lane (slice_index_or after (slice_index ranks some.group) None) (slice_index lane_of some.group) (nth_lane empty old.assignment.lanes n) (ranked.marked some.group is some.marked) lane,
       )
 
+  -- a group is on each new lane
+  holds-new : (q : ℕ) → old.assignment.lanes ≤ q → q < old.assignment.lanes + (taken - length empty) → (g : ℕ) × (g < length lane_of) × (slice_index lane_of g ≡ q)
+  holds-new q new lt =
+      let n : ℕ = q - old.assignment.lanes + length empty in
+      let at = taken_holds n (omega (arith, lt, new)) in
+      (at.0, at.1, at.2 ∙ nth_lane-new empty old.assignment.lanes n (omega arith) ∙ omega (arith, new))
+
   holds-lane : length empty ≤ taken → (q : ℕ) → q < old.assignment.lanes + (taken - length empty) → (g : ℕ) × (g < length lane_of) × (slice_index lane_of g ≡ q)
   holds-lane all q lt = elim (cases_lt q old.assignment.lanes) [
-    | inr new ↦ (
-        let n : ℕ = q - old.assignment.lanes + length empty in
-        let at = taken_holds n (omega (arith, lt, new, all)) in
-        (at.0, at.1, at.2 ∙ nth_lane-new empty old.assignment.lanes n (omega arith) ∙ omega (arith, new))
-        )
+    | inr new ↦ holds-new q new lt
     | inl old_lane ↦ elim (all_or_one (λ (k : ℕ). ¬ ((k < length leaves) × (lane_in old k ≡ q))) (λ (k : ℕ). (k < length leaves) × (lane_in old k ≡ q)) (holds_or_not q) (length leaves)) [
       | inr some ↦ elim (cases_marked leaves some.0) [
         | inr not ↦ (some.0, omega (arith, some.2.0, ranked.one_each), ranked.others some.0 some.2.0 not ∙ some.2.1)
@@ -200,6 +203,15 @@ module _ (old : Workqueues) (given stays leaves leave bare : List Bool) (ranks e
     ]
   ]
 
+  used : (q : ℕ) → old.assignment.lanes ≤ q → q < old.assignment.lanes + (taken - length empty) → HoldsAny made q
+  used q new lt = let at = holds-new q new lt in record { group = at.0; is_group = at.1; on = at.2 }
+
+  only_used : (q : ℕ) → q < old.assignment.lanes → IsRescued made q → IsRescued old q ⊎ HoldsAny made q
+  only_used q lt rescued = elim (now.only q lt rescued) [
+    | inl had ↦ inl had
+    | inr comer ↦ inr (record { group = comer.group; is_group = omega (arith, comer.is_group, ranked.one_each); on = comer.on })
+  ]
+
   pub ArePlacedBy-made : ArePlacedBy old given stays leaves ranks made
   ArePlacedBy-made = record {
     one_each = ranked.one_each;
@@ -212,5 +224,7 @@ module _ (old : Workqueues) (given stays leaves leave bare : List Bool) (ranks e
     kept = λ q rescued. now.rescued q (inl rescued);
     given_one = λ g is not marked. now.rescued (lane_in old g) (inr (record { group = g; is_group = is; why = inr marked; on = ranked.others g is not }));
     only = only;
+    used = used;
+    only_used = only_used;
     ranked = ranked-any;
   }

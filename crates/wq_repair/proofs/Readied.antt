@@ -443,4 +443,6 @@ module _ (d : Declaration) (old : Workqueues) (names : List ℕ) (s : Scope) (st
                   (λ (q : ℕ). rank_on s.needed new.assignment.lane_of_group ranks q d.groups) ranked;
               few = omega (arith, placed.few, are_leaving.one_each);
               bare = placed.bare;
+              used = placed.used;
+              only = placed.only_used;
             }

@@ -1,5 +1,5 @@
 -- Changes: in what other workqueues differ from those that there are, and with which others a repair is compared.
-use Rattle.std.specs.Prelude.{◌≡◌, ◌≢◌, ℕ, ◌<◌, ◌≤◌, ◌⊎◌, true, false, List, slice_index, slice_index_or}
+use Rattle.std.specs.Prelude.{◌≡◌, ◌≢◌, ℕ, ◌<◌, ◌≤◌, ◌⊎◌, true, false, List, length, slice_index, slice_index_or}
 use Rattle.std.specs.List.{Any}
 use Rattle.wq_groups.specs.Declaration.{Declaration}
 use Rattle.wq_groups.specs.Assignment.{IsAssignment, group_lane}
@@ -16,6 +16,12 @@ IsBare ws q = slice_index_or ws.bare q false ≡ true
 -- the lane of group g
 abbrev pub lane_in : Workqueues → ℕ → ℕ
 lane_in ws g = group_lane ws.assignment g
+
+-- a group is on lane q
+pub record HoldsAny (ws : Workqueues) (q : ℕ) : Type 0 where
+  pub group : ℕ
+  pub is_group : group < length ws.assignment.lane_of_group
+  pub on : lane_in ws group ≡ q
 
 -- one of the named items is in group g, where items have these groups
 abbrev pub HasName : List ℕ → List ℕ → ℕ → Type 0

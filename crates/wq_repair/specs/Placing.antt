@@ -1,7 +1,7 @@
 -- Lanes of ranks, and how groups come to them.
 use Rattle.std.specs.Prelude.{◌≡◌, ◌↔◌, ℕ, ◌<◌, ◌≤◌, List, Bool, Option, Some, None, length, slice_index, slice_index_or, Contains}
 use Rattle.wq_core.specs.Workqueues.{Workqueues}
-use Rattle.wq_repair.specs.Changes.{lane_in}
+use Rattle.wq_repair.specs.Changes.{HoldsAny, lane_in}
 use Rattle.wq_repair.specs.Marks.{IsMarked}
 use Rattle.wq_repair.specs.Lanes.{nth_lane}
 
@@ -32,12 +32,6 @@ pub record HasRanked (marks : List Bool) (ranks : List ℕ) (r : ℕ) : Type 0 w
   pub group : ℕ
   pub marked : IsMarked marks group
   pub ranked : slice_index ranks group ≡ r
-
--- a group is on lane q
-pub record HoldsAny (old : Workqueues) (q : ℕ) : Type 0 where
-  pub group : ℕ
-  pub is_group : group < length old.assignment.lane_of_group
-  pub on : lane_in old group ≡ q
 
 -- just these lanes hold no group
 abbrev pub AreEmpty : Workqueues → List ℕ → Type 0

@@ -8,7 +8,7 @@ use Rattle.wq_core.specs.Workqueues.{Workqueues, wiring_of}
 use Rattle.wq_core.specs.Deadlock.{IsSafe}
 use Rattle.wq_levels.specs.Ranks.{AreRanks}
 use Rattle.wq_deadlock.specs.Judging.{rescued_graph}
-use Rattle.wq_repair.specs.Changes.{IsRescued, IsNamed, IsNamedLane, IsToBeCompared, lane_in}
+use Rattle.wq_repair.specs.Changes.{IsRescued, HoldsAny, IsNamed, IsNamedLane, IsToBeCompared, lane_in}
 use Rattle.wq_repair.specs.Marks.{IsMarked, Marks}
 use Rattle.wq_repair.specs.Together.{Lists, IsHomeOf, ArePutTogether}
 use Rattle.wq_repair.specs.Joined.{AreChangesNeeded, FallsAlongWaits}
@@ -40,7 +40,8 @@ pub record IsGraphOfNeeded (d : Declaration) (needed : List Bool) (graph : List 
   pub long : length graph ≡ d.groups
   pub arcs : (g h : ℕ) → HasArc graph g h ↔ (IsMarked needed g × IsMarked needed h × GroupWaits d g h)
 
--- it may be compared, all changes are needed, and numbers fall along all waits
+-- it may be compared, all changes are needed, and numbers fall along all waits. A group is on each new lane, and on each
+-- old one that has a rescuer now and had none
 pub record IsMinimal (d : Declaration) (old : Workqueues) (names : List ℕ) (needed : List Bool) (new : Workqueues) : Type 0 where
   pub compared : IsToBeCompared d old names new
   pub changes : AreChangesNeeded d old new needed
@@ -48,6 +49,8 @@ pub record IsMinimal (d : Declaration) (old : Workqueues) (names : List ℕ) (ne
   pub falls : FallsAlongWaits d new needed number
   pub few : new.assignment.lanes ≤ max old.assignment.lanes d.groups
   pub bare : length new.bare ≤ new.assignment.lanes
+  pub used : (q : ℕ) → old.assignment.lanes ≤ q → q < new.assignment.lanes → HoldsAny new q
+  pub only : (q : ℕ) → q < old.assignment.lanes → IsRescued new q → IsRescued old q ⊎ HoldsAny new q
 
 -- the group may be put back: its lane has a rescuer, or is given one
 abbrev pub IsTried : Workqueues → Scope → ℕ → Type 0

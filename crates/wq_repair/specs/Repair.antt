@@ -1,5 +1,5 @@
 -- Repairs: workqueues made safe, with no change that could be left out.
-use Rattle.std.specs.Prelude.{ℕ, ◌<◌, ◌≤◌, max, Bool, List, length}
+use Rattle.std.specs.Prelude.{ℕ, ◌<◌, ◌≤◌, ◌⊎◌, max, Bool, List, length}
 use Rattle.wq_items.specs.Chain.{Circle}
 use Rattle.wq_groups.specs.Declaration.{Declaration}
 use Rattle.wq_graph.specs.declared.arc.WaitArc.{WaitArc}
@@ -11,12 +11,13 @@ use Rattle.wq_core.specs.Deadlock.{IsSafe, Deadlocks}
 use Rattle.wq_deadlock.specs.Judging.{AreSafe, IsHang}
 use Rattle.wq_repair.specs.declared.answer.Answer.{Answer}
 use Rattle.wq_repair.specs.declared.answer.Answer.TheVariants as answer
-use Rattle.wq_repair.specs.Changes.{IsNamed, IsToBeCompared, HasFewerChanges}
+use Rattle.wq_repair.specs.Changes.{IsRescued, HoldsAny, IsNamed, IsToBeCompared, HasFewerChanges}
 use Rattle.wq_repair.specs.Needed.{AreUnneeded}
-use Rattle.wq_repair.specs.Joined.{NeededWaits}
+use Rattle.wq_repair.specs.Joined.{NeededWaits, IsStart}
 
 -- the old workqueues deadlock and the new ones are safe; and whatever has only some of the changes deadlocks. No more
--- lanes are made than there are groups, and the list that says which are bare isn't longer than they
+-- lanes are made than there are groups, and the list that says which are bare isn't longer than they. A group is on each
+-- new lane, and on each old one that has a rescuer now and had none
 pub record IsRepair (d : Declaration) (old : Workqueues) (names : List ℕ) (new : Workqueues) : Type 0 where
   pub deadlocked : Deadlocks (wiring_of d old)
   pub compared : IsToBeCompared d old names new
@@ -25,14 +26,20 @@ pub record IsRepair (d : Declaration) (old : Workqueues) (names : List ℕ) (new
       → Deadlocks (wiring_of d fewer)
   pub few : new.assignment.lanes ≤ max old.assignment.lanes d.groups
   pub bare : length new.bare ≤ new.assignment.lanes
+  pub used : (q : ℕ) → old.assignment.lanes ≤ q → q < new.assignment.lanes → HoldsAny new q
+  pub only : (q : ℕ) → q < old.assignment.lanes → IsRescued new q → IsRescued old q ⊎ HoldsAny new q
 
--- no groups that need a rescuer wait in a circle; but a group may not move, and whatever may be compared deadlocks. Of
--- this `start`, in which each group that may move and needs a rescuer is alone, the steps are the run that shows it
+-- no groups that need a rescuer wait in a circle; but a group may not move, and whatever may be compared deadlocks. The
+-- steps are the run that shows it of this start, in which each group that may move and needs a rescuer is alone. No more
+-- lanes are made than there are groups, and the list that says which are bare isn't longer than they
 pub record AreNamesTooFew (d : Declaration) (old : Workqueues) (names : List ℕ) (start : Workqueues) (steps : List Step)
     : Type 0 where
   pub no_circle : ¬ Circle (NeededWaits d old)
   pub some_stay : (g : ℕ) × (g < d.groups) × (¬ IsNamed d names g)
   pub compared : IsToBeCompared d old names start
+  pub is : IsStart d old names start
+  pub few : start.assignment.lanes ≤ max old.assignment.lanes d.groups
+  pub bare : length start.bare ≤ start.assignment.lanes
   pub hang : IsHang d start steps
   pub all : (new : Workqueues) → IsToBeCompared d old names new → Deadlocks (wiring_of d new)
 

@@ -2,7 +2,7 @@
 use Rattle.std.specs.Prelude.{◌≡◌, ℕ, ◌<◌, ◌≤◌, ◌⊎◌, List, Bool, length, slice_index, max}
 use Rattle.wq_groups.specs.Declaration.{Declaration, GroupWaits}
 use Rattle.wq_core.specs.Workqueues.{Workqueues}
-use Rattle.wq_repair.specs.Changes.{IsRescued, IsBare, IsNamed, lane_in}
+use Rattle.wq_repair.specs.Changes.{IsRescued, IsBare, HoldsAny, IsNamed, lane_in}
 use Rattle.wq_repair.specs.Joined.{IsTriedInVain}
 use Rattle.wq_repair.specs.Marks.{IsMarked}
 
@@ -50,7 +50,7 @@ pub record IsStartBy (old : Workqueues) (movable given : List Bool) (start : Wor
 -- ---- placing
 
 -- where groups go: those that leave go to lanes that have a rescuer, all others stay; who shares a lane and needs a
--- rescuer has the same rank
+-- rescuer has the same rank. A group is on each new lane, and on each old one that has a rescuer now and had none
 pub record ArePlacedBy (old : Workqueues) (given stays leaves : List Bool) (ranks : List ℕ) (new : Workqueues)
     : Type 0 where
   pub one_each : length new.assignment.lane_of_group ≡ length leaves
@@ -65,6 +65,8 @@ pub record ArePlacedBy (old : Workqueues) (given stays leaves : List Bool) (rank
       → IsRescued new (lane_in old g)
   pub only : (g : ℕ) → g < length leaves → IsRescued new (lane_in old g)
       → IsRescued old (lane_in old g) ⊎ IsMarked given (lane_in old g)
+  pub used : (q : ℕ) → old.assignment.lanes ≤ q → q < new.assignment.lanes → HoldsAny new q
+  pub only_used : (q : ℕ) → q < old.assignment.lanes → IsRescued new q → IsRescued old q ⊎ HoldsAny new q
   pub ranked : (g h : ℕ) → g < length leaves → h < length leaves → IsMarked stays g ⊎ IsMarked leaves g
       → IsMarked stays h ⊎ IsMarked leaves h
       → lane_in new g ≡ lane_in new h → slice_index ranks g ≡ slice_index ranks h

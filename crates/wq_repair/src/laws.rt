@@ -6,7 +6,7 @@ ghost use Rattle.wq_groups.specs.Declaration.{Declaration, IsDeclaration, GroupW
 ghost use Rattle.wq_groups.specs.Assignment.{IsAssignment};
 ghost use Rattle.wq_core.specs.Workqueues.{Workqueues, wiring_of};
 ghost use Rattle.wq_core.specs.Deadlock.{IsSafe, Deadlocks};
-ghost use Rattle.wq_repair.specs.Changes.{IsRescued, IsToBeCompared, HasFewerChanges, lane_in};
+ghost use Rattle.wq_repair.specs.Changes.{IsRescued, HoldsAny, IsToBeCompared, HasFewerChanges, lane_in};
 ghost use Rattle.wq_repair.specs.Needed.{NeedsRescuerOf};
 ghost use Rattle.wq_repair.specs.Joined.{become, NeededWaits, HangsRound, IsStart, NeedRescuers, AreChangesNeeded, FallsAlongWaits};
 ghost use Rattle.wq_repair.specs.Changes.{IsNamed, IsNamedLane};
@@ -93,6 +93,8 @@ pub fn needed_changes_make_a_repair()
         IsDeclaration d → Deadlocks (wiring_of d old) → IsToBeCompared d old names new →
         NeedRescuers d old names new needed → AreChangesNeeded d old new needed → FallsAlongWaits d new needed number →
         new.assignment.lanes ≤ max old.assignment.lanes d.groups → length new.bare ≤ new.assignment.lanes →
+        ((q : ℕ) → old.assignment.lanes ≤ q → q < new.assignment.lanes → HoldsAny new q) →
+        ((q : ℕ) → q < old.assignment.lanes → IsRescued new q → IsRescued old q ⊎ HoldsAny new q) →
         IsRepair d old names new }
 {}
 

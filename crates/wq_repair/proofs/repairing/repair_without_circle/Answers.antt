@@ -1,4 +1,5 @@
 use Rattle.std.proofs.Common.{◌≡◌, ◌<◌, ◌≤◌, ℕ, Bool, List, length, sym, ap, subst, ◌∙◌, arith}
+use Rattle.std.specs.Prelude.{max}
 use Rattle.std.specs.List.{All}
 use Rattle.wq_groups.specs.Declaration.{IsDeclaration, declaration_of}
 use Rattle.wq_groups.specs.Assignment.{Assignment, IsAssignment}
@@ -78,9 +79,10 @@ returns-in-Deadlock g c =
     subst (λ (xs : List Bool). IsStartBy ws xs s.given begin) (c.as_slice-4.ensures.value ∙ ap (λ (x : Scope). x.movable) c.scope.view_is) (subst (λ (xs : List Bool). IsStartBy ws c.as_slice-4.result.now xs begin) (c.as_slice-5.ensures.value ∙ ap (λ (x : Scope). x.given) c.scope.view_is) c.in_ok-begin.ensures) in
     let few : begin.assignment.lanes ≤ 4096 =
     omega (arith, by.few, are_movable.one_each, c.len-groups.ensures.len, c.len-groups.ensures.few, c.lanes-lanes.ensures.lanes, c.lanes-lanes.ensures.few, ap (λ (a : Assignment). a.lanes) c.assignment.ensures) in
+    let most : begin.assignment.lanes ≤ max ws.assignment.lanes d.groups = subst (λ (n : ℕ). begin.assignment.lanes ≤ max ws.assignment.lanes n) are_movable.one_each by.few in
     let is = IsStart-by d ws begin names named lanes s.needed s.movable s.given assigned are_named are_lanes are_needed are_movable are_given by in
     let hang : IsHang d begin c.in-Deadlock.steps.items = rw (c.in-Deadlock.is) at c.in_ok-steps.ensures.verdict in
-    AreNamesTooFew-start d ws begin names declaration assigned is few c.requires.no_circle c.in-Deadlock.steps.items hang
+    AreNamesTooFew-start d ws begin names declaration assigned is few most by.bare c.requires.no_circle c.in-Deadlock.steps.items hang
 
 pub better_repair-requires-clause-names : goal.better_repair-requires-clause-names
 better_repair-requires-clause-names g c = subst (λ (n : ℕ). All (λ (i : ℕ). i < n) c.args.names.now) (sym c.requires.grouped) c.requires.names
