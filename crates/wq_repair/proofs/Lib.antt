@@ -4,6 +4,7 @@ pub mod NeededFound
 pub mod Identified
 pub mod Rescuers
 pub mod Starts
+pub mod Ends
 pub mod Minimal
 pub mod Falling
 pub mod Joining

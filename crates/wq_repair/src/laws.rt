@@ -4,14 +4,17 @@ ghost use Rattle.std.specs.Prelude.{◌≡◌, ℕ, ◌<◌, ◌≤◌, ◌⊎�
 ghost use Rattle.wq_items.specs.Chain.{Circle};
 ghost use Rattle.wq_groups.specs.Declaration.{Declaration, IsDeclaration, GroupWaits};
 ghost use Rattle.wq_groups.specs.Assignment.{IsAssignment};
+ghost use Rattle.wq_graph.specs.declared.arc.WaitArc.{WaitArc};
+ghost use Rattle.wq_core.specs.declared.step.Step.{Step};
 ghost use Rattle.wq_core.specs.Workqueues.{Workqueues, wiring_of};
 ghost use Rattle.wq_core.specs.Deadlock.{IsSafe, Deadlocks};
+ghost use Rattle.wq_deadlock.specs.Judging.{AreSafe};
 ghost use Rattle.wq_repair.specs.Changes.{IsRescued, HoldsAny, IsToBeCompared, HasFewerChanges, lane_in};
 ghost use Rattle.wq_repair.specs.Needed.{NeedsRescuerOf};
 ghost use Rattle.wq_repair.specs.Joined.{become, NeededWaits, HangsRound, IsStart, NeedRescuers, AreChangesNeeded, FallsAlongWaits};
 ghost use Rattle.wq_repair.specs.Changes.{IsNamed, IsNamedLane};
 ghost use Rattle.wq_repair.specs.Marks.{IsMarked, Marks};
-ghost use Rattle.wq_repair.specs.Repair.{IsRepair};
+ghost use Rattle.wq_repair.specs.Repair.{IsRepair, AreNamesTooFew, IsNeededCircle};
 ghost use Rattle.wq_repair.specs.Steps.{IsToBeGiven, IsMovable, IsStartBy, ArePlacedBy, AreLeaving};
 
 use wq_items::chain_laws::Relation;
@@ -109,4 +112,25 @@ pub fn what_is_placed_is_a_repair()
         ArePlacedBy old given stays leaves ranks new →
         ((g : ℕ) → g < d.groups → IsMarked needed g → number (lane_in new g) ≡ slice_index ranks g) →
         IsToBeCompared d old names new × AreChangesNeeded d old new needed × FallsAlongWaits d new needed number }
+{}
+
+/// The ends exclude each other: workqueues that are safe have no repair, and neither a run nor a circle that shows that
+/// there is none; those that have a repair have neither; and those that have such a run have no such circle.
+pub fn repair_ends_in_one_way()
+    ensures safe { (d : Declaration) (old : Workqueues) (names : List ℕ) → AreSafe d old →
+        ((new : Workqueues) → ¬ IsRepair d old names new)
+        × ((start : Workqueues) (steps : List Step) → ¬ AreNamesTooFew d old names start steps)
+        × ((circle : List WaitArc) → ¬ IsNeededCircle d old circle) }
+    ensures repaired { (d : Declaration) (old new : Workqueues) (names : List ℕ) → IsRepair d old names new →
+        ((start : Workqueues) (steps : List Step) → ¬ AreNamesTooFew d old names start steps)
+        × ((circle : List WaitArc) → ¬ IsNeededCircle d old circle) }
+    ensures too_few { (d : Declaration) (old start : Workqueues) (names : List ℕ) (steps : List Step)
+        (circle : List WaitArc) → IsDeclaration d → AreNamesTooFew d old names start steps →
+        ¬ IsNeededCircle d old circle }
+{}
+
+/// The circle in which groups wait that need a rescuer is the only one that is answered.
+pub fn a_needed_circle_is_unique()
+    ensures { (d : Declaration) (old : Workqueues) (one other : List WaitArc) → IsDeclaration d →
+        IsNeededCircle d old one → IsNeededCircle d old other → one ≡ other }
 {}
