@@ -4,7 +4,7 @@ use Rattle.std.specs.Prelude.{◌≢◌, ◌==◌, ◌&&◌, not, filter, Contai
 use Rattle.std.specs.List.{list_any, range_with_len}
 use Rattle.std.proofs.lemmas.Bool.{false≢true, eqb-true, eq-eqb}
 use Rattle.std.proofs.lemmas.Bool.Decides.{eqb_tells}
-use Rattle.std.proofs.lemmas.List.Elements.{Contains-append_left, Contains-append_right, Contains-append_cases, filter_passes}
+use Rattle.std.proofs.lemmas.List.Elements.{All-contains, All-filter, Contains-append_left, Contains-append_right, Contains-append_cases, filter_passes}
 use Rattle.std.proofs.lemmas.List.Folds.{Any-from_list_any}
 use Rattle.wq_items.proofs.Lists.{range_with_len-below, Contains-range_with_len, Contains-filtered}
 use Rattle.wq_graph.proofs.ListLemmas.{Contains-map, Contains-from_map}
@@ -19,6 +19,10 @@ use Rattle.wq_changes.specs.Changes.{changes_of, has_moved, is_bare, is_given, s
 -- what is kept passes
 passes : (p : ℕ → Bool) (xs : List ℕ) (x : ℕ) → Contains (filter p xs) x → p x ≡ true
 passes p xs x (k, within, is) = subst (λ (y : ℕ). p y ≡ true) is (filter_passes p xs k x within)
+
+-- and is in the range
+below : (p : ℕ → Bool) (n x : ℕ) → Contains (filter p (range_with_len 0 n)) x → x < n
+below p n x there = All-contains (λ (y : ℕ). y < n) (filter p (range_with_len 0 n)) x (All-filter p (λ (y : ℕ). y < n) (range_with_len 0 n) (range_with_len-below n)) there
 
 moved-from : (a b : ℕ) → not (a == b) ≡ true → a ≢ b
 moved-from a b is same = let e : (a == b) ≡ true = eq-eqb a b same in false≢true (sym (ap not e) ∙ is)
@@ -54,13 +58,15 @@ module _ (d : Declaration) (old new : Workqueues) where
   abbrev AsMoved : ℕ → Change
   AsMoved g = change.Moved g
 
-  pub moved-said : (g : ℕ) → Contains (changes_of d.groups old new) (change.Moved g) → HasMoved old new g
+  pub moved-said : (g : ℕ) → Contains (changes_of d.groups old new) (change.Moved g) → (g < d.groups) × HasMoved old new g
   moved-said g said = elim (Contains-append_cases (map AsGiven lanes_given) (map AsMoved groups_moved) (change.Moved g) said) [
     | inl given ↦ let (q, at, is) = Contains-from_map AsGiven lanes_given (change.Moved g) given in cc
     | inr moved ↦
         let (h, at, is) = Contains-from_map AsMoved groups_moved (change.Moved g) moved in
-        let same : h ≡ g = cc in
-        moved-from (lane_in new g) (lane_in old g) (subst (λ (x : ℕ). has_moved old new x ≡ true) same (passes (has_moved old new) (range_with_len 0 d.groups) h at))
+        let same : h ≡ g = cc in (
+          subst (λ (x : ℕ). x < d.groups) same (below (has_moved old new) d.groups h at),
+          moved-from (lane_in new g) (lane_in old g) (subst (λ (x : ℕ). has_moved old new x ≡ true) same (passes (has_moved old new) (range_with_len 0 d.groups) h at)),
+        )
   ]
 
   pub moved-is_said : (g : ℕ) → g < d.groups → HasMoved old new g → Contains (changes_of d.groups old new) (change.Moved g)
@@ -84,12 +90,14 @@ module _ (d : Declaration) (old new : Workqueues) where
         stays = eqb-true (lane_in new h) q on.1;
       }
 
-  pub given-said : (q : ℕ) → Contains (changes_of d.groups old new) (change.Given q) → IsGiven d old new q
+  pub given-said : (q : ℕ) → Contains (changes_of d.groups old new) (change.Given q) → (q < old.assignment.lanes) × IsGiven d old new q
   given-said q said = elim (Contains-append_cases (map AsGiven lanes_given) (map AsMoved groups_moved) (change.Given q) said) [
     | inl given ↦
         let (p, at, is) = Contains-from_map AsGiven lanes_given (change.Given q) given in
-        let same : p ≡ q = cc in
-        given-passes q (subst (λ (x : ℕ). is_given d.groups old new x ≡ true) same (passes (is_given d.groups old new) (range_with_len 0 old.assignment.lanes) p at))
+        let same : p ≡ q = cc in (
+          subst (λ (x : ℕ). x < old.assignment.lanes) same (below (is_given d.groups old new) old.assignment.lanes p at),
+          given-passes q (subst (λ (x : ℕ). is_given d.groups old new x ≡ true) same (passes (is_given d.groups old new) (range_with_len 0 old.assignment.lanes) p at)),
+        )
     | inr moved ↦ let (h, at, is) = Contains-from_map AsMoved groups_moved (change.Given q) moved in cc
   ]
 

@@ -3,7 +3,8 @@ use Rattle.std.specs.Prelude.{◌≡◌, ℕ, List, [], ◌∷◌, ◌++◌, Opt
 use Rattle.wq_core.specs.Workqueues.{Workqueues}
 use Rattle.wq_commands.specs.Answer.{declared_waits}
 use Rattle.wq_commands.specs.Declaration.{Declared}
-use Rattle.wq_voice.specs.Reasons.{IsSaidOf, GivesReason}
+use Rattle.wq_diagnosis.specs.Diagnosis.{IsPlain, shown_lines}
+use Rattle.wq_voice.specs.Reasons.{plain_head, GivesReason}
 use Rattle.wq_voice.specs.Waits.{words_of}
 use Rattle.wq_voice.specs.declared.waits.Wording.TheVariants.{OnWorkqueues}
 use Rattle.wq_changes.specs.declared.change.Change.{Change}
@@ -22,15 +23,22 @@ GivesWhy first s names old new c why =
     (said : Option (List ℕ)) × (why ≡ unwrap_or said [])
     × GivesReason first (lead_of c) (λ h. words_of OnWorkqueues s ws names h) (declared_waits s) ws said
 
--- what is changed, and why
-abbrev pub IsToldWhy : List ℕ → List ℕ → Declared → List (List ℕ) → Workqueues → Workqueues → Change → List ℕ → Type 0
-IsToldWhy first second s names old new c text =
-    (block : List ℕ) × (why : List ℕ) × (text ≡ block ++ why) × IsSaidOf second (change_words s names old new c) block
-    × GivesWhy first s names old new c why
+-- one line, which has this file, a line and a column of it, and says this; and it is plain
+pub record IsOneLine (file what text : List ℕ) : Type 0 where
+  pub line : ℕ
+  pub column : ℕ
+  pub is : text ≡ shown_lines (plain_head file (line ∷ column ∷ []) what ∷ [])
+  pub plain : IsPlain text
 
 -- what is changed alone
 abbrev pub IsTold : List ℕ → Declared → List (List ℕ) → Workqueues → Workqueues → Change → List ℕ → Type 0
-IsTold second s names old new c text = IsSaidOf second (change_words s names old new c) text
+IsTold second s names old new c text = IsOneLine second (change_words s names old new c) text
+
+-- what is changed, and why
+abbrev pub IsToldWhy : List ℕ → List ℕ → Declared → List (List ℕ) → Workqueues → Workqueues → Change → List ℕ → Type 0
+IsToldWhy first second s names old new c text =
+    (one : List ℕ) × (why : List ℕ) × (text ≡ one ++ why) × IsTold second s names old new c one
+    × GivesWhy first s names old new c why
 
 -- such a text for each of these changes, in this order
 abbrev pub AreEach : (Change → List ℕ → Type 0) → List Change → List ℕ → Type 0

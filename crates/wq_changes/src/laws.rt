@@ -8,10 +8,10 @@ ghost use Rattle.wq_changes.specs.Changes.{changes_of};
 ghost use Rattle.wq_changes.specs.declared.change.Change.{Change};
 ghost use Rattle.wq_changes.specs.declared.change.Change.TheVariants as kind;
 
-/// Exactly the groups that moved and the workqueues that are given a rescuer are among the changes that are said.
+/// The changes that are said are exactly the groups that moved and the workqueues that are given a rescuer.
 pub fn exactly_the_changes_are_said()
-    ensures moved { (d : Declaration) (old new : Workqueues) (g : ℕ) → g < d.groups →
-        Contains (changes_of d.groups old new) (kind.Moved g) ↔ HasMoved old new g }
-    ensures given { (d : Declaration) (old new : Workqueues) (q : ℕ) → q < old.assignment.lanes →
-        Contains (changes_of d.groups old new) (kind.Given q) ↔ IsGiven d old new q }
+    ensures moved { (d : Declaration) (old new : Workqueues) (g : ℕ) →
+        Contains (changes_of d.groups old new) (kind.Moved g) ↔ ((g < d.groups) × HasMoved old new g) }
+    ensures given { (d : Declaration) (old new : Workqueues) (q : ℕ) →
+        Contains (changes_of d.groups old new) (kind.Given q) ↔ ((q < old.assignment.lanes) × IsGiven d old new q) }
 {}

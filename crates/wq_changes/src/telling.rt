@@ -3,8 +3,10 @@
 //! The form is that of "Changes" in docs/FORMAT.md. It takes the time of a search for a shortest run for each of the
 //! first changes.
 
-ghost use Rattle.std.specs.Prelude.{◌≡◌, ◌≤◌, [], IfOk, length, map, option_map, unwrap_or};
+ghost use Rattle.std.specs.Prelude.{◌≡◌, ◌≤◌, [], ◌∷◌, IfOk, length, map, option_map, unwrap_or};
 ghost use Rattle.std.specs.List.{All};
+ghost use Rattle.wq_diagnosis.specs.Diagnosis.{shown_lines};
+ghost use Rattle.wq_voice.specs.Reasons.{plain_head};
 ghost use Rattle.wq_changes.specs.Changes.{IsOf};
 ghost use Rattle.wq_changes.specs.Told.{AreEach, GivesWhy, IsTold, IsToldWhy, TellsChanges, most_reasons};
 
@@ -15,9 +17,10 @@ use crate::words::{change_words, lead_of};
 use std::alloc::{AllocError, Allocator};
 use wq_commands::Declaration;
 use wq_core::Workqueues;
-use wq_diagnosis::Source;
+use wq_diagnosis::{Source, put_line};
+use wq_findings::put_place;
 use wq_lines::put;
-use wq_voice::{FlushLines, Subject, Wording, of_subject, said_at};
+use wq_voice::{FlushLines, Subject, Wording, of_subject};
 
 /// Of how many changes it is said why, at most, if there are so many items. Each takes a search for a shortest run.
 fn most_reasons(items: u16) -> usize
@@ -47,6 +50,25 @@ pub(crate) struct Repair<'a, 'b, 'c, 'd, A: Allocator> {
     pub(crate) names: &'d [&'a [u8]],
 }
 
+/// One line that says this of a place in a file.
+fn line_at<A: Allocator + Copy>(
+    alloc: A,
+    file: &str,
+    place: &[u32],
+    what: &[u8],
+) -> Result<Vec<u8, A>, AllocError>
+    ensures { IfOk result (λ text. text.items ≡ shown_lines (plain_head file.now place.now what.now ∷ [])) }
+{
+    let mut line = Vec::new(alloc);
+    put(&mut line, file.as_bytes())?;
+    put_place(alloc, &mut line, place)?;
+    put(&mut line, b": ")?;
+    put(&mut line, what)?;
+    let mut text = Vec::new(alloc);
+    put_line(alloc, &mut text, &line)?;
+    Ok(text)
+}
+
 /// What is changed.
 fn told<A: Allocator + Copy>(
     alloc: A,
@@ -71,15 +93,7 @@ fn told<A: Allocator + Copy>(
     } = *repair;
     let what = change_words(alloc, declared, names, old, new, change)?;
     let place = places.of_change(declared, change);
-    let more = Vec::new(alloc);
-    said_at(
-        alloc,
-        assignment.file,
-        place.line,
-        place.column,
-        &what,
-        &more,
-    )
+    line_at(alloc, assignment.file, &[place.line, place.column], &what)
 }
 
 /// This, or no byte if there is nothing.
