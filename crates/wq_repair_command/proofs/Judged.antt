@@ -17,6 +17,7 @@ use Rattle.wq_cert.specs.Ranges.{AreWorkqueuesOf}
 use Rattle.wq_cert.specs.Texts.{cert_refusal, workqueues_of_text}
 use Rattle.wq_cert.proofs.LanesRead.{AreWorkqueuesOf-workqueues_of_text}
 use Rattle.wq_names.specs.Names.{names_of}
+use Rattle.wq_deadlock.specs.Judging.{AreSafe}
 use Rattle.wq_repair.specs.Repair.{IsRepair}
 use Rattle.wq_commands.specs.declared.end.End.TheVariants.{Good, Refused}
 use Rattle.wq_commands.specs.Answer.{declared_waits, PrintsRefusal}
@@ -39,7 +40,7 @@ module _ (ws : Workqueues) (bound : length ws.bare ≤ ws.assignment.lanes) wher
   each = map (λ (q : ℕ). slice_index_or ws.bare q false) (range_with_len 0 ws.assignment.lanes)
 
   -- both lists say the same of each lane
-  same-bare : (q : ℕ) → slice_index_or each q false ≡ slice_index_or ws.bare q false
+  pub same-bare : (q : ℕ) → slice_index_or each q false ≡ slice_index_or ws.bare q false
   same-bare q = elim (cases_lt q ws.assignment.lanes) [
     | inl within ↦ get_or-map-range_with_len (λ (k : ℕ). slice_index_or ws.bare k false) 0 ws.assignment.lanes q q false within (omega arith)
     | inr past ↦
@@ -53,6 +54,15 @@ module _ (ws : Workqueues) (bound : length ws.bare ≤ ws.assignment.lanes) wher
 
 -- ---- what is printed
 
+-- workqueues that are safe are printed, by the names in this text
+pub record IsPrinted (s : Declared) (text out : List ℕ) : Type 0 where
+  pub new : Workqueues
+  pub assigned : IsAssignment s.partition.groups new.assignment
+  pub few : new.assignment.lanes ≤ 4096
+  pub bound : length new.bare ≤ new.assignment.lanes
+  pub safe : IsSafe (wiring_of (declared_waits s) new)
+  pub same : out ≡ assignment_text s.table.names s.partition new (names_of text)
+
 module _ (s : Declared) (sound : IsSound s) (text out : List ℕ) where
   abbrev d : Declaration
   d = declared_waits s
@@ -60,13 +70,18 @@ module _ (s : Declared) (sound : IsSound s) (text out : List ℕ) where
   is : IsDeclaration d
   is = IsDeclaration-sound s sound
 
-  printed : (new : Workqueues) → IsAssignment s.partition.groups new.assignment → new.assignment.lanes ≤ 4096 → length new.bare ≤ new.assignment.lanes
-      → IsSafe (wiring_of d new) → out ≡ assignment_text s.table.names s.partition new (names_of text) → JudgesDeclared s out Good safe_text
-  printed new assigned few bound safe same =
-      MatchResult-ok (workqueues_of_text s.table.names s.partition out) (with_each new) (λ ws. JudgesAssigned s ws Good safe_text) (λ fault. PrintsRefusal (cert_refusal fault) Good safe_text)
-      (ap (workqueues_of_text s.table.names s.partition) same
-      ∙ workqueues_of_text-printed s.table s.partition new (names_of text) sound.table sound.partition sound.one_group_each assigned few (shown-names_of text))
-      (assigned, IsSafe-with_each new bound d safe, refl)
+  pub read_back : (printed : IsPrinted s text out) → workqueues_of_text s.table.names s.partition out ≡ Ok (with_each printed.new)
+  read_back printed =
+      ap (workqueues_of_text s.table.names s.partition) printed.same
+      ∙ workqueues_of_text-printed s.table s.partition printed.new (names_of text) sound.table sound.partition sound.one_group_each printed.assigned printed.few (shown-names_of text)
+
+  pub AreSafe-read_back : (printed : IsPrinted s text out) → AreSafe (declared_waits s) (with_each printed.new)
+  AreSafe-read_back printed = record { assignment = printed.assigned; safe = IsSafe-with_each printed.new printed.bound d printed.safe }
+
+  judged : IsPrinted s text out → JudgesDeclared s out Good safe_text
+  judged printed =
+      MatchResult-ok (workqueues_of_text s.table.names s.partition out) (with_each printed.new) (λ ws. JudgesAssigned s ws Good safe_text) (λ fault. PrintsRefusal (cert_refusal fault) Good safe_text)
+      (read_back printed) (printed.assigned, (AreSafe-read_back printed).safe, refl)
 
   module _ (old : Workqueues) (known : AreWorkqueuesOf s.partition.groups old) (moving : List ℕ) where
     bound-old : length old.bare ≤ old.assignment.lanes
@@ -81,31 +96,48 @@ module _ (s : Declared) (sound : IsSound s) (text out : List ℕ) where
         let most : max old.assignment.lanes d.groups ≤ 4096 = max-le known.assignment.few groups in
         omega (arith, repair.few, most)
 
-    JudgesDeclared-printed : PrintsWorkqueues s old (names_of text) moving out → JudgesDeclared s out Good safe_text
-    JudgesDeclared-printed prints = elim prints.are [
-      | inl same ↦
-          printed old known.assignment.assignment known.assignment.few bound-old same.0.safe
-          (prints.text ∙ ap (λ (ws : Workqueues). assignment_text s.table.names s.partition ws (names_of text)) same.1)
-      | inr repair ↦ printed prints.new repair.compared.assignment (few-new prints.new repair) repair.bare repair.safe prints.text
+    IsPrinted-workqueues : PrintsWorkqueues s old (names_of text) moving out → IsPrinted s text out
+    IsPrinted-workqueues prints = elim prints.are [
+      | inl same ↦ record {
+        new = old;
+        assigned = known.assignment.assignment;
+        few = known.assignment.few;
+        bound = bound-old;
+        safe = same.0.safe;
+        same = prints.text ∙ ap (λ (ws : Workqueues). assignment_text s.table.names s.partition ws (names_of text)) same.1;
+      }
+      | inr repair ↦ record {
+        new = prints.new;
+        assigned = repair.compared.assignment;
+        few = few-new prints.new repair;
+        bound = repair.bare;
+        safe = repair.safe;
+        same = prints.text;
+      }
     ]
 
-  refused : (r : Refusal) → PrintsRefusal r Good out → JudgesDeclared s out Good safe_text
-  refused r prints = absurd (let bad : Good ≡ Refused = prints.0 in cc)
+  not_refused : (r : Refusal) → ¬ PrintsRefusal r Good out
+  not_refused r prints = let bad : Good ≡ Refused = prints.0 in cc
 
-  moved : (names : List (List ℕ)) (old : Workqueues) → AreWorkqueuesOf s.partition.groups old → (moving : Option (List ℕ)) → RepairsIf s old (names_of text) moving Good out → JudgesDeclared s out Good safe_text
-  moved names old known None repairs = refused (record { code = 8; line = 0 }) repairs
-  moved names old known (Some moving) repairs = JudgesDeclared-printed old known moving repairs
+  moved : (old : Workqueues) → AreWorkqueuesOf s.partition.groups old → (moving : Option (List ℕ)) → RepairsIf s old (names_of text) moving Good out → IsPrinted s text out
+  moved old known None repairs = absurd (not_refused (record { code = 8; line = 0 }) repairs)
+  moved old known (Some moving) repairs = IsPrinted-workqueues old known moving repairs
 
   declared : (names : List (List ℕ)) (r : Result Workqueues CertError) → workqueues_of_text s.table.names s.partition text ≡ r
-      → MatchResult r (λ ws. RepairsAssigned s ws (names_of text) names Good out) (λ fault. PrintsRefusal (cert_refusal fault) Good out) → JudgesDeclared s out Good safe_text
+      → MatchResult r (λ ws. RepairsAssigned s ws (names_of text) names Good out) (λ fault. PrintsRefusal (cert_refusal fault) Good out) → IsPrinted s text out
   declared names (Ok old) read repairs =
-      moved names old (AreWorkqueuesOf-workqueues_of_text s.table.names s.partition sound.partition (sym sound.one_group_each) text old read) (movers s.table.names names) repairs
-  declared names (Err fault) read repairs = refused (cert_refusal fault) repairs
+      moved old (AreWorkqueuesOf-workqueues_of_text s.table.names s.partition sound.partition (sym sound.one_group_each) text old read) (movers s.table.names names) repairs
+  declared names (Err fault) read repairs = absurd (not_refused (cert_refusal fault) repairs)
+
+  pub IsPrinted-declared : (names : List (List ℕ)) → RepairsDeclared s names text Good out → IsPrinted s text out
+  IsPrinted-declared names repairs = declared names (workqueues_of_text s.table.names s.partition text) refl repairs
 
 pub Judges-printed : (names : List (List ℕ)) (declared_text text out : List ℕ) → Repairs names declared_text text Good out → Judges declared_text out Good safe_text
 Judges-printed names declared_text text out repairs = chosen (declaration declared_text) refl repairs
   where
     chosen : (r : Result Declared Refusal) → declaration declared_text ≡ r → MatchResult r (λ s. RepairsDeclared s names text Good out) (λ refusal. PrintsRefusal refusal Good out)
         → MatchResult r (λ s. JudgesDeclared s out Good safe_text) (λ refusal. PrintsRefusal refusal Good safe_text)
-    chosen (Ok s) read h = declared s (IsSound-declaration declared_text s read) text out names (workqueues_of_text s.table.names s.partition text) refl h
+    chosen (Ok s) read h =
+        let sound = IsSound-declaration declared_text s read in
+        judged s sound text out (IsPrinted-declared s sound text out names h)
     chosen (Err refusal) read h = absurd (let bad : Good ≡ Refused = h.0 in cc)

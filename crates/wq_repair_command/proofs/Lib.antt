@@ -4,7 +4,10 @@ pub mod Circles
 pub mod Taking
 pub mod NamedLines
 pub mod TextSize
+pub mod ReadNames
 pub mod ReadBack
 pub mod Shown
 pub mod SameSafe
 pub mod Judged
+pub mod Again
+pub mod OneEnd

@@ -59,7 +59,7 @@ comment-above : (name : List ℕ) → AllByRecursion IsAbove name → AllByRecur
 comment-above [] h = tt
 comment-above (b ∷ name) h = (omega arith, (omega arith, (omega arith, (omega arith, h))))
 
-full-above : (words : List (List ℕ)) (name : List ℕ) → IsNamedLine words name → AllByRecursion IsAbove (full_body words name)
+pub full-above : (words : List (List ℕ)) (name : List ℕ) → IsNamedLine words name → AllByRecursion IsAbove (full_body words name)
 full-above words name h = AllByRecursion-append IsAbove (line_body words) (name_comment name) (body-above words h.printable) (comment-above name h.shown.above)
 
 NoFeed-above : (bs : List ℕ) → AllByRecursion IsAbove bs → NoFeed bs
@@ -70,7 +70,7 @@ no_return [] k h e = absurd (omega arith)
 no_return (b ∷ bs) zero h e = absurd (omega (arith, h.0))
 no_return (b ∷ bs) (suc k) h e = no_return bs k h.1 e
 
-strip-above : (bs : List ℕ) → AllByRecursion IsAbove bs → strip_carriage_return bs ≡ bs
+pub strip-above : (bs : List ℕ) → AllByRecursion IsAbove bs → strip_carriage_return bs ≡ bs
 strip-above bs h =
     let other : eqb (get_or bs (length bs - 1) 0) 13 ≡ false = ne_eqb _ 13 (no_return bs (length bs - 1) h) in
     rw other refl
@@ -107,7 +107,7 @@ no_hash [] k h lt e = absurd (omega arith)
 no_hash (b ∷ bs) zero h lt e = h.0 e
 no_hash (b ∷ bs) (suc k) h lt e = no_hash bs k h.1 (omega arith) e
 
-before_comment-full : (words : List (List ℕ)) (name : List ℕ) → IsPrintableLine words → before_comment (full_body words name) ≡ line_body words ++ blanks_before name
+pub before_comment-full : (words : List (List ℕ)) (name : List ℕ) → IsPrintableLine words → before_comment (full_body words name) ≡ line_body words ++ blanks_before name
 before_comment-full words [] h =
     let bs : List ℕ = line_body words ++ [] in
     let other = AllByRecursion-append IsOther (line_body words) [] (body-other words h) tt in
@@ -164,10 +164,10 @@ words_from-body at (word ∷ words) name h =
 -- ---- lines
 
 -- a printed line as a line of the text
-abbrev printed_line : ℕ → ℕ → List (List ℕ) → List ℕ → LineView
+abbrev pub printed_line : ℕ → ℕ → List (List ℕ) → List ℕ → LineView
 printed_line n start words name = record { no = n; start = start; bytes = strip_carriage_return (full_body words name) }
 
-bytes_of-printed_line : (n start : ℕ) (words : List (List ℕ)) (name : List ℕ) → IsNamedLine words name → bytes_of (words_of (printed_line n start words name)) ≡ words
+pub bytes_of-printed_line : (n start : ℕ) (words : List (List ℕ)) (name : List ℕ) → IsNamedLine words name → bytes_of (words_of (printed_line n start words name)) ≡ words
 bytes_of-printed_line n start words name h =
     ap (λ (bs : List ℕ). bytes_of (words_from start (before_comment bs))) (strip-above (full_body words name) (full-above words name h))
     ∙ ap (λ (bs : List ℕ). bytes_of (words_from start bs)) (before_comment-full words name h.printable) ∙ words_from-body start words name h.printable
@@ -214,7 +214,7 @@ module _ {X : Type 0} (line : X → List ℕ) (words : X → List (List ℕ)) (n
   abbrev IsFine : X → Type 0
   IsFine x = IsNamedLine (words x) (name x)
 
-  pieces-line : (x : X) (text : List ℕ) → IsFine x → pieces (line x ++ text) ≡ record { bytes = full_body (words x) (name x); ended = true } ∷ pieces text
+  pub pieces-line : (x : X) (text : List ℕ) → IsFine x → pieces (line x ++ text) ≡ record { bytes = full_body (words x) (name x); ended = true } ∷ pieces text
   pieces-line x text h =
       let body = full_body (words x) (name x) in
       ap (λ (l : List ℕ). pieces (l ++ text)) (same x) ∙ ap pieces (append_assoc body (10 ∷ []) text)

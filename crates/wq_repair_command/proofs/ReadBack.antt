@@ -24,9 +24,11 @@ use Rattle.wq_cert.proofs.PrintedWords.{IsPrintable-decimal, IsPrintable-keyword
 use Rattle.wq_cert.proofs.PrintedWorkqueues.{IsOn, IsOn-items_at, length-items_at-le, workqueue_lines-printed, assignment_of-workqueues, AreWorkqueues-printed}
 use Rattle.wq_cert.proofs.SpelledAnswers.{text_reading-KeepsLimits}
 use Rattle.wq_cert.proofs.SpelledTexts.{workqueues_reading-SpellsWorkqueues}
+use Rattle.wq_names.specs.Names.{names_of}
 use Rattle.wq_repair_command.specs.AssignmentText.{keyword, lane_words, name_comment, workqueue_text, assignment_text}
 use Rattle.wq_repair_command.specs.ReadBack.{with_each}
 use Rattle.wq_repair_command.proofs.NamedLines.{IsShown, IsNamedLine, full_body, length-full_body, words_of-printed, IsShort-printed}
+use Rattle.wq_repair_command.proofs.ReadNames.{IsCalled, is_workqueue-keyword, names_of-printed}
 use Rattle.wq_repair_command.proofs.TextSize.{length-text}
 
 -- ---- words
@@ -180,3 +182,10 @@ module _ (t : Table) (p : Partition) (ws : Workqueues) (called : List (List ℕ)
 
   pub workqueues_of_text-printed : workqueues_of_text t.names p (assignment_text t.names p ws called) ≡ Ok (with_each ws)
   workqueues_of_text-printed = text_reading-KeepsLimits (lanes_reading t.names p) text (with_each ws) keeps read_lanes
+
+  -- the names in it
+  module _ (is_called : (q : ℕ) → IsCalled (slice_index_or called q [])) where
+    pub names_of-text : names_of (assignment_text t.names p ws called) ≡ map (λ (q : ℕ). slice_index_or called q []) (range_with_len 0 ws.assignment.lanes)
+    names_of-text =
+        names_of-printed line words name parts (λ q. is_workqueue-keyword (is_bare q) (decimal q ∷ map (name_of t.names) (items_at lane q))) is_called
+        (range_with_len 0 lanes) all_fine
