@@ -7,7 +7,9 @@ pub mod TextSize
 pub mod ReadNames
 pub mod ReadBack
 pub mod Shown
-pub mod SameSafe
+pub mod SameRescuers
 pub mod Judged
 pub mod Again
 pub mod OneEnd
+pub mod CircleChecked
+pub mod HangJudged

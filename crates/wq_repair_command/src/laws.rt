@@ -9,12 +9,13 @@ ghost use Rattle.wq_core.specs.Workqueues.{Workqueues};
 ghost use Rattle.wq_cert.specs.Texts.{workqueues_of_text};
 ghost use Rattle.wq_names.specs.Names.{names_of};
 ghost use Rattle.wq_commands.specs.declared.end.End.{End};
-ghost use Rattle.wq_commands.specs.declared.end.End.TheVariants.{Good, Refused};
+ghost use Rattle.wq_commands.specs.declared.end.End.TheVariants.{Good, Bad, Refused};
 ghost use Rattle.wq_commands.specs.Declaration.{Declared, declaration};
-ghost use Rattle.wq_commands.specs.Deadlocking.{safe_text, Judges};
+ghost use Rattle.wq_commands.specs.Deadlocking.{safe_text, Judges, JudgesDeclared};
+ghost use Rattle.wq_commands.specs.PrintedChecked.{ChecksYesCircle};
 ghost use Rattle.wq_repair_command.specs.AssignmentText.{assignment_text};
 ghost use Rattle.wq_repair_command.specs.ReadBack.{with_each};
-ghost use Rattle.wq_repair_command.specs.Repairing.{PrintsNeededCircle, Repairs};
+ghost use Rattle.wq_repair_command.specs.Repairing.{PrintsNeededCircle, PrintsTooFew, Repairs};
 
 /// The text of up to 4,096 workqueues is read back, whatever text they have their names from: it says of each item and of each
 /// workqueue what was printed.
@@ -54,4 +55,17 @@ pub fn repair_has_one_end()
         Repairs names declared text end out → Repairs names declared text other printed → end ≡ other }
     ensures circle { (declared : List ℕ) (s : Declared) (old : Workqueues) (out printed : List ℕ) → declaration declared ≡ Ok s →
         PrintsNeededCircle s old out → PrintsNeededCircle s old printed → out ≡ printed }
+{}
+
+/// A circle that is printed is answered with yes: `check` prints `yes circle N`, where N is the number of its arcs.
+pub fn a_printed_circle_is_checked_with_yes()
+    ensures { (declared : List ℕ) (s : Declared) (old : Workqueues) (out : List ℕ) → declaration declared ≡ Ok s →
+        PrintsNeededCircle s old out → ChecksYesCircle s out }
+{}
+
+/// A run that is printed is that of the start: `deadlock` prints it of the start's text, whatever text the names in this come from.
+pub fn a_printed_run_is_that_of_the_start()
+    ensures { (declared : List ℕ) (s : Declared) (old : Workqueues) (moving text out : List ℕ) → declaration declared ≡ Ok s →
+        old.assignment.lanes ≤ 4096 → (few : PrintsTooFew s old moving out) →
+        JudgesDeclared s (assignment_text s.table.names s.partition few.start (names_of text)) Bad out }
 {}
