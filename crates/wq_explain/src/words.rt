@@ -92,8 +92,8 @@ const CIRCLE: Explanation = (
     "circle answer\n",
     "\
 `circle N`: the N flushes below it go round, so no assignment to workqueues
-helps, however many there are. The run after it shows how the items come to
-hang.
+with rescuers helps, however many there are. The run after it shows how the
+items come to hang.
 
 The rule: docs/FORMAT.md, \"Circle texts\"
 
