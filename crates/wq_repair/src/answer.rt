@@ -11,7 +11,7 @@ use wq_graph::WaitArc;
 pub enum Answer<A: Allocator> {
     /// Nothing has to be done: no run ends stuck.
     Safe,
-    /// They deadlock, and these are safe. Without any of the changes they would deadlock.
+    /// They deadlock, and these are safe. Without any of the changes they would deadlock. A group is on each new one.
     Repaired(Workqueues<A>),
     /// They deadlock, and so they do whatever is changed, if no other item may move. In these each group that may move
     /// and needs a rescuer is alone; the run is the one by which they deadlock.
