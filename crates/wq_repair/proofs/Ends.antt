@@ -60,8 +60,8 @@ module _ (d : Declaration) (old new : Workqueues) (names : List ℕ) (repair : I
 same_test : (P : Type 0) (a b : Bool) → (a ≡ false) ↔ P → (b ≡ false) ↔ P → a ≡ b
 same_test P true true one other = refl
 same_test P false false one other = refl
-same_test P true false one other = sym (one.1 (other.0 refl))
-same_test P false true one other = other.1 (one.0 refl)
+same_test P true false one other = one.1 (other.0 refl)
+same_test P false true one other = sym (other.1 (one.0 refl))
 
 module _ (d : Declaration) (old : Workqueues) (declaration : IsDeclaration d) where
   -- groups that need a rescuer wait in it
