@@ -1,5 +1,5 @@
 -- What is printed is repaired to itself.
-use Rattle.std.proofs.Common.{◌≡◌, ◌≢◌, ℕ, ◌<◌, ◌≤◌, Bool, false, inl, inr, List, [], ◌∷◌, ◌++◌, length, map, Result, Ok, Err, Option, Some, None, refl, sym, ap, subst, ◌∙◌, arith}
+use Rattle.std.proofs.Common.{◌≡◌, ◌≢◌, ℕ, ◌<◌, false, inl, inr, List, [], ◌∷◌, ◌++◌, map, Result, Ok, Err, Option, Some, None, refl, sym, ap, subst, ◌∙◌, arith}
 use Rattle.std.specs.Prelude.{MatchResult, flat_map, slice_index_or}
 use Rattle.std.specs.List.{AllByRecursion, range_with_len}
 use Rattle.std.proofs.lemmas.List.FromFn.{get_or-map-range_with_len}
@@ -8,7 +8,7 @@ use Rattle.wq_items.specs.Table.{items_at}
 use Rattle.wq_groups.specs.Assignment.{item_lanes}
 use Rattle.wq_core.specs.Workqueues.{Workqueues}
 use Rattle.wq_cert.specs.declared.fault.CertError.{CertError}
-use Rattle.wq_cert.specs.Texts.{cert_refusal, workqueues_of_text}
+use Rattle.wq_cert.specs.Texts.{cert_refusal}
 use Rattle.wq_cert.proofs.ListLemmas.{AllByRecursion-range_with_len}
 use Rattle.wq_names.specs.Names.{names_of}
 use Rattle.wq_commands.specs.declared.end.End.{End}

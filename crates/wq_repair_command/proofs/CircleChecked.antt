@@ -1,7 +1,6 @@
 -- A circle that is printed is answered with yes.
-use Rattle.std.proofs.Common.{◌≡◌, ℕ, zero, suc, ◌+◌, ◌-◌, ◌<◌, ◌≤◌, Bool, cond, List, [], ◌∷◌, length, map, get_or, Option, Some, None, Ok, refl, sym, ap, subst, ◌∙◌, arith}
+use Rattle.std.proofs.Common.{◌≡◌, ℕ, zero, suc, ◌+◌, ◌-◌, ◌<◌, ◌≤◌, Bool, cond, List, [], ◌∷◌, length, map, get_or, Option, Some, Ok, refl, sym, ap, subst, ◌∙◌, arith}
 use Rattle.std.specs.Prelude.{slice_get, slice_index, option_map}
-use Rattle.std.specs.List.{All}
 use Rattle.std.proofs.lemmas.Bool.{ne_eqb}
 use Rattle.std.proofs.lemmas.List.{length-map}
 use Rattle.std.proofs.lemmas.List.Elements.{All-contains}
@@ -14,7 +13,6 @@ use Rattle.wq_graph.proofs.Graphs.{AreArcsFrom-group_graph}
 use Rattle.wq_graph.proofs.LeavingOut.{Contains-without}
 use Rattle.wq_levels.specs.Walks.{LeadsRound}
 use Rattle.wq_levels.proofs.Walks.{LeadsRound-walked}
-use Rattle.wq_core.specs.declared.step.Step.{Step}
 use Rattle.wq_core.specs.Wiring.{own_lanes}
 use Rattle.wq_core.specs.Workqueues.{Workqueues}
 use Rattle.wq_cert.specs.Certificate.{CircleCertificate, OfCircle}
@@ -22,8 +20,8 @@ use Rattle.wq_cert.specs.Texts.{answer_of}
 use Rattle.wq_cert.proofs.PrintedCircles.{answer_of-circle}
 use Rattle.wq_cert.proofs.TextLength.{length-circle_text}
 use Rattle.wq_checker.specs.declared.answer.Yes.TheVariants as yes
-use Rattle.wq_checker.specs.Chains.{Joins, AllJoin, before_from, before_in_circle}
-use Rattle.wq_commands.specs.Answer.{declared_waits, ends_of, text_of_circle}
+use Rattle.wq_checker.specs.Chains.{Joins, AllJoin, before_in_circle}
+use Rattle.wq_commands.specs.Answer.{declared_waits, ends_of}
 use Rattle.wq_commands.specs.Declaration.{Declared}
 use Rattle.wq_commands.specs.PrintedChecked.{ChecksYesCircle}
 use Rattle.wq_commands.proofs.AnswerLemmas.{IsSound, IsDeclaration-sound}

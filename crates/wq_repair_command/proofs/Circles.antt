@@ -9,10 +9,9 @@ use Rattle.wq_graph.specs.declared.arc.WaitArc.{WaitArc}
 use Rattle.wq_graph.specs.Graph.{HasArc, IsArc, arcs_at, arcs_from, group_graph, without}
 use Rattle.wq_graph.proofs.Graphs.{IsGraph-group_graph, AreArcsFrom-group_graph, GroupWaits-HasArc}
 use Rattle.wq_graph.proofs.LeavingOut.{length-without, Contains-without, HasArc-without, IsGraph-without}
-use Rattle.wq_levels.specs.Walks.{IsWalkedCircle, LeadsRound}
 use Rattle.wq_levels.proofs.OneCircle.{HasCircle-walked, IsWalkedCircle-few}
 use Rattle.wq_levels.proofs.Walks.{LeadsRound-walked}
-use Rattle.wq_core.specs.Wiring.{LaneWaits, wiring, own_lanes}
+use Rattle.wq_core.specs.Wiring.{wiring, own_lanes}
 use Rattle.wq_core.specs.Deadlock.{Deadlocks}
 use Rattle.wq_core.specs.Workqueues.{Workqueues}
 use Rattle.wq_core.proofs.CircleKnots.{Deadlocks-circle}

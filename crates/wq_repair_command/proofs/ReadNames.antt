@@ -1,20 +1,19 @@
 -- Names of workqueues are read back from the lines that were printed with them.
-use Rattle.std.proofs.Common.{◌≡◌, ℕ, zero, suc, ◌+◌, ◌-◌, ◌<◌, ◌≤◌, ◌==◌, ◌||◌, ◌&&◌, Bool, true, false, cond, inl, inr, List, [], ◌∷◌, ◌++◌, length, map, take, drop, get_or, reverse, refl, sym, ap, subst, ◌∙◌, arith, append_assoc}
+use Rattle.std.proofs.Common.{◌≡◌, ℕ, zero, suc, ◌+◌, ◌-◌, ◌<◌, ◌≤◌, ◌==◌, ◌||◌, ◌&&◌, Bool, true, false, cond, inl, inr, List, [], ◌∷◌, ◌++◌, length, map, take, drop, get_or, reverse, refl, sym, ap, ◌∙◌, arith, append_assoc}
 use Rattle.std.specs.Prelude.{◌⊎◌, nat_le, filter, flat_map, codes}
 use Rattle.std.specs.List.{AllByRecursion, before_first, list_all, position_or_len, prefix_len, suffix_len}
 use Rattle.std.proofs.Math.Seq.{drop-append_seam, drop-length}
 use Rattle.std.proofs.lemmas.Bool.{leb-true, and_parts}
 use Rattle.std.proofs.lemmas.List.{get_or-take, get_or-drop, get_or-reverse, length-take, length-take-le, length-drop, length-reverse, take_all}
-use Rattle.std.proofs.lemmas.List.Sums.{fails_before_first, position_or_len_is, prefix_len_is, prefix_len_stops, suffix_len_is, suffix_len-le-length}
+use Rattle.std.proofs.lemmas.List.Sums.{fails_before_first, position_or_len_is, prefix_len_is, prefix_len_stops, suffix_len_is}
 use Rattle.wq_text.specs.Comments.{before_comment}
 use Rattle.wq_text.specs.Lines.{LineView, lines_from, lines_of, pieces}
-use Rattle.wq_text.specs.Words.{is_blank, words_of}
+use Rattle.wq_text.specs.Words.{is_blank}
 use Rattle.wq_cert.specs.Forms.{begins_with}
-use Rattle.wq_cert.specs.Lines.{bytes_of}
 use Rattle.wq_cert.proofs.PrintedLines.{IsPrintableLine, line_body}
-use Rattle.wq_names.specs.Comments.{comment_body, is_lead, without_lead}
+use Rattle.wq_names.specs.Comments.{is_lead, without_lead}
 use Rattle.wq_names.specs.Names.{called, is_name, is_printable, is_workqueue_line, name_on, names_of, without_end}
-use Rattle.wq_repair_command.specs.AssignmentText.{keyword, name_comment}
+use Rattle.wq_repair_command.specs.AssignmentText.{keyword}
 use Rattle.wq_repair_command.proofs.NamedLines.{IsNamedLine, before_comment-full, bytes_of-printed_line, full_body, full-above, pieces-line, printed_line, strip-above}
 
 -- ---- what names there are

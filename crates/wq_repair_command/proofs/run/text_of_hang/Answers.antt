@@ -1,5 +1,5 @@
-use Rattle.std.proofs.Common.{◌≡◌, ◌≤◌, length, ap, subst, ◌∙◌, arith}
-use Rattle.wq_groups.specs.Assignment.{Assignment, IsAssignment}
+use Rattle.std.proofs.Common.{◌≤◌, length, ap, arith}
+use Rattle.wq_groups.specs.Assignment.{Assignment}
 use Rattle.wq_cert.specs.Ranges.{IsAssignmentOf}
 use Rattle.wq_commands.specs.Declaration.{Declared}
 use Rattle.wq_commands.proofs.AnswerLemmas.{IsSound}
