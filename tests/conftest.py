@@ -1,0 +1,48 @@
+"""What the tests by pytest have in common: the program that is tested, and how a difference is shown."""
+
+import difflib
+import os
+import pathlib
+import sys
+
+import hypothesis
+import pytest
+
+sys.dont_write_bytecode = True
+ROOT = pathlib.Path(__file__).resolve().parents[1]
+
+# The gate says the same each time, however much else the machine has to do.
+hypothesis.settings.register_profile("gate", deadline=None, derandomize=True, database=None, max_examples=200,
+                                        suppress_health_check=list(hypothesis.HealthCheck))
+hypothesis.settings.load_profile("gate")
+
+
+def pytest_addoption(parser):
+    parser.addoption("--write", action="store_true", help="writes diagnoses that differ anew, as the program has them: look at each")
+
+
+@pytest.fixture(scope="session")
+def program():
+    """The path of wqplan: WQPLAN, or the one that is built."""
+    path = os.path.realpath(os.environ.get("WQPLAN") or ROOT / "crates/wqplan/out/wqplan")
+    if not os.access(path, os.X_OK):
+        pytest.fail(f"there is nothing to run at {path}: WQPLAN names another program", pytrace=False)
+    return path
+
+
+@pytest.fixture
+def same():
+    """same(given, wanted, found): fails with what was given and a difference by lines where two texts differ."""
+
+    def compare(given, wanted, found):
+        if wanted != found:
+            lines = difflib.unified_diff(text_of(wanted), text_of(found), "wanted", "found", lineterm="")
+            pytest.fail("\n".join([given, *lines]), pytrace=False)
+
+    return compare
+
+
+def text_of(printed):
+    """Its lines, where bytes that aren't printed are spelled out."""
+    lines = printed.decode("ascii", "backslashreplace").split("\n")
+    return [line[:2_000] + f".. ({len(line)} bytes)" * (len(line) > 2_000) for line in lines]
