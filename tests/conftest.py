@@ -4,6 +4,7 @@ import difflib
 import os
 import pathlib
 import sys
+import tempfile
 
 import hypothesis
 import pytest
@@ -11,14 +12,19 @@ import pytest
 sys.dont_write_bytecode = True
 ROOT = pathlib.Path(__file__).resolve().parents[1]
 
+# Hypothesis writes nothing into the repository.
+ROOM = tempfile.TemporaryDirectory(prefix="hypothesis-")
+hypothesis.configuration.set_hypothesis_home_dir(ROOM.name)
 # The gate says the same each time, however much else the machine has to do.
 hypothesis.settings.register_profile("gate", deadline=None, derandomize=True, database=None, max_examples=200,
-                                        suppress_health_check=list(hypothesis.HealthCheck))
+                                     suppress_health_check=list(hypothesis.HealthCheck))
 hypothesis.settings.load_profile("gate")
 
 
 def pytest_addoption(parser):
     parser.addoption("--write", action="store_true", help="writes diagnoses that differ anew, as the program has them: look at each")
+    parser.addoption("--seed", default="1", help="of the random cases of the model; the same seed makes the same ones")
+    parser.addoption("--cases", type=int, help="how many random cases of each command the model has")
 
 
 @pytest.fixture(scope="session")

@@ -22,10 +22,13 @@ has_pytest() {
 
 packages='python3-pytest python3-hypothesis python3-pytest-xdist'
 if ! has_pytest; then
-    timeout 600 sh -c "apt-get -qq update; DEBIAN_FRONTEND=noninteractive apt-get -qq -y install $packages" >/dev/null 2>&1 </dev/null
+    # (another apt-get may be at work)
+    timeout 600 sh -c "apt-get -qq update; DEBIAN_FRONTEND=noninteractive apt-get -qq -y -o DPkg::Lock::Timeout=300 \
+        --no-install-recommends install $packages" >/dev/null 2>&1 </dev/null
     if ! has_pytest; then
         echo "pytest: these tests need Debian's $packages, which can't be installed here" >&2
         exit 1
     fi
 fi
-exec "$python" -B -m pytest -q -n "${RT_JOBS:-$(nproc)}" "$@"
+export PYTHONDONTWRITEBYTECODE=1
+exec "$python" -m pytest -q -n "${RT_JOBS:-$(nproc)}" "$@"

@@ -1,6 +1,6 @@
-# Makes up assignments, each with the declaration that it is for: those at the limits of docs/FORMAT.md,
-# and what strategies.py makes of a drawn declaration. An assignment is here, as in make_certificates.py, the list of the names on each
-# workqueue.
+# Makes up assignments for `deadlock`, each with the declaration that it is for: those at the limits
+# of docs/FORMAT.md, and random ones. The same seed makes the same ones. An assignment is here, as in
+# make_certificates.py, the list of the names on each workqueue.
 
 import functools
 import random
@@ -10,8 +10,8 @@ from certificate import TEXT_LIMIT
 from deadlock import circle_of
 from declaration import FLUSH_LIMIT, ITEM_LIMIT, read_declaration
 from make_certificates import (
-    BARE_FAULTS, GROUPED, SEVERAL_FAULTS, add_text_limits, assignment_of, faults_everywhere, own_assignment, some_bare,
-    with_bare, wq_lines,
+    BARE_FAULTS, GROUPED, SEVERAL_FAULTS, add_text_limits, any_assignment, assignment_of, change_wq_empty,
+    faults_everywhere, make_assignment_lines, make_declaration, own_assignment, some_bare, spelled, with_bare, wq_lines,
 )
 from make_declarations import (
     circle_beside_chains, flush_lines, join, long_names, longest_run, numbered_items,
@@ -49,6 +49,26 @@ def bare_above(choose, declared, wqs):
         if above <= bare:
             return bare
         bare |= above
+
+
+def random_deadlock_case(seed, number):
+    """The declaration and the assignment of this number."""
+    choose = random.Random(f"{seed} deadlock {number}")
+    text, declared = make_declaration(choose)
+    way = choose.random()
+    if way < 0.6:
+        wqs = safe_assignment(choose, declared)
+        if way < 0.1:
+            wqs = merged(choose, wqs)
+    elif way < 0.7:
+        wqs = own_assignment(declared)
+    else:
+        wqs = any_assignment(choose, declared)
+    for _ in range(choose.choice([0, 0, 0, 1, 3])):
+        change_wq_empty(choose, declared, wqs, [])
+    bare = choose.choice([bare_above(choose, declared, wqs), some_bare(choose, wqs)])
+    assignment = make_assignment_lines(choose, declared, wqs, bare)
+    return [text, spelled(choose, declared, assignment, 0.25, called=True)]
 
 
 def all_assignments(declared):

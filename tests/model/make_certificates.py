@@ -1,14 +1,18 @@
-# Makes up answers, assignments and runs, each with the declaration that it is for: those at the limits of docs/FORMAT.md, and what
-# strategies.py makes of a drawn declaration. Most begin with what the model answers or plays, and then something is changed. The
-# assignments for `deadlock` are in make_assignments.py.
+# Makes up answers, assignments and runs, each with the declaration that it is for: those at the
+# limits of docs/FORMAT.md, and random ones. The same seed makes the same ones. Most begin with
+# what the model answers or plays, and then something is changed. The assignments for `deadlock`
+# are in make_assignments.py.
 
+import random
 import re
 
 import plan
 from certificate import LINE_LIMIT, TEXT_LIMIT, Assignment
 from deadlock import deadlocking_run
 from declaration import ITEM_LIMIT, read_declaration, split_words
-from make_declarations import BAD_BYTES, Line, join, numbered_items, spell
+from make_declarations import (
+    BAD_BYTES, Line, item_count_of, join, make_lines, numbered_items, put_faults, spell,
+)
 from steps import RESCUER, State
 
 KEYWORDS = [b"plan", b"wq", b"norescuer", b"chain", b"circle", b"arc", b"run", b"queue", b"cancel", b"start",
@@ -28,6 +32,15 @@ def numbered(word, number):
 
 
 # Declarations ------------------------------------------------------------------------------------
+
+
+def make_declaration(choose, shape=None):
+    """The bytes of a declaration, and what it declares, or would if it had no fault."""
+    lines = make_lines(choose, min(item_count_of(choose), 80), shape)
+    declared = read_declaration(spell(choose, lines, True))
+    if choose.random() < 0.06:
+        put_faults(choose, lines, choose.randint(1, 2))
+    return spell_mostly(choose, lines, choose.random() < 0.8), declared
 
 
 def model_answer(declared):
@@ -610,6 +623,36 @@ def spelled(choose, declared, lines, fault_share, called=False):
 
 
 # Cases -------------------------------------------------------------------------------------------
+
+
+def random_check_case(seed, number):
+    """The declaration and the certificate of this number, which don't depend on any other."""
+    choose = random.Random(f"{seed} check {number}")
+    text, declared = make_declaration(choose)
+    answer = model_answer(declared)
+    share = 0.85 if answer[0][0] == b"plan" else 0.15
+    make = make_plan_lines if choose.random() < share else make_circle_lines
+    return [text, spelled(choose, declared, make(choose, declared, answer), 0.27)]
+
+
+def random_replay_case(seed, number):
+    """The declaration, the assignment and the run of this number."""
+    choose = random.Random(f"{seed} replay {number}")
+    text, declared = make_declaration(choose)
+    answer = model_answer(declared)
+    if answer[0][0] == b"plan" and choose.random() < 0.2:
+        wqs = [words[2:] for words in answer if words[0] == b"wq"]
+    elif choose.random() < 0.3:
+        wqs = own_assignment(declared)
+    else:
+        wqs = any_assignment(choose, declared)
+    first = []
+    if answer[0][0] == b"circle" and choose.random() < 0.5:
+        first = list(dict.fromkeys(words[1] for words in answer if words[0] == b"arc"))
+    bare = some_bare(choose, wqs)
+    run = make_run_lines(choose, declared, wqs, bare, first)
+    assignment = make_assignment_lines(choose, declared, wqs, bare)
+    return [text, spelled(choose, declared, assignment, 0.15, called=True), spelled(choose, declared, run, 0.15)]
 
 
 OTHER_WORDS = [b"0", b"1", b"007", b"+1", b"4095", b"4096", b"4097", b"4294967295", b"4294967296",

@@ -1,9 +1,39 @@
-"""The cases of `circles` and `dot` at the limits of docs/FORMAT.md: declarations, and assignments for some of them."""
+"""Makes up declarations, and assignments for some of them, for `circles` and `dot`.
+
+There are those at the limits of docs/FORMAT.md, and random ones. The same seed makes the same ones. A case is a declaration, or
+a declaration and an assignment.
+"""
+
+import random
 
 import make_assignments
 import make_declarations
-from make_certificates import wq_lines
-from make_declarations import join, numbered_items
+from make_assignments import bare_above, merged, random_deadlock_case
+from make_certificates import (
+    change_wq_empty, make_assignment_lines, make_declaration, own_assignment, some_bare, spelled, wq_lines,
+)
+from make_declarations import join, numbered_items, random_case, shape_components
+
+
+def random_circles_case(seed, number):
+    """The case of this number: one of `plan`, one of `deadlock`, or one of several circles."""
+    choose = random.Random(f"{seed} circles {number}")
+    way = choose.random()
+    if way < 0.2:
+        return [random_case(f"{seed} circles", number)]
+    if way < 0.4:
+        return random_deadlock_case(f"{seed} circles", number)
+    text, declared = make_declaration(choose, shape_components)
+    if way < 0.7:
+        return [text]
+    wqs = own_assignment(declared)
+    choose.shuffle(wqs)
+    for _ in range(choose.choice([0, 0, 1, 2, 5, len(wqs) // 2])):
+        wqs = merged(choose, wqs)
+    for _ in range(choose.choice([0, 0, 0, 1, 3])):
+        change_wq_empty(choose, declared, wqs, [])
+    bare = choose.choice([bare_above(choose, declared, wqs), some_bare(choose, wqs)])
+    return [text, spelled(choose, declared, make_assignment_lines(choose, declared, wqs, bare), 0.1, called=True)]
 
 
 def names_of(count):

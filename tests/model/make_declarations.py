@@ -1,9 +1,10 @@
-# Makes up declarations: those at the limits of docs/FORMAT.md, faults and spellings of those that strategies.py draws, and lines for
-# make_books.py.
+# Makes up declarations: those at the limits of docs/FORMAT.md, and random ones. The same seed makes
+# the same ones.
 
 import collections
 import dataclasses
 import functools
+import random
 import string
 
 from declaration import DIRECTIVES, FEWEST_WORDS, FLUSH_LIMIT, ITEM_LIMIT, LINE_LIMIT, MOST_WORDS, NAME_LIMIT, TEXT_LIMIT, USERS
@@ -161,6 +162,21 @@ def shape_two_circles(choose, count):
     if choose.random() < 0.7:
         pairs.append((choose.choice(first), choose.choice(second)))
     return pairs
+
+
+def shape_components(choose, count):
+    """Circles beside one another and one behind the other, with groups between them and at the ends."""
+    parts, left = [], list(range(count))
+    while left:
+        size = choose.choice([1, 1, 1, 1, 2, 2, 3, 4])
+        parts.append(left[:size])
+        left = left[size:]
+    pairs = []
+    for part in parts:
+        if len(part) > 1 or choose.random() < 0.2:
+            pairs += path(part) + [(part[-1], part[0])]
+            pairs += [(choose.choice(part), choose.choice(part)) for _ in range(choose.choice([0, 0, 1, 2]))]
+    return pairs + downward(choose, count, choose.randint(0, count))
 
 
 SHAPES = [
@@ -429,6 +445,25 @@ def spell(choose, lines, plain):
 # Cases -------------------------------------------------------------------------------------------
 
 
+def item_count_of(choose):
+    way = choose.random()
+    if way < 0.02:
+        return 0
+    if way < 0.07:
+        return 1
+    if way < 0.92:
+        return choose.randint(2, 12)
+    return choose.randint(13, 60) if way < 0.98 else choose.randint(61, 200)
+
+
+def case_small(choose):
+    lines = make_lines(choose, item_count_of(choose))
+    way = choose.random()
+    if way > 0.55:
+        put_faults(choose, lines, 1 if way < 0.85 else choose.randint(2, 4))
+    return spell(choose, lines, choose.random() < 0.4)
+
+
 def case_long_text(choose):
     """About as long as a text may be, with a fault or without one."""
     lines = make_lines(choose, choose.randint(0, 8))
@@ -486,6 +521,19 @@ def case_many_flushes(choose):
     if choose.random() < 0.2:
         lines.append(Line([b"ordered", choose.choice(names)]))
     return spell(choose, lines, True)
+
+
+def random_case(seed, number):
+    """The case of this number, which doesn't depend on any other."""
+    choose = random.Random(f"{seed} {number}")
+    way = choose.random()
+    if way < 0.013:
+        return case_long_text(choose)
+    if way < 0.031:
+        return case_many_items(choose)
+    if way < 0.049:
+        return case_many_flushes(choose)
+    return case_small(choose)
 
 
 def join(*lines):

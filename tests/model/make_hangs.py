@@ -1,13 +1,30 @@
-"""The cases of `hang` at the limits of docs/FORMAT.md: declarations, each with an assignment."""
+"""Makes up declarations, each with an assignment, for `hang`.
+
+There are those at the limits of docs/FORMAT.md, and random ones. The same seed makes the same ones.
+"""
+
+import random
 
 from declaration import ITEM_LIMIT
-from make_assignments import limit_deadlock_cases, merged
-from make_certificates import wq_lines
-from make_declarations import join, numbered_items
+from make_assignments import bare_above, limit_deadlock_cases, merged, random_deadlock_case
+from make_certificates import (
+    any_assignment, change_wq_empty, make_assignment_lines, make_declaration, own_assignment, some_bare, spelled, wq_lines,
+)
+from make_declarations import join, numbered_items, path
 
 # Of the cases of `deadlock` at the limits every so many, since reading is the same, and all with texts as long as this.
 ONE_OF = 18
 LONG = 100_000
+
+
+def shape_rounds(choose, count):
+    """Ways round over many groups, with shorter ways round among them, and ways across."""
+    pairs = []
+    for _ in range(choose.choice([1, 1, 2, 3]) if count else 0):
+        places = choose.sample(range(count), choose.randint(1, count))
+        pairs += path(places) + [(places[-1], places[0])]
+    across = choose.choice([0, 0, 1, 3, count])
+    return pairs + [(choose.randrange(count), choose.randrange(count)) for _ in range(across if count > 1 else 0)]
 
 
 def without_own(choose, wqs, declared):
@@ -18,6 +35,25 @@ def without_own(choose, wqs, declared):
         if all(of[item] != of[target] for item, target in declared.flushes):
             wqs = fewer
     return wqs
+
+
+def random_hang_case(seed, number):
+    """The case of this number: one of `deadlock`, or one with ways round."""
+    choose = random.Random(f"{seed} hang {number}")
+    if choose.random() < 0.3:
+        return random_deadlock_case(f"{seed} hang", number)
+    text, declared = make_declaration(choose, shape_rounds)
+    wqs = own_assignment(declared)
+    choose.shuffle(wqs)
+    way = choose.random()
+    if way < 0.6:
+        wqs = without_own(choose, wqs, declared)
+    elif way < 0.8:
+        wqs = any_assignment(choose, declared)
+    for _ in range(choose.choice([0, 0, 0, 1, 3])):
+        change_wq_empty(choose, declared, wqs, [])
+    bare = choose.choice([frozenset(), bare_above(choose, declared, wqs), some_bare(choose, wqs)])
+    return [text, spelled(choose, declared, make_assignment_lines(choose, declared, wqs, bare), 0.1, called=True)]
 
 
 def assigned(wqs, bare=frozenset()):

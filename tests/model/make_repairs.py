@@ -1,19 +1,27 @@
 """Makes up declarations, each with an assignment and the names of items that may move, for `repair`.
 
-There are those at the limits of docs/FORMAT.md, and what strategies.py makes of a drawn declaration. A case is the two texts, and behind
-them the names.
+There are those at the limits of docs/FORMAT.md, and random ones. The same seed makes the same ones. A case is the two texts, and
+behind them the names.
 """
 
-from declaration import ITEM_LIMIT, read_declaration
-from make_assignments import all_assignments, limit_deadlock_cases, sets_in_turn
-from make_certificates import with_bare, wq_lines
-from make_declarations import join, numbered_items
+import random
+
+from declaration import ITEM_LIMIT, is_name, read_declaration
+from make_assignments import all_assignments, limit_deadlock_cases, random_deadlock_case, sets_in_turn
+from make_certificates import (
+    any_assignment, change_wq_empty, make_assignment_lines, own_assignment, some_bare, spell_mostly, spelled, with_bare, wq_lines,
+)
+from make_declarations import (
+    join, make_lines, numbered_items, put_faults, shape_deep, shape_downward, shape_layers, shape_wide, spell,
+)
 
 # Of the cases of `deadlock` at the limits every so many, since reading is the same, and none with a text as long as this.
 ONE_OF = 25
 LONG = 100_000
 # NAMEs that are no items: some of them aren't names. (No words of the command line may have bytes that are no UTF-8.)
 UNKNOWN = [b"", b"a b", b"#", b"x" * 64, b"\xc3\xa4", b"a\nb", b"flush", b"Item", b"zz"]
+# These lead downward, so that most of the circles are those of workqueues.
+SHAPES = [shape_deep, shape_downward, shape_downward, shape_layers, shape_layers, shape_wide]
 
 
 def names_that_may_move(choose, items):
@@ -35,6 +43,34 @@ def spread(choose, declared, count):
     for members in declared.groups:
         choose.choice(wqs).extend(members)
     return wqs
+
+
+def random_repair_case(seed, number):
+    """The case of this number: one of `deadlock`, or one with a few groups on each workqueue."""
+    choose = random.Random(f"{seed} repair {number}")
+    if choose.random() < 0.15:
+        texts = random_deadlock_case(f"{seed} repair", number)
+        words = dict.fromkeys(texts[0].replace(b"#", b" ").split())
+        return [*texts, *names_that_may_move(choose, [word for word in words if is_name(word)])]
+    count = choose.choice([1, 2, 3, 3, 4, 4, 5, 5, 6, 7, 8, 10, 12, 15, 20, 30, 50, choose.randint(50, 200)])
+    lines = make_lines(choose, count, choose.choice([*SHAPES, None]))
+    declared = read_declaration(spell(choose, lines, True))
+    if choose.random() < 0.03:
+        put_faults(choose, lines, 1)
+    text = spell_mostly(choose, lines, choose.random() < 0.8)
+    way = choose.random()
+    if way < 0.1:
+        wqs = own_assignment(declared)
+    elif way < 0.3:
+        wqs = any_assignment(choose, declared)
+    else:
+        wqs = spread(choose, declared, choose.choice([1, 2, 2, 3, 4, max(count // 3, 1), max(count // 2, 1)]))
+    for _ in range(choose.choice([0, 0, 0, 1, 3])):
+        change_wq_empty(choose, declared, wqs, [])
+    assignment = wq_lines(wqs, some_bare(choose, wqs))
+    if choose.random() < 0.15:
+        assignment = make_assignment_lines(choose, declared, wqs, some_bare(choose, wqs))
+    return [text, spelled(choose, declared, assignment, 0.1, called=True), *names_that_may_move(choose, declared.items)]
 
 
 def names_in_turn(names, number):

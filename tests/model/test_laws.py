@@ -25,16 +25,14 @@ import repair
 import replay
 import run
 import unrescued
+from cases import cases
 from declaration import FLUSHES_WHOLE, Refused, read_declaration
-from hypothesis import given, settings
 from models import ANSWERS
 from standard_error import fits
 from steps import State
-from strategies import CASES
-from test_program import COMMANDS
 
-DRAWN = 250
-# Of the cases at the limits those are looked at whose texts have fewer bytes.
+# How many random cases of each command are looked at, and of those at the limits the ones whose texts have fewer bytes.
+CASES = 500
 SMALL = 20_000
 
 
@@ -996,7 +994,7 @@ def look_at_repair(*texts):
         demand(other_moved <= moved and other_given <= given and not case.is_safe(other), "no change can be left out alone")
 
 
-# Of each command what looks at the model's answer to the cases of test_program.py.
+# Of each command what looks at the model's answer to its cases.
 LAWS = {
     "plan": look_at_plan, "check": look_at_check, "replay": look_at_replay, "deadlock": look_at_deadlock,
     "hang": look_at_hang, "repair": look_at_repair, "run": look_at_running, "circles": look_at_circles, "dot": look_at_dot,
@@ -1004,14 +1002,8 @@ LAWS = {
 
 
 @pytest.mark.parametrize("command", LAWS)
-def test_laws(command):
-    limit_cases, _, _ = COMMANDS[command]
-
-    def look(texts):
+def test_laws(command, request):
+    for texts in cases(command, request.config.getoption("--seed"), request.config.getoption("--cases") or CASES, SMALL):
         LAWS[command](*texts)
-        look_at_reasons(command, texts)
-
-    for _, texts in limit_cases():
-        if sum(map(len, texts)) < SMALL:
-            look(texts)
-    settings(max_examples=DRAWN)(given(CASES[command])(look))()
+        if command != "repair":
+            look_at_reasons(command, texts)

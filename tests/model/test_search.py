@@ -1,10 +1,10 @@
 """All runs of small declarations, gone through: the program's answers, and the model's, are what is found.
 
-Hypothesis draws small declarations, and for each one all assignments are looked at, up to the numbers of the workqueues. Of each
-assignment all states are gone through that steps lead to, by the rules of docs/FORMAT.md, "Steps", without any notion of a circle.
-`deadlock` must answer `safe` where no run ends stuck, and where one deadlocks a run that does; `plan` must have as many workqueues as
-the smallest assignment by which no run ends stuck, and a circle where there is none. Of the smaller declarations all runs with one and
-with two helpers are gone through, too: some run ends stuck exactly where one without helpers does.
+Of random small declarations all assignments are looked at, up to the numbers of the workqueues. Of each assignment all states are gone
+through that steps lead to, by the rules of docs/FORMAT.md, "Steps", without any notion of a circle. `deadlock` must answer `safe` where
+no run ends stuck, and where one deadlocks a run that does; `plan` must have as many workqueues as the smallest assignment by which no run
+ends stuck, and a circle where there is none. Of the smaller declarations all runs with one and with two helpers are gone through, too:
+some run ends stuck exactly where one without helpers does.
 
 Of some declarations the states are gone through by the number of steps that lead to them. So the first one in which a run ends stuck
 says how many steps the shortest of these runs has: `hang` must answer `safe`, or such a run of that many steps. With helpers no run that
@@ -15,20 +15,25 @@ All this is so whichever workqueues have no rescuer: of some declarations each a
 
 import functools
 import itertools
+import random
 
 import certificate
 import programs
 import pytest
 from certificate import read_run
 from declaration import Refused, read_declaration
-from hypothesis import given, settings
-from hypothesis import strategies as st
 from make_declarations import join
 from models import ANSWERS
+from smallest import smallest
 from steps import State
 from test_laws import EXECUTIONS, demand
 
 ONE_OF = 8
+
+# The numbers of items and of flushes of a declaration, each as often as it stands here. All states
+# of the larger ones take their time.
+SIZES = [(1, 1), (1, 2), (2, 1), (2, 2), (2, 3), (2, 4), (3, 1), (3, 2), (3, 3), (3, 4), (3, 4),
+         (4, 2), (4, 3), (4, 3), (4, 4), (4, 4)]
 
 # With so many helpers a run ends stuck where one does without them. That is looked at where there are no more items and flushes than
 # these.
@@ -349,22 +354,27 @@ def is_hang(all_steps, count, bare, run):
 # Declarations and assignments --------------------------------------------------------------------
 
 
-@st.composite
-def small_declarations(draw):
-    """The bytes of a declaration of up to four items and four flushes."""
-    names = [b"a", b"b", b"c", b"d"][:draw(st.integers(1, 4))]
-    count = len(names)
-    lines = [b"item " + name for name in draw(st.permutations(names))]
-    places = draw(st.permutations(names))
-    for size in draw(st.lists(st.integers(1, 4), max_size=2)):
-        lines += [b"ordered " + b" ".join(places[:size])] if places[:size] else []
-        places = places[size:]
-    is_downward = draw(st.booleans())
-    item = st.integers(0, count - 1)
-    for first, second, is_whole in draw(st.lists(st.tuples(item, item, st.booleans()), min_size=1, max_size=4)):
-        first, second = sorted((first, second)) if is_downward else (first, second)
-        if first != second or not is_downward:
-            lines.append(b"%s %s %s" % (b"flushwq" if is_whole else b"flush", names[first], names[second]))
+def make_declaration(choose):
+    """The bytes of a small declaration."""
+    count, flush_count = choose.choice(SIZES)
+    names = [b"a", b"b", b"c", b"d"][:count]
+    lines = [b"item " + name for name in names]
+    choose.shuffle(lines)
+
+    left = choose.sample(names, choose.choice([0, 0, 0, count, choose.randint(0, count)]))
+    while left:
+        size = choose.randint(1, len(left))
+        lines.append(b"ordered " + b" ".join(left[:size]))
+        del left[:size]
+
+    downward = choose.random() < 0.7
+    whole = choose.choice([0, 0.5, 0.5, 1])
+    for _ in range(flush_count):
+        item, target = choose.choice(names), choose.choice(names)
+        if downward and count > 1:
+            item, target = sorted(choose.sample(names, 2))
+        directive = b"flushwq" if choose.random() < whole else b"flush"
+        lines.append(b"%s %s %s" % (directive, item, target))
     return join(*lines)
 
 
@@ -496,37 +506,49 @@ def ask(program, tmp_path):
     return answer
 
 
-# How many declarations are drawn, with which sets of workqueues without a rescuer, and whether the states are gone through by length.
-PROGRAM = [("deadlock", 250, False, False), ("norescuer", 40, True, False), ("hang", 60, False, True), ("hang-norescuer", 20, True, True)]
-MODEL = [("model", 25, False, False), ("model-hang", 20, False, True), ("model-norescuer", 5, True, True)]
+# Of each test how many declarations there are, from which number on, and whether each assignment is looked at with each set of workqueues
+# without a rescuer, and the states are gone through by length.
+PROGRAM = [(0, 40, True, True), (40, 60, False, True), *((first, 100, False, False) for first in range(100, 600, 100))]
+MODEL = [(0, 5, True, True), (5, 20, False, True), (25, 25, False, False)]
+WALKS = 250
 
 
-@pytest.mark.parametrize("count, without, by_length", [row[1:] for row in PROGRAM], ids=[row[0] for row in PROGRAM])
-def test_program_by_search(ask, count, without, by_length):
+@pytest.mark.parametrize("first, count, without, by_length", PROGRAM)
+def test_program_by_search(ask, request, first, count, without, by_length):
     turn = itertools.cycle(range(ONE_OF))
-    search(lambda command, texts: ask(command, texts), turn, count, without, by_length)
+    search(ask, turn, f"{request.config.getoption('--seed')} search", range(first, first + count), without, by_length)
 
 
-@pytest.mark.parametrize("count, without, by_length", [row[1:] for row in MODEL], ids=[row[0] for row in MODEL])
-def test_model_by_search(count, without, by_length):
-    search(ask_model, itertools.repeat(1), count, without, by_length)
+@pytest.mark.parametrize("first, count, without, by_length", MODEL)
+def test_model_by_search(request, first, count, without, by_length):
+    search(ask_model, itertools.repeat(1), f"{request.config.getoption('--seed')} model", range(first, first + count), without, by_length)
 
 
-def search(ask, turn, count, without, by_length):
-    @settings(max_examples=count)
-    @given(small_declarations())
-    def is_found(text):
-        _, _, wrong = look_at_declaration(ask, turn, text, without, by_length)
-        assert not wrong, "\n".join([text.decode(), *wrong])
+def search(ask, turn, seed, numbers, without, by_length):
+    """Fails where an answer is wrong, of a declaration with as few lines as fail."""
 
-    is_found()
+    def wrong_of(text):
+        try:
+            _, _, wrong = look_at_declaration(ask, turn, text, without, by_length)
+        except Refused:
+            return []
+        return wrong
+
+    for number in numbers:
+        text = make_declaration(random.Random(f"{seed} {number}"))
+        if wrong_of(text):
+            small, = smallest([text], lambda some: wrong_of(*some))
+            pytest.fail("\n".join([small.decode(), *wrong_of(small)]), pytrace=False)
 
 
-@settings(max_examples=200)
-@given(small_declarations(), st.randoms(use_true_random=False))
-def test_both_machines_allow_the_same_steps(text, choose):
-    """The states here allow the same steps as those of the model, on a drawn way."""
-    declared = read_declaration(text)
+def test_both_machines_allow_the_same_steps(request):
+    for number in range(WALKS):
+        look_at_walk(random.Random(f"{request.config.getoption('--seed')} walk {number}"))
+
+
+def look_at_walk(choose):
+    """The states here allow the same steps as those of the model, on a random way."""
+    declared = read_declaration(make_declaration(choose))
     parts = choose.choice(list(partitions(len(declared.groups))))
     count = max(parts, default=-1) + 1
     workqueue_of = {name: parts[group] for name, group in declared.group_of.items()}
