@@ -18,11 +18,7 @@ fn check_says_whether_an_answer_is_true(rt: HostRuntime) {
             b"yes 2\n".as_slice(),
         ),
         (b"plan 1\nwq 0 a b\nchain 1\n", End::Bad, b"no 50 a b\n"),
-        (
-            b"plan 2\nwq 0 b\n",
-            End::Refused,
-            b"refused 40 line 0\n",
-        ),
+        (b"plan 2\nwq 0 b\n", End::Refused, b"refused 40 line 0\n"),
     ] {
         let mut writer = Metered::new(Vec::new(rt.alloc()));
         let ended = check_cmd(
@@ -66,7 +62,11 @@ fn deadlock_says_whether_an_assignment_is_safe(rt: HostRuntime) {
 #[test]
 fn replay_says_how_a_run_ends(rt: HostRuntime) {
     for (run, end, answer) in [
-        (b"run 1\nqueue a\n".as_slice(), End::Good, b"open\n".as_slice()),
+        (
+            b"run 1\nqueue a\n".as_slice(),
+            End::Good,
+            b"open\n".as_slice(),
+        ),
         (
             b"run 4\nqueue a\nqueue b\nstart 0 a\nwait 0 b\n",
             End::Bad,

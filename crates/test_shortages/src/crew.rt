@@ -51,12 +51,10 @@ fn is_done<N: Naming, R: Wait, A: Allocator + Copy>(
 ) -> bool
     requires { items N.wiring ≡ length table.now.waits }
 {
-    let nothing = Ok(
-        Rescued {
-            finished: 0,
-            faults: 0,
-        },
-    );
+    let nothing = Ok(Rescued {
+        finished: 0,
+        faults: 0,
+    });
     for (context, wanted) in [
         ((0, 0), nothing),
         ((1, 0), nothing),

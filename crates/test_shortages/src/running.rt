@@ -11,7 +11,8 @@ use wq_commands::{End, Metered};
 use wq_run::run_cmd;
 
 /// What is printed of the plan of two items.
-const RAN: &[u8] = b"workqueues 2\nitem a wq 1 queued 1 cancelled 0 finished 1\nitem b wq 0 queued 1 cancelled 0 finished 1\nfaults 0\n";
+const RAN: &[u8] =
+    b"workqueues 2\nitem a wq 1 queued 1 cancelled 0 finished 1\nitem b wq 0 queued 1 cancelled 0 finished 1\nfaults 0\n";
 
 /// A chain of 257 items, whose plan has one workqueue more than can be run.
 fn chain(alloc: Global) -> Result<String, AllocError> {
@@ -54,6 +55,9 @@ pub(crate) fn put_run_cmd<R: Print + AllocGlobal + Threads + Wait + Sync>(
         &mut writer,
     );
     let is_right = ended == Ok(End::Good) && writer.into_inner().as_slice() == RAN;
-    println!(rt; "run_cmd, a plan with two helpers: {}", if is_right { "answered" } else { "WRONG" })?;
+    println!(rt;
+        "run_cmd, a plan with two helpers: {}",
+        if is_right { "answered" } else { "WRONG" }
+    )?;
     Ok(is_right)
 }
