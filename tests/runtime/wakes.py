@@ -31,8 +31,8 @@ SECONDS = 10
 WORKERS = 40
 
 # How often an entry is queued and waited for while eight helpers and the rescuer sleep, and how often all threads together may fall asleep
-# for each: it is once or twice for who executes the entry, and once or twice for who waits. Nine that were woken would fall asleep again.
-QUEUEINGS = 2_000
+# for each. The body sleeps once, who executes it and who waits for it once or twice: it is three times, and eleven where all nine are woken.
+QUEUEINGS = 300
 MOST_SLEEPS = 6
 
 # Items on four workqueues. An entry of `b` stays pending behind one of `a` that runs; `c` waits for either, and `d` for their whole
@@ -200,7 +200,7 @@ def sleeps():
 def queueings(program, setting):
     """What is wrong with how many are woken by queueings, or None."""
     before = sleeps()
-    found = ask([program, "helpers", "8", "bench", *setting, "100000", "rounds", "1", str(QUEUEINGS)])
+    found = ask([program, "helpers", "8", "bench", *setting, "100000", "sleep", "1", str(QUEUEINGS)])
     each = (sleeps() - before) / QUEUEINGS
     if found.status or b"\ncaller ok\n" not in found.printed:
         return f"status {found.status}, {short(found.printed)}"
