@@ -184,22 +184,20 @@ def test_program(compare, command, request):
     assert not never or count < CASES // FEWER.get(command, 1), f"these never came: {never}; these did: {came}"
 
 
-FAILURES = AssertionError, pytest.fail.Exception
+def tried(compare, command, texts, words):
+    """What `compare` gives, and None; or None, and how it fails."""
+    try:
+        return compare(command, texts, *words), None
+    except (AssertionError, pytest.fail.Exception) as failure:
+        return None, str(failure)
 
 
 def of_smallest(compare, command, texts, words):
     """What `compare` gives for the case; where it fails, it does so with the fewest lines that fail."""
-    count = len(TEXTS_OF[command])
-
-    def is_wrong(some):
-        try:
-            compare(command, [*some, *texts[count:]], *words)
-        except FAILURES:
-            return True
-        return False
-
-    try:
-        return compare(command, texts, *words)
-    except FAILURES:
-        compare(command, [*smallest(texts[:count], is_wrong), *texts[count:]], *words)
-        raise
+    rows, wrong = tried(compare, command, texts, words)
+    if wrong is not None:
+        count = len(TEXTS_OF[command])
+        names = texts[count:]
+        small = smallest(texts[:count], lambda some: tried(compare, command, [*some, *names], words)[1] is not None)
+        pytest.fail(tried(compare, command, [*small, *names], words)[1] or wrong, pytrace=False)
+    return rows
