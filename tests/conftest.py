@@ -6,19 +6,15 @@ import pathlib
 import sys
 import tempfile
 
-import hypothesis
 import pytest
 
 sys.dont_write_bytecode = True
 ROOT = pathlib.Path(__file__).resolve().parents[1]
 
-# Hypothesis writes nothing into the repository.
-ROOM = tempfile.TemporaryDirectory(prefix="hypothesis-")
-hypothesis.configuration.set_hypothesis_home_dir(ROOM.name)
-# The gate says the same each time, however much else the machine has to do.
-hypothesis.settings.register_profile("gate", deadline=None, derandomize=True, database=None, max_examples=200,
-                                     suppress_health_check=list(hypothesis.HealthCheck))
-hypothesis.settings.load_profile("gate")
+# Hypothesis writes nothing into the repository. (It takes half a second to load, and most tests don't.)
+if "HYPOTHESIS_STORAGE_DIRECTORY" not in os.environ:
+    ROOM = tempfile.TemporaryDirectory(prefix="hypothesis-")
+    os.environ["HYPOTHESIS_STORAGE_DIRECTORY"] = ROOM.name
 
 
 def pytest_addoption(parser):

@@ -29,7 +29,6 @@ from cases import COMMANDS, KINDS, WITHOUT, cases, kind_of
 from commands import TEXTS_OF
 from declaration import Refused, read_declaration, split_lines
 from models import ANSWERS, agrees
-from smallest import smallest
 from standard_error import HAS_FURTHER, STDIN, fits, note
 from tables import short
 
@@ -196,6 +195,8 @@ def of_smallest(compare, command, texts, words):
     """What `compare` gives for the case; where it fails, it does so with the fewest lines that fail."""
     rows, wrong = tried(compare, command, texts, words)
     if wrong is not None:
+        from smallest import smallest  # (which loads Hypothesis)
+
         count = len(TEXTS_OF[command])
         names = texts[count:]
         small = smallest(texts[:count], lambda some: tried(compare, command, [*some, *names], words)[1] is not None)

@@ -24,7 +24,6 @@ from certificate import read_run
 from declaration import Refused, read_declaration
 from make_declarations import join
 from models import ANSWERS
-from smallest import smallest
 from steps import State
 from test_laws import EXECUTIONS, demand
 
@@ -537,6 +536,8 @@ def search(ask, turn, seed, numbers, without, by_length):
     for number in numbers:
         text = make_declaration(random.Random(f"{seed} {number}"))
         if wrong_of(text):
+            from smallest import smallest  # (which loads Hypothesis)
+
             small, = smallest([text], lambda some: wrong_of(*some))
             pytest.fail("\n".join([small.decode(), *wrong_of(small)]), pytrace=False)
 

@@ -5,6 +5,7 @@ import os
 import pathlib
 import sys
 
+import hypothesis
 import pytest
 
 HERE = pathlib.Path(__file__).resolve().parent
@@ -15,6 +16,10 @@ import programs  # noqa: E402
 from csource import draft, extract, program, progress  # noqa: E402
 
 C_FILES = HERE / "c"
+
+# The machine may have much else to do, and the gate should say the same each time.
+hypothesis.settings.register_profile("gate", deadline=None, derandomize=True, database=None, max_examples=200)
+hypothesis.settings.load_profile("gate")
 
 Ran = collections.namedtuple("Ran", "status out err")
 Drafted = collections.namedtuple("Drafted", "items flushes open")
