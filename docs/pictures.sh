@@ -24,7 +24,7 @@ picture() {
     local name=$1 warnings
     shift
     "$program" dot "${@/#/examples/}" >"$text"
-    python3 -B tests/lib/dot.py "$text" | sed "s|^[^:]*|$name|"
+    python3 -B tests/lib/drawn.py "$text" | sed "s|^[^:]*|$name|"
     warnings=$(dot -Tsvg -o "$pictures/$name.svg" "$text" 2>&1) && [ -z "$warnings" ] || {
         echo "pictures: $name: $warnings"
         exit 1

@@ -14,11 +14,14 @@
 #     docs       pages, manual pages, completion: without a program, but for `guide`, the commands of the pages
 #     cli        what the program prints, its diagnoses, the examples, install.sh: with wqplan
 #     model      the program against a model that was written from docs/FORMAT.md alone: with wqplan
-#     source     the reader of C sources, source/wqsource: with Coccinelle and pytest, which it installs where it may
+#     source     the reader of C sources, source/wqsource: with Coccinelle, which it installs where it may
 #     runtime    books, runtimes and rescuers: with test_runtime
 #     kernel     the workqueue code of two series of Linux, and two drivers, in QEMU, where that and packages of Debian can be had:
 #                with wqplan, but for `drivers`
 #     edits      all wrong bodies of tests/edits, which takes hours, and the script that tries them
+#
+# Parts of cli, model and source are tests by pytest (pytest.sh, which installs it where it may, or says what is missing). One is run by
+# its name as `python3 -m pytest tests/cli -k NAME`.
 #
 # wqplan is the one at crates/wqplan/out or, where there is none, the one that install.sh built in ~/.cache/wqplan or
 # $XDG_CACHE_HOME/wqplan, or else the one on the PATH; test_runtime and example_rdisk are at crates/NAME/out. The variables WQPLAN, TEST_RUNTIME and
@@ -45,13 +48,13 @@ lib      dot          lib/dot_texts.py | lib/dot_drawn.py | lib/dot_laid.py
 cli      outlives     cli/outlives.sh
 edits    edits_test   edits/edits_test.sh
 cli      program      cli/program.sh WQPLAN
-cli      rows         cli/rows/main.py WQPLAN
-cli      forged       cli/forged/main.py WQPLAN
+cli      rows         pytest.sh WQPLAN cli/test_rows.py
+cli      forged       pytest.sh WQPLAN cli/test_forged.py
 cli      examples     cli/examples.sh WQPLAN
 cli      explain      cli/explain.sh WQPLAN
-cli      diagnoses    cli/diagnoses/main.py WQPLAN
+cli      diagnoses    pytest.sh WQPLAN cli/test_diagnoses.py
 cli      worst        cli/worst.py WQPLAN
-model    model        model/properties.py | model/compare.py WQPLAN | model/search.py WQPLAN | model/repair_search.py WQPLAN
+model    model        pytest.sh WQPLAN model | model/repair_search.py WQPLAN
 source   source       source/main.sh
 runtime  book         runtime/book/main.py TEST_RUNTIME
 runtime  runtime      runtime/main.py TEST_RUNTIME | runtime/wakes.py TEST_RUNTIME | runtime/loads.py TEST_RUNTIME \

@@ -4,7 +4,7 @@
 # safe, how long the run is, what a repair changes) was worked out by hand from the kernel's sources, and stands in this
 # script. Of all else that the program prints the program's own checkers are asked: `check` says yes to each plan and
 # circle, `replay` says deadlock of each run. `run` has each item on the workqueue that `plan` gives it, queued once and
-# finished once. tests/lib/dot.py reads each drawing, and what is drawn is what `plan` and `circles` print. Run it once
+# finished once. tests/lib/drawn.py reads each drawing, and what is drawn is what `plan` and `circles` print. Run it once
 # the gate or `rt run` has built the program. The argument, if there is one, names another program.
 set -u
 . "$(dirname "$0")/../lib/script.bash"
@@ -12,7 +12,7 @@ root=$(realpath -- "$(dirname "$0")/../..")
 program=$(realpath -m -- "${1:-$root/crates/wqplan/out/wqplan}")
 built examples wqplan "$program"
 examples=$root/examples
-reader=$root/tests/lib/dot.py
+reader=$root/tests/lib/drawn.py
 work=$(mktemp -d)
 trap 'rm -rf -- "$work"' EXIT
 cp -- "$examples"/*.wq "$examples"/*.assign "$work"

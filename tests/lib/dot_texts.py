@@ -1,5 +1,5 @@
 #!/usr/bin/env python3
-"""Tests the reader of drawings in dot.py: what it must read, and the broken texts that it must refuse.
+"""Tests the reader of drawings in drawn.py: what it must read, and the broken texts that it must refuse.
 
 The texts were written by hand from docs/FORMAT.md, "The command `dot`". It needs no program.
 """
@@ -7,7 +7,7 @@ The texts were written by hand from docs/FORMAT.md, "The command `dot`". It need
 import sys
 
 sys.dont_write_bytecode = True
-import dot  # noqa: E402  (beside this file)
+import drawn  # noqa: E402  (beside this file)
 
 PLAN = rb"""digraph wqplan {
   graph [label="plan of 3 workqueues, 2 waits in bold\lBold: the chain that needs so many workqueues.\l", labelloc=t, labeljust=l, rankdir=LR, nodesep=0.15, ranksep=1, fontname="sans-serif"];
@@ -104,20 +104,20 @@ LOOKS_OF_1 = b'    graph [label="", style=filled, color=gray92]; "wq 1" [shape=p
 
 # The text, and what is drawn.
 GOOD = [
-    (PLAN, dot.Drawing(
+    (PLAN, drawn.Drawing(
         "plan of 3 workqueues, 2 waits in bold", [[["a"], ["7"]], [["b.x", "d-d"], ["c_c"]], [["node"]]],
         [("c_c", "a", "black", False), ("d-d", "7", "bold", False), ("d-d", "7", "black", True),
          ("node", "b.x", "bold", True)],
         ["", "", 'a "b" \\ & c', "#"])),
-    (CIRCLE, dot.Drawing("can hang, 4 waits in red, 1 in bold", [[], [["a"], ["b"]]],
+    (CIRCLE, drawn.Drawing("can hang, 4 waits in red, 1 in bold", [[], [["a"], ["b"]]],
                          [("a", "b", "red", False), ("b", "b", "red", True), ("b", "a", "red", False), ("b", "a", "bold red", True)],
                          ["", "", "", "&" * 256])),
-    (BARE, dot.Drawing("can hang, 3 waits in red, 2 to no rescuer, 1 in bold", [[["x"]], [["a"]], [["b"]], [["y"]], [["c"]], []],
+    (BARE, drawn.Drawing("can hang, 3 waits in red, 2 to no rescuer, 1 in bold", [[["x"]], [["a"]], [["b"]], [["y"]], [["c"]], []],
                        [("a", "x", "black", False), ("x", "a", "red", False), ("b", "y", "red", True), ("c", "c", "bold red", False),
                         ("y", "b", "black", False), ("y", "c", "black", False)],
                        [""] * 6, {1, 3, 5}, {0: '"x" & \\', 2: "wq 2 same name", 3: "wq 3 same name", 5: "system_wq"})),
-    (EMPTY, dot.Drawing("plan of 0 workqueues", [], [])),
-    (EMPTY.replace(b"plan of 0 workqueues", b"safe"), dot.Drawing("safe", [], [])),
+    (EMPTY, drawn.Drawing("plan of 0 workqueues", [], [])),
+    (EMPTY.replace(b"plan of 0 workqueues", b"safe"), drawn.Drawing("safe", [], [])),
 ]
 
 # The text, what in it is replaced by what, and the line at fault. Where each line has its form, that is the last line that was
@@ -312,15 +312,15 @@ BROKEN = [
 def fault_line(text):
     """The line at fault, or None where the text is a drawing."""
     try:
-        dot.read(text)
-    except dot.NotADrawing as fault:
+        drawn.read(text)
+    except drawn.NotADrawing as fault:
         return fault.args[0]
     return None
 
 
 def good_failures():
     for text, wanted in GOOD:
-        found = fault_line(text) or dot.read(text)
+        found = fault_line(text) or drawn.read(text)
         if found != wanted:
             yield f"{wanted.title}: wanted {wanted}, found {found}"
 
@@ -350,7 +350,7 @@ def changed_failures():
     """A text that differs by a byte draws something else, if anything."""
     for text, drawing in GOOD:
         for other in changed(text):
-            if fault_line(other) is None and dot.read(other) == drawing and other != text:
+            if fault_line(other) is None and drawn.read(other) == drawing and other != text:
                 yield f"{drawing.title}: {other!r} is read as the same"
 
 

@@ -1,5 +1,4 @@
-# Gives a program the cases that tables of texts and answers make, and compares what it prints: for
-# tests/cli/rows and tests/runtime.
+# Gives a program the cases that tables of texts and answers make, and compares what it prints: for tests/runtime.
 
 import collections
 import concurrent.futures
@@ -10,7 +9,6 @@ import resource
 import tempfile
 
 from programs import ask, counts_of, files, is_there  # beside this file
-from standard_error import fits
 
 WORKERS = 2
 
@@ -33,7 +31,6 @@ class Case:
     status: int
     first_line: bool = False  # only the first line that is printed is compared
     complains: bool = False  # something goes to standard error, and else nothing
-    diagnoses: bool = False  # the program is wqplan: what goes there is what belongs to the answer
     memory: int = 0  # how much address space the program gets, where it isn't all there is
     is_pattern: bool = False  # what is printed begins as the answer, a regular expression, says
 
@@ -42,7 +39,7 @@ def text_of(row):
     """The bytes of a text as the tables write it: bytes, or lines that ` / ` parts."""
     if isinstance(row, bytes):
         return row
-    return b"".join(line.encode("latin-1") + b"\n" for line in row.split(" / ")) if row else b""
+    return row.replace(" / ", "\n").encode("latin-1") + b"\n" if row else b""
 
 
 def short(text):
@@ -54,11 +51,6 @@ def limiter(memory):
     if not memory:
         return None
     return lambda: resource.setrlimit(resource.RLIMIT_AS, (memory, memory))
-
-
-def says_right(given, found, places):
-    """Whether the program wrote to standard error what it should."""
-    return fits(found.printed, found.errors, places, given.arguments[0]) if given.diagnoses else bool(found.errors) == given.complains
 
 
 def failure(program, folder, number, given):
@@ -73,7 +65,7 @@ def failure(program, folder, number, given):
         is_right = re.match(given.answer, printed) is not None
     else:
         is_right = printed == given.answer
-    if is_right and found.status == given.status and says_right(given, found, places):
+    if is_right and found.status == given.status and bool(found.errors) == given.complains:
         return None
     printed = f"status {found.status}, {short(printed)}, standard error {short(found.errors)}"
     return f"{printed}; wanted status {given.status}, {short(given.answer)}"

@@ -1,7 +1,6 @@
-# Makes up assignments for `deadlock`, for compare.py and properties.py, each with the declaration
-# that it is for: those at the limits of docs/FORMAT.md, and random ones. The same seed makes the
-# same ones. An assignment is here, as in make_certificates.py, the list of the names on each
-# workqueue.
+# Makes up assignments for `deadlock`, each with the declaration that it is for: those at the limits
+# of docs/FORMAT.md, and random ones. The same seed makes the same ones. An assignment is here, as in
+# make_certificates.py, the list of the names on each workqueue.
 
 import functools
 import random

@@ -1,7 +1,7 @@
-# Makes up answers, assignments and runs for compare.py and properties.py, each with the declaration
-# that it is for: those at the limits of docs/FORMAT.md, and random ones. The same seed makes the
-# same ones. Most begin with what the model answers or plays, and then something is changed. The
-# assignments for `deadlock` are in make_assignments.py.
+# Makes up answers, assignments and runs, each with the declaration that it is for: those at the
+# limits of docs/FORMAT.md, and random ones. The same seed makes the same ones. Most begin with
+# what the model answers or plays, and then something is changed. The assignments for `deadlock`
+# are in make_assignments.py.
 
 import random
 import re

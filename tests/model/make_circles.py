@@ -1,4 +1,4 @@
-"""Makes up declarations, and assignments for some of them, for `circles` and `dot`: see compare.py and properties.py.
+"""Makes up declarations, and assignments for some of them, for `circles` and `dot`.
 
 There are those at the limits of docs/FORMAT.md, and random ones. The same seed makes the same ones. A case is a declaration, or
 a declaration and an assignment.

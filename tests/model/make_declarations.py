@@ -1,5 +1,5 @@
-# Makes up declarations for compare.py and properties.py: those at the limits of docs/FORMAT.md, and
-# random ones. The same seed makes the same ones.
+# Makes up declarations: those at the limits of docs/FORMAT.md, and random ones. The same seed makes
+# the same ones.
 
 import collections
 import dataclasses

@@ -1,4 +1,4 @@
-"""Makes up declarations, each with an assignment, for `hang`: see compare.py and properties.py.
+"""Makes up declarations, each with an assignment, for `hang`.
 
 There are those at the limits of docs/FORMAT.md, and random ones. The same seed makes the same ones.
 """

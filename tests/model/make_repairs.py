@@ -1,4 +1,4 @@
-"""Makes up declarations, each with an assignment and the names of items that may move, for `repair`: see compare.py and properties.py.
+"""Makes up declarations, each with an assignment and the names of items that may move, for `repair`.
 
 There are those at the limits of docs/FORMAT.md, and random ones. The same seed makes the same ones. A case is the two texts, and
 behind them the names.

@@ -1,4 +1,4 @@
-# How standard error shows a line and marks what is meant in it, for the model in diagnoses.py, reasons.py and unrescued.py:
+# How standard error shows a line, marks what is meant in it, and speaks of a workqueue, for reasons.py and unrescued.py:
 # docs/FORMAT.md, "Diagnoses", and tests/DIAGNOSES.md, "What is shown of a long line".
 
 import dataclasses
@@ -67,3 +67,8 @@ def excerpt(line, found):
     indent = b" " * (len(left) + found.first - begin)
     hint = b" " + found.hint if found.hint else b""
     return [left + line[begin:end] + right, indent + marks + hint]
+
+
+def workqueue(assignment, number):
+    """A workqueue, with its name if it has one."""
+    return b"workqueue %d" % number + (b" (%s)" % assignment.called[number] if number in assignment.called else b"")

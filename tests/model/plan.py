@@ -6,7 +6,7 @@
 # docs/FORMAT.md that it is from.
 #
 # declaration.py beside it reads declarations; check.py, replay.py, deadlock.py, circles.py, dot.py and
-# run.py are the model of the other commands. compare.py compares the program with them.
+# run.py are the model of the other commands. test_program.py compares the program with them.
 
 import sys
 

@@ -13,8 +13,7 @@ import circles
 from deadlock import led_to_no_rescuer
 from declaration import FLUSHES, FLUSHES_WHOLE, read_declaration, split_lines
 from hang import among_rescuers, is_circle, run_of_places, shortest_circle, text_of_places, wait_of
-from marks import Word, about, excerpt, shown, words_of
-from unlawful import workqueue
+from marks import Word, about, excerpt, shown, words_of, workqueue
 
 # The fewest steps of a circular wait: of one item.
 OF_ITSELF = 3

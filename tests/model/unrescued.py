@@ -3,8 +3,7 @@
 
 import certificate
 from declaration import read_declaration
-from marks import shown
-from unlawful import workqueue
+from marks import shown, workqueue
 
 COMMANDS = ("deadlock", "hang", "circles")
 

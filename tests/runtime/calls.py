@@ -54,6 +54,26 @@ RUNTIMES = [
         "010000000000000000000000",
         "020100000000000000000000",
     ]),
+    # A seat takes no row: one is made while a row is free, and one while none is.
+    (*ONE, 4, [
+        ("queue 0 a", "true"),
+        ("next 0", "a"),
+        ("finish 0 a", "ok"),
+        ("seat", "1"),
+        ("use 1", "ok"),
+        ("cancel a", "false"),
+        ("cancel a", "refused 60"),
+        ("seat", "2"),
+        ("counted a", "queued 0 cancelled 0 finished 0 total 1"),
+        ("close 3", "ok"),
+    ], [
+        ("a", "queue", "yes", 1), ("a", "cancel", "no", 1), ("a", "finish", "yes", 1),
+    ], [
+        "010100000000000000000000",
+        "030100000000000000000000",
+        "060100000000000000000000",
+        "020000000000000000000000",
+    ]),
     # `sync` needs three rows for its two events, though it may write but two.
     (*TWO, 2, [("sync a", "refused 60"), ("close 1", "ok")], [], []),
     (*TWO, 3, [("sync a", "false"), ("close 1", "ok")],

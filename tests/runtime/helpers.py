@@ -6,6 +6,9 @@ from crews import APART, ONE, TWO, WHOLE, served  # beside this file
 # Two items of one workqueue, and the same where it runs one at a time.
 TOGETHER = ("item a / item b", "wq 0 a b")
 ORDERED = ("item a / item b / ordered a b", "wq 0 a b")
+# 256 workqueues, of which two have an item, the 17th and the last one; and 17, of which each has one.
+FAR = ("item a / item b", " / ".join(f"wq {q}{' a' * (q == 16)}{' b' * (q == 255)}" for q in range(256)))
+MANY_LANES = (" / ".join(f"item i{q}" for q in range(17)), " / ".join(f"wq {q} i{q}" for q in range(17)))
 THREE_LANES = ("item a / item b / item c / item d / ordered b c / flush d a", "wq 0 a / wq 1 b c / wq 2 d")
 
 # The calls in one thread, as in calls.RUNTIMES.
@@ -95,6 +98,30 @@ RUNTIMES = [
         "0a0101000100080001000000",
         "060100000100080000000000",
     ]),
+    # Helpers of workqueues with larger numbers.
+    (8, *FAR, 100, [
+        ("helpers 16", "8"),
+        ("helpers 255", "8"),
+        ("queue 16 a", "true"),
+        ("queue 255 b", "true"),
+        ("help next 255 3", "b"),
+        ("help next 16 8", "a"),
+        ("help finish 255 8 b", "refused 64"),
+        ("help finish 0 8 a", "refused 64"),
+        ("help finish 255 3 b", "ok"),
+        ("help finish 16 8 a", "ok"),
+        ("help next 256 1", "refused 64"),
+        ("close 1", "ok"),
+    ], [
+        ("a", "queue", "yes", 1), ("a", "finish", "yes", 1), ("b", "queue", "yes", 1), ("b", "finish", "yes", 1),
+    ], [
+        "010100000000000000000000",
+        "010101000000000001000000",
+        "03010100ff00030001000000",
+        "030100001000080000000000",
+        "06010100ff00030001000000",
+        "060100001000080000000000",
+    ]),
     # A workqueue with an ordered group of two has no helpers. One with nothing on it has them, and a group of one item isn't ordered.
     (3, *ORDERED, 100, [
         ("helpers 0", "0"),
@@ -175,9 +202,9 @@ def seen(bodies, callers):
     return " / ".join(["body code 0 seen true"] * bodies + ["caller ok"] * callers + ["caller seen true"] * callers)
 
 
-def contexts(q, finished):
-    """How many each context of workqueue Q, which has two helpers, has finished."""
-    return [(f"lane {q}{helper}", finished) for helper in ("", " helper 1", " helper 2")]
+def contexts(q, finished, helpers):
+    """How many each context of workqueue Q, which has so many helpers, has finished."""
+    return [(f"lane {q}", finished), *((f"lane {q} helper {helper}", finished) for helper in range(1, helpers + 1))]
 
 
 def dawdles(times):
@@ -227,12 +254,16 @@ MEETINGS = [
        " / made a queue yes 2 / made a finish yes 2 / made b queue yes 1 / made b finish yes 1 / ")] * TIMES,
     # Here the runtime is closed by `run_all` itself, once the caller has ended, and never again: `a` runs in one context of its workqueue,
     # and is pending behind that. The others sleep until it has finished; one of them starts it, and then the third one ends.
-    *[(2, *APART, 100, " / ".join([*["body" + dawdles(300)] * 3, *["body"] * 3, f"caller / queue a{dawdles(20)} / queue a"]),
-       rf"finished [12] faults 0 / {lanes(*contexts(0, '[012]'), *contexts(1, 0))} / {seen(6, 1)} / agree true / ")] * ENDS,
+    # So it is with eight helpers, of which seven end then: more than two calls that wake one of them would wake.
+    *[(helpers, *APART, 100,
+       " / ".join([*["body" + dawdles(300)] * (helpers + 1), *["body"] * (helpers + 1), f"caller / queue a{dawdles(20)} / queue a"]),
+       rf"finished [12] faults 0 / {lanes(*contexts(0, '[012]', helpers), *contexts(1, 0, helpers))} / {seen(2 * helpers + 2, 1)}"
+       " / agree true / ") for helpers in (2, 8)] * ENDS,
     # The same, where a body of another workqueue cancels what is pending: then all ends that sleeps.
-    *[(2, *APART, 100, " / ".join([*["body" + dawdles(600)] * 3, *["body" + dawdles(200) + " / cancel a"] * 3,
-                                   f"caller / queue a{dawdles(20)} / queue a / queue b"]),
-       rf"finished [123] faults 0 / {lanes(*contexts(0, '[012]'), *contexts(1, '[01]'))} / {seen(6, 1)} / agree true / ")] * ENDS,
+    *[(helpers, *APART, 100, " / ".join([*["body" + dawdles(600)] * (helpers + 1), *["body" + dawdles(200) + " / cancel a"] * (helpers + 1),
+                                         f"caller / queue a{dawdles(20)} / queue a / queue b"]),
+       rf"finished [123] faults 0 / {lanes(*contexts(0, '[012]', helpers), *contexts(1, '[01]', helpers))} / {seen(2 * helpers + 2, 1)}"
+       " / agree true / ") for helpers in (2, 8)] * ENDS,
     # A body waits for an item that a helper of another workqueue runs, or its rescuer.
     (2, *TWO, 100, " / ".join(["body / dawdle"] * 3 + ["body / queue b / flush b / seen 1"] * 3 + ["caller / queue a / flush a"]),
      "finished 2 faults 0 / " + lanes(*((f"lane {q}{helper}", "[01]") for q in (0, 1) for helper in ("", " helper 1", " helper 2")))
@@ -245,5 +276,6 @@ SCRIPTS = [
      + "".join(rf"lane {q}{helper} finished [01] faults 0\n" for q in (0, 1) for helper in ("", " helper 1", " helper 2"))
      + r"caller ok\ncaller ok\nagree true\nmade a queue yes 1\n"),
     (8, *APART, 12, r"finished 2 faults 0\n(?:lane \d(?: helper \d)? finished [01] faults 0\n){18}caller ok\ncaller ok\nagree true\n"),
+    (1, *MANY_LANES, 200, r"finished 17 faults 0\n(?:lane \d+(?: helper 1)? finished [01] faults 0\n){34}caller ok\ncaller ok\nagree true\n"),
     (3, *ORDERED, 12, r"finished 2 faults 0\nlane 0 finished 2 faults 0\ncaller ok\ncaller ok\nagree true\n"),
 ]

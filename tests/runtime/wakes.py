@@ -6,7 +6,9 @@
 # else happens. Where it doesn't, nobody ever does: the program is ended after ten seconds, and the call is named. No answer
 # depends on time: a call that comes too late to fall asleep is answered all the same, and its round shows nothing. A call of which no
 # round shows anything has failed.
-# All was worked out by hand from docs/RUNTIME.md. It takes some seconds.
+#
+# And it shows that a queueing wakes one context, and not all nine of a workqueue: who is woken in vain sleeps again, which the kernel
+# counts. All was worked out by hand from docs/RUNTIME.md. It takes some seconds.
 
 import collections
 import concurrent.futures
@@ -14,6 +16,7 @@ import dataclasses
 import os
 import pathlib
 import re
+import resource
 import sys
 import tempfile
 
@@ -26,6 +29,11 @@ from tables import short, text_of  # noqa: E402  (there, too)
 ROUNDS = 20
 SECONDS = 10
 WORKERS = 40
+
+# How often an entry is queued and waited for while eight helpers and the rescuer sleep, and how often all threads together may fall asleep
+# for each. The body sleeps once, who executes it and who waits for it once or twice: it is three times, and eleven where all nine are woken.
+QUEUEINGS = 300
+MOST_SLEEPS = 6
 
 # Items on four workqueues. An entry of `b` stays pending behind one of `a` that runs; `c` waits for either, and `d` for their whole
 # workqueue. There are 256 condition variables for those who wait for items (docs/DECISIONS.md, "Runtimes"), which `z`, item 256, and
@@ -42,6 +50,7 @@ A_ENDS = "finish 0 a: ok / destroy: ok"
 HELPED_A = "queue 0 a: true / help next 0 1: a"
 HELPED_A_ENDS = "help finish 0 1 a: ok / destroy: ok"
 BOTH_END = f"finish 1 c: ok / {A_ENDS}"
+EIGHT_HELPERS = " / ".join(f"help next 0 {helper}: none" for helper in range(1, 9))
 
 
 @dataclasses.dataclass
@@ -75,7 +84,7 @@ class Wake:
     def text(self):
         before, asleep, waking, after = self.parts()
         asleep = [(f"asleep {line}", answer) for line, answer in asleep]
-        return text_of(" / ".join([*(line for line, _ in [*before, *asleep, *waking, *after]), "close 9"]))
+        return text_of(" / ".join([*(line for line, _ in [*before, *asleep, *waking, *after]), "close 99"]))
 
     def printed(self):
         """What is printed, as a regular expression. The answers of those that slept have groups, and so has what is counted."""
@@ -84,7 +93,7 @@ class Wake:
         lines = [f"{line} {answer}" for line, answer in [*before, *waking]]
         lines += [f"asleep {line} ({any_of_them if self.shared else answer})" for line, answer in asleep]
         lines += [f"{line} {answer}" for line, answer in after]
-        return "".join(f"{line}\n" for line in [*lines, "close 9 ok", "agree true"]).encode() + b"((?s:.*))"
+        return "".join(f"{line}\n" for line in [*lines, "close 99 ok", "agree true"]).encode() + b"((?s:.*))"
 
     def is_shared_out(self, answers):
         """Whether each answer that is to be shared out was given once."""
@@ -165,6 +174,8 @@ WAKES = [
     Wake("help_finish_work", "two callers that destroy", HELPED_A, "destroy: ok / destroy: ok", "help finish 0 1 a: ok", "", helpers=1),
     Wake("destroy", "the rescuers and helpers of two workqueues", "",
          "next 0: none / help next 0 1: none / next 1: none / help next 1 1: none", "destroy: ok", "", helpers=1),
+    # Eight that end at once: whoever wakes one of them, and then another one, leaves six asleep.
+    Wake("destroy", "a rescuer and eight helpers", "", f"next 0: none / {EIGHT_HELPERS}", "destroy: ok", "", helpers=8),
 ]
 
 LOST = f"it didn't end within {SECONDS} s, so a wake-up is lost"
@@ -179,6 +190,21 @@ def tried(program, files, wake):
     if match is None or found.status or found.errors or not wake.is_shared_out(match.groups()):
         return f"status {found.status}, {short(found.printed)}, standard error {short(found.errors)}"
     return "late" if wake.is_late(match.groups()) else None
+
+
+def sleeps():
+    """How often the programs that have ended fell asleep, all threads together."""
+    return resource.getrusage(resource.RUSAGE_CHILDREN).ru_nvcsw
+
+
+def queueings(program, setting):
+    """What is wrong with how many are woken by queueings, or None."""
+    before = sleeps()
+    found = ask([program, "helpers", "8", "bench", *setting, "100000", "sleep", "1", str(QUEUEINGS)])
+    each = (sleeps() - before) / QUEUEINGS
+    if found.status or b"\ncaller ok\n" not in found.printed:
+        return f"status {found.status}, {short(found.printed)}"
+    return f"{each:.1f} times for each queueing a thread fell asleep" if each > MOST_SLEEPS else None
 
 
 def main(arguments):
@@ -208,7 +234,10 @@ def main(arguments):
             if not came:
                 passed += 1
                 print(f"ok      {wake.name()}: {good} rounds" + (f", and {late} too late to sleep" if late else ""), flush=True)
-    return counts_of("wakes", passed, len(WAKES) - passed)
+        wrong = queueings(program, [file("one", text_of("item a")), file("only", text_of("wq 0 a"))])
+        print(f"FAILED  queue_work wakes one of nine contexts: {wrong}" if wrong else f"ok      queue_work wakes one of nine contexts: {QUEUEINGS} times")
+        passed += wrong is None
+    return counts_of("wakes", passed, len(WAKES) + 1 - passed)
 
 
 if __name__ == "__main__":

@@ -18,7 +18,7 @@ from csource import draft, extract, program, progress  # noqa: E402
 C_FILES = HERE / "c"
 
 # The machine may have much else to do, and the gate should say the same each time.
-hypothesis.settings.register_profile("gate", deadline=None, derandomize=True, max_examples=200)
+hypothesis.settings.register_profile("gate", deadline=None, derandomize=True, database=None, max_examples=200)
 hypothesis.settings.load_profile("gate")
 
 Ran = collections.namedtuple("Ran", "status out err")

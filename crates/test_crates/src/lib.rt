@@ -11,6 +11,8 @@
 #[cfg(test)]
 mod books;
 #[cfg(test)]
+mod commands;
+#[cfg(test)]
 mod declared;
 #[cfg(test)]
 mod devices;

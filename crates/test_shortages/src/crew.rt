@@ -1,4 +1,5 @@
-//! Rescuers and callers in threads: `run_all` of a runtime, its bodies and its callers.
+//! Rescuers and callers in threads: `run_all` of a runtime, its bodies and its callers; and then `rescue` and `help`, for which nothing
+//! is left.
 //!
 //! It takes the time that the threads take.
 
@@ -10,10 +11,62 @@ use crate::trial::TrialEnd;
 use std::alloc::Allocator;
 use std::sync::Wait;
 use std::thread::Threads;
-use wq_api::{Naming, WqRuntime};
+use wq_api::{CallError, Naming, Seat, WqRuntime};
+use wq_groups::LaneId;
 use wq_items::ItemTable;
-use wq_rescuer::{Ran, RunFault, RunWhy, count_contexts, run_all};
-use wq_script::{script_bodies, script_callers};
+use wq_rescuer::{Ran, Rescued, RunFault, RunWhy, count_contexts, help, rescue, run_all};
+use wq_script::{ScriptBody, script_bodies, script_callers};
+
+/// Whether `rescue`, or for a helper `help`, so answers of a runtime that was destroyed.
+fn is_answered<N: Naming, R: Wait, A: Allocator + Copy>(
+    rt: &R,
+    ample: A,
+    runtime: &WqRuntime<N, A>,
+    table: &ItemTable<'_, A>,
+    seat: &mut Seat<N, A>,
+    (q, helper): (u16, u8),
+    wanted: Result<Rescued, CallError>,
+) -> bool
+    requires { items N.wiring ≡ length table.now.waits }
+{
+    let Ok(mut body) = ScriptBody::new(ample, table) else {
+        return false;
+    };
+    let q = LaneId::new(q);
+    let answered = if helper == 0 {
+        rescue(rt, runtime, q, seat, &mut body)
+    } else {
+        help(rt, runtime, q, helper, seat, &mut body)
+    };
+    answered == wanted
+}
+
+/// Whether nothing is left for the rescuers of both lanes, and there is neither a helper nor a third lane.
+fn is_done<N: Naming, R: Wait, A: Allocator + Copy>(
+    rt: &R,
+    ample: A,
+    runtime: &WqRuntime<N, A>,
+    table: &ItemTable<'_, A>,
+    seat: &mut Seat<N, A>,
+) -> bool
+    requires { items N.wiring ≡ length table.now.waits }
+{
+    let nothing = Ok(Rescued {
+        finished: 0,
+        faults: 0,
+    });
+    for (context, wanted) in [
+        ((0, 0), nothing),
+        ((1, 0), nothing),
+        ((0, 1), Err(CallError::WrongLane)),
+        ((2, 0), Err(CallError::WrongLane)),
+    ] {
+        if !is_answered(rt, ample, runtime, table, seat, context, wanted) {
+            return false;
+        }
+    }
+    true
+}
 
 /// Runs all on a runtime of two lanes, and closes it. Where there is no memory for it, both bodies and both callers are handed
 /// back, and the runtime is closed with the seats that were made.
@@ -33,13 +86,17 @@ pub(crate) fn serve<
     match run_all(rt, heap, &runtime, bodies, callers) {
         Ok(
             Ran {
-                seats,
+                mut seats,
                 finished,
                 faults,
                 ..
             },
         ) => {
-            if closes(runtime, seats) && (finished, faults) == (2, 0) {
+            let is_done = match seats.get_mut(0) {
+                Some(seat) => is_done(rt, ample, &runtime, table, seat),
+                None => false,
+            };
+            if closes(runtime, seats) && is_done && (finished, faults) == (2, 0) {
                 TrialEnd::Answered
             } else {
                 TrialEnd::Wrong

@@ -5,7 +5,8 @@
 //! what it says on standard error, over readers and writers of the tests.
 //!
 //! A line is printed for each case of `test_cases`, for each command on the largest declaration of examples/, for `explain`, for a
-//! plan that is too large to be run, for the calls of a runtime, and for rescuers and callers in threads. It says how many requests
+//! plan that is too large to be run, for the calls of a runtime, and for rescuers and callers in threads, and without numbers one for
+//! `run_cmd`, which has ample memory. It says how many requests
 //! for memory there are. It says how many of the runs in which one of them was refused ended with out of memory (`run` also without
 //! a thread) and with nothing written, said or done; how many were answered, though nothing was said of it; and how many went on as
 //! with enough memory. And it says the same of the runs in which all requests from one on were refused.
@@ -37,7 +38,7 @@ use commands::{put_cases, put_runs};
 use diagnosing::put_sayings;
 use explaining::put_explaining;
 use largest::put_all_largest;
-use running::put_too_many;
+use running::{put_run_cmd, put_too_many};
 use runtime::put_runtime;
 use std::io;
 use std::process::ExitCode;
@@ -49,9 +50,10 @@ fn put_commands<R: Print + AllocGlobal + Threads + Wait + Sync>(rt: &R) -> io::R
     let cases = put_cases(rt)?;
     let runs = put_runs(rt)?;
     let too_many = put_too_many(rt)?;
+    let run_cmd = put_run_cmd(rt)?;
     let largest = put_all_largest(rt)?;
     let explaining = put_explaining(rt)?;
-    Ok(cases && runs && too_many && largest && explaining)
+    Ok(cases && runs && too_many && run_cmd && largest && explaining)
 }
 
 /// Tries everything. Gives whether all runs ended as they should.

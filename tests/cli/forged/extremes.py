@@ -4,14 +4,9 @@ The limits are those of "Limits" and "Certificates" in docs/FORMAT.md. A case is
 the texts: some are long, and only the process that asks about them makes them.
 """
 
-import pathlib
-import sys
-
-TESTS = pathlib.Path(__file__).resolve().parents[2]
-sys.path += [str(TESTS / "lib"), str(TESTS / "cli" / "rows")]
-import limits  # noqa: E402  (in the folder of the rows)
-from commands import given  # noqa: E402  (in tests/lib)
-from limits import name  # noqa: E402
+import limits
+from commands import given
+from limits import name
 
 MOST_DECLARATION = 1_048_576
 MOST_LINE = 4_096

@@ -5,11 +5,8 @@ compared with the model, so what is wrong stands here on purpose.
 """
 
 import dataclasses
-import pathlib
-import sys
 
-sys.path.append(str(pathlib.Path(__file__).resolve().parents[2] / "lib"))
-from tables import text_of  # noqa: E402  (in tests/lib)
+from tables import text_of
 
 
 @dataclasses.dataclass

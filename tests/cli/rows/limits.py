@@ -199,8 +199,8 @@ LAST = 2 * ROUNDS
 
 def long_run(*last, before=b""):
     """Such a run with these steps at its end, behind these lines, as large as a text may be."""
-    steps = [b"queue a", b"cancel a"] * ROUNDS + list(last)
-    return filled(before + b"run %d\n%s\n" % (len(steps), b"\n".join(steps)), LARGEST_SIZE)
+    steps = b"queue a\ncancel a\n" * ROUNDS + b"".join(step + b"\n" for step in last)
+    return filled(before + b"run %d\n%s" % (LAST + len(last), steps), LARGEST_SIZE)
 
 
 # Certificates of the empty declaration, and the line that the checker answers.

@@ -1,9 +1,7 @@
-# "Faults and exit statuses": the status that goes with the first word of an answer, by docs/tables/words.txt, or of a drawing.
+# "Faults and exit statuses": the status that goes with the first word of an answer, by docs/tables/words.txt, of a drawing,
+# or of an assignment.
 
-import pathlib
-import sys
+from records import records  # in tests/lib
 
-sys.path.append(str(pathlib.Path(__file__).resolve().parents[2] / "lib"))
-from records import records  # noqa: E402  (in tests/lib)
-
-STATUS = {row["word"].split()[0]: int(row["status"]) for row in records("words.txt") if "status" in row} | {"digraph": 0}
+STATUS = {row["word"].split()[0]: int(row["status"]) for row in records("words.txt") if "status" in row}
+STATUS |= {"digraph": 0, "wq": 0, "norescuer": 0}
