@@ -1,34 +1,28 @@
 -- What the lock guards stays as it has to be: one more row, counted or not, and a book that is closed.
 use Rattle.std.proofs.Common.{◌≡◌, ℕ, zero, suc, ◌+◌, ◌*◌, ◌<◌, ◌≤◌, replicate, refl, Bool, true, false, cond, List, [], ◌∷◌, ◌++◌, length, sym, ap, subst, ◌∙◌, arith}
-use Rattle.std.specs.Prelude.{Some, Contains, sum, not, IsTrue, ◌↔◌}
+use Rattle.std.specs.Prelude.{Some, sum, not}
 use Rattle.std.proofs.lemmas.List.{length-replicate}
 use Rattle.std.proofs.lemmas.List.Folds.{sum_by-replicate}
-use Rattle.wq_core.specs.Wiring.{Wiring, items, max_helpers, helpers_of, HasContext}
-use Rattle.wq_items.proofs.Lists.{Contains-first}
-use Rattle.wq_core.specs.declared.entry.Entry.{Entry}
-use Rattle.wq_core.specs.State.{lane_at}
+use Rattle.wq_core.specs.Wiring.{Wiring, items, max_helpers}
 use Rattle.wq_core.specs.Deadlock.{IsSafe, IsStuck}
 use Rattle.wq_core.specs.Rules.{IsHeldBack, deed_item}
 use Rattle.wq_core.specs.declared.entry.Running.{Running}
 use Rattle.wq_core.specs.declared.entry.Waiting.{Waiting}
-use Rattle.wq_core.specs.declared.step.HelpStep.{HelpStep}
-use Rattle.wq_core.specs.declared.step.HelpStep.TheVariants.{Start as DoStart, Wait as DoWait, WaitAll as DoWaitAll, Over as DoOver, OverAll as DoOverAll, Finish as DoFinish}
 use Rattle.wq_rows.specs.declared.event.Event.{Event}
 use Rattle.wq_rows.specs.declared.event.Event.TheVariants.{Queue, Cancel, Start, Wait, Over, Finish, Ask, Told, WaitAll, OverAll, AskLane, ToldLane, Help}
 use Rattle.wq_rows.specs.declared.event.Row.{Row}
-use Rattle.wq_rows.specs.Packing.{lane_in}
 use Rattle.wq_counts.specs.declared.kind.Kind.TheVariants.{Finish as FinishKind}
 use Rattle.wq_counts.specs.Counting.{counts_each, wait_kind, over_kind, slot_in, is_counted, AreTallies, raised, noted_as, counted_rows}
 use Rattle.wq_counts.proofs.Tallies.{AreTallies-more, HasCountsOf-noted_as, sum-noted_as, counted_rows-more, counted_rows-le-length, AreTallies-none, item_within}
 use Rattle.wq_history.specs.declared.fault.BookError.{BookError}
 use Rattle.wq_history.specs.declared.fault.BookError.TheVariants.{HistoryFull, Closed, Undeclared, TooManyWaits, WrongLane, NoItem, TooManyRows, OutOfMemory}
-use Rattle.wq_history.specs.Events.{steps_of, subject_in, event_in, wait_event, over_event, finish_event}
-use Rattle.wq_history.specs.History.{state_after, IsThere, MayCome, IsLegal}
+use Rattle.wq_history.specs.Events.{steps_of, subject_in, wait_event, over_event, finish_event}
+use Rattle.wq_history.specs.History.{state_after, IsThere, IsLegal}
 use Rattle.wq_history.proofs.LegalRows.{IsRun-legal}
-use Rattle.wq_history.specs.Book.{BookView, state, IsBook, LaneRuns, HasPendingOn, Appends, AppendsOne, IsWaiting, IsNotWaiting, RefusesLane}
+use Rattle.wq_history.specs.Book.{BookView, state, IsBook, LaneRuns, Appends, AppendsOne, IsWaiting, IsNotWaiting, RefusesLane, RunsItem, WaitsFor}
 use Rattle.wq_history.specs.Answers.{AnswersOver}
 use Rattle.wq_history.proofs.KeptRows.{exist}
-use Rattle.wq_held.specs.Locked.{max_runtime_lanes, slots, IsProtected, Holds, HasNothingPending, RunsItem, WaitsFor, AnswersOverOf}
+use Rattle.wq_held.specs.Locked.{max_runtime_lanes, slots, IsProtected, Holds, AnswersOverOf}
 
 -- ---- slots of counts
 
@@ -84,12 +78,6 @@ pub slot-appended : (w : Wiring) (b new : BookView) (event : Event) (said : Bool
     → slot_in event < slots w
 slot-appended w b new event said n of_wiring book appends = in_slots w event (there-appended w b new event said n of_wiring book appends)
 
--- and its lane, if it has one
-pub lane-appended : (w : Wiring) (b new : BookView) (event : Event) (said : Bool) (n : ℕ) → b.wiring ≡ w → IsBook b → Appends b new event said n
-    → lane_in event < w.lanes
-lane-appended w b new event said n of_wiring book appends =
-    subst (λ (x : Wiring). lane_in event < x.lanes) of_wiring (exist b.wiring b.rows event said n book.wiring book.legal appends.may).1
-
 -- a row is appended, and counted, unless it is one that isn't counted
 pub IsProtected-noted : (w : Wiring) (rows parts : ℕ) (b new : BookView) (tallies sums : List ℕ) (seats left amount : ℕ) (event : Event) (said : Bool) (n : ℕ)
     → IsProtected w rows parts b tallies sums seats left amount → IsBook b → Appends b new event said n
@@ -124,30 +112,6 @@ pub IsProtected-counted : (w : Wiring) (rows parts : ℕ) (b new : BookView) (ta
     → IsProtected w rows parts new counts sums seats left amount
 IsProtected-counted w rows parts b new tallies sums seats left amount event said n counts counts_are held book appends =
     subst (λ ts. IsProtected w rows parts new ts sums seats left amount) (sym counts_are) (IsProtected-noted w rows parts b new tallies sums seats left amount event said n held book appends)
-
--- ---- contexts
-
-lane-event : (q c : ℕ) (deed : HelpStep) → lane_in (event_in q c deed) ≡ q
-lane-event q zero (DoStart i) = refl
-lane-event q zero (DoWait b) = refl
-lane-event q zero (DoWaitAll b) = refl
-lane-event q zero (DoOver b) = refl
-lane-event q zero (DoOverAll b) = refl
-lane-event q zero (DoFinish i) = refl
-lane-event q (suc h) deed = refl
-
--- a helper that does something exists
-helper-come : (w : Wiring) (rows : List Row) (q c : ℕ) (deed : HelpStep) (said : Bool) (n : ℕ) → MayCome w rows (event_in q c deed) said n → c ≤ helpers_of w q
-helper-come w rows q zero deed said n come = omega arith
-helper-come w rows q (suc h) deed said n come = come.1.0.0.1
-
--- the context of a row that is appended exists
-pub context-appended : (w : Wiring) (b new : BookView) (q c : ℕ) (deed : HelpStep) (said : Bool) (n : ℕ) → b.wiring ≡ w → IsBook b → Appends b new (event_in q c deed) said n
-    → HasContext w q c
-context-appended w b new q c deed said n of_wiring book appends = (
-  subst (λ (p : ℕ). p < w.lanes) (lane-event q c deed) (lane-appended w b new (event_in q c deed) said n of_wiring book appends),
-  subst (λ (x : Wiring). c ≤ helpers_of x q) of_wiring (helper-come b.wiring b.rows q c deed said n appends.may),
-)
 
 -- ---- waits, by their kind
 
@@ -273,19 +237,3 @@ runs_one b q c i r (other, runs, of_item) is = ap (λ (x : Running). x.entry.ite
 pub finish_of : (b new : BookView) (q c i : ℕ) (r : Running) → RunsItem b q c i → LaneRuns b q c r → AppendsOne b new (finish_event q c r.entry.item) true
     → AppendsOne b new (finish_event q c i) true
 finish_of b new q c i r runs is appends = subst (λ (x : ℕ). AppendsOne b new (finish_event q c x) true) (runs_one b q c i r runs is) appends
-
--- ---- what is pending
-
--- nothing is pending on a lane, exactly if it isn't so that an entry is
-nothing_pending : (b : BookView) (q : ℕ) → (¬ HasPendingOn b q) → HasNothingPending b q
-nothing_pending b q none = by_cases (lane_at (state b) q).pending (λ e pending. none (e, pending)) where
-  by_cases : (pending : List Entry) → ((e : Entry) → ¬ Contains pending e) → pending ≡ []
-  by_cases [] none = refl
-  by_cases (e ∷ es) none = absurd (none e (Contains-first (e ∷ es) e refl))
-
-some_pending : (b : BookView) (q : ℕ) → HasPendingOn b q → ¬ HasNothingPending b q
-some_pending b q (e, pending) none = let nowhere : Contains [] e = subst (λ (es : List Entry). Contains es e) none pending in omega (arith, nowhere.1)
-
-pub says_nothing : (b : BookView) (q : ℕ) (pending : Bool) → (IsTrue pending ↔ HasPendingOn b q) → IsTrue (not pending) ↔ HasNothingPending b q
-says_nothing b q true says = ((λ is. let bad : false ≡ true = is in absurd cc), (λ none. absurd (some_pending b q (says.0 refl) none)))
-says_nothing b q false says = ((λ is. nothing_pending b q (λ some. let bad : false ≡ true = says.1 some in absurd cc)), (λ none. refl))

@@ -4,8 +4,8 @@ use Rattle.wq_rows.specs.declared.event.Event.{Event}
 use Rattle.wq_history.specs.declared.fault.BookError.{BookError}
 use Rattle.wq_history.specs.declared.fault.BookError.TheVariants.{HistoryFull, Closed, Undeclared, TooManyWaits, WrongLane, NoItem, TooManyRows, OutOfMemory}
 use Rattle.wq_history.specs.Book.{BookView, RefusesQueue, RefusesItem, RefusesAskLane, RefusesLane, RefusesWait}
-use Rattle.wq_held.specs.declared.fault.CallError.TheVariants.{HistoryFull as CallFull, Closed as CallClosed, Undeclared as CallUndeclared, TooManyWaits as CallTooManyWaits, WrongLane as CallWrongLane, NoItem as CallNoItem}
-use Rattle.wq_held.specs.Errors.{IsOfCall}
+use Rattle.wq_history.specs.declared.fault.CallError.TheVariants.{HistoryFull as CallFull, Closed as CallClosed, Undeclared as CallUndeclared, TooManyWaits as CallTooManyWaits, WrongLane as CallWrongLane, NoItem as CallNoItem}
+use Rattle.wq_history.specs.Errors.{IsOfCall}
 
 pub of_call_queue : (b : BookView) (i : ℕ) (e : BookError) → RefusesQueue b i e → IsOfCall e
 of_call_queue b i HistoryFull why = (CallFull, refl)

@@ -1,6 +1,5 @@
 -- What the lock of a runtime guards, and what the calls under the lock do to it and to the caller's seat.
 use Rattle.std.specs.Prelude.{◌≡◌, ◌≢◌, ℕ, max, ◌+◌, ◌*◌, ◌<◌, ◌≤◌, ◌⊎◌, List, [], sum, replicate, Bool, true, false}
-use Rattle.wq_core.specs.declared.entry.Running.{Running}
 use Rattle.wq_core.specs.declared.entry.Waiting.{Waiting as WaitingOf}
 use Rattle.wq_core.specs.Wiring.{Wiring, items, lane_of, max_helpers}
 use Rattle.wq_core.specs.State.{lane_at, HasUnfinished}
@@ -19,10 +18,10 @@ use Rattle.wq_history.specs.declared.asking.LaneTold.{LaneTold}
 use Rattle.wq_history.specs.declared.asking.LaneTold.TheVariants.{Done as LaneDone, NotYet as LaneNotYet, NotAsked as LaneNotAsked}
 use Rattle.wq_history.specs.Events.{over_event}
 use Rattle.wq_history.specs.History.{all_asks_waiting}
-use Rattle.wq_history.specs.Book.{BookView, state, free, IsBook, LaneRuns, IsWaitingBy, IsNotAwake, AppendsOne}
+use Rattle.wq_history.specs.Book.{BookView, state, free, IsBook, IsWaitingBy, WaitsFor, RunsItem, IsNotAwake, AppendsOne}
 use Rattle.wq_history.specs.Answers.{AnswersAsk}
-use Rattle.wq_held.specs.declared.fault.CallError.{CallError}
-use Rattle.wq_held.specs.declared.fault.CallError.TheVariants.{HistoryFull, NoItem}
+use Rattle.wq_history.specs.declared.fault.CallError.{CallError}
+use Rattle.wq_history.specs.declared.fault.CallError.TheVariants.{HistoryFull, NoItem}
 use Rattle.wq_held.specs.declared.fault.CloseWhy.{CloseWhy}
 use Rattle.wq_held.specs.declared.fault.CloseWhy.TheVariants.{NotIdle, SeatsMissing}
 
@@ -155,10 +154,6 @@ HasNothingPending b q = (lane_at (state b) q).pending ≡ []
 
 -- ---- contexts of a lane: 0 is its rescuer, and from 1 on its helpers
 
--- context c of lane q waits for item `target`, or for the whole lane of `target`
-abbrev pub WaitsFor : BookView → ℕ → ℕ → Bool → ℕ → Type 0
-WaitsFor b q c whole target = (f : WaitingOf) × IsWaitingBy b q c whole f × (f.target ≡ target)
-
 -- it doesn't wait so
 abbrev pub IsWrongToGoOn : BookView → ℕ → ℕ → Bool → ℕ → Type 0
 IsWrongToGoOn b q c whole target = ¬ WaitsFor b q c whole target
@@ -169,10 +164,6 @@ abbrev pub AnswersOverOf : BookView → BookView → ℕ → ℕ → Bool → �
 AnswersOverOf old new q c whole target true = AppendsOne old new (over_event whole q c target) true
 AnswersOverOf old new q c whole target false = (f : WaitingOf) × IsWaitingBy old q c whole f × (f.target ≡ target)
     × IsHeldBack old.wiring (state old) whole target f.mark × (new ≡ old)
-
--- context c of lane q runs an entry of item i
-abbrev pub RunsItem : BookView → ℕ → ℕ → ℕ → Type 0
-RunsItem b q c i = (r : Running) × LaneRuns b q c r × (r.entry.item ≡ i)
 
 -- context c of lane q doesn't run an entry of item i that could finish: there is no such context, it runs nothing or an entry of
 -- another item, or it waits

@@ -15,15 +15,15 @@ ghost use Rattle.wq_rows.specs.declared.event.Event.TheVariants.{Queue, Cancel, 
 ghost use Rattle.wq_counts.specs.declared.kind.Kind.TheVariants.{Queue as QueueKind, Cancel as CancelKind, Finish as FinishKind};
 ghost use Rattle.wq_counts.specs.Counting.{counts_each, wait_kind, raised, counted_rows};
 ghost use Rattle.wq_history.specs.Events.{wait_event, finish_event};
-ghost use Rattle.wq_history.specs.Book.{BookView, state, free, AppendsOne, IsWrongToStart, IsNotAwake, RefusesQueue, RefusesItem, RefusesAskLane, RefusesLane, RefusesWait};
+ghost use Rattle.wq_history.specs.Book.{BookView, state, free, AppendsOne, IsWrongToStart, IsNotAwake, RefusesQueue, RefusesItem, RefusesAskLane, RefusesLane, RefusesWait, RunsItem, WaitsFor};
 ghost use Rattle.wq_history.specs.Waits.{IsMet, EndOf};
 ghost use Rattle.wq_history.specs.Answers.{AnswersAsk, AnswersTold, AnswersAskLane, AnswersToldLane, AnswersStart};
 ghost use Rattle.wq_held.specs.Errors.{RefusedAs};
-ghost use Rattle.wq_held.specs.Locked.{max_runtime_lanes, slots, RefusesAskAndCancel, IsOnLane, HeldView, Holds, CountsAsk, CountsTold, CountsAskLane, CountsToldLane, CountsOver, AsksAndCancels, CountsAskAndCancel, HasNothingPending, RunsItem, WaitsFor, AnswersOverOf, IsWrongToGoOn, IsWrongToFinish, RefusesClose, Closes};
-ghost use Rattle.wq_held.specs.declared.fault.CallError.TheVariants.{WrongLane, HistoryFull, NoItem};
+ghost use Rattle.wq_held.specs.Locked.{max_runtime_lanes, slots, RefusesAskAndCancel, IsOnLane, HeldView, Holds, CountsAsk, CountsTold, CountsAskLane, CountsToldLane, CountsOver, AsksAndCancels, CountsAskAndCancel, HasNothingPending, AnswersOverOf, IsWrongToGoOn, IsWrongToFinish, RefusesClose, Closes};
+ghost use Rattle.wq_history.specs.declared.fault.CallError.TheVariants.{WrongLane, HistoryFull, NoItem};
 ghost use Rattle.wq_held.specs.declared.fault.SeatError.TheVariants.{TooManySeats, OutOfMemory as SeatOutOfMemory};
 
-use crate::fault::{CallError, CloseWhy, SeatError};
+use crate::fault::{CloseWhy, SeatError};
 use crate::naming::Naming;
 use crate::seat::Seat;
 use crate::tallies::Tallies;
@@ -33,7 +33,8 @@ use std::sync::ledger::{Blank, Share};
 use wq_counts::Counts;
 use wq_groups::LaneId;
 use wq_history::{
-    Ask, Asked, Book, LaneAsk, LaneAsked, LaneTold, Told, finish_event, over_event, wait_event,
+    Ask, Asked, Book, CallError, LaneAsk, LaneAsked, LaneTold, Told, finish_event, over_event,
+    wait_event,
 };
 use wq_items::ItemId;
 use wq_rows::Event;

@@ -14,8 +14,9 @@ mod seat;
 mod tallies;
 
 pub use closing::Closed;
-pub use fault::{CallError, CloseWhy, SeatError};
+pub use fault::{CloseWhy, SeatError};
 pub use held::{Held, MAX_SEATS};
 pub use naming::Naming;
 pub use seat::{SEAT_ROWS, Seat};
 pub use wq_counts::{Counts, Kind};
+pub use wq_history::CallError;

@@ -11,8 +11,8 @@ use Rattle.wq_counts.proofs.Places.{place-same, made-raised_same, made-raised_ot
 use Rattle.wq_core.specs.Wiring.{Wiring, HasContext}
 use Rattle.wq_held.specs.Locked.{IsOnLane, seat_rows}
 use Rattle.wq_rescuer.specs.Executing.{NeverRan, RanOnce, RanOnly, finished_of, finished_in_all, faults_of, SameFinished, CountsRuns, RefusesRescue, RefusesServe, RefusesHelper, WasDrivenIn}
-use Rattle.wq_held.specs.declared.fault.CallError.{CallError}
-use Rattle.wq_held.specs.declared.fault.CallError.TheVariants.{WrongLane}
+use Rattle.wq_history.specs.declared.fault.CallError.{CallError}
+use Rattle.wq_history.specs.declared.fault.CallError.TheVariants.{WrongLane}
 use Rattle.wq_api.specs.WaitingCalls.{IsHelper}
 use Rattle.wq_api.specs.Locking.{WasStartedIn, WasWrongToFinishIn}
 use Rattle.wq_rescuer.specs.declared.body.BodyFault.{BodyFault}

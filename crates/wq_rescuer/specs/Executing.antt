@@ -4,9 +4,9 @@ use Rattle.std.specs.List.{sum_by, range_with_len}
 use Rattle.wq_core.specs.Wiring.{Wiring, items, HasContext}
 use Rattle.wq_counts.specs.declared.kind.Kind.TheVariants.{Finish}
 use Rattle.wq_counts.specs.Counting.{made}
-use Rattle.wq_held.specs.declared.fault.CallError.{CallError}
-use Rattle.wq_held.specs.declared.fault.CallError.TheVariants.{HistoryFull, Closed, NoItem}
-use Rattle.wq_held.specs.Errors.{call_code}
+use Rattle.wq_history.specs.declared.fault.CallError.{CallError}
+use Rattle.wq_history.specs.declared.fault.CallError.TheVariants.{HistoryFull, Closed, NoItem}
+use Rattle.wq_history.specs.Errors.{call_code}
 use Rattle.wq_held.specs.Locked.{IsOnLane, SeatHasRoom, seat_rows}
 use Rattle.wq_api.specs.WaitingCalls.{IsHelper}
 use Rattle.wq_api.specs.Locking.{WasStartedIn, WasWrongToStartIn, WasWrongToFinishIn}

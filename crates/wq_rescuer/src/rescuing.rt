@@ -6,7 +6,7 @@
 
 ghost use Rattle.std.specs.Prelude.{◌≡◌, ℕ, ◌+◌, ◌<◌, ◌≤◌, IfOk, OnOk, IfErr, OnErr};
 ghost use Rattle.wq_core.specs.Wiring.{items, HasContext};
-ghost use Rattle.wq_held.specs.declared.fault.CallError.TheVariants.{WrongLane};
+ghost use Rattle.wq_history.specs.declared.fault.CallError.TheVariants.{WrongLane};
 ghost use Rattle.wq_held.specs.Locked.{IsOnLane};
 ghost use Rattle.wq_api.specs.WaitingCalls.{IsHelper};
 ghost use Rattle.wq_api.specs.Locking.{WasDone, WasDoneIn};

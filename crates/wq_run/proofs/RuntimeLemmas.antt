@@ -10,7 +10,7 @@ use Rattle.wq_plan.specs.Plan.{IsPlan}
 use Rattle.wq_plan.proofs.Plans.{IsSafe-plan}
 use Rattle.wq_counts.specs.Counting.{made}
 use Rattle.wq_history.specs.Book.{BookView}
-use Rattle.wq_held.specs.declared.fault.CallError.{CallError}
+use Rattle.wq_history.specs.declared.fault.CallError.{CallError}
 use Rattle.wq_under_lock.specs.declared.fault.NewError.{NewError}
 use Rattle.wq_under_lock.specs.declared.fault.NewError.TheVariants.{TooManyLanes, TooManyRows, TooManyHelpers, NotSafe, OutOfMemory}
 use Rattle.wq_held.specs.Locked.{max_runtime_lanes}

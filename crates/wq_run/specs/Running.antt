@@ -7,7 +7,7 @@ use Rattle.wq_plan.specs.Plan.{IsPlan}
 use Rattle.wq_counts.specs.declared.kind.Kind.{Kind}
 use Rattle.wq_counts.specs.Counting.{tally}
 use Rattle.wq_history.specs.Book.{BookView}
-use Rattle.wq_held.specs.declared.fault.CallError.{CallError}
+use Rattle.wq_history.specs.declared.fault.CallError.{CallError}
 use Rattle.wq_held.specs.Locked.{max_runtime_lanes}
 use Rattle.wq_held.specs.Closing.{IsClosed}
 use Rattle.wq_rescuer.specs.declared.rescuing.Rescued.{Rescued}

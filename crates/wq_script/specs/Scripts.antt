@@ -3,8 +3,8 @@ use Rattle.std.specs.Prelude.{◌≡◌, ◌≢◌, ℕ, ◌+◌, ◌≤◌, ◌
 use Rattle.std.specs.List.{count_by}
 use Rattle.wq_items.specs.declared.target.Target.{Target}
 use Rattle.wq_counts.specs.Counting.{place, made, wait_kind, over_kind}
-use Rattle.wq_held.specs.declared.fault.CallError.{CallError}
-use Rattle.wq_held.specs.Errors.{call_code}
+use Rattle.wq_history.specs.declared.fault.CallError.{CallError}
+use Rattle.wq_history.specs.Errors.{call_code}
 
 -- for each item in turn: the targets of the flushes that it declares, and how often it ran
 pub record Script : Type 0 where

@@ -11,12 +11,13 @@ use Rattle.wq_history.specs.declared.fault.BookError.{BookError}
 use Rattle.wq_history.specs.declared.fault.BookError.TheVariants.{HistoryFull, Closed, Undeclared, TooManyWaits, WrongLane, NoItem, TooManyRows, OutOfMemory}
 use Rattle.wq_history.specs.Book.{BookView, IsBook, RefusesNew, RefusesQueue, RefusesItem, RefusesAskLane, RefusesLane, RefusesWait}
 use Rattle.wq_history.specs.Answers.{AnswersStart}
-use Rattle.wq_held.specs.declared.fault.CallError.{CallError}
-use Rattle.wq_held.specs.declared.fault.CallError.TheVariants.{HistoryFull as CallFull, Closed as CallClosed, Undeclared as CallUndeclared, TooManyWaits as CallTooManyWaits, WrongLane as CallWrongLane, NotAsked as CallNotAsked, NoItem as CallNoItem}
+use Rattle.wq_history.specs.declared.fault.CallError.{CallError}
+use Rattle.wq_history.specs.declared.fault.CallError.TheVariants.{HistoryFull as CallFull, Closed as CallClosed, Undeclared as CallUndeclared, TooManyWaits as CallTooManyWaits, WrongLane as CallWrongLane, NotAsked as CallNotAsked, NoItem as CallNoItem}
 use Rattle.wq_under_lock.specs.declared.fault.NewError.TheVariants.{NotSafe}
-use Rattle.wq_held.specs.Errors.{call_error, RefusedAs}
+use Rattle.wq_history.specs.Errors.{call_error}
+use Rattle.wq_history.proofs.CallRows.{context-appended}
+use Rattle.wq_held.specs.Errors.{RefusedAs}
 use Rattle.wq_held.specs.Locked.{max_runtime_lanes, slots, IsOnLane, SeatHasRoom, RefusesAskAndCancel}
-use Rattle.wq_held.proofs.Locking.{context-appended}
 use Rattle.wq_under_lock.specs.Refusals.{RefusesRuntime, RefusesQueueWork, RefusesCancelWork, RefusesFlushLane, RefusesWaitIn}
 
 -- what holds for a refusal holds for the same refusal

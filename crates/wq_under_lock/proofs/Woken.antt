@@ -27,7 +27,7 @@ use Rattle.wq_core.proofs.Machines.{unfinished-own_lane}
 use Rattle.wq_history.proofs.LegalRows.{IsSoundState-legal}
 use Rattle.wq_history.proofs.WaitEvents.{declared-item}
 use Rattle.wq_history.proofs.Wakes.{Suffices, WakesWaitersIn, cancelled-suffices, same-suffices, event-enough, closing-enough, unchanged-enough}
-use Rattle.wq_held.specs.declared.fault.CallError.{CallError}
+use Rattle.wq_history.specs.declared.fault.CallError.{CallError}
 use Rattle.wq_held.specs.Locked.{HeldView, Holds, IsOnLane, AsksAndCancels, AnswersOverOf}
 use Rattle.wq_under_lock.specs.Turns.{WakesEnoughOf, woken_by_queueing, WakesByNext, IsGroup}
 

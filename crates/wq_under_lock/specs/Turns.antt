@@ -8,7 +8,7 @@ use Rattle.wq_history.specs.declared.sleepers.Wake.{Wake}
 use Rattle.wq_history.specs.Events.{start_event}
 use Rattle.wq_history.specs.Book.{IsWaitingBy}
 use Rattle.wq_history.specs.Waits.{Condition, IsMet, sleepers_for, awaited, nobody, one_context, WakesEnough, WakesBy}
-use Rattle.wq_held.specs.declared.fault.CallError.{CallError}
+use Rattle.wq_history.specs.declared.fault.CallError.{CallError}
 use Rattle.wq_held.specs.Locked.{HeldView, HasNothingPending}
 use Rattle.wq_under_lock.specs.declared.turn.Turn.{Turn}
 use Rattle.wq_under_lock.specs.declared.turn.Turn.TheVariants.{Answers, Sleeps}

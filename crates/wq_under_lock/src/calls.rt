@@ -11,7 +11,7 @@ ghost use Rattle.wq_counts.specs.Counting.{wait_kind, raised};
 ghost use Rattle.wq_history.specs.Events.{wait_event};
 ghost use Rattle.wq_history.specs.Book.{AppendsOne, IsWrongToStart, RefusesItem, RefusesQueue, RefusesAskLane, RefusesWait, free};
 ghost use Rattle.wq_history.specs.Answers.{AnswersAsk, AnswersAskLane, AnswersStart};
-ghost use Rattle.wq_held.specs.declared.fault.CallError.TheVariants.{WrongLane};
+ghost use Rattle.wq_history.specs.declared.fault.CallError.TheVariants.{WrongLane};
 ghost use Rattle.wq_held.specs.Errors.{RefusedAs};
 ghost use Rattle.wq_held.specs.Locked.{IsOnLane, SeatHasRoom, CountsAsk, CountsAskLane, AsksAndCancels, CountsAskAndCancel, RefusesAskAndCancel};
 ghost use Rattle.wq_under_lock.specs.Refusals.{RefusesQueueWork, RefusesCancelWork, RefusesFlushLane, RefusesWaitIn};

@@ -15,7 +15,7 @@ ghost use Rattle.wq_history.specs.Events.{wait_event, over_event, finish_event};
 ghost use Rattle.wq_history.specs.History.{asks_waiting};
 ghost use Rattle.wq_history.specs.Book.{state, Appends, AppendsOne, HasNothingToStart, IsWrongToStart, RefusesQueue, RefusesItem, RefusesAskLane, RefusesWait};
 ghost use Rattle.wq_history.specs.Answers.{AnswersAsk, AnswersAskLane, AnswersStart};
-ghost use Rattle.wq_held.specs.declared.fault.CallError.TheVariants.{WrongLane, NotAsked};
+ghost use Rattle.wq_history.specs.declared.fault.CallError.TheVariants.{WrongLane, NotAsked};
 ghost use Rattle.wq_held.specs.declared.fault.SeatError.TheVariants.{TooManySeats, OutOfMemory as SeatOutOfMemory};
 ghost use Rattle.wq_held.specs.Locked.{max_runtime_lanes, slots, IsOnLane, SeatHasRoom, Holds, CountsAsk, CountsAskLane, AsksAndCancels, CountsAskAndCancel, RefusesAskAndCancel, HasNothingPending, AnswersOverOf, IsWrongToGoOn, IsWrongToFinish, RefusesClose};
 ghost use Rattle.wq_held.specs.Errors.{RefusedAs};

@@ -3,9 +3,10 @@ use Rattle.wq_core.specs.declared.step.HelpStep.TheVariants.{Finish as DoFinish}
 use Rattle.wq_rows.specs.declared.event.Event.{Event}
 use Rattle.wq_counts.specs.Counting.{slot_in, is_counted, noted_as}
 use Rattle.wq_history.specs.Events.{finish_event}
-use Rattle.wq_history.specs.Book.{AppendsOne}
-use Rattle.wq_held.specs.Locked.{HeldView, slots, RunsItem}
-use Rattle.wq_held.proofs.Locking.{few_tallies, slot-appended, context-appended, finish_of, IsProtected-counted, counted-finish, noted-finish}
+use Rattle.wq_history.specs.Book.{AppendsOne, RunsItem}
+use Rattle.wq_history.proofs.CallRows.{context-appended}
+use Rattle.wq_held.specs.Locked.{HeldView, slots}
+use Rattle.wq_held.proofs.Locking.{few_tallies, slot-appended, finish_of, IsProtected-counted, counted-finish, noted-finish}
 use Rattle.wq_held.proofs.held.Held.finish.Goals as goal
 
 pub count-requires-clause-counted : goal.count-requires-clause-counted

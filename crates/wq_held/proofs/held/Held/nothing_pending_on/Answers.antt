@@ -1,7 +1,7 @@
 use Rattle.std.proofs.Common.{◌↔◌, not, subst}
 use Rattle.std.specs.Prelude.{IsTrue}
+use Rattle.wq_history.proofs.CallRows.{says_nothing}
 use Rattle.wq_held.specs.Locked.{HeldView, HasNothingPending}
-use Rattle.wq_held.proofs.Locking.{says_nothing}
 use Rattle.wq_held.proofs.held.Held.nothing_pending_on.Goals as goal
 
 pub returns : goal.returns

@@ -3,7 +3,8 @@ use Rattle.wq_rows.specs.declared.event.Event.{Event}
 use Rattle.wq_counts.specs.Counting.{slot_in, is_counted, noted_as}
 use Rattle.wq_history.specs.Events.{over_event}
 use Rattle.wq_history.specs.Answers.{AnswersOver}
-use Rattle.wq_held.specs.Locked.{HeldView, slots, WaitsFor}
+use Rattle.wq_history.specs.Book.{WaitsFor}
+use Rattle.wq_held.specs.Locked.{HeldView, slots}
 use Rattle.wq_held.proofs.Locking.{few_tallies, slot-appended, over-not_refused, AnswersOverOf-over, IsProtected-counted, counted-over}
 use Rattle.wq_held.proofs.held.Held.over.Goals as goal
 

@@ -4,8 +4,9 @@ use Rattle.wq_rows.specs.declared.event.Event.{Event}
 use Rattle.wq_counts.specs.Counting.{slot_in, is_counted, noted_as}
 use Rattle.wq_history.specs.Events.{wait_event}
 use Rattle.wq_history.specs.Book.{AppendsOne}
+use Rattle.wq_history.proofs.CallRows.{context-appended}
 use Rattle.wq_held.specs.Locked.{HeldView, slots}
-use Rattle.wq_held.proofs.Locking.{few_tallies, there-appended, slot-appended, context-appended, IsProtected-counted, counted-wait, noted-wait, target-there}
+use Rattle.wq_held.proofs.Locking.{few_tallies, there-appended, slot-appended, IsProtected-counted, counted-wait, noted-wait, target-there}
 use Rattle.wq_held.proofs.held.Held.wait.Goals as goal
 
 pub count-requires-clause-counted : goal.count-requires-clause-counted
