@@ -3,3 +3,5 @@ pub use Rattle.wq_history.specs.Book
 pub mod Errors
 pub mod Locked
 pub mod Closing
+pub mod Turns
+pub mod Calls

@@ -12,11 +12,14 @@ mod held;
 mod naming;
 mod seat;
 mod tallies;
+mod turn;
+mod turning;
 
 pub use closing::Closed;
 pub use fault::{CloseWhy, SeatError};
 pub use held::{Held, MAX_SEATS};
 pub use naming::Naming;
 pub use seat::{SEAT_ROWS, Seat};
+pub use turn::Turn;
 pub use wq_counts::{Counts, Kind};
 pub use wq_history::CallError;
