@@ -15,7 +15,9 @@ use Rattle.wq_history.specs.declared.fault.CallError.{CallError}
 use Rattle.wq_history.specs.declared.fault.CallError.TheVariants.{HistoryFull, WrongLane, NoItem}
 use Rattle.wq_history.specs.declared.sleepers.Sleepers.{Sleepers}
 use Rattle.wq_history.specs.declared.sleepers.Wake.{Wake}
+use Rattle.wq_history.specs.Events.{subject_in}
 use Rattle.wq_history.specs.History.{IsThere}
+use Rattle.wq_history.specs.Book.{BookView, IsBook}
 use Rattle.wq_history.specs.Calls.{Answers, IsEarly, WakesAfter, sleepers_of}
 use Rattle.wq_held.specs.declared.turn.Turn.{Turn}
 use Rattle.wq_held.specs.declared.turn.Turn.TheVariants.{Answers as Answered, Sleeps}
@@ -77,12 +79,29 @@ IsUncounted Close = Unit {0}
 IsUncounted Drain = Unit {0}
 IsUncounted _ = ⊥
 
+-- ---- the book's answer
+
+-- the book answered so, and this is the book after
+abbrev pub WasAnswered : BookView → Call → Result Reply CallError → Type 0
+WasAnswered b call answer = (old : BookView) × IsBook old × Answers old call answer b
+
+-- what the rows of an answer are about is there
+abbrev pub AreThere : Wiring → Result Reply CallError → Type 0
+AreThere w (Ok (Wrote row)) = IsThere w (subject_in row.event)
+AreThere w (Ok (WroteTwo ask taken)) = IsThere w (subject_in ask.event) × IsThere w (subject_in taken.event)
+AreThere w _ = Unit {0}
+
 -- ---- under the lock
 
 -- an answer for whoever called: all but that it is too early
 abbrev pub IsSettled : Result Reply CallError → Type 0
 IsSettled (Ok NotYet) = ⊥
 IsSettled _ = Unit {0}
+
+-- what a call comes to that the book answered so, if this is the book after: its caller sleeps where it is too early
+abbrev pub ComesTo : BookView → Call → Result Reply CallError → Turn (Result Reply CallError) → Type 0
+ComesTo b call answer (Answered same wake) = (same ≡ answer) × IsSettled answer × WakesAfter b call answer wake
+ComesTo b call answer (Sleeps among) = (answer ≡ Ok NotYet) × (among ≡ sleepers_of b.wiring call)
 
 -- a call is answered: so the book answers, no seat is made, the answer is counted in the caller's seat, which had these
 -- counts, and these are woken

@@ -14,6 +14,7 @@ mod seat;
 mod tallies;
 mod turn;
 mod turning;
+mod waking;
 
 pub use closing::Closed;
 pub use fault::{CloseWhy, SeatError};
