@@ -1,4 +1,5 @@
 pub mod Locking
-pub mod Refused
+pub mod Making
 pub mod Closings
 pub mod Turning
+pub mod IdleLanes

@@ -1,11 +1,9 @@
 -- A call under the lock: what its rows are about is there, what the lock guards stays as it has to be, enough are woken,
 -- and whoever sleeps has a group.
-use Rattle.std.proofs.Common.{◌≡◌, ℕ, zero, suc, ◌+◌, ◌<◌, ◌≤◌, Bool, true, false, List, refl, sym, ap, subst, ◌∙◌, arith}
+use Rattle.std.proofs.Common.{◌≡◌, ℕ, zero, suc, ◌<◌, ◌≤◌, Bool, List, refl, sym, ap, subst, ◌∙◌, arith}
 use Rattle.std.specs.Prelude.{Result, Ok, Err, sum}
-use Rattle.wq_core.specs.declared.entry.Running.{Running}
 use Rattle.wq_core.specs.declared.step.Context.{Context}
 use Rattle.wq_core.specs.Wiring.{Wiring, items, max_helpers}
-use Rattle.wq_core.specs.State.{lane_at, IsBusyBelow}
 use Rattle.wq_core.specs.Held.{IsSoundState}
 use Rattle.wq_core.proofs.LaneLemmas.{lane_within}
 use Rattle.wq_core.proofs.Machines.{unfinished-own_lane}
@@ -22,8 +20,6 @@ use Rattle.wq_history.specs.declared.call.Call.TheVariants.{Queue, Cancel, Ask, 
 use Rattle.wq_history.specs.declared.call.Reply.{Reply}
 use Rattle.wq_history.specs.declared.call.Reply.TheVariants.{Wrote, WroteTwo, Done, NotYet}
 use Rattle.wq_history.specs.declared.fault.CallError.{CallError}
-use Rattle.wq_history.specs.declared.sleepers.Sleepers.{Sleepers}
-use Rattle.wq_history.specs.declared.sleepers.Wake.{Wake}
 use Rattle.wq_history.specs.Events.{subject_in, start_event}
 use Rattle.wq_history.specs.History.{IsThere}
 use Rattle.wq_history.specs.Book.{BookView, state, IsBook}

@@ -1,12 +1,9 @@
 -- Calls through a seat: what a caller can know of its call, what its seat counts, and what the call comes to under the
 -- lock. What the book answers is said by Answers of wq_history.
 use Rattle.std.specs.Prelude.{◌≡◌, ℕ, ◌<◌, ◌≤◌, ◌⊎◌, List, sum, Bool, true, false, Result, Ok, Err, IsTrue}
-use Rattle.wq_core.specs.declared.step.Context.{Context}
 use Rattle.wq_core.specs.Wiring.{Wiring, items, HasContext}
-use Rattle.wq_rows.specs.declared.event.Row.{Row}
 use Rattle.wq_counts.specs.Counting.{noted}
 use Rattle.wq_history.specs.declared.asking.Subject.TheVariants.{Item as OfItem}
-use Rattle.wq_history.specs.declared.call.Flush.{Flush}
 use Rattle.wq_history.specs.declared.call.Call.{Call}
 use Rattle.wq_history.specs.declared.call.Call.TheVariants.{Queue, Cancel, Ask, CancelSync, Start, Wait, Close, Drain}
 use Rattle.wq_history.specs.declared.call.Reply.{Reply}

@@ -9,6 +9,8 @@
 mod closing;
 mod fault;
 mod held;
+pub mod laws;
+mod making;
 mod naming;
 mod seat;
 mod tallies;
@@ -17,8 +19,9 @@ mod turning;
 mod waking;
 
 pub use closing::Closed;
-pub use fault::{CloseWhy, SeatError};
+pub use fault::{CloseWhy, NewError, SeatError};
 pub use held::{Held, MAX_SEATS};
+pub use making::{MAX_LANES, new_held};
 pub use naming::Naming;
 pub use seat::{SEAT_ROWS, Seat};
 pub use turn::Turn;

@@ -3,11 +3,10 @@
 //! Each counted row is counted twice: here, for the history, and in the seat of the caller whose call wrote it. The ledger
 //! shows that both grow by one together. A count takes constant time and no memory.
 
-ghost use Rattle.std.specs.Prelude.{◌≡◌, ◌+◌, ◌<◌, ◌≤◌, sum, true};
-ghost use Rattle.wq_counts.specs.Counting.{is_counted, slot_in, noted_as, noted};
+ghost use Rattle.std.specs.Prelude.{◌≡◌, ◌+◌, ◌<◌, ◌≤◌, sum};
+ghost use Rattle.wq_counts.specs.Counting.{noted};
 ghost use Rattle.wq_history.specs.Events.{subject_in};
 ghost use Rattle.wq_history.specs.History.{IsThere};
-ghost use Rattle.wq_held.specs.Locked.{slots};
 ghost use Rattle.wq_held.specs.Calls.{AreThere, counts_after};
 ghost use Rattle.std.specs.Prelude.{Ok};
 
@@ -18,7 +17,7 @@ use std::marker::Model;
 use std::sync::ledger;
 use wq_counts::Counts;
 use wq_history::{CallError, Reply};
-use wq_rows::{Event, Row};
+use wq_rows::Row;
 
 /// The tallies. Contracts see the counts.
 #[derive(Drop)]
@@ -45,23 +44,6 @@ impl<N: Naming, A: Allocator> Tallies<N, A> {
         ensures same { (self.new ≡ self.old) × (seat.new ≡ seat.old) }
     {
         self.ledger.audit(&mut seat.share);
-    }
-
-    /// Counts a row of an event that is counted, with this answer: here, and in the seat of the caller who made the row.
-    #[inline(always)]
-    pub fn count(&mut self, seat: &mut Seat<N, A>, event: &Event, yes: bool)
-        requires counted { is_counted event.now ≡ true }
-        requires slot { slot_in event.now < slots N.wiring }
-        requires few { sum self.old < 4294967295 }
-        ensures tallies { self.new ≡ noted_as self.old event.now yes }
-        ensures seat { seat.new ≡ noted_as seat.old event.now yes }
-        ensures total { sum self.new ≡ sum self.old + 1 }
-        ensures seat_total { sum seat.new ≡ sum seat.old + 1 }
-    {
-        self.ledger.audit(&mut seat.share);
-        self.counts.note_as(event, yes);
-        seat.counts.note_as(event, yes);
-        self.ledger.add(&mut seat.share, 1);
     }
 
     /// Counts a row, unless it is of a start: here, and in the seat of the caller whose call wrote it.

@@ -6,13 +6,13 @@
 //! book is closed, the contexts of a workqueue end with its last pending entry, by a start or a cancellation. Every call
 //! takes constant time.
 
-ghost use Rattle.std.specs.Prelude.{◌≡◌, ◌<◌, ◌↔◌, ℕ, IsTrue};
+ghost use Rattle.std.specs.Prelude.{◌≡◌, ◌<◌, ◌↔◌, IsTrue};
 ghost use Rattle.wq_core.specs.Wiring.{items, lane_of};
 ghost use Rattle.wq_history.specs.Events.{subject_in};
 ghost use Rattle.wq_history.specs.History.{IsThere};
 ghost use Rattle.wq_history.specs.Book.{IsBook};
 ghost use Rattle.wq_history.specs.Calls.{IsEarly, subject_of, waiters_for, sleepers_of, woken_by_done, woken_by_refusal};
-ghost use Rattle.wq_history.specs.Waits.{EndOf, IsMet, WakesBy, WakesByDeed, WakesIfEnded, WakesIfPending, WakesWaiters, WakesByStart, WakesByFinish, WakesByCancel};
+ghost use Rattle.wq_history.specs.Waits.{EndOf, IsMet, WakesBy, WakesByDeed, WakesIfEnded, WakesIfPending, WakesWaiters, WakesByStart, WakesByFinish};
 ghost use Rattle.wq_rows.specs.declared.event.Event.TheVariants.{Queue as QueueEvent, Cancel as CancelEvent};
 
 use std::alloc::Allocator;

@@ -6,15 +6,16 @@
 ghost use Rattle.std.specs.Prelude.{◌≡◌, [], false, length, IfOk, OnOk, IfErr};
 ghost use Rattle.wq_groups.specs.Declaration.{declaration_of};
 ghost use Rattle.wq_core.specs.Wiring.{wiring, with_helpers};
-ghost use Rattle.wq_under_lock.specs.Refusals.{RefusesRuntime, MakesRuntime};
+ghost use Rattle.wq_held.specs.Making.{RefusesRuntime, MakesRuntime};
 
 use crate::fault::NewError;
+use crate::held::Held;
+use crate::naming::Naming;
 use std::alloc::Allocator;
 use std::sync::ledger::Blank;
 use wq_core::{Core, MAX_HELPERS};
 use wq_deadlock::is_safe;
 use wq_groups::{Assignment, Groups};
-use wq_held::{Held, Naming};
 use wq_history::{Book, MAX_ROWS};
 use wq_items::ItemTable;
 
@@ -28,7 +29,7 @@ pub const MAX_LANES: u16 = 256;
 /// The error is the first of these that holds: `TooManyLanes` (69), more than 256 workqueues; `TooManyRows` (68), more than
 /// 16,777,216; `TooManyHelpers` (74), more than 8; `NotSafe` (67), some run of the assignment ends stuck. Out of memory (20) may come
 /// in place of the last, or where none holds.
-#[tactic(auto, using(crate::proofs::CallsRefused::book_refused, crate::proofs::CallsRefused::some_lanes, crate::proofs::CallsRefused::safe_with))]
+#[tactic(auto, using(crate::proofs::Making::book_refused, crate::proofs::Making::some_lanes, crate::proofs::Making::safe_with))]
 pub fn new_held<N: Naming, A: Allocator + Copy>(
     alloc: A,
     blank: Blank,

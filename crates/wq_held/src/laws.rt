@@ -1,4 +1,4 @@
-//! Laws about what the calls under the lock answer, as contracts of functions with empty bodies.
+//! Laws about what is answered under the lock, as contracts of functions with empty bodies.
 //!
 //! They are about books alone, whatever code wrote these.
 
