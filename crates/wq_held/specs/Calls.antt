@@ -1,12 +1,9 @@
 -- Calls through a seat: what a caller can know of its call, what its seat counts, and what the call comes to under the
 -- lock. What the book answers is said by Answers of wq_history.
 use Rattle.std.specs.Prelude.{◌≡◌, ℕ, ◌<◌, ◌≤◌, ◌⊎◌, List, sum, Bool, true, false, Result, Ok, Err, IsTrue}
-use Rattle.wq_core.specs.declared.step.Context.{Context}
 use Rattle.wq_core.specs.Wiring.{Wiring, items, HasContext}
-use Rattle.wq_rows.specs.declared.event.Row.{Row}
 use Rattle.wq_counts.specs.Counting.{noted}
 use Rattle.wq_history.specs.declared.asking.Subject.TheVariants.{Item as OfItem}
-use Rattle.wq_history.specs.declared.call.Flush.{Flush}
 use Rattle.wq_history.specs.declared.call.Call.{Call}
 use Rattle.wq_history.specs.declared.call.Call.TheVariants.{Queue, Cancel, Ask, CancelSync, Start, Wait, Close, Drain}
 use Rattle.wq_history.specs.declared.call.Reply.{Reply}
@@ -99,9 +96,9 @@ IsSettled (Ok NotYet) = ⊥
 IsSettled _ = Unit {0}
 
 -- what a call comes to that the book answered so, if this is the book after: its caller sleeps where it is too early
-abbrev pub ComesTo : BookView → Call → Result Reply CallError → Turn (Result Reply CallError) → Type 0
-ComesTo b call answer (Answered same wake) = (same ≡ answer) × IsSettled answer × WakesAfter b call answer wake
-ComesTo b call answer (Sleeps among) = (answer ≡ Ok NotYet) × (among ≡ sleepers_of b.wiring call)
+abbrev pub BecomesTurn : BookView → Call → Result Reply CallError → Turn (Result Reply CallError) → Type 0
+BecomesTurn b call answer (Answered same wake) = (same ≡ answer) × IsSettled answer × WakesAfter b call answer wake
+BecomesTurn b call answer (Sleeps among) = (answer ≡ Ok NotYet) × (among ≡ sleepers_of b.wiring call)
 
 -- a call is answered: so the book answers, no seat is made, the answer is counted in the caller's seat, which had these
 -- counts, and these are woken

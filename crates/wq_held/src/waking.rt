@@ -2,17 +2,17 @@
 //!
 //! A queueing lets one context of its workqueue go on. So does a finish, where the next entry of the item is pending:
 //! no other context could start that while the item ran. An entry that ends, by a finish or a cancellation, can end
-//! each wait for its item, and for its workqueue; and the last one that is unfinished, all waits in `destroy`. Where the
-//! book is closed, the contexts of a workqueue end with its last pending entry, by a start or a cancellation. Every call
-//! takes constant time.
+//! each wait for its item, and for its workqueue; and the last one that is unfinished, all waits in `destroy`. Where
+//! the book is closed, the contexts of a workqueue end with its last pending entry, by a start or a cancellation. Every
+//! call takes constant time.
 
-ghost use Rattle.std.specs.Prelude.{◌≡◌, ◌<◌, ◌↔◌, ℕ, IsTrue};
+ghost use Rattle.std.specs.Prelude.{◌≡◌, ◌<◌, ◌↔◌, IsTrue};
 ghost use Rattle.wq_core.specs.Wiring.{items, lane_of};
 ghost use Rattle.wq_history.specs.Events.{subject_in};
 ghost use Rattle.wq_history.specs.History.{IsThere};
 ghost use Rattle.wq_history.specs.Book.{IsBook};
 ghost use Rattle.wq_history.specs.Calls.{IsEarly, subject_of, waiters_for, sleepers_of, woken_by_done, woken_by_refusal};
-ghost use Rattle.wq_history.specs.Waits.{EndOf, IsMet, WakesBy, WakesByDeed, WakesIfEnded, WakesIfPending, WakesWaiters, WakesByStart, WakesByFinish, WakesByCancel};
+ghost use Rattle.wq_history.specs.Waits.{EndOf, IsMet, WakesBy, WakesByDeed, WakesIfEnded, WakesIfPending, WakesWaiters, WakesByStart, WakesByFinish};
 ghost use Rattle.wq_rows.specs.declared.event.Event.TheVariants.{Queue as QueueEvent, Cancel as CancelEvent};
 
 use std::alloc::Allocator;
