@@ -1,5 +1,5 @@
--- A call under the lock: what its rows are about is there, what the lock guards stays as it has to be, enough are woken,
--- and whoever sleeps has a group.
+-- A call under the lock: what its rows are about is there, what the lock guards stays as it has to be, enough are
+-- woken, and whoever sleeps has a group.
 use Rattle.std.proofs.Common.{◌≡◌, ℕ, zero, suc, ◌<◌, ◌≤◌, Bool, List, refl, sym, ap, subst, ◌∙◌, arith}
 use Rattle.std.specs.Prelude.{Result, Ok, Err, sum}
 use Rattle.wq_core.specs.declared.step.Context.{Context}
@@ -32,13 +32,14 @@ use Rattle.wq_history.proofs.Woken.{answer-enough}
 use Rattle.wq_held.specs.declared.turn.Turn.{Turn}
 use Rattle.wq_held.specs.declared.turn.Turn.TheVariants.{Answers as Answered, Sleeps}
 use Rattle.wq_held.specs.Locked.{slots, HeldView, IsProtected, Holds}
-use Rattle.wq_held.specs.Calls.{counts_after, IsUncounted, IsSettled, WasAnswered, AreThere, ComesTo, TakesTurn}
+use Rattle.wq_held.specs.Calls.{counts_after, IsUncounted, IsSettled, WasAnswered, AreThere, BecomesTurn, TakesTurn}
 use Rattle.wq_held.specs.Turns.{IfSleeps, IsGroup, Wakes, WakesEnoughOf}
 use Rattle.wq_held.proofs.Locking.{IsProtected-noted}
 
 -- ---- what the rows of an answer are about is there
 
-row-there : (old new : BookView) (row : Row) → IsBook old → Writes old row new → IsThere old.wiring (subject_in row.event)
+row-there : (old new : BookView) (row : Row) → IsBook old → Writes old row new
+    → IsThere old.wiring (subject_in row.event)
 row-there old new row book writes =
     (exist old.wiring old.rows row.event row.yes row.number book.wiring book.legal writes.may).0
 
@@ -139,7 +140,8 @@ module _ (w : Wiring) (rows parts : ℕ) (b new : BookView) (tallies sums : List
   pub answered-protected : (call : Call) (answer : Result Reply CallError) → Answers b call answer new
       → IsProtected w rows parts new (counts_after tallies answer) sums seats left amount
   answered-protected call (Ok (Wrote row)) answers =
-      IsProtected-noted w rows parts b new tallies sums seats left amount row.event row.yes row.number held book answers.1
+      IsProtected-noted w rows parts b new tallies sums seats left amount row.event row.yes row.number held book
+      answers.1
   answered-protected call (Ok (WroteTwo ask taken)) answers = two-protected call ask taken answers
   answered-protected call (Ok Done) answers =
       let same = same-after b call in
@@ -221,7 +223,7 @@ same-held old new books seats = λ t. record { book = books t; seats = seats t }
 
 pub turn-taken : (old new : HeldView) (counts left : List ℕ) (call : Call) (answer : Result Reply CallError)
     (turn : Turn (Result Reply CallError)) → Answers old.book call answer new.book → new.seats ≡ old.seats
-    → left ≡ counts_after counts answer → ComesTo new.book call answer turn → TakesTurn old counts call turn new left
+    → left ≡ counts_after counts answer → BecomesTurn new.book call answer turn → TakesTurn old counts call turn new left
 turn-taken old new counts left call answer (Answered same wake) answers seats counted comes =
     subst (λ (a : Result Reply CallError). TakesTurn old counts call (Answered a wake) new left) (sym comes.0)
     record {

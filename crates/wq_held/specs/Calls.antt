@@ -96,9 +96,9 @@ IsSettled (Ok NotYet) = ⊥
 IsSettled _ = Unit {0}
 
 -- what a call comes to that the book answered so, if this is the book after: its caller sleeps where it is too early
-abbrev pub ComesTo : BookView → Call → Result Reply CallError → Turn (Result Reply CallError) → Type 0
-ComesTo b call answer (Answered same wake) = (same ≡ answer) × IsSettled answer × WakesAfter b call answer wake
-ComesTo b call answer (Sleeps among) = (answer ≡ Ok NotYet) × (among ≡ sleepers_of b.wiring call)
+abbrev pub BecomesTurn : BookView → Call → Result Reply CallError → Turn (Result Reply CallError) → Type 0
+BecomesTurn b call answer (Answered same wake) = (same ≡ answer) × IsSettled answer × WakesAfter b call answer wake
+BecomesTurn b call answer (Sleeps among) = (answer ≡ Ok NotYet) × (among ≡ sleepers_of b.wiring call)
 
 -- a call is answered: so the book answers, no seat is made, the answer is counted in the caller's seat, which had these
 -- counts, and these are woken

@@ -5,7 +5,7 @@
 ghost use Rattle.std.specs.Prelude.{◌≡◌, ℕ, List, Ok};
 ghost use Rattle.wq_core.specs.Wiring.{items};
 ghost use Rattle.wq_held.specs.Locked.{Holds};
-ghost use Rattle.wq_held.specs.Calls.{IsUncounted, WasAnswered, ComesTo, TakesTurn};
+ghost use Rattle.wq_held.specs.Calls.{IsUncounted, WasAnswered, BecomesTurn, TakesTurn};
 ghost use Rattle.wq_held.specs.Turns.{IfSleeps, Wakes, WakesEnoughOf};
 
 use crate::held::Held;
@@ -23,7 +23,7 @@ fn turn_of_reply<A: Allocator>(
     reply: Reply,
 ) -> Turn<Result<Reply, CallError>>
     requires { WasAnswered book.now call.now (Ok reply) }
-    ensures { ComesTo book.now call.now (Ok reply) result }
+    ensures { BecomesTurn book.now call.now (Ok reply) result }
 {
     match reply {
         Reply::Wrote(row) => Turn::Answers(Ok(reply), by_row(book, &row)),
@@ -40,7 +40,7 @@ fn turn_of<A: Allocator>(
     answer: Result<Reply, CallError>,
 ) -> Turn<Result<Reply, CallError>>
     requires { WasAnswered book.now call.now answer }
-    ensures { ComesTo book.now call.now answer result }
+    ensures { BecomesTurn book.now call.now answer result }
 {
     match answer {
         Ok(reply) => turn_of_reply(book, call, reply),
@@ -49,8 +49,8 @@ fn turn_of<A: Allocator>(
 }
 
 impl<N: Naming, A: Allocator> Held<N, A> {
-    /// Answers a call, counts the row or rows that it wrote in the caller's seat, and says who is woken; or, where it is
-    /// too early, says among whom the caller sleeps, and changes nothing.
+    /// Answers a call, counts the row or rows that it wrote in the caller's seat, and says who is woken; or, where it
+    /// is too early, says among whom the caller sleeps, and changes nothing.
     pub fn turn(&mut self, seat: &mut Seat<N, A>, call: Call) -> Turn<Result<Reply, CallError>>
         ensures takes { TakesTurn self.old seat.old call result self.new seat.new }
         ensures wakes { Wakes N.wiring.lanes (items N.wiring) WakesEnoughOf self.old self.new result }

@@ -2,9 +2,9 @@
 //!
 //! A queueing lets one context of its workqueue go on. So does a finish, where the next entry of the item is pending:
 //! no other context could start that while the item ran. An entry that ends, by a finish or a cancellation, can end
-//! each wait for its item, and for its workqueue; and the last one that is unfinished, all waits in `destroy`. Where the
-//! book is closed, the contexts of a workqueue end with its last pending entry, by a start or a cancellation. Every call
-//! takes constant time.
+//! each wait for its item, and for its workqueue; and the last one that is unfinished, all waits in `destroy`. Where
+//! the book is closed, the contexts of a workqueue end with its last pending entry, by a start or a cancellation. Every
+//! call takes constant time.
 
 ghost use Rattle.std.specs.Prelude.{◌≡◌, ◌<◌, ◌↔◌, IsTrue};
 ghost use Rattle.wq_core.specs.Wiring.{items, lane_of};
