@@ -9,7 +9,7 @@ use Rattle.wq_history.specs.Book.{BookView, state, IsBook}
 use Rattle.wq_held.specs.declared.fault.CloseWhy.{CloseWhy}
 use Rattle.wq_held.specs.declared.fault.CloseWhy.TheVariants.{NotIdle, SeatsMissing}
 
--- what contracts see of it: the book, and how many seats were made
+-- what contracts see of it: the book, and how many seats were made, each with a part of the ledger
 pub record HeldView : Type 0 where
   pub book : BookView
   pub seats : ℕ

@@ -25,7 +25,8 @@ use wq_items::ItemId;
 /// The most seats that a runtime makes: 65,535. One part of the ledger is never given out.
 pub const MAX_SEATS: u32 = 65_535;
 
-/// What the lock of a runtime protects. Contracts see its book and how many seats were made.
+/// What the lock of a runtime protects. Contracts see its book and how many seats were made: as many as parts of the
+/// ledger were given out.
 #[derive(Drop)]
 pub struct Held<N: Naming, A: Allocator> {
     pub(crate) book: Book<A>,
@@ -40,7 +41,7 @@ impl<N: Naming, A: Allocator> Model for Held<N, A> {
 
     ghost Value = { HeldView };
 
-    ghost view = { λ h. record { book = h.book; seats = h.seats } };
+    ghost view = { λ h. record { book = h.book; seats = N.parts - h.rest.parts } };
 
     ghost invariant = { λ h. IsProtected N.wiring N.rows N.parts h.book h.tallies h.sums h.seats h.rest.parts h.rest.amount };
 }

@@ -6,13 +6,13 @@
 //! the book is closed, the contexts of a workqueue end with its last pending entry, by a start or a cancellation. Every
 //! call takes constant time.
 
-ghost use Rattle.std.specs.Prelude.{◌≡◌, ◌<◌, ◌↔◌, IsTrue};
+ghost use Rattle.std.specs.Prelude.{◌≡◌, ◌<◌};
 ghost use Rattle.wq_core.specs.Wiring.{items, lane_of};
 ghost use Rattle.wq_history.specs.Events.{subject_in};
 ghost use Rattle.wq_history.specs.History.{IsThere};
 ghost use Rattle.wq_history.specs.Book.{IsBook};
 ghost use Rattle.wq_history.specs.Calls.{IsEarly, subject_of, waiters_for, sleepers_of, woken_by_done, woken_by_refusal};
-ghost use Rattle.wq_history.specs.Waits.{EndOf, IsMet, WakesBy, WakesByDeed, WakesIfEnded, WakesIfPending, WakesWaiters, WakesByStart, WakesByFinish};
+ghost use Rattle.wq_history.specs.Waits.{WakesBy, WakesByDeed, WakesIfEnded, WakesIfPending, WakesWaiters, WakesByStart, WakesByFinish};
 ghost use Rattle.wq_rows.specs.declared.event.Event.TheVariants.{Queue as QueueEvent, Cancel as CancelEvent};
 
 use std::alloc::Allocator;
@@ -22,18 +22,11 @@ use wq_history::{Book, Call, Flush, Sleepers, Subject, Wake, WokenContexts};
 use wq_items::ItemId;
 use wq_rows::{Event, Row};
 
-/// Whether nobody who serves a workqueue has anything more to do: the book is closed, and nothing is pending on it.
-fn has_ended<A: Allocator>(book: &Book<A>, q: LaneId) -> bool
-    ensures { IsTrue result ↔ IsMet book.now (EndOf q) }
-{
-    book.is_closed() && !book.is_pending_on(q)
-}
-
 /// All contexts of a workqueue, where it has ended.
 fn if_ended<A: Allocator>(book: &Book<A>, q: LaneId) -> WokenContexts
     ensures { WakesIfEnded book.now q result }
 {
-    if has_ended(book, q) {
+    if book.has_ended(q) {
         WokenContexts::All(q)
     } else {
         WokenContexts::Nobody
