@@ -37,6 +37,7 @@ pub struct Held<N: Naming, A: Allocator> {
 }
 
 impl<N: Naming, A: Allocator> Model for Held<N, A> {
+    ghost use Rattle.std.specs.Prelude.{◌-◌};
     ghost use Rattle.wq_held.specs.Locked.{HeldView, IsProtected};
 
     ghost Value = { HeldView };
