@@ -1,0 +1,38 @@
+use Rattle.std.proofs.Common.{◌≡◌, List, ℕ, sym, ap, subst}
+use Rattle.wq_core.specs.Wiring.{Wiring}
+use Rattle.wq_history.specs.Book.{IsBook}
+use Rattle.wq_history.specs.Calls.{Answers}
+use Rattle.wq_held.specs.Locked.{HeldView, IsProtected}
+use Rattle.wq_held.specs.Calls.{AreThere, TakesTurn}
+use Rattle.wq_held.proofs.Turning.{answered-there, few-tallies, answered-protected, turn-taken, turn-sleeps, turn-wakes}
+use Rattle.wq_held.proofs.held.Held.turn.Goals as goal
+
+-- the book is one
+legal : (old : HeldView) (inside : HeldView) → inside ≡ old → IsBook old.book → IsBook inside.book
+legal old inside same book = subst (λ (x : HeldView). IsBook x.book) (sym same) book
+
+pub count_answer-requires-clause-there : goal.count_answer-requires-clause-there
+count_answer-requires-clause-there g c =
+    let h = c.self.inside in
+    subst (λ (w : Wiring). AreThere w c.answer-answer.result) c.self.invariant.of_wiring
+    (answered-there h.book c.answer-answer.new.self c.args.call c.answer-answer.result
+    (legal c.args.self.now _ c.self.view_is c.holds.ensures.legal) c.answer-answer.ensures)
+
+pub count_answer-requires-clause-few : goal.count_answer-requires-clause-few
+count_answer-requires-clause-few g c =
+    let h = c.self.inside in
+    few-tallies _ _ _ h.book h.tallies h.sums h.seats h.rest.parts h.rest.amount c.self.invariant
+    (legal c.args.self.now _ c.self.view_is c.holds.ensures.legal)
+
+pub turn_of-requires : goal.turn_of-requires
+turn_of-requires g c =
+    (c.self.inside.book, legal c.args.self.now _ c.self.view_is c.holds.ensures.legal, c.answer-answer.ensures)
+
+pub invariant_of-self : goal.invariant_of-self
+invariant_of-self g c =
+    let h = c.self.inside in
+    subst (λ (ts : List ℕ). IsProtected _ _ _ c.answer-answer.new.self ts h.sums h.seats h.rest.parts h.rest.amount)
+    (sym c.count_answer.ensures.tallies)
+    (answered-protected _ _ _ h.book c.answer-answer.new.self h.tallies h.sums h.seats h.rest.parts h.rest.amount
+    c.self.invariant (legal c.args.self.now _ c.self.view_is c.holds.ensures.legal) c.args.call c.answer-answer.result
+    c.answer-answer.ensures)
