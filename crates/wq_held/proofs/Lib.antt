@@ -1,4 +1,4 @@
 pub mod Locking
 pub mod Refused
 pub mod Closings
-pub mod Turning
+pub mod TakenTurns

@@ -3,8 +3,8 @@ use Rattle.wq_core.specs.Wiring.{Wiring}
 use Rattle.wq_history.specs.Book.{IsBook}
 use Rattle.wq_history.specs.Calls.{Answers}
 use Rattle.wq_held.specs.Locked.{HeldView, IsProtected}
-use Rattle.wq_held.specs.Calls.{AreThere, TakesTurn}
-use Rattle.wq_held.proofs.Turning.{answered-there, few-tallies, answered-protected, turn-taken, turn-sleeps, turn-wakes}
+use Rattle.wq_held.specs.Calls.{AreThere}
+use Rattle.wq_held.proofs.TakenTurns.{answered-there, few-tallies, answered-protected, turn-taken, turn-wakes}
 use Rattle.wq_held.proofs.held.Held.turn.Goals as goal
 
 -- the book is one
@@ -36,3 +36,14 @@ invariant_of-self g c =
     (answered-protected _ _ _ h.book c.answer-answer.new.self h.tallies h.sums h.seats h.rest.parts h.rest.amount
     c.self.invariant (legal c.args.self.now _ c.self.view_is c.holds.ensures.legal) c.args.call c.answer-answer.result
     c.answer-answer.ensures)
+
+pub returns-clause-wakes : goal.returns-clause-wakes
+returns-clause-wakes g c =
+    let old : HeldView = c.args.self.now in
+    let new : HeldView = record { book = c.answer-answer.new.self; seats = c.self.inside.seats } in
+    let answer = c.answer-answer.result in
+    turn-wakes g.N.Naming.wiring g.N.Naming.rows old new c.args.seat.now c.count_answer.new.seat c.args.call
+    c.turn_of.result c.holds.ensures
+    (turn-taken old new c.args.seat.now c.count_answer.new.seat c.args.call answer c.turn_of.result
+    (subst (λ (x : HeldView). Answers x.book c.args.call answer new.book) c.self.view_is c.answer-answer.ensures)
+    (ap (λ (x : HeldView). x.seats) c.self.view_is) c.count_answer.ensures.seat c.turn_of.ensures)
