@@ -1,5 +1,5 @@
 pub mod Locking
 pub mod Making
 pub mod Closings
-pub mod Turning
+pub mod TakenTurns
 pub mod IdleLanes

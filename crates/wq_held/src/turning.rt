@@ -26,9 +26,15 @@ fn turn_of_reply<A: Allocator>(
     ensures { BecomesTurn book.now call.now (Ok reply) result }
 {
     match reply {
-        Reply::Wrote(row) => Turn::Answers(Ok(reply), by_row(book, &row)),
-        Reply::WroteTwo(_, taken) => Turn::Answers(Ok(reply), by_row(book, &taken)),
-        Reply::Done => Turn::Answers(Ok(reply), by_done(call)),
+        Reply::Wrote(row) => {
+            let wake = by_row(book, &row);
+            Turn::Answers(Ok(Reply::Wrote(row)), wake)
+        }
+        Reply::WroteTwo(asked, taken) => {
+            let wake = by_row(book, &taken);
+            Turn::Answers(Ok(Reply::WroteTwo(asked, taken)), wake)
+        }
+        Reply::Done => Turn::Answers(Ok(Reply::Done), by_done(call)),
         Reply::NotYet => Turn::Sleeps(sleepers(book, call)),
     }
 }

@@ -23,7 +23,7 @@ use Rattle.wq_history.specs.declared.fault.CallError.{CallError}
 use Rattle.wq_history.specs.Events.{subject_in, start_event}
 use Rattle.wq_history.specs.History.{IsThere}
 use Rattle.wq_history.specs.Book.{BookView, state, IsBook}
-use Rattle.wq_history.specs.Calls.{IsUnfinishedBelow, IsRowOf, Writes, WritesTwo, after, IsEarly, Answers, WakesAfter, waiters_for, sleepers_of}
+use Rattle.wq_history.specs.Calls.{IsUnfinishedBelow, IsRowOf, Writes, WritesTwo, after, IsEarly, Answers, waiters_for, sleepers_of}
 use Rattle.wq_history.proofs.KeptRows.{exist}
 use Rattle.wq_history.proofs.LegalRows.{IsSoundState-legal}
 use Rattle.wq_history.proofs.Upheld.{answer-upheld}
@@ -32,7 +32,7 @@ use Rattle.wq_history.proofs.Woken.{answer-enough}
 use Rattle.wq_held.specs.declared.turn.Turn.{Turn}
 use Rattle.wq_held.specs.declared.turn.Turn.TheVariants.{Answers as Answered, Sleeps}
 use Rattle.wq_held.specs.Locked.{slots, HeldView, IsProtected, Holds}
-use Rattle.wq_held.specs.Calls.{counts_after, IsUncounted, IsSettled, WasAnswered, AreThere, BecomesTurn, TakesTurn}
+use Rattle.wq_held.specs.Calls.{counts_after, IsUncounted, WasAnswered, AreThere, BecomesTurn, TakesTurn}
 use Rattle.wq_held.specs.Turns.{IfSleeps, IsGroup, Wakes, WakesEnoughOf}
 use Rattle.wq_held.proofs.Locking.{IsProtected-noted}
 
@@ -76,8 +76,8 @@ now-there b call answer (old, book, answers) =
 
 -- a book that has just answered that it is too early is the same
 pub now-early : (b : BookView) (call : Call) → WasAnswered b call (Ok NotYet) → IsBook b × IsEarly b call
-now-early b call (old, book, early, same) =
-    subst (λ (x : BookView). IsBook x × IsEarly x call) (sym same) (book, early)
+now-early b call (old, book, answers) =
+    subst (λ (x : BookView). IsBook x × IsEarly x call) (sym answers.1) (book, answers.0)
 
 -- ---- what the lock guards
 
@@ -228,10 +228,10 @@ turn-taken old new counts left call answer (Answered same wake) answers seats co
     subst (λ (a : Result Reply CallError). TakesTurn old counts call (Answered a wake) new left) (sym comes.0)
     record {
       answers = answers;
-      settled = subst IsSettled comes.0 comes.1;
+      settled = comes.1;
       seats = seats;
       counted = counted;
-      wakes = subst (λ (a : Result Reply CallError). WakesAfter new.book call a wake) comes.0 comes.2;
+      wakes = comes.2;
     }
 turn-taken old new counts left call answer (Sleeps among) answers seats counted comes =
     let early = subst (λ (a : Result Reply CallError). Answers old.book call a new.book) comes.0 answers in
