@@ -1,4 +1,4 @@
-use Rattle.std.proofs.Common.{ℕ, List, [], sym, ap, subst}
+use Rattle.std.proofs.Common.{◌-◌, ℕ, List, [], sym, ap, subst}
 use Rattle.wq_history.specs.Book.{IsBook}
 use Rattle.wq_history.specs.Calls.{Answers}
 use Rattle.wq_held.specs.Locked.{HeldView, IsProtected}
