@@ -125,6 +125,8 @@ impl Body for RdiskBody<'_> {
 
     ghost runs = { λ b i. slice_index b.runs.items i };
 
+    ghost may = { λ w b i answer old new. Unit {0} };
+
     fn run<N: Naming, A: Allocator, R: Wait>(
         &mut self,
         rt: &R,

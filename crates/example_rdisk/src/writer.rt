@@ -31,6 +31,8 @@ pub(crate) fn make_writers<'a>(
 }
 
 impl Caller for Writer<'_> {
+    ghost did = { λ w before after result old new. Unit {0} };
+
     fn call<N: Naming, A: Allocator, R: Wait>(
         &mut self,
         rt: &R,

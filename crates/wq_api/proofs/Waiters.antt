@@ -13,9 +13,10 @@ use Rattle.wq_history.specs.History.{MayCome}
 use Rattle.wq_history.specs.Book.{BookView, state, IsBook, AppendsOne, IsWrongToStart, RefusesWait}
 use Rattle.wq_history.specs.Answers.{AnswersStart}
 use Rattle.wq_history.proofs.LegalRows.{IsSoundState-legal}
-use Rattle.wq_held.specs.declared.fault.CallError.{CallError}
-use Rattle.wq_held.specs.declared.fault.CallError.TheVariants.{Undeclared, TooManyWaits, WrongLane}
-use Rattle.wq_held.specs.Errors.{call_error, RefusedAs}
+use Rattle.wq_history.specs.declared.fault.CallError.{CallError}
+use Rattle.wq_history.specs.declared.fault.CallError.TheVariants.{Undeclared, TooManyWaits, WrongLane}
+use Rattle.wq_history.specs.Errors.{call_error}
+use Rattle.wq_held.specs.Errors.{RefusedAs}
 use Rattle.wq_held.specs.Locked.{HeldView, IsOnLane, SeatHasRoom, Holds, IsWrongToGoOn, IsWrongToFinish}
 use Rattle.wq_under_lock.specs.declared.turn.Turn.{Turn}
 use Rattle.wq_under_lock.specs.declared.turn.Turn.TheVariants.{Answers, Sleeps}

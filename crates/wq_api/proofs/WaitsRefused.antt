@@ -4,8 +4,8 @@ use Rattle.std.specs.Prelude.{Result, Ok, Err, IfOk, IfErr}
 use Rattle.std.proofs.lemmas.Bool.{cases_lt}
 use Rattle.wq_core.specs.Wiring.{Wiring, items, HasContext}
 use Rattle.wq_counts.specs.Counting.{raised, wait_kind}
-use Rattle.wq_held.specs.declared.fault.CallError.{CallError}
-use Rattle.wq_held.specs.declared.fault.CallError.TheVariants.{HistoryFull, Closed, Undeclared, TooManyWaits, WrongLane, NotAsked, NoItem}
+use Rattle.wq_history.specs.declared.fault.CallError.{CallError}
+use Rattle.wq_history.specs.declared.fault.CallError.TheVariants.{HistoryFull, Closed, Undeclared, TooManyWaits, WrongLane, NotAsked, NoItem}
 use Rattle.wq_held.specs.Locked.{SeatHasRoom, asked_and_cancelled}
 use Rattle.wq_under_lock.specs.Refusals.{RefusesCancelWork, RefusesFlushLane, RefusesWaitFor, RefusesWaitIn}
 use Rattle.wq_api.specs.WaitingCalls.{RefusesFlushWork, flush_refused, RefusedCancelSync, RefusesFlushWorkqueue, lane_flush_refused, waited_for, RefusedWaitFor, RefusedWaitIn, IsHelper, RefusesHelpWaitFor, RefusedHelpWaitFor}

@@ -8,8 +8,8 @@ use Rattle.wq_history.specs.declared.sleepers.Wake.{Wake}
 use Rattle.wq_history.specs.Events.{wait_event, over_event, finish_event}
 use Rattle.wq_history.specs.Book.{BookView, AppendsOne, HasNothingToStart, IsWrongToStart, RefusesWait}
 use Rattle.wq_history.specs.Answers.{AnswersStart}
-use Rattle.wq_held.specs.declared.fault.CallError.{CallError}
-use Rattle.wq_held.specs.declared.fault.CallError.TheVariants.{WrongLane}
+use Rattle.wq_history.specs.declared.fault.CallError.{CallError}
+use Rattle.wq_history.specs.declared.fault.CallError.TheVariants.{WrongLane}
 use Rattle.wq_held.specs.Errors.{RefusedAs}
 use Rattle.wq_held.specs.Locked.{HeldView, Holds, IsWrongToGoOn, IsWrongToFinish}
 use Rattle.wq_under_lock.specs.declared.turn.Turn.{Turn}

@@ -4,8 +4,8 @@ use Rattle.wq_items.specs.Table.{ItemWaitsBy}
 use Rattle.wq_core.specs.Wiring.{Wiring, items, HasContext}
 use Rattle.wq_counts.specs.declared.kind.Kind.TheVariants.{Ask as AskKind, Told as ToldKind}
 use Rattle.wq_counts.specs.Counting.{raised, raised_asked, raised_told, wait_kind, over_kind}
-use Rattle.wq_held.specs.declared.fault.CallError.{CallError}
-use Rattle.wq_held.specs.declared.fault.CallError.TheVariants.{HistoryFull, Closed, Undeclared, TooManyWaits, WrongLane, NotAsked, NoItem}
+use Rattle.wq_history.specs.declared.fault.CallError.{CallError}
+use Rattle.wq_history.specs.declared.fault.CallError.TheVariants.{HistoryFull, Closed, Undeclared, TooManyWaits, WrongLane, NotAsked, NoItem}
 use Rattle.wq_held.specs.Locked.{SeatHasRoom, IsOnLane, asked_and_cancelled}
 use Rattle.wq_under_lock.specs.Refusals.{RefusesWaitOf}
 

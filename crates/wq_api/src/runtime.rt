@@ -13,7 +13,7 @@ ghost use Rattle.wq_groups.specs.Declaration.{declaration_of};
 ghost use Rattle.wq_core.specs.Wiring.{wiring, with_helpers, lane_of, helpers_of, HasContext, items};
 ghost use Rattle.wq_counts.specs.declared.kind.Kind.TheVariants.{Queue, Cancel, Told as ToldKind};
 ghost use Rattle.wq_counts.specs.Counting.{counts_each, raised, raised_told};
-ghost use Rattle.wq_held.specs.declared.fault.CallError.TheVariants.{NotAsked};
+ghost use Rattle.wq_history.specs.declared.fault.CallError.TheVariants.{NotAsked};
 ghost use Rattle.wq_held.specs.declared.fault.SeatError.TheVariants.{TooManySeats, OutOfMemory as SeatOutOfMemory};
 ghost use Rattle.wq_history.specs.Book.{BookView};
 ghost use Rattle.wq_history.specs.Answers.{AnswersAsk, AnswersAskLane};

@@ -10,7 +10,7 @@ ghost use Rattle.std.specs.Prelude.{◌≡◌, ◌<◌, sum, true, false, IfOk, 
 ghost use Rattle.wq_core.specs.Wiring.{items, HasContext};
 ghost use Rattle.wq_counts.specs.declared.kind.Kind.TheVariants.{Finish as FinishKind};
 ghost use Rattle.wq_counts.specs.Counting.{raised, wait_kind, over_kind};
-ghost use Rattle.wq_held.specs.declared.fault.CallError.TheVariants.{WrongLane};
+ghost use Rattle.wq_history.specs.declared.fault.CallError.TheVariants.{WrongLane};
 ghost use Rattle.wq_held.specs.Locked.{IsOnLane, SeatHasRoom};
 ghost use Rattle.wq_under_lock.specs.Refusals.{RefusesWaitFor, RefusesWaitIn};
 ghost use Rattle.wq_under_lock.specs.Turns.{AnswersWith, IfAnswers, Wakes, WakesEnoughOf};

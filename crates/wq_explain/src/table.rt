@@ -540,8 +540,8 @@ const TALLY: Explanation = (
     "tally fault\n",
     "\
 `fault tally`, with status 3: in `run`, the runtime couldn't be closed with
-counts that agree. No input is known to cause it. Nothing was printed to
-standard output.
+counts that agree, or a call was refused to one of its own threads. No input
+is known to cause it. Nothing was printed to standard output.
 
 The rule: docs/FORMAT.md, \"Faults and exit statuses\"
 

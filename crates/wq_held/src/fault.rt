@@ -1,15 +1,57 @@
-//! Why a call of a runtime is refused, why no seat is made, and why a runtime isn't closed.
+//! Why no runtime is made, why no seat is made, and why a runtime isn't closed.
 //!
-//! The numbers are those of "Books" and "Runtimes" in docs/RUNTIME.md. Every call takes constant time.
+//! The numbers are those of "Runtimes" in docs/RUNTIME.md. Every call takes constant time.
 
-ghost use Rattle.std.specs.Prelude.{◌≡◌, Some};
-ghost use Rattle.wq_history.specs.declared.fault.BookError.TheVariants.{OutOfMemory as BookOutOfMemory, TooManyRows as BookTooManyRows};
-ghost use Rattle.wq_held.specs.Errors.{call_error, call_code, seat_code, close_code, IsOfCall};
+ghost use Rattle.std.specs.Prelude.{◌≡◌};
+ghost use Rattle.wq_held.specs.Errors.{new_code, seat_code, close_code};
+ghost use Rattle.wq_held.specs.declared.fault.NewError.TheVariants.{OutOfMemory as NewOutOfMemory};
 ghost use Rattle.wq_held.specs.declared.fault.SeatError.TheVariants.{OutOfMemory};
 
 use std::alloc::AllocError;
 use thiserror::Error;
-use wq_history::BookError;
+
+/// Why no runtime is made: the first cause that holds.
+#[derive(Clone, Copy, Debug, PartialEq, Eq, Error)]
+pub enum NewError {
+    /// More than 256 workqueues (69).
+    #[error("more workqueues than a runtime may have")]
+    TooManyLanes,
+    /// More than 16,777,216 rows (68).
+    #[error("more rows than a history may have")]
+    TooManyRows,
+    /// More than 8 helpers for each workqueue (74).
+    #[error("more helpers than a workqueue may have")]
+    TooManyHelpers,
+    /// The assignment isn't safe: some run ends stuck (67).
+    #[error("the assignment can deadlock")]
+    NotSafe,
+    /// Memory ran out (20).
+    #[error("out of memory")]
+    OutOfMemory,
+}
+
+impl NewError {
+    /// The number of the refusal: 20, 67, 68, 69 or 74.
+    pub fn code(self) -> u32
+        ensures { result ≡ new_code self }
+    {
+        match self {
+            NewError::OutOfMemory => 20,
+            NewError::NotSafe => 67,
+            NewError::TooManyRows => 68,
+            NewError::TooManyLanes => 69,
+            NewError::TooManyHelpers => 74,
+        }
+    }
+}
+
+impl From<AllocError> for NewError {
+    ghost from_gives = { λ _ e. e ≡ NewOutOfMemory };
+
+    fn from(_e: AllocError) -> NewError {
+        NewError::OutOfMemory
+    }
+}
 
 /// Why no seat is made.
 #[derive(Clone, Copy, Debug, PartialEq, Eq, Error)]
@@ -39,65 +81,6 @@ impl From<AllocError> for SeatError {
 
     fn from(_e: AllocError) -> SeatError {
         SeatError::OutOfMemory
-    }
-}
-
-/// Why a call of a runtime is refused: the first cause that holds.
-#[derive(Clone, Copy, Debug, PartialEq, Eq, Error)]
-pub enum CallError {
-    /// Fewer rows are free than the call needs, or its seat has counted 33,554,432 rows or more (60).
-    #[error("the history is full")]
-    HistoryFull,
-    /// The runtime is closed: nothing is queued any more (61).
-    #[error("the runtime is closed")]
-    Closed,
-    /// The running item declares no such flush: of the item, or of its whole workqueue (62).
-    #[error("the item declares no such flush")]
-    Undeclared,
-    /// The running item has made as many waits as it declares flushes, of both kinds (63).
-    #[error("the item has made all its waits")]
-    TooManyWaits,
-    /// There is no such workqueue, the item belongs to another, or the workqueue can't make this step (64).
-    #[error("the workqueue can't do this")]
-    WrongLane,
-    /// No ask about the item, or about the workqueue, is waiting (65). Each call hands in only the ask that it made itself.
-    #[error("no caller waits for the item, or for the workqueue")]
-    NotAsked,
-    /// No such item (66).
-    #[error("no such item")]
-    NoItem,
-}
-
-impl CallError {
-    /// The number of the refusal: 60 to 66.
-    pub fn code(self) -> u32
-        ensures { result ≡ call_code self }
-    {
-        match self {
-            CallError::HistoryFull => 60,
-            CallError::Closed => 61,
-            CallError::Undeclared => 62,
-            CallError::TooManyWaits => 63,
-            CallError::WrongLane => 64,
-            CallError::NotAsked => 65,
-            CallError::NoItem => 66,
-        }
-    }
-
-    /// The refusal that an error of a book means, where the error isn't one of making a book.
-    pub(crate) fn of(e: BookError) -> CallError
-        requires { IsOfCall e }
-        ensures { call_error e ≡ Some result }
-    {
-        match e {
-            BookError::HistoryFull => CallError::HistoryFull,
-            BookError::Closed => CallError::Closed,
-            BookError::Undeclared => CallError::Undeclared,
-            BookError::TooManyWaits => CallError::TooManyWaits,
-            BookError::WrongLane => CallError::WrongLane,
-            BookError::NoItem => CallError::NoItem,
-            BookError::TooManyRows | BookError::OutOfMemory => unreachable!(),
-        }
     }
 }
 

@@ -32,7 +32,7 @@ use Rattle.wq_history.proofs.Deeds.{says_one, own-lane, deed-there}
 -- ---- rows that need none free
 
 -- such a row writes one of those that are kept
-kept_row : (w : Wiring) (rows : List Row) (row : Row) → IsLegal w rows → MayFollow w rows row → rows_needed w row.event row.yes ≡ 0
+pub kept_row : (w : Wiring) (rows : List Row) (row : Row) → IsLegal w rows → MayFollow w rows row → rows_needed w row.event row.yes ≡ 0
     → reserved w (rows ++ (row ∷ [])) + 1 ≤ reserved w rows
 kept_row w rows row legal may none = by_event row.event row.yes row.number may none where
   s : State

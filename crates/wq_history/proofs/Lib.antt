@@ -10,3 +10,10 @@ pub mod Startable
 pub mod Wakes
 pub mod Crews
 pub mod Idle
+pub mod CallRows
+pub mod Answered
+pub mod Upheld
+pub mod Uniqueness
+pub mod OneAnswer
+pub mod Woken
+pub mod Sleeping

@@ -82,6 +82,14 @@ HelperRuns b q h r = (0 < h) × LaneRuns b q h r
 abbrev pub HelperWaitsBy : BookView → ℕ → ℕ → Bool → Waiting → Type 0
 HelperWaitsBy b q h whole f = (0 < h) × IsWaitingBy b q h whole f
 
+-- context c of lane q runs an entry of item i
+abbrev pub RunsItem : BookView → ℕ → ℕ → ℕ → Type 0
+RunsItem b q c i = (r : Running) × LaneRuns b q c r × (r.entry.item ≡ i)
+
+-- context c of lane q waits for item `target`, or for the whole lane of `target`
+abbrev pub WaitsFor : BookView → ℕ → ℕ → Bool → ℕ → Type 0
+WaitsFor b q c whole target = (f : Waiting) × IsWaitingBy b q c whole f × (f.target ≡ target)
+
 -- an entry is pending on lane q
 abbrev pub HasPendingOn : BookView → ℕ → Type 0
 HasPendingOn b q = (e : Entry) × IsPendingOn (lane_at (state b) q) e

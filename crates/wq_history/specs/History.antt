@@ -40,6 +40,11 @@ SaysUnfinished s i said = IsTrue said ↔ HasUnfinishedOf s i
 abbrev pub SaysBusy : State → ℕ → Bool → Type 0
 SaysBusy s q said = IsTrue said ↔ IsBusy (lane_at s q)
 
+-- `said` says whether the item, or the lane, has an unfinished entry
+abbrev pub SaysUnfinishedOf : State → Subject → Bool → Type 0
+SaysUnfinishedOf s (OfItem i) said = SaysUnfinished s i said
+SaysUnfinishedOf s (OfLane q) said = SaysBusy s q said
+
 -- `said` is the answer of a deed: for a wait it says whether the item, or its whole lane, has an unfinished entry; any other has yes
 abbrev pub Says : Wiring → State → HelpStep → Bool → Type 0
 Says w s (DoStart i) said = said ≡ true

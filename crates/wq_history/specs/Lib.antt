@@ -6,7 +6,9 @@ pub mod History
 pub mod Reserve
 pub mod Book
 pub mod Counts
+pub mod Errors
 pub mod Answers
 pub mod Waits
+pub mod Calls
 pub mod Sleeping
 pub mod Judging

@@ -5,30 +5,33 @@
 //! makes, and nothing that grows with the number of rows, of lanes or of asks. An ask about a lane takes constant time. Only
 //! `new` takes memory: 12 bytes for each row, and two counts for each item or each lane, whichever are more.
 
-ghost use Rattle.std.specs.Prelude.{◌≡◌, ℕ, ◌+◌, ◌<◌, ◌≤◌, ◌↔◌, [], length, Some, None, true, false, IfOk, IfErr, OnOk, IfSome, IfNone, IsTrue, MatchBool};
+ghost use Rattle.std.specs.Prelude.{◌≡◌, ℕ, ◌+◌, ◌<◌, ◌≤◌, ◌↔◌, [], Some, None, true, false, IfOk, IfErr, OnOk, IfSome, IfNone, IsTrue, MatchBool};
 ghost use Rattle.std.specs.List.{count_by};
 ghost use Rattle.wq_core.specs.declared.entry.Running.{Running};
 ghost use Rattle.wq_core.specs.declared.entry.Waiting.{Waiting};
-ghost use Rattle.wq_core.specs.Wiring.{IsWiring, items, lane_of, declared_by, helpers_of, HasContext};
-ghost use Rattle.wq_core.specs.State.{empty_state, lane_at, run_by, next_of, HasPending, HasUnfinished, HasUnfinishedBelow, IsBusy, IsBusyBelow};
+ghost use Rattle.wq_core.specs.Wiring.{items, lane_of, helpers_of, HasContext};
+ghost use Rattle.wq_core.specs.State.{empty_state, lane_at, run_by, next_of, HasPending, HasUnfinished, IsBusy};
 ghost use Rattle.wq_core.specs.Rules.{Lawful, Gives, IsHeldBack, step_in};
 ghost use Rattle.wq_rows.specs.declared.event.Event.TheVariants.{Queue, Cancel, Wait, WaitAll, Finish, Ask as AskEvent};
 ghost use Rattle.wq_rows.specs.Packing.{packed_rows};
 ghost use Rattle.wq_rows.specs.Stored.{max_rows};
 ghost use Rattle.wq_history.specs.declared.asking.Subject.{Subject as SubjectValue};
 ghost use Rattle.wq_history.specs.Events.{step_of, event_in, wait_event, finish_event, ask_event, told_event, begins_to_wait, ends_a_wait};
-ghost use Rattle.wq_history.specs.History.{asks_waiting, all_asks_waiting, MayCome, Says, SaysUnfinished, SaysBusy};
+ghost use Rattle.wq_history.specs.History.{asks_waiting, all_asks_waiting, MayCome, Says, SaysUnfinished, SaysBusy, SaysUnfinishedOf};
 ghost use Rattle.wq_history.specs.Reserve.{rows_needed};
-ghost use Rattle.wq_history.specs.Book.{BookView, state, free, IsBook, Appends, AppendsOne, LaneRuns, IsAwake, IsWaiting, IsWaitingBy, HelperRuns, HelperWaitsBy, HasPendingOn, IsNotWaiting, IsNotAwake, IsWrongToStart, RefusesNew, RefusesQueue, RefusesItem, RefusesAskLane, RefusesLane, RefusesWait, RefusesHelp, WaitGoesOn};
+ghost use Rattle.wq_history.specs.Book.{BookView, state, free, IsBook, AppendsOne, LaneRuns, IsAwake, IsWaiting, IsWaitingBy, HelperRuns, HelperWaitsBy, HasPendingOn, IsNotWaiting, IsNotAwake, IsWrongToStart, RefusesNew, RefusesQueue, RefusesItem, RefusesAskLane, RefusesLane, RefusesWait, RefusesHelp};
 ghost use Rattle.wq_history.specs.Answers.{AnswersAsk, AnswersTold, AnswersAskLane, AnswersToldLane, AnswersStart, AnswersOver};
+ghost use Rattle.wq_history.specs.declared.call.Reply.TheVariants.{Wrote};
+ghost use Rattle.wq_history.specs.Calls.{IsUnfinishedBelow, AlwaysWrites, Writes, Replies, RefusesAs};
 
 use crate::ask_counts::AskCounts;
 use crate::asking::{Ask, Asked, LaneAsk, LaneAsked, LaneTold, Subject, Told};
+use crate::call::{Call, Flush, Reply};
 use crate::fault::BookError;
 use crate::waits::{event_of, is_awaited, is_busy, is_held_back};
 use std::alloc::Allocator;
 use std::marker::Model;
-use wq_core::{Core, Entry, HelpStep, Running, Step, Waiting};
+use wq_core::{Context, Core, Entry, HelpStep, Running, Step, Waiting};
 use wq_groups::LaneId;
 use wq_items::ItemId;
 use wq_rows::{Event, History, MAX_ROWS, Row, Rows};
@@ -37,11 +40,11 @@ use wq_rows::{Event, History, MAX_ROWS, Row, Rows};
 /// state is the replay of its rows.
 #[derive(Drop)]
 pub struct Book<A: Allocator> {
-    core: Core<A>,
+    pub(crate) core: Core<A>,
     history: History<A>,
     asks: AskCounts<A>,
     work: u64,
-    closed: bool,
+    pub(crate) closed: bool,
 }
 
 impl<A: Allocator> Model for Book<A> {
@@ -90,124 +93,131 @@ impl<A: Allocator> Book<A> {
         let _ = &self.core;
     }
 
-    /// Makes a step, and appends the row of its event. Returns the number of the row.
+    /// Makes a step, and appends the row of its event.
     #[inline(always)]
-    fn make(&mut self, step: &Step, event: Event, yes: bool) -> u32
+    pub(crate) fn make(&mut self, step: &Step, event: Event, yes: bool) -> Row
         requires lawful { Lawful self.old.wiring (state self.old) step.now }
         requires event { step_of event yes ≡ Some step.now }
         requires may { (n : ℕ) → Gives (state self.old) step.now n → MayCome self.old.wiring self.old.rows event yes n }
         requires room { rows_needed self.old.wiring event yes ≤ free self.old }
-        ensures { Appends self.old self.new event yes result }
+        ensures event { result.event ≡ event }
+        ensures writes { Writes self.old result self.new }
     {
         let work = self.core.work_after(step, self.work);
         let Ok(number) = self.core.step(*step) else {
             unreachable!()
         };
         self.work = work;
-        self.history.push(&Row { event, yes, number });
-        number
+        let row = Row { event, yes, number };
+        self.history.push(&row);
+        row
     }
 
     /// Makes a step of a context, and appends the row of its event.
     #[inline(always)]
-    fn make_in(&mut self, q: LaneId, helper: u8, deed: &HelpStep, yes: bool)
+    pub(crate) fn make_in(&mut self, q: LaneId, helper: u8, deed: &HelpStep, yes: bool) -> Row
         requires lawful { Lawful self.old.wiring (state self.old) (step_in q helper deed.now) }
         requires says { Says self.old.wiring (state self.old) deed.now yes }
-        ensures { AppendsOne self.old self.new (event_in q helper deed.now) yes }
+        ensures event { result.event ≡ event_in q helper deed.now }
+        ensures writes { Writes self.old result self.new }
     {
         let step = Step::of(q, helper, *deed);
         let event = event_of(q, helper, deed);
-        self.make(&step, event, yes);
+        self.make(&step, event, yes)
     }
 
     /// Appends the row of an event without effect: it makes no step, and no caller waits.
     #[inline(always)]
-    fn note(&mut self, event: Event, number: u32)
+    pub(crate) fn note(&mut self, event: Event, number: u32) -> Row
         requires event { step_of event false ≡ None }
         requires may { MayCome self.old.wiring self.old.rows event false number }
         requires room { rows_needed self.old.wiring event false ≤ free self.old }
-        ensures row { Appends self.old self.new event false number }
-        ensures left { free self.old ≤ free self.new + 1 }
+        ensures event { result.event ≡ event }
+        ensures writes { Writes self.old result self.new }
     {
-        self.history.push(&Row {
+        let row = Row {
             event,
             yes: false,
             number,
-        });
+        };
+        self.history.push(&row);
+        row
     }
 
     /// Appends the row of an ask about an item or a lane that has an unfinished entry.
     #[inline(always)]
-    fn begin_to_wait(&mut self, subject: Subject, mark: u32)
+    pub(crate) fn begin_to_wait(&mut self, subject: Subject, mark: u32) -> Row
         requires may { MayCome self.old.wiring self.old.rows (ask_event subject) true mark }
         requires room { 2 ≤ free self.old }
-        ensures row { Appends self.old self.new (ask_event subject) true mark }
-        ensures left { free self.old ≤ free self.new + 2 }
+        ensures event { result.event ≡ ask_event subject }
+        ensures writes { Writes self.old result self.new }
     {
         let event = subject.ask();
         self.asks.add(subject);
-        self.history.push(&Row {
+        let row = Row {
             event,
             yes: true,
             number: mark,
-        });
+        };
+        self.history.push(&row);
+        row
     }
 
     /// Appends the row of a caller who waited for an item or a lane and is told that its wait is over.
     #[inline(always)]
-    fn end_a_wait(&mut self, subject: Subject, mark: u32)
+    pub(crate) fn end_a_wait(&mut self, subject: Subject, mark: u32) -> Row
         requires { MayCome self.old.wiring self.old.rows (told_event subject) true mark }
-        ensures { Appends self.old self.new (told_event subject) true mark }
+        ensures event { result.event ≡ told_event subject }
+        ensures number { result.number ≡ mark }
+        ensures writes { Writes self.old result self.new }
     {
         let event = subject.told();
         self.asks.take_off(subject);
-        self.history.push(&Row {
+        let row = Row {
             event,
             yes: true,
             number: mark,
-        });
+        };
+        self.history.push(&row);
+        row
     }
 
     /// Whether fewer than this many rows are free.
-    fn lacks(&self, rows: u32) -> bool
+    pub(crate) fn lacks(&self, rows: u32) -> bool
         ensures { IsTrue result ↔ (free self.now < rows) }
     {
         self.free_rows() < rows
     }
 
     /// Whether there is such an item.
-    fn is_item(&self, item: ItemId) -> bool
+    pub(crate) fn is_item(&self, item: ItemId) -> bool
         ensures { IsTrue result ↔ (item < items self.now.wiring) }
     {
         usize::from(item.get()) < self.core.items()
     }
 
     /// Whether there is such a lane.
-    fn is_lane(&self, q: LaneId) -> bool
+    pub(crate) fn is_lane(&self, q: LaneId) -> bool
         ensures { IsTrue result ↔ (q < self.now.wiring.lanes) }
     {
         usize::from(q.get()) < self.core.lanes()
     }
 
     /// How many asks about an item or a lane are waiting.
-    fn asks_waiting(&self, subject: Subject) -> u32
-        ensures { result ≡ asks_waiting subject self.now.rows }
+    pub(crate) fn asks_waiting(&self, subject: &Subject) -> u32
+        ensures { result ≡ asks_waiting subject.now self.now.rows }
     {
-        self.asks.of(subject)
+        self.asks.of(*subject)
     }
 
-    /// Whether an unfinished entry of an item has a number below the mark.
-    fn unfinished_below(&self, item: ItemId, mark: u32) -> bool
-        ensures { IsTrue result ↔ HasUnfinishedBelow (state self.now) item mark }
+    /// Whether an unfinished entry of an item or a lane has a number below the mark.
+    pub(crate) fn unfinished_below(&self, subject: &Subject, mark: u32) -> bool
+        ensures { IsTrue result ↔ IsUnfinishedBelow (state self.now) subject.now mark }
     {
-        self.core.unfinished_below(item, mark)
-    }
-
-    /// Whether an unfinished entry of a lane has a number below the mark.
-    fn lane_unfinished_below(&self, q: LaneId, mark: u32) -> bool
-        ensures { IsTrue result ↔ IsBusyBelow (lane_at (state self.now) q) mark }
-    {
-        self.core.lane_unfinished_below(q, mark)
+        match *subject {
+            Subject::Item(item) => self.core.unfinished_below(item, mark),
+            Subject::Lane(q) => self.core.lane_unfinished_below(q, mark),
+        }
     }
 
     /// Whether a lane has an unfinished entry.
@@ -217,8 +227,18 @@ impl<A: Allocator> Book<A> {
         is_busy(&self.core, q)
     }
 
+    /// Whether an item or a lane has an unfinished entry.
+    pub(crate) fn is_unfinished(&self, subject: &Subject) -> bool
+        ensures { SaysUnfinishedOf (state self.now) subject.now result }
+    {
+        match *subject {
+            Subject::Item(item) => self.core.has_unfinished(item),
+            Subject::Lane(q) => self.is_busy(q),
+        }
+    }
+
     /// Whether anything is unfinished that a wait would be for: an entry of the item, or any entry on its lane.
-    fn is_awaited(&self, whole: bool, target: ItemId) -> bool
+    pub(crate) fn is_awaited(&self, whole: bool, target: ItemId) -> bool
         requires { target < items self.now.wiring }
         ensures item { whole ≡ false → SaysUnfinished (state self.now) target result }
         ensures lane { whole ≡ true → SaysBusy (state self.now) (lane_of self.now.wiring target) result }
@@ -227,7 +247,7 @@ impl<A: Allocator> Book<A> {
     }
 
     /// Whether what a context waits for isn't done.
-    fn is_held_back(&self, q: LaneId, helper: u8, flush: &Waiting) -> bool
+    pub(crate) fn is_held_back(&self, q: LaneId, helper: u8, flush: &Waiting) -> bool
         requires { IsWaiting self.now q helper flush.now }
         ensures { IsTrue result ↔ IsHeldBack self.now.wiring (state self.now) flush.now.whole flush.now.target flush.now.mark }
     {
@@ -245,7 +265,7 @@ impl<A: Allocator> Book<A> {
 
     /// The first pending entry of a lane whose item isn't running; none where there is no such entry, or no such lane. It is of an
     /// item of this lane.
-    fn next_on(&self, q: LaneId) -> Option<Entry>
+    pub(crate) fn next_on(&self, q: LaneId) -> Option<Entry>
         ensures next { result ≡ next_of (lane_at (state self.now) q) }
         ensures known { IfSome result (λ e. (e.item < items self.now.wiring) × (lane_of self.now.wiring e.item ≡ q)) }
     {
@@ -253,7 +273,7 @@ impl<A: Allocator> Book<A> {
     }
 
     /// Whether there is such a context, and it runs nothing.
-    fn is_idle_context(&self, q: LaneId, helper: u8) -> bool
+    pub(crate) fn is_idle_context(&self, q: LaneId, helper: u8) -> bool
         ensures { MatchBool result
             (HasContext self.now.wiring q helper
             × (run_by (lane_at (state self.now) q) helper ≡ None))
@@ -263,7 +283,7 @@ impl<A: Allocator> Book<A> {
     }
 
     /// What a context runs, where it doesn't wait.
-    fn awake_in(&self, q: LaneId, helper: u8) -> Option<Running>
+    pub(crate) fn awake_in(&self, q: LaneId, helper: u8) -> Option<Running>
         ensures some { IfSome result (λ r. IsAwake self.now q helper r) }
         ensures known { IfSome result (λ r. (r.entry.item < items self.now.wiring)
             × HasContext self.now.wiring q helper) }
@@ -277,7 +297,7 @@ impl<A: Allocator> Book<A> {
     }
 
     /// What the entry that a context runs waits for.
-    fn wait_of(&self, q: LaneId, helper: u8) -> Option<Waiting>
+    pub(crate) fn wait_of(&self, q: LaneId, helper: u8) -> Option<Waiting>
         ensures some { IfSome result (λ f. IsWaiting self.now q helper f) }
         ensures known { IfSome result (λ _. HasContext self.now.wiring q helper) }
         ensures none { IfNone result (IsNotWaiting self.now q helper) }
@@ -294,148 +314,121 @@ impl<A: Allocator> Book<A> {
         self.history.room() - self.history.len() - kept as u32
     }
 
+    /// Makes a call that isn't refused but with a row, which it gives.
+    #[tactic(auto, using(crate::proofs::Answered::row_of_book, crate::proofs::Answered::never_two, crate::proofs::Answered::never_done, crate::proofs::Answered::never_not_yet))]
+    fn row(&mut self, call: Call) -> Result<Row, BookError>
+        requires { AlwaysWrites call }
+        ensures row { IfOk result (λ row. Replies self.old call (Wrote row) self.new) }
+        ensures refused { IfErr result (λ e. RefusesAs self.old call e × (self.new ≡ self.old)) }
+    {
+        match self.answer(call) {
+            Ok(Reply::Wrote(row)) => Ok(row),
+            Ok(Reply::WroteTwo(_, _)) => unreachable!(),
+            Ok(Reply::Done) => unreachable!(),
+            Ok(Reply::NotYet) => unreachable!(),
+            Err(e) => Err(BookError::of(e)),
+        }
+    }
+
     /// Queues an item: true where it is accepted, false where it is pending already.
     ///
     /// The error is the first of these that holds: `NoItem` (66), `Closed` (61), `HistoryFull` (60). After an error nothing is
     /// changed.
+    #[tactic(auto, using(crate::proofs::Answered::queue_refused, crate::proofs::CallRows::appends_queue))]
     pub fn queue(&mut self, item: ItemId) -> Result<bool, BookError>
         ensures row { IfOk result (λ accepted. AppendsOne self.old self.new (Queue item) accepted) }
         ensures open { IfOk result (λ _. self.old.closed ≡ false) }
         ensures refused { IfErr result (λ e. RefusesQueue self.old item e × (self.new ≡ self.old)) }
     {
-        if !self.is_item(item) {
-            return Err(BookError::NoItem);
-        }
-        if self.closed {
-            return Err(BookError::Closed);
-        }
-        if self.core.is_pending(item) {
-            if self.lacks(1) {
-                return Err(BookError::HistoryFull);
-            }
-            self.note(Event::Queue(item), 0);
-            return Ok(false);
-        }
-        let waits = self.core.waits(item).len() as u32;
-        if self.lacks(3 + 2 * waits) {
-            return Err(BookError::HistoryFull);
-        }
-        self.make(&Step::Queue(item), Event::Queue(item), true);
-        Ok(true)
+        let row = self.row(Call::Queue(item))?;
+        Ok(row.yes)
     }
 
     /// Removes the pending entry of an item: true where there is one.
     ///
     /// The error is `NoItem` (66), or else `HistoryFull` (60), which occurs only where none is pending. After an error nothing is
     /// changed.
+    #[tactic(auto, using(crate::proofs::Answered::cancel_refused, crate::proofs::CallRows::appends_cancel))]
     pub fn cancel(&mut self, item: ItemId) -> Result<bool, BookError>
         ensures row { IfOk result (λ taken. AppendsOne self.old self.new (Cancel item) taken) }
         ensures refused { IfErr result (λ e. RefusesItem self.old item Cancel e × (self.new ≡ self.old)) }
     {
-        if !self.is_item(item) {
-            return Err(BookError::NoItem);
-        }
-        if self.core.is_pending(item) {
-            self.make(&Step::Cancel(item), Event::Cancel(item), true);
-            return Ok(true);
-        }
-        if self.lacks(1) {
-            return Err(BookError::HistoryFull);
-        }
-        self.note(Event::Cancel(item), 0);
-        Ok(false)
+        let row = self.row(Call::Cancel(item))?;
+        Ok(row.yes)
     }
 
     /// Asks whether an item has an unfinished entry. Where it has, the caller waits for it. This takes two of the free rows at
     /// most.
     ///
     /// The error is `NoItem` (66), or else `HistoryFull` (60). After an error nothing is changed.
+    #[tactic(auto, using(crate::proofs::Answered::ask_refused, crate::proofs::Answered::ask_idle, crate::proofs::Answered::ask_waits))]
     pub fn ask(&mut self, item: ItemId) -> Result<Ask, BookError>
         ensures row { IfOk result (λ answer. AnswersAsk self.old self.new item answer) }
         ensures left { OnOk result (free self.old ≤ free self.new + 2) }
         ensures refused { IfErr result (λ e. RefusesItem self.old item AskEvent e × (self.new ≡ self.old)) }
     {
-        if !self.is_item(item) {
-            return Err(BookError::NoItem);
+        let row = self.row(Call::Ask(Subject::Item(item)))?;
+        if row.yes {
+            Ok(Ask::Waiting(Asked::new(item, row.number)))
+        } else {
+            Ok(Ask::Idle)
         }
-        let mark = self.core.next_number();
-        if self.core.has_unfinished(item) {
-            if self.lacks(2) {
-                return Err(BookError::HistoryFull);
-            }
-            self.begin_to_wait(Subject::Item(item), mark);
-            return Ok(Ask::Waiting(Asked::new(item, mark)));
-        }
-        if self.lacks(1) {
-            return Err(BookError::HistoryFull);
-        }
-        self.note(Event::Ask(item), mark);
-        Ok(Ask::Idle)
     }
 
     /// Tells a waiting caller whether its wait is over. The answer is `NotAsked` (65) exactly where no ask about its item waits,
     /// and otherwise `NotYet` exactly where an unfinished entry of the item has a number below the mark. In both cases nothing is
     /// changed, and the ask is given back.
+    #[tactic(auto, using(crate::proofs::Answered::told_done, crate::proofs::Answered::told_not_yet))]
     pub fn told(&mut self, asked: Asked) -> Told
         ensures { AnswersTold self.old self.new asked result }
     {
-        let item = asked.item();
-        let mark = asked.mark();
-        if self.asks_waiting(Subject::Item(item)) == 0 {
-            return Told::NotAsked(asked);
+        match self.answer(Call::Told(Subject::Item(asked.item()), asked.mark())) {
+            Ok(Reply::Wrote(_)) => {
+                asked.give_up();
+                Told::Done
+            }
+            Ok(Reply::NotYet) => Told::NotYet(asked),
+            Ok(Reply::WroteTwo(_, _)) => unreachable!(),
+            Ok(Reply::Done) => unreachable!(),
+            Err(_) => Told::NotAsked(asked),
         }
-        if self.unfinished_below(item, mark) {
-            return Told::NotYet(asked);
-        }
-        asked.give_up();
-        self.end_a_wait(Subject::Item(item), mark);
-        Told::Done
     }
 
     /// Asks whether a lane has an unfinished entry. Where it has, the caller waits for the whole lane. This takes two of the free
     /// rows at most.
     ///
     /// The error is `WrongLane` (64), where there is no such lane, or else `HistoryFull` (60). After an error nothing is changed.
+    #[tactic(auto, using(crate::proofs::Answered::ask_lane_refused, crate::proofs::Answered::ask_lane_idle, crate::proofs::Answered::ask_lane_waits))]
     pub fn ask_lane(&mut self, q: LaneId) -> Result<LaneAsk, BookError>
         ensures row { IfOk result (λ answer. AnswersAskLane self.old self.new q answer) }
         ensures left { OnOk result (free self.old ≤ free self.new + 2) }
         ensures refused { IfErr result (λ e. RefusesAskLane self.old q e × (self.new ≡ self.old)) }
     {
-        if !self.is_lane(q) {
-            return Err(BookError::WrongLane);
+        let row = self.row(Call::Ask(Subject::Lane(q)))?;
+        if row.yes {
+            Ok(LaneAsk::Waiting(LaneAsked::new(q, row.number)))
+        } else {
+            Ok(LaneAsk::Idle)
         }
-        let mark = self.core.next_number();
-        if self.is_busy(q) {
-            if self.lacks(2) {
-                return Err(BookError::HistoryFull);
-            }
-            self.begin_to_wait(Subject::Lane(q), mark);
-            return Ok(LaneAsk::Waiting(LaneAsked::new(q, mark)));
-        }
-        if self.lacks(1) {
-            return Err(BookError::HistoryFull);
-        }
-        self.note(Event::AskLane(q), mark);
-        Ok(LaneAsk::Idle)
     }
 
     /// Tells a caller who waits for a whole lane whether its wait is over. The answer is `NotAsked` (65) exactly where no ask about
     /// its lane waits, and otherwise `NotYet` exactly where an unfinished entry of the lane has a number below the mark. In both
     /// cases nothing is changed, and the ask is given back.
+    #[tactic(auto, using(crate::proofs::Answered::told_lane_done, crate::proofs::Answered::told_lane_not_yet))]
     pub fn told_lane(&mut self, asked: LaneAsked) -> LaneTold
         ensures { AnswersToldLane self.old self.new asked result }
     {
-        let q = asked.lane();
-        let mark = asked.mark();
-        if self.asks_waiting(Subject::Lane(q)) == 0 {
-            return LaneTold::NotAsked(asked);
+        match self.answer(Call::Told(Subject::Lane(asked.lane()), asked.mark())) {
+            Ok(Reply::Wrote(_)) => {
+                asked.give_up();
+                LaneTold::Done
+            }
+            Ok(Reply::NotYet) => LaneTold::NotYet(asked),
+            Ok(Reply::WroteTwo(_, _)) => unreachable!(),
+            Ok(Reply::Done) => unreachable!(),
+            Err(_) => LaneTold::NotAsked(asked),
         }
-        if self.lane_unfinished_below(q, mark) {
-            return LaneTold::NotYet(asked);
-        }
-        asked.give_up();
-        self.end_a_wait(Subject::Lane(q), mark);
-        LaneTold::Done
     }
 
     /// Starts the first pending entry of a lane whose item isn't running, in this context, and gives its item, which is one of this
@@ -443,27 +436,28 @@ impl<A: Allocator> Book<A> {
     ///
     /// The error is `WrongLane` (64), exactly where there is no such lane or no such context, or it runs an entry. After an error
     /// nothing is changed.
-    pub fn start_in(&mut self, q: LaneId, helper: u8) -> Result<Option<ItemId>, BookError>
+    #[tactic(auto, using(crate::proofs::Answered::start_some, crate::proofs::Answered::start_none, crate::proofs::Answered::start_later, crate::proofs::Answered::lane_refused, crate::proofs::Answered::lane_of_book))]
+    fn start_in(&mut self, q: LaneId, helper: u8) -> Result<Option<ItemId>, BookError>
         ensures row { IfOk result (λ answer. AnswersStart self.old self.new q helper answer) }
         ensures known { IfOk result (λ answer. IfSome answer (λ item.
             (item < items self.old.wiring) × (lane_of self.old.wiring item ≡ q))) }
         ensures refused { IfErr result (λ e. RefusesLane (IsWrongToStart self.old q helper) e
             × (self.new ≡ self.old)) }
     {
-        if !self.is_idle_context(q, helper) {
-            return Err(BookError::WrongLane);
+        self.legal();
+        match self.answer(Call::Start(Context { lane: q, helper })) {
+            Ok(Reply::Wrote(row)) => Ok(Some(row.event.item())),
+            Ok(Reply::Done) => Ok(None),
+            Ok(Reply::NotYet) => Ok(None),
+            Ok(Reply::WroteTwo(_, _)) => unreachable!(),
+            Err(e) => Err(BookError::of(e)),
         }
-        let Some(next) = self.next_on(q) else {
-            return Ok(None);
-        };
-        let item = next.item;
-        self.make_in(q, helper, &HelpStep::Start(item), true);
-        Ok(Some(item))
     }
 
     /// Makes what a context runs begin to wait for an item, as `wait`, or for the whole lane of the item, as `wait_all`: true where
     /// that has an unfinished entry. The errors are theirs.
-    pub fn wait_in(
+    #[tactic(auto, using(crate::proofs::Answered::wait_refused, crate::proofs::Answered::wait_row))]
+    fn wait_in(
         &mut self,
         q: LaneId,
         helper: u8,
@@ -475,21 +469,9 @@ impl<A: Allocator> Book<A> {
         ensures refused { IfErr result (λ e. RefusesWait self.old q helper whole target e
             × (self.new ≡ self.old)) }
     {
-        let Some(running) = self.awake_in(q, helper) else {
-            return Err(BookError::WrongLane);
-        };
-        let item = running.entry.item;
-        let made = running.made;
-        if !self.core.declares(item, whole, target) {
-            return Err(BookError::Undeclared);
-        }
-        if made as usize >= self.core.waits(item).len() {
-            return Err(BookError::TooManyWaits);
-        }
-        let unfinished = self.is_awaited(whole, target);
-        let deed = HelpStep::wait_of(whole, target);
-        self.make_in(q, helper, &deed, unfinished);
-        Ok(unfinished)
+        let context = Context { lane: q, helper };
+        let row = self.row(Call::Wait(context, Flush { target, whole }))?;
+        Ok(row.yes)
     }
 
     /// Lets what a context runs go on, where its wait is over, for an item or for a whole lane. It gives false where the wait isn't
@@ -497,37 +479,43 @@ impl<A: Allocator> Book<A> {
     ///
     /// The error is `WrongLane` (64), exactly where there is no such lane or no such context, it runs nothing, or its entry doesn't
     /// wait. After an error nothing is changed.
-    pub fn over_in(&mut self, q: LaneId, helper: u8) -> Result<bool, BookError>
+    #[tactic(auto, using(crate::proofs::Answered::over_true, crate::proofs::Answered::over_false, crate::proofs::Answered::over_not_refused))]
+    fn over_in(&mut self, q: LaneId, helper: u8) -> Result<bool, BookError>
         ensures row { IfOk result (λ answer. AnswersOver self.old self.new q helper answer) }
         ensures refused { IfErr result (λ e. RefusesLane (IsNotWaiting self.old q helper) e
             × (self.new ≡ self.old)) }
     {
-        let Some(flush) = self.wait_of(q, helper) else {
+        let Some(waits) = self.wait_of(q, helper) else {
             return Err(BookError::WrongLane);
         };
-        if self.is_held_back(q, helper, &flush) {
-            return Ok(false);
+        let flush = Flush {
+            target: waits.target,
+            whole: waits.whole,
+        };
+        match self.answer(Call::Over(Context { lane: q, helper }, flush)) {
+            Ok(Reply::Wrote(_)) => Ok(true),
+            Ok(Reply::NotYet) => Ok(false),
+            Ok(Reply::WroteTwo(_, _)) => unreachable!(),
+            Ok(Reply::Done) => unreachable!(),
+            Err(_) => unreachable!(),
         }
-        let deed = HelpStep::over_of(flush.whole, flush.target);
-        self.make_in(q, helper, &deed, true);
-        Ok(true)
     }
 
     /// Finishes what a context runs.
     ///
     /// The error is `WrongLane` (64), exactly where there is no such lane or no such context, it runs nothing, or its entry waits.
     /// After an error nothing is changed.
-    pub fn finish_in(&mut self, q: LaneId, helper: u8) -> Result<(), BookError>
+    #[tactic(auto, using(crate::proofs::Answered::finish_done, crate::proofs::Answered::finish_refused, crate::proofs::Answered::not_awake))]
+    fn finish_in(&mut self, q: LaneId, helper: u8) -> Result<(), BookError>
         ensures row { IfOk result (λ _. (r : Running) × LaneRuns self.old q helper r
             × AppendsOne self.old self.new (finish_event q helper r.entry.item) true) }
         ensures refused { IfErr result (λ e. RefusesLane (IsNotAwake self.old q helper) e
             × (self.new ≡ self.old)) }
     {
-        let Some(running) = self.awake_in(q, helper) else {
+        let Some(item) = self.running_in(q, helper) else {
             return Err(BookError::WrongLane);
         };
-        let item = running.entry.item;
-        self.make_in(q, helper, &HelpStep::Finish(item), true);
+        self.row(Call::Finish(Context { lane: q, helper }, item))?;
         Ok(())
     }
 

@@ -1,10 +1,11 @@
-//! Laws about histories, as contracts of functions with empty bodies.
+//! Laws about histories and calls, as contracts of functions with empty bodies.
 //!
-//! They are about rows alone, whatever code wrote these.
+//! They are about rows and books alone, whatever code wrote these.
 
-ghost use Rattle.std.specs.Prelude.{◌≡◌, ℕ, ◌<◌, ◌≤◌, ◌↔◌, ◌⊎◌, List, [], ◌∷◌, ◌++◌, length, Bool, true, false, ◌&&◌};
+ghost use Rattle.std.specs.Prelude.{◌≡◌, ℕ, ◌+◌, ◌<◌, ◌≤◌, ◌↔◌, ◌⊎◌, List, [], ◌∷◌, ◌++◌, length, Bool, true, false, ◌&&◌, Result};
 ghost use Rattle.std.specs.List.{All, count_by};
-ghost use Rattle.wq_core.specs.Wiring.{Wiring, IsWiring, max_helpers};
+ghost use Rattle.wq_core.specs.declared.step.Context.{Context};
+ghost use Rattle.wq_core.specs.Wiring.{Wiring, IsWiring, items, lane_of, max_helpers, HasContext};
 ghost use Rattle.wq_core.specs.State.{lane_at, HasUnfinishedBelow, IsBusyBelow};
 ghost use Rattle.wq_core.specs.declared.step.Step.{Step};
 ghost use Rattle.wq_core.specs.Runs.{IsRun, IsRunFrom, IsRescuerStep, IsCancel, is_rescuer_step};
@@ -13,15 +14,22 @@ ghost use Rattle.wq_core.specs.Deadlock.{IsStuck, IsSafe};
 ghost use Rattle.wq_rows.specs.declared.event.Event.{Event};
 ghost use Rattle.wq_rows.specs.declared.event.Event.TheVariants.{Told, ToldLane};
 ghost use Rattle.wq_rows.specs.declared.event.Row.{Row};
-ghost use Rattle.wq_rows.specs.Packing.{lane_in};
+ghost use Rattle.wq_rows.specs.Packing.{item_in, lane_in};
 ghost use Rattle.wq_history.specs.declared.asking.Subject.{Subject};
 ghost use Rattle.wq_history.specs.declared.asking.Subject.TheVariants.{Item as OfItem, Lane as OfLane};
 ghost use Rattle.wq_history.specs.Events.{steps_of, subject_in, begins_to_wait, ends_a_wait, is_ask, is_told};
 ghost use Rattle.wq_history.specs.History.{state_after, asks_waiting, IsThere, MayCome, MayFollow, IsLegal};
 ghost use Rattle.wq_history.specs.Reserve.{reserved, rows_needed};
 ghost use Rattle.wq_history.specs.declared.sleepers.Wake.{Wake};
-ghost use Rattle.wq_history.specs.Book.{BookView, IsBook, Appends};
-ghost use Rattle.wq_history.specs.Waits.{Condition, BecomesMet, WakesBy, WakesEnough, WakesOne, sleepers_for, every_context};
+ghost use Rattle.wq_history.specs.declared.fault.CallError.{CallError};
+ghost use Rattle.wq_history.specs.declared.call.Flush.{Flush};
+ghost use Rattle.wq_history.specs.declared.call.Call.{Call};
+ghost use Rattle.wq_history.specs.declared.call.Call.TheVariants.{Ask, Start, Wait, Over, Finish};
+ghost use Rattle.wq_history.specs.declared.call.Reply.{Reply};
+ghost use Rattle.wq_history.specs.declared.call.Reply.TheVariants.{Wrote};
+ghost use Rattle.wq_history.specs.Book.{BookView, free, IsBook, Appends};
+ghost use Rattle.wq_history.specs.Calls.{IsRowOf, Writes, IsEarly, Replies, Answers, WakesAfter, Awaits, sleepers_of};
+ghost use Rattle.wq_history.specs.Waits.{Condition, IsMet, BecomesMet, WakesBy, WakesEnough, WakesOne, sleepers_for, every_context};
 ghost use Rattle.wq_history.specs.Sleeping.{Crew, Moves, IsCovered};
 
 /// A history is legal exactly where it is legal without its last row, and that row may follow the others.
@@ -104,4 +112,53 @@ pub fn whoever_can_go_on_is_woken()
 /// looked, or will be woken. So once all were woken and have looked, nobody sleeps beside an entry that may be started.
 pub fn no_wake_up_of_a_context_is_lost()
     ensures { (old new : Crew) → Moves old new → IsCovered old → IsCovered new }
+{}
+
+/// A book writes one row for a call, at most: the call and the book say which.
+pub fn a_call_writes_one_row()
+    ensures { (b new next : BookView) (call : Call) (row other : Row) → IsBook b → IsRowOf b call row → Writes b row new →
+        IsRowOf b call other → Writes b other next → row ≡ other }
+{}
+
+/// A book has one answer to a call, which leaves one book. So the relation leaves nothing open.
+pub fn a_call_has_one_answer()
+    ensures { (b new next : BookView) (call : Call) (one other : Result Reply CallError) → IsBook b →
+        Answers b call one new → Answers b call other next → (one ≡ other) × (new ≡ next) }
+{}
+
+/// Whatever is answered, the book stays a book, of the same wiring and with the same room.
+pub fn a_call_keeps_a_book()
+    ensures { (old new : BookView) (call : Call) (answer : Result Reply CallError) → IsBook old →
+        Answers old call answer new → IsBook new × (new.wiring ≡ old.wiring) × (new.room ≡ old.room) }
+{}
+
+/// Each answer wakes enough, whatever the call.
+pub fn an_answer_wakes_enough()
+    ensures { (old new : BookView) (call : Call) (answer : Result Reply CallError) (wake : Wake) → IsBook old →
+        old.wiring.helpers ≤ max_helpers → Answers old call answer new → WakesAfter new call answer wake →
+        WakesEnough old new wake }
+{}
+
+/// A call that is early waits for something that isn't so yet, and its caller sleeps among those who are woken once it is.
+pub fn an_early_call_sleeps_among_its_own()
+    ensures { (b : BookView) (call : Call) (condition : Condition) → IsEarly b call → Awaits b call condition →
+        (¬ IsMet b condition) × (sleepers_for condition ≡ sleepers_of b.wiring call) }
+{}
+
+/// The context whose call writes a row exists, and so does the item that is started, waited for or finished. What is started or
+/// finished is on the lane of the context.
+pub fn what_is_answered_exists()
+    ensures started { (old new : BookView) (c : Context) (row : Row) → IsBook old → Replies old (Start c) (Wrote row) new →
+        HasContext old.wiring c.lane c.helper × (item_in row.event < items old.wiring) × (lane_of old.wiring (item_in row.event) ≡ c.lane) }
+    ensures waits { (old new : BookView) (c : Context) (f : Flush) (row : Row) → IsBook old → Replies old (Wait c f) (Wrote row) new →
+        HasContext old.wiring c.lane c.helper × (f.target < items old.wiring) }
+    ensures over { (old new : BookView) (c : Context) (f : Flush) (row : Row) → IsBook old → Replies old (Over c f) (Wrote row) new →
+        HasContext old.wiring c.lane c.helper × (f.target < items old.wiring) }
+    ensures finished { (old new : BookView) (c : Context) (i : ℕ) (row : Row) → IsBook old → Replies old (Finish c i) (Wrote row) new →
+        HasContext old.wiring c.lane c.helper × (i < items old.wiring) × (lane_of old.wiring i ≡ c.lane) }
+{}
+
+/// An ask takes two of the free rows, at most.
+pub fn an_ask_takes_two_rows_at_most()
+    ensures { (old new : BookView) (x : Subject) (row : Row) → Replies old (Ask x) (Wrote row) new → free old ≤ free new + 2 }
 {}

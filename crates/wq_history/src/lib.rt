@@ -6,9 +6,11 @@
 //! Whoever has the bytes of a history and its machine can judge the history, row by row, from these alone.
 #![tactic(auto)]
 
+mod answering;
 mod ask_counts;
 mod asking;
 mod book;
+mod call;
 mod fault;
 mod judging;
 pub mod laws;
@@ -18,9 +20,9 @@ mod waits;
 
 pub use asking::{Ask, Asked, LaneAsk, LaneAsked, LaneTold, Subject, Told};
 pub use book::Book;
-pub use fault::BookError;
+pub use call::{Call, Flush, Reply};
+pub use fault::{BookError, CallError};
 pub use judging::check_rows;
 pub use row_error::{RowError, RowFault};
 pub use sleepers::{Sleepers, Wake, WokenContexts};
-pub use waits::{event_of, finish_event, over_event, wait_event};
 pub use wq_rows::{Event, MAX_ROWS, Row, Rows, pack, unpack};

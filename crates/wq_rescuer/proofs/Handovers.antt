@@ -5,11 +5,11 @@ use Rattle.std.specs.List.{sum_by, range_with_len}
 use Rattle.std.proofs.lemmas.Bool.{cases_lt, eqb-true}
 use Rattle.std.proofs.lemmas.List.Sums.{sum_by-cons, sum_by_push}
 use Rattle.std.proofs.lemmas.Option.{slice_get-map, slice_get_read, slice_get_within}
-use Rattle.std.proofs.lemmas.List.{get_or-replicate, get_or_past, length-replicate, length-append, length-map, map-append, reverse-append, append-nil, append_assoc}
+use Rattle.std.proofs.lemmas.List.{get_or-replicate, get_or_past, length-replicate, length-append, length-map, length-reverse, map-append, reverse-append, append-nil, append_assoc}
 use Rattle.wq_counts.specs.declared.kind.Kind.TheVariants.{Finish}
 use Rattle.wq_counts.specs.Counting.{place}
-use Rattle.wq_held.specs.declared.fault.CallError.{CallError}
-use Rattle.wq_held.specs.declared.fault.CallError.TheVariants.{WrongLane}
+use Rattle.wq_history.specs.declared.fault.CallError.{CallError}
+use Rattle.wq_history.specs.declared.fault.CallError.TheVariants.{WrongLane}
 use Rattle.wq_rescuer.specs.declared.rescuing.Rescued.{Rescued}
 use Rattle.wq_core.specs.declared.step.Context.{Context}
 use Rattle.wq_core.specs.Wiring.{Wiring, items, HasContext}
@@ -17,8 +17,7 @@ use Rattle.wq_api.specs.Locking.{WasDoneIn}
 use Rattle.wq_rescuer.specs.Executing.{RanOnly, RefusesServe, WasDrivenIn, finished_of, finished_in_all, CountsRuns, CountsAtMost}
 use Rattle.wq_rescuer.specs.declared.running.RunWhy.{RunWhy}
 use Rattle.wq_rescuer.specs.declared.running.RunWhy.TheVariants.{BodiesDiffer, TooManySeats, OutOfMemory, NoThread}
-use Rattle.wq_rescuer.specs.Contexts.{contexts_of}
-use Rattle.wq_rescuer.specs.Serving.{IsServed, AreServed, CameBack, AreBack, AreLastFirst, IsNoSeat, RefusesRun}
+use Rattle.wq_rescuer.specs.Serving.{IsServed, AreServed, CameBack, AreBack, IsNoSeat, IsOneLost, RefusesRun}
 
 -- ---- a seat without counts
 
@@ -95,52 +94,23 @@ at_place (z ∷ xs) x (suc q) y is = elim (at_place xs x q y is) [
 some_same : {X : Type 0} (a b : X) → Some a ≡ Some b → a ≡ b
 some_same a b same = cc
 
--- the context of what is at a place
-context_here : {X : Type 0} (context : X → Context) (ends : List X) (end : X) (p : ℕ) (m : Context) → p < length ends → end ≡ get_or ends p end
-    → slice_get (map context ends) p ≡ Some m → context end ≡ m
-context_here context ends end p m within is at =
-    some_same (context end) m (sym (slice_get-map context ends p ∙ ap (option_map context) (slice_get_read ends (length ends) p end refl within is)) ∙ at)
+-- what is at a place of a list in reverse
+in_reverse : (all : List Context) (p n : ℕ) (m : Context) → slice_get (reverse all) p ≡ Some m → n + p + 1 ≡ length all → slice_get all n ≡ Some m
+in_reverse [] p n m at adds = absurd (omega (arith, adds))
+in_reverse (x ∷ xs) p zero m at adds =
+    elim (at_place (reverse xs) x p m (ap (λ zs. slice_get zs p) (sym (reverse-append (x ∷ []) xs)) ∙ at)) [
+      | inl among ↦ absurd (past (reverse xs) p m among (omega (arith, adds, length-reverse xs)))
+      | inr last ↦ ap Some last.1
+    ]
+in_reverse (x ∷ xs) p (suc n) m at adds =
+    elim (at_place (reverse xs) x p m (ap (λ zs. slice_get zs p) (sym (reverse-append (x ∷ []) xs)) ∙ at)) [
+      | inl among ↦ in_reverse xs p n m among (omega (arith, adds))
+      | inr last ↦ absurd (omega (arith, last.0, length-reverse xs, adds))
+    ]
 
-both_true : (x y : Bool) → false ≡ not (x && y) → (x ≡ true) × (y ≡ true)
-both_true true true is = (refl, refl)
-both_true true false is = cc
-both_true false y is = cc
-
--- the context that was found at a place is the one that it was compared with
-pub same_here : (all : List Context) (n : ℕ) (found context : Context) → found ≡ get_or all n found → n < length all
-    → false ≡ not (eqb found.lane context.lane && eqb found.helper context.helper) → slice_get all n ≡ Some context
-same_here all n found context is within compared =
-    let parts = both_true (eqb found.lane context.lane) (eqb found.helper context.helper) compared in
-    let same : found ≡ context = ap₂ (λ (q c : ℕ). record { lane = q; helper = c }) (eqb-true _ _ parts.0) (eqb-true _ _ parts.1) in
-    slice_get_read all (length all) n found refl within is ∙ ap Some same
-
--- the first k contexts that came back are in their places
-abbrev pub AreInPlace : {X : Type 0} → List Context → (X → Context) → List X → ℕ → Type 0
-AreInPlace all context ends k =
-    (p n : ℕ) (m : Context) → p < k → slice_get (map context ends) p ≡ Some m → n + p + 1 ≡ length ends → slice_get all n ≡ Some m
-
--- one more context is in its place
-pub last_first_more : {X : Type 0} (all : List Context) (context : X → Context) (ends : List X) (end : X) (k at : ℕ)
-    → AreInPlace all context ends k → k < length ends → end ≡ get_or ends k end → at + k + 1 ≡ length ends → slice_get all at ≡ Some (context end)
-    → AreInPlace all context ends (k + 1)
-last_first_more all context ends end k at before within is place here = λ p n m lt found adds. elim (cases_lt p k) [
-  | inl below ↦ before p n m below found adds
-  | inr ge ↦ (let same : p ≡ k = omega arith in
-      let there : n ≡ at = omega (arith, same, adds, place) in
-      ap (slice_get all) there ∙ here ∙ ap Some (context_here context ends end k m within is (ap (slice_get (map context ends)) (sym same) ∙ found)))
-]
-
--- all contexts are in their places
-pub last_first_all : {X : Type 0} (all : List Context) (context : X → Context) (ends : List X) (k : ℕ)
-    → AreInPlace all context ends k → length ends ≤ k → AreLastFirst all (map context ends)
-last_first_all all context ends k before ended = λ p n m found adds.
-    before p n m (omega (arith, ended, slice_get_within (map context ends) p m found, length-map ends context)) found (omega (arith, adds, length-map ends context))
-
--- the same of lists that are seen elsewhere
-pub last_first_seen : {X : Type 0} (context : X → Context) (all others : List Context) (seen ends : List X) → all ≡ others → seen ≡ ends → AreLastFirst all (map context seen)
-    → AreLastFirst others (map context ends)
-last_first_seen context all others seen ends are same ordered =
-    subst (λ cs. AreLastFirst cs (map context ends)) are (subst (λ xs. AreLastFirst all (map context xs)) same ordered)
+-- there are as many as there are in reverse
+pub as_many : {X : Type 0} (context : X → Context) (ends : List X) (all : List Context) → map context ends ≡ reverse all → length ends ≡ length all
+as_many context ends all are = sym (length-map ends context) ∙ ap length are ∙ length-reverse all
 
 -- what is at a place stays there where one more value comes
 kept_place : {X : Type 0} (xs : List X) (x : X) (p : ℕ) (y : X) → slice_get xs p ≡ Some y → slice_get (xs ++ (x ∷ [])) p ≡ Some y
@@ -158,8 +128,9 @@ abbrev pub AreLeft : List Context → ℕ → List Context → Type 0
 AreLeft all before left = (p n : ℕ) (context : Context) → slice_get left p ≡ Some context → n + p + 1 ≡ before + length left → slice_get all n ≡ Some context
 
 -- none came back before
-pub none_left : (all : List Context) (before : ℕ) (back : List Context) → before ≡ 0 → AreLastFirst all back → AreLeft all before back
-none_left all before back none ordered = λ p n c at adds. ordered p n c at (omega (arith, adds, none))
+pub none_left : (all : List Context) (before : ℕ) (back : List Context) → before ≡ 0 → back ≡ reverse all → AreLeft all before back
+none_left all before back none ordered = λ p n c at adds.
+    in_reverse all p n c (ap (λ zs. slice_get zs p) (sym ordered) ∙ at) (omega (arith, adds, none, ap length ordered, length-reverse all))
 
 -- where the first context, which is last, is taken away, the others stay in their places
 pub left_popped : (all : List Context) (before : ℕ) (back left : List Context) (m : Context) → AreLeft all before back → back ≡ left ++ (m ∷ [])
@@ -284,10 +255,21 @@ contexts_first w all n context_seats seats runs rescued are first long =
     let same : take (length all) seats ≡ context_seats = ap (λ (m : ℕ). take m seats) at ∙ first in
     subst (λ ss. AreServed w all ss runs rescued) (sym same) are
 
--- the same of contexts that are known to be all those of a wiring
-pub all_contexts_first : (w : Wiring) (all : List Context) (seats : List (List ℕ)) (runs : List (ℕ → ℕ)) (rescued : List (Result Rescued CallError))
-    → all ≡ contexts_of w → AreServed w all (take (length all) seats) runs rescued → AreServed w (contexts_of w) (take (length (contexts_of w)) seats) runs rescued
-all_contexts_first w all seats runs rescued are served = subst (λ cs. AreServed w cs (take (length cs) seats) runs rescued) are served
+-- one was lost before one more context came back
+pub one_lost_more : (contexts callers contexts_left callers_left all left : ℕ) → IsOneLost contexts callers contexts_left callers_left → all ≡ contexts + 1 → left ≡ contexts_left + 1
+    → IsOneLost all callers left callers_left
+one_lost_more contexts callers contexts_left callers_left all left lost more back = elim lost [
+  | inl one ↦ inl (omega (arith, one.0, more, back), one.1)
+  | inr one ↦ inr (omega (arith, one.0, more, back), one.1)
+]
+
+-- the same numbers, seen elsewhere
+pub one_lost_seen : (contexts callers contexts_left callers_left bodies calls bodies_left calls_left : ℕ) → IsOneLost contexts callers contexts_left callers_left
+    → contexts ≡ bodies → callers ≡ calls → contexts_left ≡ bodies_left → callers_left ≡ calls_left → IsOneLost bodies calls bodies_left calls_left
+one_lost_seen contexts callers contexts_left callers_left bodies calls bodies_left calls_left lost a b x y = elim lost [
+  | inl one ↦ inl (omega (arith, one.0, a, x), omega (arith, one.1, b, y))
+  | inr one ↦ inr (omega (arith, one.0, a, x), omega (arith, one.1, b, y))
+]
 
 -- ---- callers
 

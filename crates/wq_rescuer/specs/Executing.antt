@@ -1,16 +1,17 @@
 -- Executing: what bodies run, what the seats of their contexts count, and why they are refused.
-use Rattle.std.specs.Prelude.{◌≡◌, ◌≢◌, ℕ, ◌+◌, ◌<◌, ◌≤◌, ◌⊎◌, List, Some, Result, Ok, Err, true, sum}
+use Rattle.std.specs.Prelude.{◌≡◌, ◌≢◌, ℕ, ◌+◌, ◌*◌, ◌<◌, ◌≤◌, ◌⊎◌, List, [], ◌∷◌, length, replicate, Some, Result, Ok, Err, true, sum}
 use Rattle.std.specs.List.{sum_by, range_with_len}
 use Rattle.wq_core.specs.Wiring.{Wiring, items, HasContext}
 use Rattle.wq_counts.specs.declared.kind.Kind.TheVariants.{Finish}
-use Rattle.wq_counts.specs.Counting.{made}
-use Rattle.wq_held.specs.declared.fault.CallError.{CallError}
-use Rattle.wq_held.specs.declared.fault.CallError.TheVariants.{HistoryFull, Closed, NoItem}
-use Rattle.wq_held.specs.Errors.{call_code}
-use Rattle.wq_held.specs.Locked.{IsOnLane, SeatHasRoom, seat_rows}
+use Rattle.wq_counts.specs.Counting.{counts_each, made, raised}
+use Rattle.wq_history.specs.declared.fault.CallError.{CallError}
+use Rattle.wq_history.specs.declared.fault.CallError.TheVariants.{HistoryFull, Closed, NoItem}
+use Rattle.wq_history.specs.Errors.{call_code}
+use Rattle.wq_held.specs.Locked.{IsOnLane, SeatHasRoom, seat_rows, slots}
 use Rattle.wq_api.specs.WaitingCalls.{IsHelper}
 use Rattle.wq_api.specs.Locking.{WasStartedIn, WasWrongToStartIn, WasWrongToFinishIn}
 use Rattle.wq_rescuer.specs.declared.body.BodyFault.{BodyFault}
+use Rattle.wq_rescuer.specs.declared.rescuing.Rescued.{Rescued}
 
 -- ---- what a body runs: how often each item ran
 
@@ -52,6 +53,47 @@ CountsAtMost old new runs = (i : ℕ) → (finished_of old i ≤ finished_of new
 abbrev pub faults_of : Result (Unit {0}) BodyFault → ℕ
 faults_of (Ok answer) = 0
 faults_of (Err fault) = 1
+
+-- ---- what a context executed
+
+-- the counts of a seat that was just made
+abbrev pub no_counts : Wiring → List ℕ
+no_counts w = replicate (counts_each * slots w) 0
+
+-- one execution: its item, what its body answered, and what the seat counted when the body was done
+pub record Execution : Type 0 where
+  pub item : ℕ
+  pub answer : Result (Unit {0}) BodyFault
+  pub counts : List ℕ
+
+-- executions, one after the other, with nothing between them: each turned the counts that it found into others, as its body may,
+-- and was finished; from these counts to those
+abbrev pub AreExecuted : (ℕ → Result (Unit {0}) BodyFault → List ℕ → List ℕ → Type 0) → List ℕ → List Execution → List ℕ → Type 0
+AreExecuted may old [] new = new ≡ old
+AreExecuted may old (e ∷ es) new = may e.item e.answer old e.counts × AreExecuted may (raised e.counts e.item Finish true) es new
+
+-- how many of them ended with a fault
+abbrev pub faults_in : List Execution → ℕ
+faults_in executions = sum_by (λ (e : Execution). faults_of e.answer) executions
+
+-- such executions, as many as were finished; so many of them ended with a fault
+pub record HasExecuted (may : ℕ → Result (Unit {0}) BodyFault → List ℕ → List ℕ → Type 0) (old new : List ℕ) (finished faults : ℕ) : Type 0 where
+  pub executions : List Execution
+  pub executed : AreExecuted may old executions new
+  pub finished_is : finished ≡ length executions
+  pub faults_is : faults ≡ faults_in executions
+
+-- such executions, and then nothing, or one more run of a body, which wasn't finished
+pub record HasStopped (may : ℕ → Result (Unit {0}) BodyFault → List ℕ → List ℕ → Type 0) (old new : List ℕ) : Type 0 where
+  pub executions : List Execution
+  pub between : List ℕ
+  pub executed : AreExecuted may old executions between
+  pub last : (new ≡ between) ⊎ ((item : ℕ) × (answer : Result (Unit {0}) BodyFault) × may item answer between new)
+
+-- what a context did, by its answer: it finished what it executed; or it was refused, before an execution or at the end of one
+abbrev pub Executes : (ℕ → Result (Unit {0}) BodyFault → List ℕ → List ℕ → Type 0) → List ℕ → List ℕ → Result Rescued CallError → Type 0
+Executes may old new (Ok rescued) = HasExecuted may old new rescued.finished rescued.faults
+Executes may old new (Err e) = HasStopped may old new
 
 -- ---- refusals
 

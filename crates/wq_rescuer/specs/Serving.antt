@@ -1,12 +1,12 @@
 -- Serving: what a context hands back, a rescuer or a helper, and what all threads together do.
-use Rattle.std.specs.Prelude.{◌≡◌, ◌≢◌, ℕ, ◌+◌, ◌*◌, ◌<◌, ◌≤◌, List, length, replicate, take, slice_get, Some, Result, Ok, Err}
+use Rattle.std.specs.Prelude.{◌≡◌, ◌≢◌, ℕ, ◌+◌, ◌*◌, ◌<◌, ◌≤◌, ◌⊎◌, List, [], ◌∷◌, length, replicate, take, slice_get, Some, Result, Ok, Err}
 use Rattle.std.specs.Result.{ForOk, ForErr}
 use Rattle.std.specs.List.{All, sum_by}
 use Rattle.wq_core.specs.declared.step.Context.{Context}
 use Rattle.wq_core.specs.Wiring.{Wiring, items, HasContext}
 use Rattle.wq_counts.specs.Counting.{counts_each}
-use Rattle.wq_held.specs.declared.fault.CallError.{CallError}
-use Rattle.wq_held.specs.declared.fault.CallError.TheVariants.{WrongLane}
+use Rattle.wq_history.specs.declared.fault.CallError.{CallError}
+use Rattle.wq_history.specs.declared.fault.CallError.TheVariants.{WrongLane}
 use Rattle.wq_api.specs.Locking.{WasDoneIn}
 use Rattle.wq_rescuer.specs.declared.rescuing.Rescued.{Rescued}
 use Rattle.wq_rescuer.specs.declared.running.RunWhy.{RunWhy}
@@ -61,9 +61,32 @@ pub record IsRan (w : Wiring) (callers : ℕ) (seats : List (List ℕ)) (runs : 
   pub finished_is : finished ≡ sum_by finished_by rescued
   pub faults_is : faults ≡ sum_by faults_by rescued
 
--- contexts that came back with the last one first: at place p of n is context n - 1 - p of all of them
-abbrev pub AreLastFirst : List Context → List Context → Type 0
-AreLastFirst all back = (p n : ℕ) (context : Context) → slice_get back p ≡ Some context → n + p + 1 ≡ length back → slice_get all n ≡ Some context
+-- contexts that were handed these bodies, and how each of them is said to have executed: by its body, what its seat counts in the
+-- end, and its answer
+pub record HaveServed {B : Type 0} (executed : B → List ℕ → Result Rescued CallError → Type 0) (bodies : List B) (seats : List (List ℕ)) (rescued : List (Result Rescued CallError)) : Type 0 where
+  pub a_seat_each : length seats ≡ length bodies
+  pub an_answer_each : length rescued ≡ length bodies
+  pub each : (n : ℕ) (body : B) (seat : List ℕ) (answer : Result Rescued CallError) → slice_get bodies n ≡ Some body → slice_get seats n ≡ Some seat → slice_get rescued n ≡ Some answer
+      → executed body seat answer
+
+-- these callers were handed in, and those came back, in the same order, with their results and their seats; and what each of them
+-- is said to have done, by what it was before and after
+pub record HaveCalled {C : Type 0} (did : C → C → Result (Unit {0}) CallError → List ℕ → Type 0) (before after : List C) (results : List (Result (Unit {0}) CallError)) (seats : List (List ℕ)) : Type 0 where
+  pub a_caller_each : length after ≡ length before
+  pub a_result_each : length results ≡ length before
+  pub a_seat_each : length seats ≡ length before
+  pub each : (n : ℕ) (old new : C) (result : Result (Unit {0}) CallError) (seat : List ℕ) → slice_get before n ≡ Some old → slice_get after n ≡ Some new → slice_get results n ≡ Some result
+      → slice_get seats n ≡ Some seat → did old new result seat
+
+-- these jobs are done, in order: `done` holds of each and of what came back of it
+abbrev pub AreDone : {J E : Type 0} → (J → E → Type 0) → List J → List E → Type 0
+AreDone done [] [] = Unit {0}
+AreDone done (job ∷ jobs) (end ∷ ends) = done job end × AreDone done jobs ends
+AreDone done _ _ = ⊥
+
+-- of so many contexts and callers, one was lost, a context or a caller: so many contexts and callers are left
+abbrev pub IsOneLost : ℕ → ℕ → ℕ → ℕ → Type 0
+IsOneLost contexts callers contexts_left callers_left = ((contexts_left + 1 ≡ contexts) × (callers_left ≡ callers)) ⊎ ((contexts_left ≡ contexts) × (callers_left + 1 ≡ callers))
 
 -- why not everything was run: there isn't a body for each of this many contexts; or there is, but a seat, memory or a thread is
 -- lacking

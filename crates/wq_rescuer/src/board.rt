@@ -2,12 +2,10 @@
 //!
 //! Making the jobs takes time in the number of contexts and callers. It takes no memory, since room for them was made before.
 
-ghost use Rattle.std.specs.Prelude.{◌≡◌, ℕ, ◌+◌, ◌*◌, ◌<◌, ◌≤◌, length, replicate, vec_len, vec_capacity, IfOk, OnErr};
+ghost use Rattle.std.specs.Prelude.{◌≡◌, ℕ, ◌+◌, ◌<◌, ◌≤◌, [], map, reverse, vec_len, vec_capacity, IfOk, OnErr};
 ghost use Rattle.std.specs.List.{All};
 ghost use Rattle.wq_core.specs.Wiring.{items};
-ghost use Rattle.wq_counts.specs.Counting.{counts_each};
-ghost use Rattle.wq_held.specs.Locked.{slots};
-ghost use Rattle.wq_rescuer.specs.Executing.{NeverRan};
+ghost use Rattle.wq_rescuer.specs.Executing.{NeverRan, no_counts};
 ghost use Rattle.wq_rescuer.specs.Serving.{HasRoomFor};
 
 use crate::body::Body;
@@ -65,19 +63,23 @@ impl<N: Naming, A: Allocator + Copy, B: Body + Drop, C: Caller + Drop> Board<N, 
     }
 }
 
-/// Makes the jobs of these contexts, that of the first one last. Each job takes the last seat that is left. No body is left.
+/// Makes the jobs of these contexts, that of the first one last. Each job takes the last seat that is left. No context and no body is
+/// left.
 pub(crate) fn add_contexts<N: Naming, A: Allocator, B: Body + Drop>(
     jobs: &mut Vec<ContextJob<N, A, B>, A>,
     seats: &mut Vec<Seat<N, A>, A>,
     bodies: &mut Vec<B, A>,
-    contexts: &[Context],
+    contexts: &mut Vec<Context, A>,
 )
-    requires a_body_each { vec_len bodies.old ≡ length contexts.now }
+    requires none { jobs.old.items ≡ [] }
+    requires a_body_each { vec_len bodies.old ≡ vec_len contexts.old }
     requires room { vec_len jobs.old + vec_len bodies.old ≤ vec_capacity jobs.old }
     requires seats { vec_len bodies.old ≤ vec_len seats.old }
-    requires no_counts { All (λ seat. seat ≡ replicate (counts_each * slots N.wiring) 0) seats.old.items }
+    requires no_counts { All (λ seat. seat ≡ no_counts N.wiring) seats.old.items }
     requires width { All (λ body. items N.wiring ≤ B.width body) bodies.old.items }
     requires never_ran { All (λ body. NeverRan (B.runs body)) bodies.old.items }
+    ensures contexts { map (λ job. job.context) jobs.new.items ≡ reverse contexts.old.items }
+    ensures bodies { map (λ job. job.body) jobs.new.items ≡ reverse bodies.old.items }
     ensures jobs { vec_len jobs.new ≡ vec_len jobs.old + vec_len bodies.old }
     ensures seats { vec_len seats.new + vec_len bodies.old ≡ vec_len seats.old }
     ensures seat_room { vec_capacity seats.new ≡ vec_capacity seats.old }
@@ -85,10 +87,8 @@ pub(crate) fn add_contexts<N: Naming, A: Allocator, B: Body + Drop>(
     ensures body_room { vec_capacity bodies.new ≡ vec_capacity bodies.old }
 {
     while let Some(body) = bodies.pop() {
-        let next = &contexts[bodies.len()];
-        let context = Context {
-            lane: next.lane,
-            helper: next.helper,
+        let Some(context) = contexts.pop() else {
+            unreachable!()
         };
         let Some(seat) = seats.pop() else {
             unreachable!()
@@ -103,13 +103,15 @@ pub(crate) fn add_callers<N: Naming, A: Allocator, C: Caller + Drop>(
     seats: &mut Vec<Seat<N, A>, A>,
     callers: &mut Vec<C, A>,
 )
+    requires none { jobs.old.items ≡ [] }
     requires room { vec_len jobs.old + vec_len callers.old ≤ vec_capacity jobs.old }
     requires seats { vec_len callers.old ≤ vec_len seats.old }
-    requires no_counts { All (λ seat. seat ≡ replicate (counts_each * slots N.wiring) 0) seats.old.items }
+    requires no_counts { All (λ seat. seat ≡ no_counts N.wiring) seats.old.items }
+    ensures callers { map (λ job. job.caller) jobs.new.items ≡ reverse callers.old.items }
     ensures jobs { vec_len jobs.new ≡ vec_len jobs.old + vec_len callers.old }
     ensures seats { vec_len seats.new + vec_len callers.old ≡ vec_len seats.old }
     ensures seat_room { vec_capacity seats.new ≡ vec_capacity seats.old }
-    ensures no_counts { All (λ seat. seat ≡ replicate (counts_each * slots N.wiring) 0) seats.new.items }
+    ensures no_counts { All (λ seat. seat ≡ no_counts N.wiring) seats.new.items }
     ensures no_callers { vec_len callers.new ≡ 0 }
     ensures caller_room { vec_capacity callers.new ≡ vec_capacity callers.old }
 {
@@ -117,6 +119,6 @@ pub(crate) fn add_callers<N: Naming, A: Allocator, C: Caller + Drop>(
         let Some(seat) = seats.pop() else {
             unreachable!()
         };
-        jobs.push_reserved(CallerJob { seat, caller });
+        jobs.push_reserved(CallerJob::new(seat, caller));
     }
 }

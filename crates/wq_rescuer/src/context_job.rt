@@ -1,29 +1,29 @@
 //! What the thread of a context is given, and what it hands back.
 //!
-//! What another thread hands back is known by its type alone. So the type says what the context promised of its seat and its
-//! body.
+//! The type of what it hands back says what is so of each context's seat and body. What ties that to the context and the body that it
+//! was given is a promise, with which its thread is started.
 
-ghost use Rattle.std.specs.Prelude.{◌≡◌, ◌≤◌, ◌*◌, replicate};
+ghost use Rattle.std.specs.Prelude.{◌≡◌, ◌≤◌};
 ghost use Rattle.wq_core.specs.Wiring.{items};
-ghost use Rattle.wq_counts.specs.Counting.{counts_each};
-ghost use Rattle.wq_held.specs.Locked.{slots};
-ghost use Rattle.wq_rescuer.specs.Executing.{NeverRan};
+ghost use Rattle.wq_rescuer.specs.Executing.{Executes, NeverRan, no_counts};
 ghost use Rattle.wq_rescuer.specs.Serving.{IsServed, CameBack};
 
 use crate::body::Body;
 use crate::rescuing::{Rescued, serve};
 use std::alloc::Allocator;
+use std::snapshot::Snapshot;
 use std::sync::Wait;
+use std::thread::Promise;
 use wq_api::{CallError, Naming, Seat, WqRuntime};
 use wq_core::Context;
 
 /// A context that is to serve its workqueue, with a seat that has no counts and a body that has run nothing.
 #[derive(Drop)]
 pub(crate) struct ContextJob<N: Naming, A: Allocator, B: Body + Drop> {
-    context: Context,
+    pub(crate) context: Context,
     pub(crate) seat: Seat<N, A>,
     pub(crate) body: B,
-    ghost no_counts: { seat ≡ replicate (counts_each * slots N.wiring) 0 },
+    ghost fresh: { seat ≡ no_counts N.wiring },
     ghost width: { items N.wiring ≤ B.width body },
     ghost never_ran: { NeverRan (B.runs body) },
 }
@@ -39,12 +39,28 @@ pub(crate) struct ContextEnd<N: Naming, A: Allocator, B: Body + Drop> {
     ghost ended: { CameBack N.wiring N.rows context rescued },
 }
 
+/// What is promised of the end of a context: that it is the end of this one, and what it executed, by what this body may do.
+#[derive(Drop)]
+pub(crate) struct EndOfContext<B: Body + Drop> {
+    pub(crate) context: Context,
+    pub(crate) body: Snapshot<B>,
+}
+
+impl<N: Naming, A: Allocator, B: Body + Drop> Promise<ContextEnd<N, A, B>> for EndOfContext<B> {
+    ghost use Rattle.std.specs.Prelude.{◌≡◌};
+    ghost use Rattle.wq_rescuer.specs.Executing.{Executes, no_counts};
+
+    ghost kept_by = { λ p end. (end.context ≡ p.context) × Executes (B.may N.wiring p.body.value) (no_counts N.wiring) end.seat end.rescued };
+}
+
 impl<N: Naming, A: Allocator, B: Body + Drop> ContextJob<N, A, B> {
     /// A context, its seat and its body.
     pub(crate) fn new(context: Context, seat: Seat<N, A>, body: B) -> Self
-        requires no_counts { seat ≡ replicate (counts_each * slots N.wiring) 0 }
+        requires no_counts { seat ≡ no_counts N.wiring }
         requires width { items N.wiring ≤ B.width body }
         requires never_ran { NeverRan (B.runs body) }
+        ensures context { result.context ≡ context }
+        ensures body { result.body ≡ body }
     {
         ContextJob {
             context,
@@ -54,7 +70,10 @@ impl<N: Naming, A: Allocator, B: Body + Drop> ContextJob<N, A, B> {
     }
 
     /// Serves the workqueue until the runtime is closed and nothing is pending on it.
-    pub(crate) fn serve<R: Wait>(self, rt: &R, runtime: &WqRuntime<N, A>) -> ContextEnd<N, A, B> {
+    pub(crate) fn serve<R: Wait>(self, rt: &R, runtime: &WqRuntime<N, A>) -> ContextEnd<N, A, B>
+        ensures context { result.context ≡ self.context }
+        ensures executed { Executes (B.may N.wiring self.body) (no_counts N.wiring) result.seat result.rescued }
+    {
         let ContextJob {
             context,
             mut seat,

@@ -2,10 +2,10 @@
 //!
 //! It takes time in the number of contexts and callers. It takes no memory, since room for all was made before any thread started.
 
-ghost use Rattle.std.specs.Prelude.{◌≡◌, ℕ, ◌+◌, ◌<◌, ◌≤◌, [], ◌++◌, length, map, reverse, take, drop, vec_len, vec_capacity, IsTrue};
+ghost use Rattle.std.specs.Prelude.{◌≡◌, ℕ, ◌+◌, ◌<◌, ◌≤◌, [], ◌++◌, length, map, reverse, take, drop, vec_len, vec_capacity};
 ghost use Rattle.std.specs.List.{sum_by};
 ghost use Rattle.wq_rescuer.specs.Contexts.{contexts_of};
-ghost use Rattle.wq_rescuer.specs.Serving.{AreLastFirst, AreServed, AreBack, HasRoomFor, IsRan, finished_by, faults_by};
+ghost use Rattle.wq_rescuer.specs.Serving.{AreServed, AreBack, HasRoomFor, IsRan, finished_by, faults_by};
 ghost use Rattle.wq_rescuer.specs.declared.running.RunWhy.TheVariants.{NoThread};
 
 use crate::board::{Board, Jobs};
@@ -16,7 +16,6 @@ use crate::rescuing::Rescued;
 use crate::running::{Ran, RunFault, RunWhy};
 use std::alloc::Allocator;
 use wq_api::{CallError, Naming, Seat};
-use wq_core::Context;
 
 /// Lists for what comes back. They are empty while the threads run. Those of the bodies and callers are the ones that were handed in.
 #[derive(Drop)]
@@ -60,44 +59,25 @@ struct Served<N: Naming, A: Allocator, B: Body + Drop> {
     faults: u64,
 }
 
-/// Whether these contexts came back with the last one first. They do, since each is joined after those that were started after it;
-/// but what a thread hands back is known by its type alone.
-pub(crate) fn are_last_first<N: Naming, A: Allocator, B: Body + Drop>(
-    ends: &[ContextEnd<N, A, B>],
-    contexts: &[Context],
-) -> bool
-    ensures { IsTrue result → AreLastFirst contexts.now (map (λ end. end.context) ends.now) }
-{
-    for (place, end) in ends.iter().enumerate() {
-        let Some(context) = contexts.get(ends.len() - 1 - place) else {
-            return false;
-        };
-        if *context != end.context {
-            return false;
-        }
-    }
-    true
-}
-
-/// Takes back these contexts, the first one, which is last in the list, first. The lists are empty and have room for them.
+/// Takes back the contexts, which are all, the first one, which is last in the list, first. The lists are empty and have room for them.
 fn gather_contexts<N: Naming, A: Allocator, B: Body + Drop>(
     mut ends: Vec<ContextEnd<N, A, B>, A>,
     mut seats: Vec<Seat<N, A>, A>,
     mut bodies: Vec<B, A>,
     mut rescued: Vec<Result<Rescued, CallError>, A>,
-    contexts: &[Context],
 ) -> Served<N, A, B>
     requires few { vec_len ends ≤ 65536 }
-    requires all { vec_len ends ≡ length contexts.now }
-    requires in_order { AreLastFirst contexts.now (map (λ end. end.context) ends.items) }
+    requires in_order { map (λ end. end.context) ends.items ≡ reverse (contexts_of N.wiring) }
     requires no_seats { seats.items ≡ [] }
     requires seat_room { vec_len ends ≤ vec_capacity seats }
     requires no_bodies { bodies.items ≡ [] }
     requires body_room { vec_len ends ≤ vec_capacity bodies }
     requires none_rescued { rescued.items ≡ [] }
     requires rescued_room { vec_len ends ≤ vec_capacity rescued }
-    ensures served { AreServed N.wiring contexts.now result.seats.items (map B.runs result.bodies.items) result.rescued.items }
-    ensures ended { AreBack N.wiring N.rows contexts.now result.rescued.items }
+    ensures served { AreServed N.wiring (contexts_of N.wiring) result.seats.items (map B.runs result.bodies.items) result.rescued.items }
+    ensures ended { AreBack N.wiring N.rows (contexts_of N.wiring) result.rescued.items }
+    ensures seats { result.seats.items ≡ reverse (map (λ end. end.seat) ends.items) }
+    ensures rescued { result.rescued.items ≡ reverse (map (λ end. end.rescued) ends.items) }
     ensures finished { result.finished ≡ sum_by finished_by result.rescued.items }
     ensures faults { result.faults ≡ sum_by faults_by result.rescued.items }
     ensures room { vec_capacity result.seats ≡ vec_capacity seats }
@@ -156,24 +136,23 @@ fn gather_callers<N: Naming, A: Allocator, C: Caller + Drop>(
     }
 }
 
-/// Puts together what came back of these contexts, which are all, and of the callers, where all of it came back. The last caller
-/// came back first.
+/// Puts together what came back of the contexts and of the callers, where all of it came back. The last one came back first, of
+/// either.
 pub(crate) fn gather<N: Naming, A: Allocator, B: Body + Drop, C: Caller + Drop>(
     board: Board<N, A, B, C>,
     back: Back<N, A, B, C>,
-    contexts: &[Context],
 ) -> Ran<N, A, B, C>
     requires few { vec_len board.contexts.ends ≤ 65536 }
-    requires all { contexts.now ≡ contexts_of N.wiring }
-    requires all_back { vec_len board.contexts.ends ≡ length contexts.now }
-    requires in_order { AreLastFirst contexts.now (map (λ end. end.context) board.contexts.ends.items) }
+    requires in_order { map (λ end. end.context) board.contexts.ends.items ≡ reverse (contexts_of N.wiring) }
     requires seats { HasRoomFor (vec_len board.contexts.ends + vec_len board.callers.ends) (vec_len back.seats) (vec_capacity back.seats) }
     requires bodies { HasRoomFor (vec_len board.contexts.ends) (vec_len back.bodies) (vec_capacity back.bodies) }
     requires callers { HasRoomFor (vec_len board.callers.ends) (vec_len back.callers) (vec_capacity back.callers) }
     requires rescued { HasRoomFor (vec_len board.contexts.ends) (vec_len back.rescued) (vec_capacity back.rescued) }
     requires results { HasRoomFor (vec_len board.callers.ends) (vec_len back.results) (vec_capacity back.results) }
     ensures ran { IsRan N.wiring (vec_len board.callers.ends) result.seats.items (map B.runs result.bodies.items) (vec_len result.callers) (vec_len result.results) result.rescued.items result.finished result.faults }
-    ensures seats { drop (vec_len board.contexts.ends) result.seats.items ≡ reverse (map (λ end. end.seat) board.callers.ends.items) }
+    ensures first_seats { take (length (contexts_of N.wiring)) result.seats.items ≡ reverse (map (λ end. end.seat) board.contexts.ends.items) }
+    ensures rescued { result.rescued.items ≡ reverse (map (λ end. end.rescued) board.contexts.ends.items) }
+    ensures seats { drop (length (contexts_of N.wiring)) result.seats.items ≡ reverse (map (λ end. end.seat) board.callers.ends.items) }
     ensures callers { result.callers.items ≡ reverse (map (λ end. end.caller) board.callers.ends.items) }
     ensures results { result.results.items ≡ reverse (map (λ end. end.result) board.callers.ends.items) }
     ensures ended { AreBack N.wiring N.rows (contexts_of N.wiring) result.rescued.items }
@@ -195,7 +174,7 @@ pub(crate) fn gather<N: Naming, A: Allocator, B: Body + Drop, C: Caller + Drop>(
         rescued,
         finished,
         faults,
-    } = gather_contexts(served.ends, seats, bodies, rescued, contexts);
+    } = gather_contexts(served.ends, seats, bodies, rescued);
     gather_callers(calls.ends, &mut seats, &mut callers, &mut results);
     Ran {
         seats,
@@ -208,31 +187,31 @@ pub(crate) fn gather<N: Naming, A: Allocator, B: Body + Drop, C: Caller + Drop>(
     }
 }
 
-/// Keeps a value in a list. There is room for it, which no proof says: without room the list would grow, and if memory for that were
-/// lacking, the value would be dropped.
-fn keep<T: Drop, A: Allocator>(list: &mut Vec<T, A>, value: T) {
-    let _kept = list.push(value);
-}
-
 /// Hands back the contexts: what came back, and the jobs that no thread took.
 fn hand_back_contexts<N: Naming, A: Allocator, B: Body + Drop>(
     contexts: Jobs<ContextJob<N, A, B>, ContextEnd<N, A, B>, A>,
     seats: &mut Vec<Seat<N, A>, A>,
     bodies: &mut Vec<B, A>,
-) {
+)
+    requires seat_room { vec_len seats.old + (vec_len contexts.waiting + vec_len contexts.ends) ≤ vec_capacity seats.old }
+    requires body_room { vec_len bodies.old + (vec_len contexts.waiting + vec_len contexts.ends) ≤ vec_capacity bodies.old }
+    ensures seats { vec_len seats.new ≡ vec_len seats.old + (vec_len contexts.waiting + vec_len contexts.ends) }
+    ensures seat_room { vec_capacity seats.new ≡ vec_capacity seats.old }
+    ensures bodies { vec_len bodies.new ≡ vec_len bodies.old + (vec_len contexts.waiting + vec_len contexts.ends) }
+{
     let Jobs {
         mut waiting,
         mut ends,
     } = contexts;
     while let Some(end) = ends.pop() {
         let ContextEnd { seat, body, .. } = end;
-        keep(seats, seat);
-        keep(bodies, body);
+        seats.push_reserved(seat);
+        bodies.push_reserved(body);
     }
     while let Some(job) = waiting.pop() {
         let ContextJob { seat, body, .. } = job;
-        keep(seats, seat);
-        keep(bodies, body);
+        seats.push_reserved(seat);
+        bodies.push_reserved(body);
     }
 }
 
@@ -241,20 +220,25 @@ fn hand_back_callers<N: Naming, A: Allocator, C: Caller + Drop>(
     calls: Jobs<CallerJob<N, A, C>, CallerEnd<N, A, C>, A>,
     seats: &mut Vec<Seat<N, A>, A>,
     callers: &mut Vec<C, A>,
-) {
+)
+    requires seat_room { vec_len seats.old + (vec_len calls.waiting + vec_len calls.ends) ≤ vec_capacity seats.old }
+    requires caller_room { vec_len callers.old + (vec_len calls.waiting + vec_len calls.ends) ≤ vec_capacity callers.old }
+    ensures seats { vec_len seats.new ≡ vec_len seats.old + (vec_len calls.waiting + vec_len calls.ends) }
+    ensures callers { vec_len callers.new ≡ vec_len callers.old + (vec_len calls.waiting + vec_len calls.ends) }
+{
     let Jobs {
         mut waiting,
         mut ends,
     } = calls;
     while let Some(end) = ends.pop() {
         let CallerEnd { seat, caller, .. } = end;
-        keep(seats, seat);
-        keep(callers, caller);
+        seats.push_reserved(seat);
+        callers.push_reserved(caller);
     }
     while let Some(job) = waiting.pop() {
         let CallerJob { seat, caller } = job;
-        keep(seats, seat);
-        keep(callers, caller);
+        seats.push_reserved(seat);
+        callers.push_reserved(caller);
     }
 }
 
@@ -263,7 +247,13 @@ pub(crate) fn hand_back<N: Naming, A: Allocator, B: Body + Drop, C: Caller + Dro
     board: Board<N, A, B, C>,
     back: Back<N, A, B, C>,
 ) -> RunFault<N, A, B, C>
-    ensures { result.why ≡ NoThread }
+    requires seats { HasRoomFor ((vec_len board.contexts.waiting + vec_len board.contexts.ends) + (vec_len board.callers.waiting + vec_len board.callers.ends)) (vec_len back.seats) (vec_capacity back.seats) }
+    requires bodies { HasRoomFor (vec_len board.contexts.waiting + vec_len board.contexts.ends) (vec_len back.bodies) (vec_capacity back.bodies) }
+    requires callers { HasRoomFor (vec_len board.callers.waiting + vec_len board.callers.ends) (vec_len back.callers) (vec_capacity back.callers) }
+    ensures why { result.why ≡ NoThread }
+    ensures seats { vec_len result.seats ≡ (vec_len board.contexts.waiting + vec_len board.contexts.ends) + (vec_len board.callers.waiting + vec_len board.callers.ends) }
+    ensures bodies { vec_len result.bodies ≡ vec_len board.contexts.waiting + vec_len board.contexts.ends }
+    ensures callers { vec_len result.callers ≡ vec_len board.callers.waiting + vec_len board.callers.ends }
 {
     let Board {
         contexts: served,

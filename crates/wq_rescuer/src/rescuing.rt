@@ -4,13 +4,14 @@
 //! The loop ends when the runtime is closed and nothing is pending on the workqueue. It takes no memory. Apart from the bodies
 //! and what it waits for, it takes the time of the runtime's calls.
 
-ghost use Rattle.std.specs.Prelude.{◌≡◌, ℕ, ◌+◌, ◌<◌, ◌≤◌, IfOk, OnOk, IfErr, OnErr};
+ghost use Rattle.std.specs.Prelude.{◌≡◌, ℕ, ◌+◌, ◌<◌, ◌≤◌, List, Result, IfOk, OnOk, IfErr, OnErr};
 ghost use Rattle.wq_core.specs.Wiring.{items, HasContext};
-ghost use Rattle.wq_held.specs.declared.fault.CallError.TheVariants.{WrongLane};
+ghost use Rattle.wq_history.specs.declared.fault.CallError.TheVariants.{WrongLane};
 ghost use Rattle.wq_held.specs.Locked.{IsOnLane};
 ghost use Rattle.wq_api.specs.WaitingCalls.{IsHelper};
 ghost use Rattle.wq_api.specs.Locking.{WasDone, WasDoneIn};
-ghost use Rattle.wq_rescuer.specs.Executing.{NeverRan, RanOnce, RanOnly, SameFinished, CountsRuns, CountsAtMost, finished_in_all, faults_of, RefusesRescue, RefusesServe, RefusesHelper, WasDrivenIn};
+ghost use Rattle.wq_rescuer.specs.declared.body.BodyFault.{BodyFault as Fault};
+ghost use Rattle.wq_rescuer.specs.Executing.{NeverRan, RanOnce, RanOnly, SameFinished, CountsRuns, CountsAtMost, HasExecuted, HasStopped, finished_in_all, faults_of, RefusesRescue, RefusesServe, RefusesHelper, WasDrivenIn};
 
 use crate::body::{Body, BodyFault};
 use crate::work::Work;
@@ -63,6 +64,8 @@ fn execute<N: Naming, A: Allocator, R: Wait, B: Body>(
     ensures ran { RanOnce (B.runs body.old) (B.runs body.new) item }
     ensures width { B.width body.new ≡ B.width body.old }
     ensures finished { SameFinished seat.old seat.new }
+    ensures may { B.may N.wiring body.old item result seat.old seat.new }
+    ensures no_more { (i : ℕ) (answer : Result (Unit {0}) Fault) (before : List ℕ) (after : List ℕ) → B.may N.wiring body.new i answer before after → B.may N.wiring body.old i answer before after }
 {
     let mut work = Work::new(runtime, seat, q, helper, item);
     body.run(rt, item, &mut work)
@@ -74,6 +77,9 @@ fn execute<N: Naming, A: Allocator, R: Wait, B: Body>(
 /// The body has run nothing before, and can count each item. It runs only items of this workqueue. The error is `WrongLane` (64),
 /// where there is no such context, or `HistoryFull` (60), where the seat is full, or `WrongLane` (64), where another caller drove
 /// the same context. Then what the seat counts as finished has risen by no more than what the body ran.
+///
+/// What the seat counts besides is what the runs of the body may change, and nothing else.
+#[tactic(auto, using(crate::proofs::Executions::none_executed, crate::proofs::Executions::stopped_between, crate::proofs::Executions::stopped_at_once))]
 pub fn serve<N: Naming, A: Allocator, R: Wait, B: Body>(
     rt: &R,
     runtime: &WqRuntime<N, A>,
@@ -93,6 +99,8 @@ pub fn serve<N: Naming, A: Allocator, R: Wait, B: Body>(
     ensures cause { HasContext N.wiring q helper → IfErr result (λ e. e ≡ WrongLane → WasDrivenIn N.wiring N.rows q helper) }
     ensures refused { OnErr result (CountsAtMost seat.old seat.new (B.runs body.new)) }
     ensures ended { OnOk result (WasDoneIn N.wiring N.rows q helper) }
+    ensures executed { IfOk result (λ r. HasExecuted (B.may N.wiring body.old) seat.old seat.new r.finished r.faults) }
+    ensures stopped { OnErr result (HasStopped (B.may N.wiring body.old) seat.old seat.new) }
 {
     if !runtime.has_context(rt, q, helper) {
         return Err(CallError::WrongLane);
@@ -141,6 +149,8 @@ pub fn rescue<N: Naming, A: Allocator, R: Wait, B: Body>(
     ensures cause { q < N.wiring.lanes → IfErr result (λ e. e ≡ WrongLane → WasDrivenIn N.wiring N.rows q 0) }
     ensures refused { OnErr result (CountsAtMost seat.old seat.new (B.runs body.new)) }
     ensures ended { OnOk result (WasDone N.wiring N.rows q) }
+    ensures executed { IfOk result (λ r. HasExecuted (B.may N.wiring body.old) seat.old seat.new r.finished r.faults) }
+    ensures stopped { OnErr result (HasStopped (B.may N.wiring body.old) seat.old seat.new) }
 {
     serve(rt, runtime, q, 0, seat, body)
 }
@@ -170,6 +180,8 @@ pub fn help<N: Naming, A: Allocator, R: Wait, B: Body>(
     ensures cause { IsHelper N.wiring q h → IfErr result (λ e. e ≡ WrongLane → WasDrivenIn N.wiring N.rows q h) }
     ensures refused { OnErr result (CountsAtMost seat.old seat.new (B.runs body.new)) }
     ensures ended { OnOk result (WasDoneIn N.wiring N.rows q h) }
+    ensures executed { IfOk result (λ r. HasExecuted (B.may N.wiring body.old) seat.old seat.new r.finished r.faults) }
+    ensures stopped { OnErr result (HasStopped (B.may N.wiring body.old) seat.old seat.new) }
 {
     if h == 0 {
         return Err(CallError::WrongLane);

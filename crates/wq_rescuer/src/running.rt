@@ -3,19 +3,19 @@
 //!
 //! All memory is taken, and all seats are made, before any thread starts.
 
-ghost use Rattle.std.specs.Prelude.{◌≡◌, ◌≢◌, ℕ, ◌+◌, ◌<◌, ◌≤◌, [], length, map, vec_len, IfOk, IfErr};
+ghost use Rattle.std.specs.Prelude.{◌≡◌, ◌≢◌, ℕ, ◌+◌, ◌<◌, ◌≤◌, [], length, map, take, drop, vec_len, IfOk, IfErr};
 ghost use Rattle.std.specs.List.{All};
 ghost use Rattle.wq_core.specs.Wiring.{items};
 ghost use Rattle.wq_held.specs.Locked.{slots};
-ghost use Rattle.wq_rescuer.specs.Executing.{NeverRan};
+ghost use Rattle.wq_rescuer.specs.Executing.{NeverRan, Executes, no_counts};
 ghost use Rattle.wq_rescuer.specs.Contexts.{contexts_of};
-ghost use Rattle.wq_rescuer.specs.Serving.{AreBack, AreFirstSeats, IsNoSeat, IsRan, RefusesRun, run_code};
+ghost use Rattle.wq_rescuer.specs.Serving.{AreBack, AreFirstSeats, HaveCalled, HaveServed, IsNoSeat, IsOneLost, IsRan, RefusesRun, run_code};
 ghost use Rattle.wq_rescuer.specs.declared.running.RunWhy.TheVariants.{BodiesDiffer, OutOfMemory, NoThread};
 
 use crate::board::{add_callers, add_contexts};
 use crate::body::Body;
 use crate::calling::Caller;
-use crate::gathering::{Back, are_last_first, gather, hand_back};
+use crate::gathering::{Back, gather, hand_back};
 use crate::rescuing::Rescued;
 use crate::space::{NoSpace, Space, reserve};
 use crate::threads::run_threads;
@@ -118,16 +118,19 @@ pub fn run_all<
     requires never_ran { All (λ body. NeverRan (B.runs body)) bodies.items }
     ensures ran { IfOk result (λ r. (vec_len bodies ≡ length (contexts_of N.wiring)) × IsRan N.wiring (vec_len callers) r.seats.items (map B.runs r.bodies.items) (vec_len r.callers) (vec_len r.results) r.rescued.items r.finished r.faults) }
     ensures ended { IfOk result (λ r. AreBack N.wiring N.rows (contexts_of N.wiring) r.rescued.items) }
+    ensures served { IfOk result (λ r. HaveServed (λ body seat answer. Executes (B.may N.wiring body) (no_counts N.wiring) seat answer) bodies.items (take (length (contexts_of N.wiring)) r.seats.items) r.rescued.items) }
+    ensures called { IfOk result (λ r. HaveCalled (λ before after answer seat. C.did N.wiring before after answer (no_counts N.wiring) seat) callers.items r.callers.items r.results.items (drop (length (contexts_of N.wiring)) r.seats.items)) }
     ensures refused { IfErr result (λ f. RefusesRun (length (contexts_of N.wiring)) (vec_len bodies) f.why) }
     ensures no_seats { IfErr result (λ f. f.why ≡ BodiesDiffer → f.seats.items ≡ []) }
     ensures made { IfErr result (λ f. IsNoSeat f.why → AreFirstSeats (slots N.wiring) (vec_len bodies + vec_len callers) f.seats.items) }
     ensures memory { IfErr result (λ f. f.why ≡ OutOfMemory → 0 < vec_len bodies + vec_len callers) }
     ensures kept { IfErr result (λ f. f.why ≢ NoThread → (f.bodies.items ≡ bodies.items) × (f.callers.items ≡ callers.items)) }
+    ensures lost { IfErr result (λ f. f.why ≡ NoThread → (vec_len f.seats ≡ vec_len f.bodies + vec_len f.callers) × IsOneLost (vec_len bodies) (vec_len callers) (vec_len f.bodies) (vec_len f.callers)) }
 {
     let wanted = bodies.len();
     let count = callers.len();
     let Space {
-        contexts,
+        mut contexts,
         mut board,
         mut seats,
         rescued,
@@ -146,9 +149,9 @@ pub fn run_all<
         &mut board.contexts.waiting,
         &mut seats,
         &mut bodies,
-        &contexts,
+        &mut contexts,
     );
-    let board = run_threads(rt, runtime, board);
+    let (board, all) = run_threads(rt, runtime, board);
     let back = Back {
         seats,
         bodies,
@@ -156,11 +159,8 @@ pub fn run_all<
         rescued,
         results,
     };
-    if board.contexts.ends.len() != wanted
-        || board.callers.ends.len() != count
-        || !are_last_first(&board.contexts.ends, &contexts)
-    {
+    if !all {
         return Err(hand_back(board, back));
     }
-    Ok(gather(board, back, &contexts))
+    Ok(gather(board, back))
 }

@@ -1,5 +1,5 @@
 -- Why no runtime is made for a plan, and what a closed runtime says about the items of a declaration.
-use Rattle.std.proofs.Common.{◌≡◌, ◌≢◌, ℕ, ◌<◌, ◌≤◌, true, List, length, Result, Vec, refl, sym, ap, subst, ◌∙◌, arith}
+use Rattle.std.proofs.Common.{◌≡◌, ◌≢◌, ℕ, ◌<◌, ◌≤◌, true, List, drop, length, Result, Vec, refl, sym, ap, subst, ◌∙◌, arith}
 use Rattle.std.specs.Prelude.{IfOk}
 use Rattle.std.proofs.lemmas.Result.{IfOk-weaker}
 use Rattle.wq_items.specs.Table.{IsTable}
@@ -10,21 +10,24 @@ use Rattle.wq_plan.specs.Plan.{IsPlan}
 use Rattle.wq_plan.proofs.Plans.{IsSafe-plan}
 use Rattle.wq_counts.specs.Counting.{made}
 use Rattle.wq_history.specs.Book.{BookView}
-use Rattle.wq_held.specs.declared.fault.CallError.{CallError}
-use Rattle.wq_under_lock.specs.declared.fault.NewError.{NewError}
-use Rattle.wq_under_lock.specs.declared.fault.NewError.TheVariants.{TooManyLanes, TooManyRows, TooManyHelpers, NotSafe, OutOfMemory}
+use Rattle.wq_history.specs.declared.fault.CallError.{CallError}
+use Rattle.wq_held.specs.declared.fault.NewError.{NewError}
+use Rattle.wq_held.specs.declared.fault.NewError.TheVariants.{TooManyLanes, TooManyRows, TooManyHelpers, NotSafe, OutOfMemory}
 use Rattle.wq_held.specs.Locked.{max_runtime_lanes}
-use Rattle.wq_under_lock.specs.Refusals.{RefusesRuntime, new_code}
+use Rattle.wq_held.specs.Errors.{new_code}
+use Rattle.wq_held.specs.Making.{RefusesRuntime}
 use Rattle.wq_held.specs.Closing.{IsClosed, Agrees}
 use Rattle.wq_rescuer.specs.declared.rescuing.Rescued.{Rescued}
+use Rattle.wq_rescuer.specs.Contexts.{contexts_of}
 use Rattle.wq_rescuer.specs.Serving.{IsRan}
+use Rattle.wq_script.specs.Crews.{shared_by_two}
 use Rattle.wq_commands.specs.declared.end.End.{End}
 use Rattle.wq_commands.specs.Answer.{declared_waits, PrintsRefusal}
 use Rattle.wq_commands.specs.Declaration.{Declared}
 use Rattle.wq_commands.proofs.AnswerLemmas.{IsSound, IsDeclaration-sound}
 use Rattle.wq_run.specs.Report.{report_text}
 use Rattle.wq_run.proofs.ReportLemmas.{report_text-same}
-use Rattle.wq_run.specs.Running.{PrintsRun, RunsDeclared, rows_for, run_wiring, yes_tally}
+use Rattle.wq_run.specs.Running.{HaveMade, PrintsRun, RunsDeclared, rows_for, run_wiring, yes_tally}
 
 -- a runtime has as many items as the declaration
 pub items-wiring : (helpers : ℕ) (w : Wiring) (s : Declared) (a : Assignment) → IsTable s.table → w ≡ run_wiring helpers s a → items w ≡ length s.table.names
@@ -56,9 +59,9 @@ RunsDeclared-no_runtime helpers s w a rows e answer sound plan is few room why r
 pub PrintsRun-closed : (helpers : ℕ) (s : Declared) (w : Wiring) (a : Assignment) (rows : ℕ) (seats : List (List ℕ)) (runs : List (ℕ → ℕ)) (rescued : List (Result Rescued CallError)) (finished faults : ℕ)
     (book : BookView) (counts out : List ℕ) → items w ≡ length s.table.names
     → IsPlan (declared_waits s) a → a.lanes ≤ max_runtime_lanes → w ≡ run_wiring helpers s a → rows ≡ rows_for s
-    → IsRan w 2 seats runs 2 2 rescued finished faults
+    → IsRan w 2 seats runs 2 2 rescued finished faults → HaveMade w (shared_by_two (length s.table.names)) (drop (length (contexts_of w)) seats)
     → IsClosed w rows seats book counts true → out ≡ report_text s a (λ i kind. made counts i kind true) faults → PrintsRun helpers s out
-PrintsRun-closed helpers s w a rows seats runs rescued finished faults book counts out of_items plan few is room ran closed text =
+PrintsRun-closed helpers s w a rows seats runs rescued finished faults book counts out of_items plan few is room ran called closed text =
     let agrees : Agrees w book counts = closed.agrees.0 refl in
     record {
       assignment = a;
@@ -70,6 +73,7 @@ PrintsRun-closed helpers s w a rows seats runs rescued finished faults book coun
       finished = finished;
       faults = faults;
       ran = subst (λ (x : Wiring). IsRan x 2 seats runs 2 2 rescued finished faults) is ran;
+      called = subst (λ (x : Wiring). HaveMade x (shared_by_two (length s.table.names)) (drop (length (contexts_of x)) seats)) is called;
       book = book;
       counts = counts;
       closed = subst (λ (n : ℕ). IsClosed (run_wiring helpers s a) n seats book counts true) room (subst (λ (x : Wiring). IsClosed x rows seats book counts true) is closed);

@@ -1,5 +1,5 @@
 -- The answer of `run` to a declaration text: what is printed, and how it ends.
-use Rattle.std.specs.Prelude.{◌≡◌, ℕ, ◌+◌, ◌*◌, ◌<◌, ◌≤◌, List, length, true, Option, None, Result, MatchResult}
+use Rattle.std.specs.Prelude.{◌≡◌, ℕ, ◌+◌, ◌*◌, ◌<◌, ◌≤◌, List, [], ◌∷◌, drop, length, true, Option, None, Result, MatchResult}
 use Rattle.wq_items.specs.Table.{flush_count}
 use Rattle.wq_groups.specs.Assignment.{Assignment}
 use Rattle.wq_core.specs.Wiring.{Wiring, wiring, with_helpers}
@@ -7,11 +7,16 @@ use Rattle.wq_plan.specs.Plan.{IsPlan}
 use Rattle.wq_counts.specs.declared.kind.Kind.{Kind}
 use Rattle.wq_counts.specs.Counting.{tally}
 use Rattle.wq_history.specs.Book.{BookView}
-use Rattle.wq_held.specs.declared.fault.CallError.{CallError}
+use Rattle.wq_history.specs.declared.fault.CallError.{CallError}
 use Rattle.wq_held.specs.Locked.{max_runtime_lanes}
 use Rattle.wq_held.specs.Closing.{IsClosed}
 use Rattle.wq_rescuer.specs.declared.rescuing.Rescued.{Rescued}
+use Rattle.wq_rescuer.specs.Executing.{no_counts}
+use Rattle.wq_rescuer.specs.Contexts.{contexts_of}
 use Rattle.wq_rescuer.specs.Serving.{IsRan}
+use Rattle.wq_script.specs.declared.acting.Act.{Act}
+use Rattle.wq_script.specs.Acts.{CountsActs}
+use Rattle.wq_script.specs.Crews.{shared_by_two}
 use Rattle.wq_commands.specs.declared.end.End.{End}
 use Rattle.wq_commands.specs.declared.end.End.TheVariants.{Good, Bad, Refused}
 use Rattle.wq_meter.specs.Shell.{Given}
@@ -36,10 +41,17 @@ yes_tally book i kind = tally book.rows i kind true
 abbrev pub run_wiring : ℕ → Declared → Assignment → Wiring
 run_wiring helpers s a = with_helpers (wiring (declared_waits s) a) helpers
 
+-- callers, each with its seat, which had no counts: each made the calls of its list, in order, and all were answered
+abbrev pub HaveMade : Wiring → List (List Act) → List (List ℕ) → Type 0
+HaveMade w [] [] = Unit {0}
+HaveMade w (acts ∷ others) (seat ∷ seats) = CountsActs w (no_counts w) seat acts × HaveMade w others seats
+HaveMade w _ _ = ⊥
+
 -- the plan was run with this many helpers, as far as a text can show it: there is a book, which was closed with all seats. It is
--- idle and a legal history under the plan, and the seats' counts agree with it, item by item and workqueue by workqueue. What is
+-- idle and a legal history under the plan, and the seats' counts agree with it, item by item and workqueue by workqueue. The last
+-- two seats are those of the callers, who between them queued each item once and flushed it once, and weren't refused. What is
 -- printed is the text of the book's tallies, and of the faults that rescuers and helpers counted. It isn't said that the book is
--- that of the threads, nor that none of them was refused
+-- that of the threads, nor that no rescuer and no helper was refused
 pub record PrintsRun (helpers : ℕ) (s : Declared) (out : List ℕ) : Type 0 where
   pub assignment : Assignment
   pub plan : IsPlan (declared_waits s) assignment
@@ -50,6 +62,7 @@ pub record PrintsRun (helpers : ℕ) (s : Declared) (out : List ℕ) : Type 0 wh
   pub finished : ℕ
   pub faults : ℕ
   pub ran : IsRan (run_wiring helpers s assignment) 2 seats runs 2 2 rescued finished faults
+  pub called : HaveMade (run_wiring helpers s assignment) (shared_by_two (length s.table.names)) (drop (length (contexts_of (run_wiring helpers s assignment))) seats)
   pub book : BookView
   pub counts : List ℕ
   pub closed : IsClosed (run_wiring helpers s assignment) (rows_for s) seats book counts true

@@ -204,8 +204,8 @@ pub fn carry_out_run<
 ///
 /// At most 1,048,577 bytes are read, in at most as many calls. The errors are those of `plan_cmd`: a read failed, out of memory,
 /// or a write failed or took no byte; and `Thread`, where a thread couldn't be made, and `Tally`, where the runtime couldn't
-/// be closed with counts that agree. After a write that failed, a prefix of the answer is written, and after the other errors
-/// nothing. It isn't promised that the calls of the threads ever return.
+/// be closed with counts that agree, or a caller was refused. After a write that failed, a prefix of the answer is written, and after
+/// the other errors nothing. It isn't promised that the calls of the threads ever return.
 ///
 /// The names are hashed with `seed`. No answer depends on it.
 pub fn run_cmd<R: Threads + Wait + Sync, D: Read, W: Write, A: Allocator + Copy + Send + Sync>(

@@ -3,7 +3,7 @@
 //! The crew is that of `wq_script`: a body for each rescuer and each helper, which makes the declared flushes, and two callers. It
 //! takes the time of all executions and of writing the text, and time and memory in the number of bodies times that of items.
 
-ghost use Rattle.std.specs.Prelude.{◌≡◌, ◌≤◌, ℕ, List, length, map, IfOk, IfErr, true};
+ghost use Rattle.std.specs.Prelude.{◌≡◌, ◌≤◌, ℕ, List, length, map, drop, IfOk, IfErr, is_ok, IsTrue, true};
 ghost use Rattle.std.specs.List.{All};
 ghost use Rattle.wq_groups.specs.Declaration.{declaration_of};
 ghost use Rattle.wq_core.specs.Wiring.{items, wiring, with_helpers};
@@ -13,12 +13,13 @@ ghost use Rattle.wq_history.specs.Book.{BookView};
 ghost use Rattle.wq_held.specs.Locked.{max_runtime_lanes};
 ghost use Rattle.wq_held.specs.Closing.{IsClosed};
 ghost use Rattle.wq_rescuer.specs.Executing.{NeverRan};
+ghost use Rattle.wq_rescuer.specs.Contexts.{contexts_of};
 ghost use Rattle.wq_rescuer.specs.Serving.{IsRan};
 ghost use Rattle.wq_script.specs.Scripts.{runs_of};
 ghost use Rattle.wq_script.specs.Crews.{shared_by_two};
 ghost use Rattle.wq_run.specs.Fault.{Stops};
 ghost use Rattle.wq_run.specs.Report.{report_text};
-ghost use Rattle.wq_run.specs.Running.{PrintsRun, HasRuntime, rows_for};
+ghost use Rattle.wq_run.specs.Running.{PrintsRun, HasRuntime, HaveMade, rows_for};
 
 use crate::fault::RunStop;
 use crate::report::report_text;
@@ -26,7 +27,7 @@ use std::alloc::{AllocError, Allocator};
 use std::mem;
 use std::sync::Wait;
 use std::thread::Threads;
-use wq_api::{Closed, Naming, Seat, WqRuntime};
+use wq_api::{CallError, Closed, Naming, Seat, WqRuntime};
 use wq_groups::{Assignment, Groups};
 use wq_items::ItemTable;
 use wq_rescuer::{Body, Caller, Ran, count_contexts, run_all};
@@ -65,7 +66,15 @@ fn make_crew<'t, 'a, A: Allocator + Copy>(
     }
 }
 
-/// Runs the crew of a plan on the workqueues of a runtime, and hands back what the threads left.
+/// Whether none of these callers was refused.
+fn are_answered(results: &[Result<(), CallError>]) -> bool
+    ensures { IsTrue result → All (λ r. IsTrue (is_ok r)) results.now }
+{
+    results.iter().all(|result| result.is_ok())
+}
+
+/// Runs the crew of a plan on the workqueues of a runtime, and hands back what the threads left. The error is `Tally`, too, where
+/// a caller was refused.
 fn run_crew<
     't,
     'a,
@@ -80,12 +89,17 @@ fn run_crew<
 ) -> Result<CrewRan<'t, 'a, N, A>, RunStop>
     requires items { items N.wiring ≡ length table.now.names }
     ensures ran { IfOk result (λ r. IsRan N.wiring 2 r.seats.items (map runs_of r.bodies.items) 2 2 r.rescued.items r.finished r.faults) }
+    ensures called { IfOk result (λ r. HaveMade N.wiring (shared_by_two (length table.now.names)) (drop (length (contexts_of N.wiring)) r.seats.items)) }
 {
     let Crew { bodies, callers } = make_crew(alloc, table, count_contexts(rt, runtime))?;
-    match run_all(rt, alloc, runtime, bodies, callers) {
-        Ok(ran) => Ok(ran),
-        Err(refused) => Err(RunStop::from(refused.why)),
+    let ran = match run_all(rt, alloc, runtime, bodies, callers) {
+        Ok(ran) => ran,
+        Err(refused) => return Err(RunStop::from(refused.why)),
+    };
+    if !are_answered(ran.results.as_slice()) {
+        return Err(RunStop::Tally);
     }
+    Ok(ran)
 }
 
 /// Closes a runtime with all its seats, whose counts agree with its history. The error is `Tally`, where the runtime can't be

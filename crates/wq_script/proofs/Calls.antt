@@ -2,7 +2,7 @@
 use Rattle.std.proofs.Common.{◌≡◌, ℕ, ◌+◌, ◌<◌, List, [], ◌∷◌, ◌++◌, length, take, drop, get_or, refl, sym, ap, subst, ◌∙◌}
 use Rattle.std.proofs.lemmas.List.{take-append-drop, take_more, drop_more}
 use Rattle.wq_core.specs.Wiring.{Wiring}
-use Rattle.wq_held.specs.declared.fault.CallError.{CallError}
+use Rattle.wq_history.specs.declared.fault.CallError.{CallError}
 use Rattle.wq_script.specs.declared.acting.Act.{Act}
 use Rattle.wq_script.specs.Acts.{CountsAct, RefusedAct, CountsActs, RefusedActs}
 

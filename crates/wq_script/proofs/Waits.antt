@@ -10,12 +10,12 @@ use Rattle.wq_counts.specs.declared.kind.Kind.{Kind}
 use Rattle.wq_counts.specs.Counting.{kind_place, place, HasCountsOf, made, raised, wait_kind, over_kind}
 use Rattle.wq_counts.proofs.Places.{place-same, raised_at-other, made-raised_same, made-raised_other}
 use Rattle.std.specs.Prelude.{sum}
-use Rattle.wq_held.specs.declared.fault.CallError.{CallError}
-use Rattle.wq_held.specs.Errors.{call_code}
+use Rattle.wq_history.specs.declared.fault.CallError.{CallError}
+use Rattle.wq_history.specs.Errors.{call_code}
 use Rattle.wq_held.specs.Locked.{seat_rows, slots}
 use Rattle.wq_held.proofs.Locking.{items_within_slots}
 use Rattle.wq_under_lock.specs.Refusals.{RefusesWaitIn}
-use Rattle.wq_held.specs.declared.fault.CallError.TheVariants.{HistoryFull, Closed, Undeclared, TooManyWaits, WrongLane, NotAsked, NoItem}
+use Rattle.wq_history.specs.declared.fault.CallError.TheVariants.{HistoryFull, Closed, Undeclared, TooManyWaits, WrongLane, NotAsked, NoItem}
 use Rattle.wq_api.specs.WaitingCalls.{waited_for, RefusedWaitIn}
 use Rattle.wq_rescuer.specs.Executing.{SameFinished}
 use Rattle.wq_script.specs.Scripts.{counted_waits, is_target, times_among, CountsWaits, CountsFirstWaits, CountsOnlyWaits}

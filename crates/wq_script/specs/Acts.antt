@@ -1,9 +1,9 @@
 -- Acts: what the seat of a scripted caller counts of its calls, and which refusal is its answer.
-use Rattle.std.specs.Prelude.{◌≡◌, ℕ, ◌<◌, List, [], ◌∷◌, ◌++◌, Bool}
+use Rattle.std.specs.Prelude.{◌≡◌, ℕ, ◌<◌, List, [], ◌∷◌, ◌++◌, Bool, Result, Ok, Err}
 use Rattle.wq_core.specs.Wiring.{Wiring, items}
 use Rattle.wq_counts.specs.declared.kind.Kind.TheVariants.{Queue as QueueKind, Cancel as CancelKind}
 use Rattle.wq_counts.specs.Counting.{raised}
-use Rattle.wq_held.specs.declared.fault.CallError.{CallError}
+use Rattle.wq_history.specs.declared.fault.CallError.{CallError}
 use Rattle.wq_under_lock.specs.Refusals.{RefusesCancelWork}
 use Rattle.wq_api.specs.WaitingCalls.{RefusesFlushWork, flushed, flush_refused, CountsCancelSync, RefusedCancelSync, RefusesFlushWorkqueue, lane_flushed, lane_flush_refused}
 use Rattle.wq_rescuer.specs.Executing.{RefusesQueueByBody}
@@ -41,3 +41,8 @@ pub record RefusedActs (w : Wiring) (old new : List ℕ) (acts : List Act) (e : 
   pub between : List ℕ
   pub counted : CountsActs w old between answered
   pub refused : RefusedAct w between new act e
+
+-- counts after the calls of a list, with their result: all were answered, or one was refused
+abbrev pub CountsCalls : Wiring → List Act → Result (Unit {0}) CallError → List ℕ → List ℕ → Type 0
+CountsCalls w acts (Ok done) old new = CountsActs w old new acts
+CountsCalls w acts (Err e) old new = RefusedActs w old new acts e

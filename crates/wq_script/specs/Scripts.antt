@@ -1,10 +1,11 @@
 -- Scripts: what a scripted body keeps, and what the seat of its rescuer counts of its flushes.
-use Rattle.std.specs.Prelude.{◌≡◌, ◌≢◌, ℕ, ◌+◌, ◌≤◌, ◌==◌, ◌&&◌, not, if◌then◌else◌, ◌⊎◌, List, Bool, Result, Err, length, take, slice_index, true, false}
+use Rattle.std.specs.Prelude.{◌≡◌, ◌≢◌, ℕ, ◌+◌, ◌≤◌, ◌==◌, ◌&&◌, not, if◌then◌else◌, ◌⊎◌, List, Bool, Result, Ok, Err, length, take, slice_index, true, false}
 use Rattle.std.specs.List.{count_by}
 use Rattle.wq_items.specs.declared.target.Target.{Target}
 use Rattle.wq_counts.specs.Counting.{place, made, wait_kind, over_kind}
-use Rattle.wq_held.specs.declared.fault.CallError.{CallError}
-use Rattle.wq_held.specs.Errors.{call_code}
+use Rattle.wq_history.specs.declared.fault.CallError.{CallError}
+use Rattle.wq_history.specs.Errors.{call_code}
+use Rattle.wq_rescuer.specs.declared.body.BodyFault.{BodyFault}
 
 -- for each item in turn: the targets of the flushes that it declares, and how often it ran
 pub record Script : Type 0 where
@@ -40,6 +41,11 @@ CountsFirstWaits old new targets = (n : ℕ) × (n ≤ length targets) × Counts
 abbrev pub CountsOnlyWaits : List ℕ → List ℕ → Type 0
 CountsOnlyWaits old new = (p : ℕ) → ((b : ℕ) (whole said : Bool) → p ≢ place b (wait_kind whole) said) → ((b : ℕ) (whole : Bool) → p ≢ place b (over_kind whole) true)
     → slice_index new p ≡ slice_index old p
+
+-- counts after a run of a body that is to flush these targets, with its answer: all were flushed, or, if it gave up, the first ones
+abbrev pub CountsRun : List Target → Result (Unit {0}) BodyFault → List ℕ → List ℕ → Type 0
+CountsRun targets (Ok done) old new = CountsWaits old new targets × CountsOnlyWaits old new
+CountsRun targets (Err fault) old new = CountsFirstWaits old new targets × CountsOnlyWaits old new
 
 -- the number of a refusal of a flush by a body: the seat is full; no such flush is declared; as many were made as are
 -- declared; the lane can't wait

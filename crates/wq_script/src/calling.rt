@@ -3,7 +3,7 @@
 //! A caller takes the time of its calls, including what they wait for, and no memory.
 
 ghost use Rattle.std.specs.Prelude.{◌≡◌, IfErr, OnOk};
-ghost use Rattle.wq_script.specs.Acts.{CountsActs, RefusedActs};
+ghost use Rattle.wq_script.specs.Acts.{CountsActs, CountsCalls, RefusedActs};
 
 use crate::acting::Act;
 use std::alloc::Allocator;
@@ -52,6 +52,7 @@ fn make_each<N: Naming, S: Allocator, R: Wait>(
 ) -> Result<(), CallError>
     ensures made { OnOk result (CountsActs N.wiring seat.old seat.new acts.now) }
     ensures refused { IfErr result (λ e. RefusedActs N.wiring seat.old seat.new acts.now e) }
+    ensures calls { CountsCalls N.wiring acts.now result seat.old seat.new }
 {
     for act in acts {
         act.make(rt, runtime, seat)?;
@@ -60,6 +61,11 @@ fn make_each<N: Naming, S: Allocator, R: Wait>(
 }
 
 impl<A: Allocator> Caller for ScriptCaller<A> {
+    ghost use Rattle.std.specs.Prelude.{◌≡◌};
+    ghost use Rattle.wq_script.specs.Acts.{CountsCalls};
+
+    ghost did = { λ w before after result old new. CountsCalls w before result old new × (after ≡ before) };
+
     /// Makes its calls in order, each as the runtime makes it. An item is queued on its own workqueue.
     ///
     /// The error is the first refusal: `HistoryFull` (60), `Closed` (61), `WrongLane` (64), where there is no such workqueue to
@@ -73,6 +79,7 @@ impl<A: Allocator> Caller for ScriptCaller<A> {
         ensures made { OnOk result (CountsActs N.wiring seat.old seat.new self.old) }
         ensures refused { IfErr result (λ e. RefusedActs N.wiring seat.old seat.new self.old e) }
         ensures same { self.new ≡ self.old }
+        ensures did { CountsCalls N.wiring self.old result seat.old seat.new × (self.new ≡ self.old) }
     {
         make_each(rt, runtime, seat, self.acts.as_slice())
     }

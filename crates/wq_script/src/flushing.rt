@@ -5,14 +5,15 @@
 //! `flush_workqueue` in kernel/workqueue.c). Apart from what it waits for, a run takes time in the number of its item's flushes.
 //! `new` takes time and memory in the number of items, 4 bytes for each. How often an item ran is answered in constant time.
 
-ghost use Rattle.std.specs.Prelude.{◌≡◌, ◌<◌, ◌≤◌, length, sum, IfOk, IfErr, OnOk, OnErr};
+ghost use Rattle.std.specs.Prelude.{◌≡◌, ◌<◌, ◌≤◌, ℕ, List, Result, length, sum, IfOk, IfErr, OnOk, OnErr};
 ghost use Rattle.wq_items.specs.Table.{targets_of};
 ghost use Rattle.wq_core.specs.Wiring.{items};
 ghost use Rattle.wq_held.specs.Locked.{seat_rows};
 ghost use Rattle.wq_under_lock.specs.Refusals.{RefusesWaitIn};
 ghost use Rattle.wq_api.specs.WaitingCalls.{waited_for, RefusedWaitIn};
+ghost use Rattle.wq_rescuer.specs.declared.body.BodyFault.{BodyFault as Fault};
 ghost use Rattle.wq_rescuer.specs.Executing.{NeverRan, RanOnce, SameFinished};
-ghost use Rattle.wq_script.specs.Scripts.{runs_of, CountsWaits, CountsFirstWaits, CountsOnlyWaits, IsFlushCode, IsCodeOf};
+ghost use Rattle.wq_script.specs.Scripts.{runs_of, CountsWaits, CountsFirstWaits, CountsOnlyWaits, CountsRun, IsFlushCode, IsCodeOf};
 
 use std::alloc::{AllocError, Allocator};
 use std::marker::Model;
@@ -90,6 +91,7 @@ fn flush_each<N: Naming, S: Allocator, R: Wait>(
     ensures finished { SameFinished work.old.seat.now work.new.seat.now }
     ensures same_seat { work.new.seat.ghost_name ≡ work.old.seat.ghost_name }
     ensures cause { IfErr result (λ f. IsCodeOf work.new.flushed f.code) }
+    ensures run { CountsRun targets.now result work.old.seat.now work.new.seat.now }
 {
     for target in targets {
         work.holds();
@@ -101,9 +103,15 @@ fn flush_each<N: Naming, S: Allocator, R: Wait>(
 }
 
 impl<'t, 'a, A: Allocator + Copy> Body for ScriptBody<'t, 'a, A> {
+    ghost use Rattle.std.specs.Prelude.{length};
+    ghost use Rattle.wq_items.specs.Table.{targets_of};
+    ghost use Rattle.wq_script.specs.Scripts.{CountsRun, runs_of};
+
     ghost width = { λ b. length b.runs };
 
     ghost runs = { runs_of };
+
+    ghost may = { λ w b i answer old new. CountsRun (targets_of b.waits i) answer old new };
 
     /// Counts a run of the item, and flushes what it declares, items and whole workqueues, in order and each as often as it is
     /// declared.
@@ -130,6 +138,8 @@ impl<'t, 'a, A: Allocator + Copy> Body for ScriptBody<'t, 'a, A> {
         ensures code { IfErr result (λ f. IsFlushCode f.code) }
         ensures full { IfErr result (λ f. f.code ≡ 60 → seat_rows ≤ sum work.new.seat.now) }
         ensures cause { IfErr result (λ f. IsCodeOf work.new.flushed f.code) }
+        ensures may { CountsRun (targets_of self.old.waits item) result work.old.seat.now work.new.seat.now }
+        ensures no_more { (i : ℕ) (answer : Result (Unit {0}) Fault) (before : List ℕ) (after : List ℕ) → CountsRun (targets_of self.new.waits i) answer before after → CountsRun (targets_of self.old.waits i) answer before after }
     {
         self.counts[usize::from(item.get())] += 1;
         let table = self.table;

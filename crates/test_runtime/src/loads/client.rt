@@ -225,6 +225,8 @@ fn until_full(answer: Result<(), CallError>) -> Result<(), CallError> {
 }
 
 impl Caller for Client<'_> {
+    ghost did = { λ w before after result old new. Unit {0} };
+
     fn call<N: Naming, A: Allocator, R: Wait>(
         &mut self,
         rt: &R,

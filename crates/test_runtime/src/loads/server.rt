@@ -111,6 +111,8 @@ impl Body for Server<'_, '_> {
 
     ghost runs = { λ s i. slice_index s.runs.items i };
 
+    ghost may = { λ w s i answer old new. Unit {0} };
+
     fn run<N: Naming, A: Allocator, R: Wait>(
         &mut self,
         rt: &R,

@@ -109,6 +109,8 @@ impl Body for Doer<'_> {
 
     ghost runs = { λ d i. slice_index d.runs.items i };
 
+    ghost may = { λ w d i answer old new. Unit {0} };
+
     fn run<N: Naming, A: Allocator, R: Wait>(
         &mut self,
         rt: &R,
@@ -168,6 +170,8 @@ fn do_in_caller<N: Naming, A: Allocator, R: Wait>(
 }
 
 impl Caller for Doer<'_> {
+    ghost did = { λ w before after result old new. Unit {0} };
+
     fn call<N: Naming, A: Allocator, R: Wait>(
         &mut self,
         rt: &R,

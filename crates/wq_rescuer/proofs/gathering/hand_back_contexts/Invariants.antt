@@ -1,8 +1,24 @@
-use Rattle.std.proofs.Common.{vec_len}
+use Rattle.std.proofs.Common.{◌≡◌, ◌+◌, vec_len, vec_capacity}
 use Rattle.wq_rescuer.proofs.gathering.hand_back_contexts.Given as goal
+
+-- what is gone of the ends was added to each list
+abbrev pub invariant-loop-end : goal.invariant-loop-end
+invariant-loop-end g l =
+    (vec_len l.seats + vec_len l.ends ≡ vec_len l.fn.seats + vec_len l.fn.contexts.ends)
+    × (vec_len l.bodies + vec_len l.ends ≡ vec_len l.fn.bodies + vec_len l.fn.contexts.ends)
+    × (vec_capacity l.seats ≡ vec_capacity l.fn.seats)
+    × (vec_capacity l.bodies ≡ vec_capacity l.fn.bodies)
 
 abbrev pub decreases-loop-end : goal.decreases-loop-end
 decreases-loop-end g l = vec_len l.ends
+
+-- all ends were added, and what is gone of the jobs
+abbrev pub invariant-loop-job : goal.invariant-loop-job
+invariant-loop-job g l =
+    (vec_len l.seats + vec_len l.waiting ≡ vec_len l.fn.seats + (vec_len l.fn.contexts.waiting + vec_len l.fn.contexts.ends))
+    × (vec_len l.bodies + vec_len l.waiting ≡ vec_len l.fn.bodies + (vec_len l.fn.contexts.waiting + vec_len l.fn.contexts.ends))
+    × (vec_capacity l.seats ≡ vec_capacity l.fn.seats)
+    × (vec_capacity l.bodies ≡ vec_capacity l.fn.bodies)
 
 abbrev pub decreases-loop-job : goal.decreases-loop-job
 decreases-loop-job g l = vec_len l.waiting

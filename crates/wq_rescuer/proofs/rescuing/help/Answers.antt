@@ -1,5 +1,5 @@
 use Rattle.std.proofs.Common.{◌<◌, arith}
-use Rattle.wq_rescuer.proofs.Executions.{helper_served, helper_refused, nothing_else}
+use Rattle.wq_rescuer.proofs.Executions.{helper_served, helper_refused, nothing_else, stopped_at_once}
 use Rattle.wq_rescuer.proofs.rescuing.help.Goals as goal
 
 pub returns-then-h-eq0-clause-own : goal.returns-then-h-eq0-clause-own
@@ -20,3 +20,6 @@ returns-then-h-eq0-clause-cause g c = λ there. absurd (omega (arith, there.0, c
 
 pub returns-clause-cause : goal.returns-clause-cause
 returns-clause-cause g c = λ there. c.serve.ensures.cause there.1
+
+pub returns-then-h-eq0-clause-stopped : goal.returns-then-h-eq0-clause-stopped
+returns-then-h-eq0-clause-stopped g c = stopped_at_once (g.B.Body.may g.N.Naming.wiring c.args.body.now) c.args.seat.now

@@ -1,4 +1,6 @@
-use Rattle.std.proofs.Common.{arith}
+use Rattle.std.proofs.Common.{arith, drop, length}
+use Rattle.wq_rescuer.specs.Contexts.{contexts_of}
+use Rattle.wq_run.proofs.CallerLemmas.{have_made}
 use Rattle.wq_run.proofs.serving.run_crew.Goals as goal
 
 pub run_all-requires-clause-width : goal.run_all-requires-clause-width

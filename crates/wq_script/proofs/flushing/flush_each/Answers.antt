@@ -27,3 +27,6 @@ returns-in-Err-clause-only_waits g c =
     let l = c.loop-target in
     only_waits-refused g.N.Naming.wiring (take l.target-index c.args.targets.now) c.target-item.result c.args.work.now.seat.now l.work.seat.now c.flush_target.new.work.seat.now
     l.work.context.lane l.work.context.helper c.in-Err.e l.invariant.0 c.in-Err.ensures.refused.1
+
+pub returns-in-Err-clause-run : goal.returns-in-Err-clause-run
+returns-in-Err-clause-run g c = (returns-in-Err-clause-cut_off g c, returns-in-Err-clause-only_waits g c)

@@ -1,16 +1,14 @@
-use Rattle.std.proofs.Common.{◌≡◌, ℕ, ◌≤◌, Bool, true, cond, [], ◌∷◌, ◌++◌, length, sym, ap, ◌∙◌, subst, arith}
-use Rattle.std.specs.Prelude.{◌&&◌}
+use Rattle.std.proofs.Common.{◌≡◌, ◌≤◌, true, [], ◌∷◌, ◌++◌, length, sym, ap, ◌∙◌, subst, arith}
 use Rattle.std.proofs.lemmas.List.{length-set}
 use Rattle.wq_rows.specs.declared.event.Event.{Event}
 use Rattle.wq_rows.specs.declared.event.Row.{Row}
 use Rattle.wq_rows.specs.Packing.{MayAnswer}
 use Rattle.wq_history.specs.Events.{ask_event}
 use Rattle.wq_history.specs.History.{MayCome}
-use Rattle.wq_history.specs.Reserve.{free_rows}
 use Rattle.wq_history.specs.Counts.{ask_place}
 use Rattle.wq_history.specs.Book.{BookView, free}
-use Rattle.wq_history.proofs.Counting.{CountsAsks-asked, is_ask-ask_event}
-use Rattle.wq_history.proofs.Holding.{free_rows-noted, HoldsBook-noted, HoldsBook-read}
+use Rattle.wq_history.proofs.Counting.{CountsAsks-asked}
+use Rattle.wq_history.proofs.Holding.{HoldsBook-noted, HoldsBook-read}
 use Rattle.wq_history.proofs.WaitEvents.{step_of-ask_event, ask-packable, ask-there}
 use Rattle.wq_history.proofs.book.Book.begin_to_wait.Goals as goal
 
@@ -36,17 +34,3 @@ invariant_of-self g c =
     HoldsBook-read b.core c.push.new.self.rows c.push.new.self.room c.add.new.self b.work rows c.push.ensures.room
     (HoldsBook-noted b.core b.history.rows b.history.room b.asks c.add.new.self b.work row c.self.invariant (step_of-ask_event x true) may counts
     (ap length c.add.ensures.counts ∙ length-set b.asks.counts (ask_place x) _) (omega (arith, enough, c.add.ensures.all)))
-
-pub returns-clause-left : goal.returns-clause-left
-returns-clause-left g c =
-    let b = c.self.inside in
-    let w = b.core.wiring in
-    let x = c.args.subject in
-    let row : Row = record { event = ask_event x; yes = true; number = c.args.mark } in
-    let old = ap free c.self.view_is in
-    let rows : c.push.new.self.rows ≡ b.history.rows ++ (row ∷ []) =
-    c.push.ensures.rows ∙ ap (λ (e : Event). b.history.rows ++ (record { event = e; yes = true; number = c.args.mark } ∷ [])) c.ask-event.ensures in
-    let new : free_rows w c.push.new.self.room c.push.new.self.rows ≡ free_rows w b.history.room (b.history.rows ++ (row ∷ [])) =
-    ap (λ n. free_rows w n c.push.new.self.rows) c.push.ensures.room ∙ ap (free_rows w b.history.room) rows in
-    let one = ap {B = ℕ} (λ (said : Bool). cond (said && true) 1 0) (is_ask-ask_event x) in
-    omega (arith, old, new, one, free_rows-noted w b.history.room b.history.rows row (step_of-ask_event x true))

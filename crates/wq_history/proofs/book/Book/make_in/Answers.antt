@@ -6,7 +6,7 @@ use Rattle.wq_rows.specs.declared.event.Event.{Event}
 use Rattle.wq_history.specs.Events.{step_of}
 use Rattle.wq_history.specs.History.{MayCome}
 use Rattle.wq_history.specs.Reserve.{rows_needed}
-use Rattle.wq_history.specs.Book.{state, free, Appends}
+use Rattle.wq_history.specs.Book.{state, free}
 use Rattle.wq_history.proofs.Deeds.{step_of-event_in, no_rows-event_in, deed_may_come}
 use Rattle.wq_history.proofs.book.Book.make_in.Goals as goal
 
@@ -32,7 +32,5 @@ make-requires-clause-room g c =
     let none = no_rows-event_in b.wiring c.args.q c.args.helper c.args.deed.now c.args.yes in
     subst (λ (e : Event). rows_needed b.wiring e c.args.yes ≤ free b) (sym c.event_of-event.ensures) (omega (arith, none))
 
-pub returns : goal.returns
-returns g c =
-    let b = c.args.self.now in
-    (c.make.result, subst (λ (e : Event). Appends b c.make.new.self e c.args.yes c.make.result) c.event_of-event.ensures c.make.ensures)
+pub returns-clause-event : goal.returns-clause-event
+returns-clause-event g c = c.make.ensures.event ∙ c.event_of-event.ensures

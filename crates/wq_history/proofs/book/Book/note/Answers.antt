@@ -1,10 +1,10 @@
-use Rattle.std.proofs.Common.{◌≡◌, ℕ, ◌≤◌, false, cond, [], ◌∷◌, ◌++◌, refl, sym, ap, ◌∙◌, subst, arith}
+use Rattle.std.proofs.Common.{◌≤◌, false, refl, sym, subst, arith}
 use Rattle.wq_rows.specs.declared.event.Row.{Row}
 use Rattle.wq_history.specs.History.{MayCome}
-use Rattle.wq_history.specs.Reserve.{free_rows, rows_needed}
+use Rattle.wq_history.specs.Reserve.{rows_needed}
 use Rattle.wq_history.specs.Book.{BookView, free}
 use Rattle.wq_history.proofs.Counting.{IsNobodys-nothing, CountsAsks-same}
-use Rattle.wq_history.proofs.Holding.{free_rows-noted, HoldsBook-noted, HoldsBook-read, not_told, needs_a_row}
+use Rattle.wq_history.proofs.Holding.{HoldsBook-noted, HoldsBook-read, not_told, needs_a_row}
 use Rattle.wq_history.proofs.Deeds.{may-packable}
 use Rattle.wq_history.proofs.book.Book.note.Goals as goal
 
@@ -26,16 +26,3 @@ invariant_of-self g c =
     HoldsBook-read b.core c.push.new.self.rows c.push.new.self.room b.asks b.work c.push.ensures.rows c.push.ensures.room
     (HoldsBook-noted b.core b.history.rows b.history.room b.asks b.asks b.work row c.self.invariant c.requires.event may
     (CountsAsks-same b.history.rows row b.asks (IsNobodys-nothing c.args.event c.args.number told) c.self.invariant.replays.asked) refl (omega (arith, enough, one)))
-
-pub returns-clause-left : goal.returns-clause-left
-returns-clause-left g c =
-    let b = c.self.inside in
-    let w = b.core.wiring in
-    let row : Row = record { event = c.args.event; yes = false; number = c.args.number } in
-    let may = subst (λ (x : BookView). MayCome x.wiring x.rows c.args.event false c.args.number) (sym c.self.view_is) c.requires.may in
-    let told = not_told w b.history.rows c.args.event c.args.number may in
-    let nobody = ap {B = ℕ} (λ is. cond is 1 0) (IsNobodys-nothing c.args.event c.args.number told).asks in
-    let old = ap free c.self.view_is in
-    let new : free_rows w c.push.new.self.room c.push.new.self.rows ≡ free_rows w b.history.room (b.history.rows ++ (row ∷ [])) =
-    ap (λ n. free_rows w n c.push.new.self.rows) c.push.ensures.room ∙ ap (free_rows w b.history.room) c.push.ensures.rows in
-    omega (arith, old, new, nobody, free_rows-noted w b.history.room b.history.rows row c.requires.event)

@@ -1,31 +1,15 @@
-use Rattle.std.proofs.Common.{◌≡◌, ℕ, refl, sym, ◌∙◌, Bool, true, false}
-use Rattle.std.specs.Prelude.{None, MatchBool}
-use Rattle.wq_core.specs.Wiring.{HasContext}
-use Rattle.wq_core.specs.State.{lane_at, run_by}
-use Rattle.wq_history.specs.Book.{BookView, state, IsWrongToStart}
-use Rattle.wq_history.proofs.Deeds.{start_is_lawful}
+use Rattle.std.proofs.Common.{◌≡◌, subst}
+use Rattle.wq_history.specs.declared.call.Call.TheVariants.{Start}
+use Rattle.wq_history.specs.declared.call.Reply.{Reply}
+use Rattle.wq_history.specs.declared.call.Reply.TheVariants.{Wrote}
+use Rattle.wq_history.specs.Calls.{Replies}
+use Rattle.wq_history.proofs.Upheld.{started_there}
 use Rattle.wq_history.proofs.book.Book.start_in.Goals as goal
 
--- the context exists, and runs nothing
-is_idle : (b : BookView) (q c : ℕ) (is : Bool) → is ≡ true
-    → MatchBool is (HasContext b.wiring q c × (run_by (lane_at (state b) q) c ≡ None)) (IsWrongToStart b q c)
-    → HasContext b.wiring q c × (run_by (lane_at (state b) q) c ≡ None)
-is_idle b q c true same says = says
-is_idle b q c false same says = absurd cc
-
-pub make_in-requires-clause-lawful : goal.make_in-requires-clause-lawful
-make_in-requires-clause-lawful g c =
+pub returns-in-Ok-Wrote-clause-known : goal.returns-in-Ok-Wrote-clause-known
+returns-in-Ok-Wrote-clause-known g c =
     let b = c.args.self.now in
-    let q = c.args.q in
-    let h = c.args.helper in
-    let idle = is_idle b q h _ c.if-not-is_idle_context.false c.is_idle_context.ensures in
-    start_is_lawful b.wiring (state b) q h c.in-Some.next idle.0 idle.1 (sym c.in-Some.ensures.next)
-
-pub returns-in_default-clause-row : goal.returns-in_default-clause-row
-returns-in_default-clause-row g c =
-    let b = c.args.self.now in
-    let idle = is_idle b c.args.q c.args.helper _ c.if-not-is_idle_context.false c.is_idle_context.ensures in
-    ((idle.0, idle.1, sym c.next_on.ensures.next ∙ c.in_default.is), refl)
-
-pub returns-clause-row : goal.returns-clause-row
-returns-clause-row g c = ((c.in-Some.next, sym c.in-Some.ensures.next, refl), c.make_in.ensures)
+    let new = c.answer.new.self in
+    let wrote : c.in-Ok-Wrote.field-0 ≡ Wrote c.in-Ok-Wrote.row = c.in-Ok-Wrote.field-0-is in
+    let replies = subst (λ (r : Reply). Replies b (Start (record { lane = c.args.q; helper = c.args.helper })) r new) wrote c.in-Ok-Wrote.ensures in
+    started_there b new c.args.q c.args.helper c.item.result c.in-Ok-Wrote.row c.legal.ensures c.item.ensures replies

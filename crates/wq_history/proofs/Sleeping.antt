@@ -1,0 +1,71 @@
+-- Who sleeps, sleeps for something that isn't so yet, among those who are woken once it is.
+use Rattle.std.proofs.Common.{◌≡◌, ℕ, inl, inr, refl, sym, ap, subst, ◌∙◌}
+use Rattle.std.specs.Prelude.{Some, None}
+use Rattle.wq_core.specs.declared.entry.Running.{Running}
+use Rattle.wq_core.specs.declared.entry.Waiting.{Waiting as WaitOf}
+use Rattle.wq_core.specs.declared.step.Context.{Context}
+use Rattle.wq_core.specs.State.{lane_at, next_of}
+use Rattle.wq_history.specs.declared.asking.Subject.{Subject}
+use Rattle.wq_history.specs.declared.asking.Subject.TheVariants.{Item as OfItem, Lane as OfLane}
+use Rattle.wq_history.specs.Book.{BookView, state, IsWaiting}
+use Rattle.wq_history.specs.Waits.{Condition, WorkOn, EndOf, AllDone, IsMet, sleepers_for}
+use Rattle.wq_history.specs.declared.call.Flush.{Flush}
+use Rattle.wq_history.specs.declared.call.Call.{Call}
+use Rattle.wq_history.specs.declared.call.Call.TheVariants.{Queue, Cancel, Ask, Told, CancelSync, Start, Wait, Over, Finish, Close, Drain}
+use Rattle.wq_history.specs.Calls.{subject_of, IsUnfinishedBelow, WaitsWith, IsEarly, Awaits, done_below, waiters_for, sleepers_of}
+
+-- what isn't done yet
+not-done : (b : BookView) (x : Subject) (mark : ℕ) → IsUnfinishedBelow (state b) x mark → ¬ IsMet b (done_below x mark)
+not-done b (OfItem i) mark unfinished = λ met. met unfinished
+not-done b (OfLane q) mark unfinished = λ met. met unfinished
+
+-- who waits for it
+among-waiters : (x : Subject) (mark : ℕ) → sleepers_for (done_below x mark) ≡ waiters_for x
+among-waiters (OfItem i) mark = refl
+among-waiters (OfLane q) mark = refl
+
+-- what holds for a condition holds for the same condition
+same-condition : (b : BookView) (call : Call) (one condition : Condition) → condition ≡ one → (¬ IsMet b one)
+    × (sleepers_for one ≡ sleepers_of b.wiring call)
+    → (¬ IsMet b condition) × (sleepers_for condition ≡ sleepers_of b.wiring call)
+same-condition b call one condition same holds =
+    subst (λ (k : Condition). (¬ IsMet b k) × (sleepers_for k ≡ sleepers_of b.wiring call)) (sym same) holds
+
+-- a context waits with one mark
+pub one-wait : (b : BookView) (q c : ℕ) (g h : WaitOf) → IsWaiting b q c g → IsWaiting b q c h → g ≡ h
+one-wait b q c g h one other =
+    let same : Some one.0 ≡ Some other.0 = sym one.1 ∙ other.1 in
+    let runs : one.0 ≡ other.0 = cc in
+    let waits : Some g ≡ Some h = sym one.2 ∙ (ap (λ (r : Running). r.waiting) runs ∙ other.2) in
+    cc
+
+one-mark : (b : BookView) (c : Context) (f : Flush) (m n : ℕ) → WaitsWith b c f m → WaitsWith b c f n → m ≡ n
+one-mark b c f m n one other = sym one.3 ∙
+    (ap (λ (g : WaitOf). g.mark) (one-wait b c.lane c.helper one.0 other.0 one.1.0 other.1.0) ∙ other.3)
+
+-- a lane with nothing to start has no work
+no-work : (b : BookView) (q : ℕ) → next_of (lane_at (state b) q) ≡ None → ¬ IsMet b (WorkOn q)
+no-work b q none = λ met. let bad : Some met.0 ≡ None = sym met.1 ∙ none in absurd cc
+
+pub early-sleeps : (b : BookView) (call : Call) (condition : Condition) → IsEarly b call → Awaits b call condition
+    → (¬ IsMet b condition) × (sleepers_for condition ≡ sleepers_of b.wiring call)
+early-sleeps b (Told x mark) condition early awaits =
+    same-condition b (Told x mark) (done_below x mark) condition awaits
+    (not-done b x mark early.1, among-waiters x mark)
+early-sleeps b (Start c) condition early (inl work) = same-condition b (Start c) (WorkOn c.lane) condition work
+    (no-work b c.lane early.0.2, refl)
+early-sleeps b (Start c) condition early (inr end) = same-condition b (Start c) (EndOf c.lane) condition end
+    (early.1, refl)
+early-sleeps b (Over c f) condition early awaits =
+    let x : Subject = subject_of b.wiring f.whole f.target in
+    let same : early.0 ≡ awaits.0 = one-mark b c f early.0 awaits.0 early.1 awaits.1 in
+    same-condition b (Over c f) (done_below x awaits.0) condition awaits.2
+    (not-done b x awaits.0 (subst (λ (m : ℕ). IsUnfinishedBelow (state b) x m) same early.2), among-waiters x awaits.0)
+early-sleeps b Drain condition early awaits = same-condition b Drain AllDone condition awaits (early, refl)
+early-sleeps b (Queue i) condition early awaits = absurd early
+early-sleeps b (Cancel i) condition early awaits = absurd early
+early-sleeps b (Ask x) condition early awaits = absurd early
+early-sleeps b (CancelSync i) condition early awaits = absurd early
+early-sleeps b (Wait c f) condition early awaits = absurd early
+early-sleeps b (Finish c i) condition early awaits = absurd early
+early-sleeps b Close condition early awaits = absurd early

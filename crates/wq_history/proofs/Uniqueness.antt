@@ -1,0 +1,102 @@
+-- A book writes one row for a call: which one, the call and the book say.
+use Rattle.std.proofs.Common.{◌≡◌, ℕ, zero, suc, Bool, true, false, refl, sym, ap, subst, ◌∙◌}
+use Rattle.std.specs.Prelude.{Some}
+use Rattle.wq_core.specs.declared.entry.Entry.{Entry}
+use Rattle.wq_rows.specs.declared.event.Event.{Event}
+use Rattle.wq_rows.specs.declared.event.Event.TheVariants.{Queue as QueueEvent, Cancel as CancelEvent}
+use Rattle.wq_rows.specs.declared.event.Row.{Row}
+use Rattle.wq_history.specs.declared.asking.Subject.{Subject}
+use Rattle.wq_history.specs.declared.asking.Subject.TheVariants.{Item as OfItem, Lane as OfLane}
+use Rattle.wq_history.specs.Events.{is_told, ask_event, told_event, start_event, wait_event, over_event, finish_event}
+use Rattle.wq_history.specs.History.{MayCome}
+use Rattle.wq_history.specs.Book.{BookView, IsBook, IsNext}
+use Rattle.wq_history.proofs.KeptRows.{one_answer}
+use Rattle.wq_history.proofs.CallRows.{told-yes}
+use Rattle.wq_history.specs.declared.call.Call.{Call}
+use Rattle.wq_history.specs.declared.call.Call.TheVariants.{Queue, Cancel, Ask, Told, CancelSync, Start, Wait, Over, Finish, Close, Drain}
+use Rattle.wq_history.specs.Calls.{IsRowOf, Writes}
+
+-- rows with the same fields
+pub same-row : (r s : Row) → r.event ≡ s.event → r.yes ≡ s.yes → r.number ≡ s.number → r ≡ s
+same-row r s events answers numbers = λ i. record { event = events i; yes = answers i; number = numbers i }
+
+-- a row that is written may come, as that of its event
+pub comes : (b new : BookView) (row : Row) (event : Event) → row.event ≡ event → Writes b row new
+    → MayCome b.wiring b.rows event row.yes row.number
+comes b new row event is writes = subst (λ (e : Event). MayCome b.wiring b.rows e row.yes row.number) is writes.may
+
+-- two rows of one event, which isn't of one who is told
+pub same-event : (b new next : BookView) (r s : Row) (event : Event) → IsBook b → is_told event ≡ false → r.event ≡ event
+    → s.event ≡ event → Writes b r new → Writes b s next → r ≡ s
+same-event b new next r s event book not_told one other first second =
+    let same = one_answer b.wiring b.rows event r.yes s.yes r.number s.number book.legal not_told
+    (comes b new r event one first) (comes b next s event other second) in
+    same-row r s (one ∙ sym other) same.0 same.1
+
+-- ---- events of which nobody is told
+
+ask-told : (x : Subject) → is_told (ask_event x) ≡ false
+ask-told (OfItem i) = refl
+ask-told (OfLane q) = refl
+
+start-told : (q c i : ℕ) → is_told (start_event q c i) ≡ false
+start-told q zero i = refl
+start-told q (suc h) i = refl
+
+wait-told : (whole : Bool) (q c b : ℕ) → is_told (wait_event whole q c b) ≡ false
+wait-told false q zero b = refl
+wait-told false q (suc h) b = refl
+wait-told true q zero b = refl
+wait-told true q (suc h) b = refl
+
+over-told : (whole : Bool) (q c b : ℕ) → is_told (over_event whole q c b) ≡ false
+over-told false q zero b = refl
+over-told false q (suc h) b = refl
+over-told true q zero b = refl
+over-told true q (suc h) b = refl
+
+finish-told : (q c i : ℕ) → is_told (finish_event q c i) ≡ false
+finish-told q zero i = refl
+finish-told q (suc h) i = refl
+
+-- ---- starts
+
+-- a lane has one next item
+one-next : (b : BookView) (q i j : ℕ) → IsNext b q i → IsNext b q j → i ≡ j
+one-next b q i j one other =
+    let same : Some one.0 ≡ Some other.0 = sym one.1 ∙ other.1 in
+    let entries : one.0 ≡ other.0 = cc in
+    sym one.2 ∙ (ap (λ (e : Entry). e.item) entries ∙ other.2)
+
+-- ---- one row
+
+pub one-row : (b new next : BookView) (call : Call) (r s : Row) → IsBook b → IsRowOf b call r → Writes b r new
+    → IsRowOf b call s → Writes b s next → r ≡ s
+one-row b new next (Queue i) r s book one first other second = same-event b new next r s
+    (QueueEvent i) book refl one.0 other.0 first second
+one-row b new next (Cancel i) r s book one first other second = same-event b new next r s
+    (CancelEvent i) book refl one other first second
+one-row b new next (Ask x) r s book one first other second = same-event b new next r s (ask_event x) book
+    (ask-told x) one other first second
+one-row b new next (Told x mark) r s book one first other second =
+    let yes : r.yes ≡ true = told-yes b.wiring b.rows x r.yes r.number (comes b new r (told_event x) one.0 first) in
+    let also : s.yes ≡ true = told-yes b.wiring b.rows x s.yes s.number (comes b next s (told_event x) other.0 second) in
+    same-row r s (one.0 ∙ sym other.0) (yes ∙ sym also) (one.1 ∙ sym other.1)
+one-row b new next (CancelSync i) r s book one first other second = absurd one
+one-row b new next (Start c) r s book one first other second =
+    let same : other.0 ≡ one.0 = one-next b c.lane other.0 one.0 other.1 one.1 in
+    let event : s.event ≡ start_event c.lane c.helper one.0 = other.2 ∙ ap
+    (λ (k : ℕ). start_event c.lane c.helper k) same in
+    same-event b new next r s (start_event c.lane c.helper one.0) book
+    (start-told c.lane c.helper one.0) one.2 event first second
+one-row b new next (Wait c f) r s book one first other second =
+    same-event b new next r s (wait_event f.whole c.lane c.helper f.target) book
+    (wait-told f.whole c.lane c.helper f.target) one other first second
+one-row b new next (Over c f) r s book one first other second =
+    same-event b new next r s (over_event f.whole c.lane c.helper f.target) book
+    (over-told f.whole c.lane c.helper f.target) one other first second
+one-row b new next (Finish c i) r s book one first other second =
+    same-event b new next r s (finish_event c.lane c.helper i) book
+    (finish-told c.lane c.helper i) one other first second
+one-row b new next Close r s book one first other second = absurd one
+one-row b new next Drain r s book one first other second = absurd one

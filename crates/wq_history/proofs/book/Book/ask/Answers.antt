@@ -1,0 +1,11 @@
+use Rattle.wq_history.specs.declared.asking.Subject.TheVariants.{Item as OfItem}
+use Rattle.wq_history.proofs.Upheld.{ask_takes}
+use Rattle.wq_history.proofs.book.Book.ask.Goals as goal
+
+pub returns-then-row-clause-left : goal.returns-then-row-clause-left
+returns-then-row-clause-left g c =
+    ask_takes c.args.self.now c.row.new.self (OfItem c.args.item) c.in_ok-row.row c.in_ok-row.ensures.row
+
+pub returns-else-row-clause-left : goal.returns-else-row-clause-left
+returns-else-row-clause-left g c =
+    ask_takes c.args.self.now c.row.new.self (OfItem c.args.item) c.in_ok-row.row c.in_ok-row.ensures.row

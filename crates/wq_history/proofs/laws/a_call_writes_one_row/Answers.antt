@@ -1,0 +1,5 @@
+use Rattle.wq_history.proofs.Uniqueness.{one-row}
+use Rattle.wq_history.proofs.laws.a_call_writes_one_row.Goals as goal
+
+pub returns : goal.returns
+returns c = one-row
