@@ -1,2 +1,4 @@
+pub mod Calls
+pub mod Projections
+pub mod Contexts
 pub mod WaitsRefused
-pub mod Waiters

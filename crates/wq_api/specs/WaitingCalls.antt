@@ -7,7 +7,7 @@ use Rattle.wq_counts.specs.Counting.{raised, raised_asked, raised_told, wait_kin
 use Rattle.wq_history.specs.declared.fault.CallError.{CallError}
 use Rattle.wq_history.specs.declared.fault.CallError.TheVariants.{HistoryFull, Closed, Undeclared, TooManyWaits, WrongLane, NotAsked, NoItem}
 use Rattle.wq_held.specs.Locked.{SeatHasRoom, IsOnLane, asked_and_cancelled}
-use Rattle.wq_under_lock.specs.Refusals.{RefusesWaitOf}
+use Rattle.wq_api.specs.Refusals.{RefusesWaitOf}
 
 -- ---- flushes and cancellations
 

@@ -6,11 +6,16 @@
 //! taken, callers sleep, and are woken. What the lock protects is `wq_held`, and what a call does with it `wq_under_lock`.
 #![tactic(auto)]
 
+mod calling;
 mod closing;
 mod condvars;
+mod layout;
 mod lock;
 mod runtime;
 mod serving;
+mod stub;
+mod turn;
+mod turns;
 
 pub use closing::CloseRefused;
 pub use runtime::WqRuntime;
