@@ -260,8 +260,7 @@ cancel_sync_not_done w rows counts left i (Err e) (inl (inr (admitted, took))) =
     cancel-sync-refusal w took.0.old counts left i e took.0.holds.of_wiring admitted.0 took.0.answers.0 took.1
 cancel_sync_not_done w rows counts left i (Err e) (inr (asked, taken, between, came, (yes, took))) =
     let is : e ≡ NotAsked = told_refused took.0.old (OfItem i) e took.0.answers.0 in
-    subst (λ (x : CallError). RefusesFlushWork w counts i x × RefusedCancelSync counts left i x) (sym is)
-    (
+    subst (λ (x : CallError). RefusesFlushWork w counts i x × RefusedCancelSync counts left i x) (sym is) (
       (came.0.0, came.0.1 refl),
       (taken.yes, took.1 ∙ both-counted w rows counts between i asked taken true taken.yes yes refl came),
     )

@@ -101,12 +101,7 @@ impl<N: Naming, A: Allocator> WqRuntime<N, A> {
     // ---- one call
 
     /// Has a call answered under the lock, once it isn't too early.
-    fn answer<R: Wait>(
-        &self,
-        rt: &R,
-        seat: &mut Seat<N, A>,
-        call: Call,
-    ) -> Result<Reply, CallError>
+    fn answer<R: Wait>(&self, rt: &R, seat: &mut Seat<N, A>, call: Call) -> Result<Reply, CallError>
         ensures took { Took N.wiring N.rows seat.old call result seat.new }
         ensures settled { IsSettled result }
     {
@@ -114,12 +109,7 @@ impl<N: Naming, A: Allocator> WqRuntime<N, A> {
     }
 
     /// Has a call that writes one row answered under the lock.
-    fn written<R: Wait>(
-        &self,
-        rt: &R,
-        seat: &mut Seat<N, A>,
-        call: Call,
-    ) -> Result<Row, CallError>
+    fn written<R: Wait>(&self, rt: &R, seat: &mut Seat<N, A>, call: Call) -> Result<Row, CallError>
         requires { WritesOne call }
         ensures { GivesRow (λ answer. Took N.wiring N.rows seat.old call answer seat.new) result }
     {

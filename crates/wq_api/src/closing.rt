@@ -27,8 +27,7 @@ pub struct CloseRefused<N: Naming, A: Allocator> {
 
 impl<N: Naming, A: Allocator> WqRuntime<N, A> {
     /// Refuses queueings from now on, and waits until no entry is unfinished (`destroy_workqueue`, for all workqueues).
-    pub fn destroy<R: Wait>(&self, rt: &R)
-    {
+    pub fn destroy<R: Wait>(&self, rt: &R) {
         let _closed = self.lock.call(rt, &mut (), Uncounted::Close);
         let _idle = self.lock.call(rt, &mut (), Uncounted::Drain);
     }

@@ -281,7 +281,7 @@ impl<N: Naming, A: Allocator> WqRuntime<N, A> {
         h: u8,
         item: ItemId,
     ) -> Result<(), CallError>
-        ensures took { 0 < h → 
+        ensures took { 0 < h →
             GivesDone (λ answer. Took N.wiring N.rows seat.old (Finish (context_of q h) item) answer seat.new) result }
         ensures counted { OnOk result (IsHelper N.wiring q h × IsOnLane N.wiring q item × (seat.new ≡ raised seat.old item FinishKind true)) }
         ensures refused { IfErr result (λ e. (e ≡ WrongLane) × (seat.new ≡ seat.old)) }

@@ -86,7 +86,8 @@ impl<N: Naming, A: Allocator> Turns<(), Uncounted, Result<Reply, CallError>> for
 #[derive(Clone, Copy)]
 pub(crate) struct SeatIn<A: Allocator + Copy>(pub(crate) A);
 
-impl<N: Naming, A: Allocator + Copy> Turns<(), SeatIn<A>, Result<Seat<N, A>, SeatError>> for Held<N, A> {
+impl<N: Naming, A: Allocator + Copy> Turns<(), SeatIn<A>, Result<Seat<N, A>, SeatError>>
+    for Held<N, A> {
     ghost use Rattle.wq_api.specs.Locking.{MakesSeat};
 
     ghost takes = { λ old none call turn new left. MakesSeat N.wiring old turn new };
