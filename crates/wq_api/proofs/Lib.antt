@@ -1,4 +1,5 @@
 pub mod Calls
+pub mod Layouts
 pub mod Projections
 pub mod Contexts
 pub mod WaitsRefused
