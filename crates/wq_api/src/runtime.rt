@@ -193,7 +193,7 @@ impl<N: Naming, A: Allocator> WqRuntime<N, A> {
         ensures counted { IfOk result (λ accepted. (item < items N.wiring) × SeatHasRoom seat.old × (seat.new ≡ raised seat.old item Queue accepted)) }
         ensures refused { IfErr result (λ e. RefusesQueueWork N.wiring seat.old (lane_of N.wiring item) item e × (seat.new ≡ seat.old)) }
     {
-        self.yes(rt, seat, Call::Queue(item))
+        self.yes(rt, seat, &Call::Queue(item))
     }
 
     /// Removes the pending entry of an item (`cancel_work`): true where one was pending.
@@ -210,7 +210,7 @@ impl<N: Naming, A: Allocator> WqRuntime<N, A> {
         ensures counted { IfOk result (λ taken. (item < items N.wiring) × SeatHasRoom seat.old × (seat.new ≡ raised seat.old item Cancel taken)) }
         ensures refused { IfErr result (λ e. RefusesCancelWork N.wiring item e × (seat.new ≡ seat.old)) }
     {
-        self.yes(rt, seat, Call::Cancel(item))
+        self.yes(rt, seat, &Call::Cancel(item))
     }
 
     /// Waits until none of an item's entries that were queued before the call is unfinished (`flush_work`): true where it had to
@@ -229,7 +229,7 @@ impl<N: Naming, A: Allocator> WqRuntime<N, A> {
         ensures counted { IfOk result (λ waited. (item < items N.wiring) × SeatHasRoom seat.old × (seat.new ≡ flushed seat.old item waited)) }
         ensures refused { IfErr result (λ e. RefusesFlushWork N.wiring seat.old item e × (seat.new ≡ flush_refused seat.old item e)) }
     {
-        self.flush(rt, seat, Subject::Item(item))
+        self.flush(rt, seat, &Subject::Item(item))
     }
 
     /// Waits until none of a workqueue's entries that were queued before the call is unfinished (`flush_workqueue`). It returns at
@@ -248,8 +248,10 @@ impl<N: Naming, A: Allocator> WqRuntime<N, A> {
         ensures counted { OnOk result ((q < N.wiring.lanes) × SeatHasRoom seat.old × ((waited : Bool) × (seat.new ≡ lane_flushed seat.old q waited))) }
         ensures refused { IfErr result (λ e. RefusesFlushWorkqueue N.wiring seat.old q e × (seat.new ≡ lane_flush_refused seat.old q e)) }
     {
-        self.flush(rt, seat, Subject::Lane(q))?;
-        Ok(())
+        match self.flush(rt, seat, &Subject::Lane(q)) {
+            Ok(_waited) => Ok(()),
+            Err(e) => Err(e),
+        }
     }
 
     /// Removes the pending entry of an item, and waits until none of its entries that were queued before the call is unfinished
