@@ -26,7 +26,7 @@ use Rattle.wq_history.proofs.CallRows.{told-yes, over-yes, finish-yes}
 use Rattle.wq_history.proofs.Wakes.{unchanged-enough}
 use Rattle.wq_held.specs.declared.fault.SeatError.{SeatError}
 use Rattle.wq_held.specs.Locked.{HeldView, seat_rows}
-use Rattle.wq_api.specs.Calls.{IsNamed, missing, IsBarred}
+use Rattle.wq_held.specs.Calls.{IsNamed, missing, IsBarred}
 use Rattle.wq_api.specs.Taking.{WritesOne, Took}
 
 -- ---- replies

@@ -15,7 +15,7 @@ use Rattle.wq_history.specs.declared.fault.CallError.TheVariants.{HistoryFull, C
 use Rattle.wq_history.specs.Book.{BookView}
 use Rattle.wq_history.specs.Calls.{RefusesToQueue, RefusesToCancel, RefusesToAsk, RefusesToCancelSync}
 use Rattle.wq_held.specs.Locked.{SeatHasRoom, seat_rows}
-use Rattle.wq_api.specs.Calls.{IsAdmitted, IsBarred}
+use Rattle.wq_held.specs.Calls.{IsAdmitted, IsBarred}
 use Rattle.wq_api.specs.Refusals.{RefusesQueueWork, RefusesCancelWork}
 use Rattle.wq_api.specs.WaitingCalls.{RefusesFlushWork, flushed, flush_refused, asked_and_cancelled, CountsCancelSync, RefusedCancelSync, RefusesFlushWorkqueue, lane_flushed, lane_flush_refused}
 use Rattle.wq_api.specs.Taking.{Took, ComesTo, GivesYes, IsTold, IsNotTold, Flushes, FlushesSo, CancelsSync}

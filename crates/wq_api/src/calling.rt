@@ -7,7 +7,7 @@
 ghost use Rattle.std.specs.Prelude.{◌↔◌, ◌≡◌, IsTrue, Result, IfErr, OnOk};
 ghost use Rattle.wq_history.specs.declared.call.Call.TheVariants.{CancelSync, Start, Finish};
 ghost use Rattle.wq_history.specs.History.{IsThere};
-ghost use Rattle.wq_api.specs.Calls.{IsNamed, missing, needs_room, IsBarred, IsAdmitted, IsSettled};
+ghost use Rattle.wq_held.specs.Calls.{IsNamed, missing, needs_room, IsBarred, IsAdmitted, IsSettled};
 ghost use Rattle.wq_api.specs.Locking.{uncounted_call};
 ghost use Rattle.wq_api.specs.Taking.{WritesOne, IsAnswered, Took, ComesTo, GivesRow, GivesTwo, GivesYes, GivesDone, GivesItem, IsTold, IsNotTold, Flushes, CancelsSync, Waits};
 

@@ -16,7 +16,7 @@ ghost use Rattle.wq_history.specs.declared.asking.Subject.TheVariants.{Item as O
 ghost use Rattle.wq_history.specs.declared.call.Call.TheVariants.{Queue as QueueCall, Cancel as CancelCall};
 ghost use Rattle.wq_held.specs.declared.fault.SeatError.TheVariants.{OutOfMemory as SeatOutOfMemory};
 ghost use Rattle.wq_held.specs.Locked.{max_runtime_lanes, slots, IsOnLane, SeatHasRoom};
-ghost use Rattle.wq_under_lock.specs.Refusals.{RefusesRuntime, MakesRuntime};
+ghost use Rattle.wq_held.specs.Making.{RefusesRuntime, MakesRuntime};
 ghost use Rattle.wq_api.specs.Refusals.{RefusesQueueWork, RefusesCancelWork};
 ghost use Rattle.wq_api.specs.WaitingCalls.{RefusesFlushWork, flushed, flush_refused, CountsCancelSync, RefusedCancelSync, RefusesFlushWorkqueue, lane_flushed, lane_flush_refused};
 ghost use Rattle.wq_api.specs.Locking.{max_item_condvars};
@@ -30,10 +30,9 @@ use std::alloc::Allocator;
 use std::sync::Wait;
 use std::sync::ledger::Blank;
 use wq_groups::{Assignment, Groups, LaneId};
-use wq_held::{CallError, Held, Naming, Seat, SeatError};
+use wq_held::{CallError, Held, Naming, NewError, Seat, SeatError, new_held};
 use wq_history::{Call, Subject};
 use wq_items::{ItemId, ItemTable};
-use wq_under_lock::{NewError, new_held};
 
 /// A runtime: the workqueues of one assignment, which any number of threads share by reference.
 #[derive(Drop)]
