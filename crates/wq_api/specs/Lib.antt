@@ -3,7 +3,10 @@ pub use Rattle.wq_groups.specs.Assignment
 pub use Rattle.wq_core.specs.Deadlock
 pub use Rattle.wq_held.specs.Locked
 pub use Rattle.wq_held.specs.Closing
-pub use Rattle.wq_under_lock.specs.Refusals
-pub use Rattle.wq_under_lock.specs.Turns
+pub use Rattle.wq_held.specs.Turns
+pub use Rattle.wq_held.specs.Calls
+pub use Rattle.wq_held.specs.Making
+pub mod Refusals
 pub mod WaitingCalls
 pub mod Locking
+pub mod Taking
