@@ -17,7 +17,7 @@ use Rattle.wq_api.specs.Locking.{WasDoneIn}
 use Rattle.wq_rescuer.specs.Executing.{RanOnly, RefusesServe, WasDrivenIn, finished_of, finished_in_all, CountsRuns, CountsAtMost}
 use Rattle.wq_rescuer.specs.declared.running.RunWhy.{RunWhy}
 use Rattle.wq_rescuer.specs.declared.running.RunWhy.TheVariants.{BodiesDiffer, TooManySeats, OutOfMemory, NoThread}
-use Rattle.wq_rescuer.specs.Serving.{IsServed, AreServed, CameBack, AreBack, IsNoSeat, IsOneLost, RefusesRun}
+use Rattle.wq_rescuer.specs.Serving.{IsServed, AreServed, CameBack, AreBack, IsNoSeat, IsOneLost, IsUnstarted, RefusesRun}
 
 -- ---- a seat without counts
 
@@ -264,12 +264,25 @@ one_lost_more contexts callers contexts_left callers_left all left lost more bac
 ]
 
 -- the same numbers, seen elsewhere
-pub one_lost_seen : (contexts callers contexts_left callers_left bodies calls bodies_left calls_left : ℕ) → IsOneLost contexts callers contexts_left callers_left
-    → contexts ≡ bodies → callers ≡ calls → contexts_left ≡ bodies_left → callers_left ≡ calls_left → IsOneLost bodies calls bodies_left calls_left
+pub one_lost_seen : (contexts callers contexts_left callers_left bodies calls bodies_left calls_left : ℕ)
+    → IsOneLost contexts callers contexts_left callers_left → contexts ≡ bodies → callers ≡ calls
+    → bodies_left ≡ contexts_left → calls_left ≡ callers_left → IsOneLost bodies calls bodies_left calls_left
 one_lost_seen contexts callers contexts_left callers_left bodies calls bodies_left calls_left lost a b x y = elim lost [
   | inl one ↦ inl (omega (arith, one.0, a, x), omega (arith, one.1, b, y))
   | inr one ↦ inr (omega (arith, one.0, a, x), omega (arith, one.1, b, y))
 ]
+
+-- no more are left than there were
+pub few_left : {contexts callers contexts_left callers_left : ℕ} → IsOneLost contexts callers contexts_left callers_left
+    → (contexts_left ≤ contexts) × (callers_left ≤ callers)
+few_left {contexts} {callers} {contexts_left} {callers_left} lost = elim lost [
+  | inl one ↦ (omega (arith, one.0), omega (arith, one.1))
+  | inr one ↦ (omega (arith, one.0), omega (arith, one.1))
+]
+
+-- where no thread was started, nothing is said of what was lost
+pub none_lost : (why : RunWhy) (P : Type 0) → IsUnstarted why → why ≡ NoThread → P
+none_lost why P unstarted is = absurd (subst IsUnstarted is unstarted)
 
 -- ---- callers
 

@@ -110,6 +110,11 @@ IsNoSeat TooManySeats = Unit {0}
 IsNoSeat OutOfMemory = Unit {0}
 IsNoSeat _ = ⊥
 
+-- no thread was started
+abbrev pub IsUnstarted : RunWhy → Type 0
+IsUnstarted NoThread = ⊥
+IsUnstarted _ = Unit {0}
+
 -- the number of each cause
 abbrev pub run_code : RunWhy → ℕ
 run_code OutOfMemory = 20

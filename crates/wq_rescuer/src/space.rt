@@ -9,7 +9,7 @@ ghost use Rattle.std.specs.List.{All};
 ghost use Rattle.wq_counts.specs.Counting.{counts_each};
 ghost use Rattle.wq_held.specs.Locked.{slots};
 ghost use Rattle.wq_rescuer.specs.Contexts.{contexts_of};
-ghost use Rattle.wq_rescuer.specs.Serving.{AreFirstSeats, HasRoomFor, IsNoSeat, RefusesRun};
+ghost use Rattle.wq_rescuer.specs.Serving.{AreFirstSeats, HasRoomFor, IsNoSeat, IsUnstarted, RefusesRun};
 ghost use Rattle.wq_rescuer.specs.declared.running.RunWhy.TheVariants.{BodiesDiffer, OutOfMemory};
 
 use crate::board::Board;
@@ -141,6 +141,7 @@ pub(crate) fn reserve<N: Naming, A: Allocator + Copy, R: Wait, B: Body + Drop, C
     ensures seats { IfOk result (λ r. (vec_len r.seats ≡ bodies + callers) × (bodies + callers ≤ vec_capacity r.seats)
         × All (λ seat. seat ≡ replicate (counts_each * slots N.wiring) 0) r.seats.items) }
     ensures refused { IfErr result (λ e. RefusesRun (length (contexts_of N.wiring)) bodies e.why) }
+    ensures unstarted { IfErr result (λ e. IsUnstarted e.why) }
     ensures no_seats { IfErr result (λ e. e.why ≡ BodiesDiffer → e.seats.items ≡ []) }
     ensures made { IfErr result (λ e. IsNoSeat e.why → AreFirstSeats (slots N.wiring) (bodies + callers) e.seats.items) }
     ensures memory { IfErr result (λ e. e.why ≡ OutOfMemory → 0 < bodies + callers) }

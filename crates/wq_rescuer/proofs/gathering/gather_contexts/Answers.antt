@@ -22,6 +22,8 @@ loop-end-init g c =
       search rules,
       none_left (contexts_of g.N.Naming.wiring) (vec_len c.args.seats) (map (λ end. end.context) c.args.ends.items) none c.requires.in_order,
       none_done g.N.Naming.wiring g.N.Naming.rows (contexts_of g.N.Naming.wiring) c.args.rescued.items c.requires.none_rescued,
+      refl,
+      refl,
     )
 
 pub loop-end-preserved : goal.loop-end-preserved
