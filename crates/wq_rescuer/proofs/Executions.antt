@@ -119,37 +119,53 @@ serving_more items slots before counts after width wider runs now finished fault
 -- ---- executions, one after the other
 
 -- one more execution
-executed_more : (may : ℕ → Result (Unit {0}) BodyFault → List ℕ → List ℕ → Type 0) (old mid : List ℕ) (es : List Execution) (e : Execution) → AreExecuted may old es mid
+executed_more : (may : ℕ → Result (Unit {0}) BodyFault → List ℕ → List ℕ → Type 0) (old mid : List ℕ)
+    (es : List Execution) (e : Execution) → AreExecuted may old es mid
     → may e.item e.answer mid e.counts → AreExecuted may old (es ++ (e ∷ [])) (raised e.counts e.item Finish true)
 executed_more may old mid [] e done one = (subst (λ (c : List ℕ). may e.item e.answer c e.counts) done one, refl)
-executed_more may old mid (x ∷ xs) e done one = (done.0, executed_more may (raised x.counts x.item Finish true) mid xs e done.1 one)
+executed_more may old mid (x ∷ xs) e done one =
+    (done.0, executed_more may (raised x.counts x.item Finish true) mid xs e done.1 one)
 
 -- none yet
-pub none_executed : (may : ℕ → Result (Unit {0}) BodyFault → List ℕ → List ℕ → Type 0) (counts : List ℕ) → HasExecuted may counts counts 0 0
+pub none_executed : (may : ℕ → Result (Unit {0}) BodyFault → List ℕ → List ℕ → Type 0) (counts : List ℕ)
+    → HasExecuted may counts counts 0 0
 none_executed may counts = record { executions = []; executed = refl; finished_is = refl; faults_is = refl }
 
 -- a context ran one more body, and finished the execution
-pub one_executed : (may : ℕ → Result (Unit {0}) BodyFault → List ℕ → List ℕ → Type 0) (old mid counts new : List ℕ) (finished faults more_finished more_faults i : ℕ)
-    (answer : Result (Unit {0}) BodyFault) → HasExecuted may old mid finished faults → may i answer mid counts → new ≡ raised counts i Finish true
-    → more_finished ≡ finished + 1 → more_faults ≡ faults + faults_of answer → HasExecuted may old new more_finished more_faults
+pub one_executed : (may : ℕ → Result (Unit {0}) BodyFault → List ℕ → List ℕ → Type 0) (old mid counts new : List ℕ)
+    (finished faults more_finished more_faults i : ℕ)
+    (answer : Result (Unit {0}) BodyFault) → HasExecuted may old mid finished faults → may i answer mid counts
+    → new ≡ raised counts i Finish true
+    → more_finished ≡ finished + 1 → more_faults ≡ faults + faults_of answer
+    → HasExecuted may old new more_finished more_faults
 one_executed may old mid counts new finished faults more_finished more_faults i answer before one is more fault =
     let e : Execution = record { item = i; answer = answer; counts = counts } in
     let es : List Execution = before.executions ++ (e ∷ []) in
     record {
       executions = es;
-      executed = subst (λ (c : List ℕ). AreExecuted may old es c) (sym is) (executed_more may old mid before.executions e before.executed one);
+      executed = subst (λ (c : List ℕ). AreExecuted may old es c) (sym is)
+          (executed_more may old mid before.executions e before.executed one);
       finished_is = omega (arith, more, before.finished_is, length-append before.executions (e ∷ []));
-      faults_is = omega (arith, fault, before.faults_is, sum_by_push (λ (x : Execution). faults_of x.answer) before.executions e);
+      faults_is = omega (
+        arith,
+        fault,
+        before.faults_is,
+        sum_by_push (λ (x : Execution). faults_of x.answer) before.executions e,
+      );
     }
 
 -- it was refused after it had finished these
-pub stopped_between : (may : ℕ → Result (Unit {0}) BodyFault → List ℕ → List ℕ → Type 0) (old new : List ℕ) (finished faults : ℕ) → HasExecuted may old new finished faults
+pub stopped_between : (may : ℕ → Result (Unit {0}) BodyFault → List ℕ → List ℕ → Type 0) (old new : List ℕ)
+    (finished faults : ℕ) → HasExecuted may old new finished faults
     → HasStopped may old new
-stopped_between may old new finished faults before = record { executions = before.executions; between = new; executed = before.executed; last = inl refl }
+stopped_between may old new finished faults before =
+    record { executions = before.executions; between = new; executed = before.executed; last = inl refl }
 
 -- it was refused when it was to finish one more
-pub stopped_at_end : (may : ℕ → Result (Unit {0}) BodyFault → List ℕ → List ℕ → Type 0) (old mid counts new : List ℕ) (finished faults i : ℕ)
-    (answer : Result (Unit {0}) BodyFault) → HasExecuted may old mid finished faults → may i answer mid counts → new ≡ counts → HasStopped may old new
+pub stopped_at_end : (may : ℕ → Result (Unit {0}) BodyFault → List ℕ → List ℕ → Type 0) (old mid counts new : List ℕ)
+    (finished faults i : ℕ)
+    (answer : Result (Unit {0}) BodyFault) → HasExecuted may old mid finished faults → may i answer mid counts
+    → new ≡ counts → HasStopped may old new
 stopped_at_end may old mid counts new finished faults i answer before one is = record {
   executions = before.executions;
   between = mid;
@@ -158,13 +174,17 @@ stopped_at_end may old mid counts new finished faults i answer before one is = r
 }
 
 -- before it executed anything
-pub stopped_at_once : (may : ℕ → Result (Unit {0}) BodyFault → List ℕ → List ℕ → Type 0) (counts : List ℕ) → HasStopped may counts counts
+pub stopped_at_once : (may : ℕ → Result (Unit {0}) BodyFault → List ℕ → List ℕ → Type 0) (counts : List ℕ)
+    → HasStopped may counts counts
 stopped_at_once may counts = stopped_between may counts counts 0 0 (none_executed may counts)
 
 -- what a context did, by its answer
-pub executes : (may : ℕ → Result (Unit {0}) BodyFault → List ℕ → List ℕ → Type 0) (none old new : List ℕ) (r : Result Rescued CallError) → old ≡ none
-    → IfOk r (λ rescued. HasExecuted may old new rescued.finished rescued.faults) → OnErr r (HasStopped may old new) → Executes may none new r
-executes may none old new (Ok rescued) is executed stopped = subst (λ (c : List ℕ). HasExecuted may c new rescued.finished rescued.faults) is executed
+pub executes : (may : ℕ → Result (Unit {0}) BodyFault → List ℕ → List ℕ → Type 0) (none old new : List ℕ)
+    (r : Result Rescued CallError) → old ≡ none
+    → IfOk r (λ rescued. HasExecuted may old new rescued.finished rescued.faults) → OnErr r (HasStopped may old new)
+    → Executes may none new r
+executes may none old new (Ok rescued) is executed stopped =
+    subst (λ (c : List ℕ). HasExecuted may c new rescued.finished rescued.faults) is executed
 executes may none old new (Err e) is executed stopped = subst (λ (c : List ℕ). HasStopped may c new) is stopped
 
 -- what is started is on the lane

@@ -95,7 +95,8 @@ some_same : {X : Type 0} (a b : X) → Some a ≡ Some b → a ≡ b
 some_same a b same = cc
 
 -- what is at a place of a list in reverse
-in_reverse : (all : List Context) (p n : ℕ) (m : Context) → slice_get (reverse all) p ≡ Some m → n + p + 1 ≡ length all → slice_get all n ≡ Some m
+in_reverse : (all : List Context) (p n : ℕ) (m : Context) → slice_get (reverse all) p ≡ Some m → n + p + 1 ≡ length all
+    → slice_get all n ≡ Some m
 in_reverse [] p n m at adds = absurd (omega (arith, adds))
 in_reverse (x ∷ xs) p zero m at adds =
     elim (at_place (reverse xs) x p m (ap (λ zs. slice_get zs p) (sym (reverse-append (x ∷ []) xs)) ∙ at)) [
@@ -109,7 +110,8 @@ in_reverse (x ∷ xs) p (suc n) m at adds =
     ]
 
 -- there are as many as there are in reverse
-pub as_many : {X : Type 0} (context : X → Context) (ends : List X) (all : List Context) → map context ends ≡ reverse all → length ends ≡ length all
+pub as_many : {X : Type 0} (context : X → Context) (ends : List X) (all : List Context) → map context ends ≡ reverse all
+    → length ends ≡ length all
 as_many context ends all are = sym (length-map ends context) ∙ ap length are ∙ length-reverse all
 
 -- what is at a place stays there where one more value comes
@@ -128,9 +130,11 @@ abbrev pub AreLeft : List Context → ℕ → List Context → Type 0
 AreLeft all before left = (p n : ℕ) (context : Context) → slice_get left p ≡ Some context → n + p + 1 ≡ before + length left → slice_get all n ≡ Some context
 
 -- none came back before
-pub none_left : (all : List Context) (before : ℕ) (back : List Context) → before ≡ 0 → back ≡ reverse all → AreLeft all before back
+pub none_left : (all : List Context) (before : ℕ) (back : List Context) → before ≡ 0 → back ≡ reverse all
+    → AreLeft all before back
 none_left all before back none ordered = λ p n c at adds.
-    in_reverse all p n c (ap (λ zs. slice_get zs p) (sym ordered) ∙ at) (omega (arith, adds, none, ap length ordered, length-reverse all))
+    in_reverse all p n c (ap (λ zs. slice_get zs p) (sym ordered) ∙ at)
+    (omega (arith, adds, none, ap length ordered, length-reverse all))
 
 -- where the first context, which is last, is taken away, the others stay in their places
 pub left_popped : (all : List Context) (before : ℕ) (back left : List Context) (m : Context) → AreLeft all before back → back ≡ left ++ (m ∷ [])
@@ -256,7 +260,8 @@ contexts_first w all n context_seats seats runs rescued are first long =
     subst (λ ss. AreServed w all ss runs rescued) (sym same) are
 
 -- one was lost before one more context came back
-pub one_lost_more : (contexts callers contexts_left callers_left all left : ℕ) → IsOneLost contexts callers contexts_left callers_left → all ≡ contexts + 1 → left ≡ contexts_left + 1
+pub one_lost_more : (contexts callers contexts_left callers_left all left : ℕ)
+    → IsOneLost contexts callers contexts_left callers_left → all ≡ contexts + 1 → left ≡ contexts_left + 1
     → IsOneLost all callers left callers_left
 one_lost_more contexts callers contexts_left callers_left all left lost more back = elim lost [
   | inl one ↦ inl (omega (arith, one.0, more, back), one.1)

@@ -66,32 +66,38 @@ pub record Execution : Type 0 where
   pub answer : Result (Unit {0}) BodyFault
   pub counts : List ℕ
 
--- executions, one after the other, with nothing between them: each turned the counts that it found into others, as its body may,
--- and was finished; from these counts to those
-abbrev pub AreExecuted : (ℕ → Result (Unit {0}) BodyFault → List ℕ → List ℕ → Type 0) → List ℕ → List Execution → List ℕ → Type 0
+-- executions, one after the other, with nothing between them: each turned the counts that it found into others, as its
+-- body may, and was finished; from these counts to those
+abbrev pub AreExecuted : (ℕ → Result (Unit {0}) BodyFault → List ℕ → List ℕ → Type 0) → List ℕ → List Execution → List ℕ
+    → Type 0
 AreExecuted may old [] new = new ≡ old
-AreExecuted may old (e ∷ es) new = may e.item e.answer old e.counts × AreExecuted may (raised e.counts e.item Finish true) es new
+AreExecuted may old (e ∷ es) new = may e.item e.answer old e.counts
+    × AreExecuted may (raised e.counts e.item Finish true) es new
 
 -- how many of them ended with a fault
 abbrev pub faults_in : List Execution → ℕ
 faults_in executions = sum_by (λ (e : Execution). faults_of e.answer) executions
 
 -- such executions, as many as were finished; so many of them ended with a fault
-pub record HasExecuted (may : ℕ → Result (Unit {0}) BodyFault → List ℕ → List ℕ → Type 0) (old new : List ℕ) (finished faults : ℕ) : Type 0 where
+pub record HasExecuted (may : ℕ → Result (Unit {0}) BodyFault → List ℕ → List ℕ → Type 0) (old new : List ℕ)
+    (finished faults : ℕ) : Type 0 where
   pub executions : List Execution
   pub executed : AreExecuted may old executions new
   pub finished_is : finished ≡ length executions
   pub faults_is : faults ≡ faults_in executions
 
 -- such executions, and then nothing, or one more run of a body, which wasn't finished
-pub record HasStopped (may : ℕ → Result (Unit {0}) BodyFault → List ℕ → List ℕ → Type 0) (old new : List ℕ) : Type 0 where
+pub record HasStopped (may : ℕ → Result (Unit {0}) BodyFault → List ℕ → List ℕ → Type 0)
+    (old new : List ℕ) : Type 0 where
   pub executions : List Execution
   pub between : List ℕ
   pub executed : AreExecuted may old executions between
   pub last : (new ≡ between) ⊎ ((item : ℕ) × (answer : Result (Unit {0}) BodyFault) × may item answer between new)
 
--- what a context did, by its answer: it finished what it executed; or it was refused, before an execution or at the end of one
-abbrev pub Executes : (ℕ → Result (Unit {0}) BodyFault → List ℕ → List ℕ → Type 0) → List ℕ → List ℕ → Result Rescued CallError → Type 0
+-- what a context did, by its answer: it finished what it executed; or it was refused, before an execution or at the end
+-- of one
+abbrev pub Executes : (ℕ → Result (Unit {0}) BodyFault → List ℕ → List ℕ → Type 0) → List ℕ → List ℕ
+    → Result Rescued CallError → Type 0
 Executes may old new (Ok rescued) = HasExecuted may old new rescued.finished rescued.faults
 Executes may old new (Err e) = HasStopped may old new
 

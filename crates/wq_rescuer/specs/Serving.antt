@@ -61,21 +61,25 @@ pub record IsRan (w : Wiring) (callers : ℕ) (seats : List (List ℕ)) (runs : 
   pub finished_is : finished ≡ sum_by finished_by rescued
   pub faults_is : faults ≡ sum_by faults_by rescued
 
--- contexts that were handed these bodies, and how each of them is said to have executed: by its body, what its seat counts in the
--- end, and its answer
-pub record HaveServed {B : Type 0} (executed : B → List ℕ → Result Rescued CallError → Type 0) (bodies : List B) (seats : List (List ℕ)) (rescued : List (Result Rescued CallError)) : Type 0 where
+-- contexts that were handed these bodies, and how each of them is said to have executed: by its body, what its seat
+-- counts in the end, and its answer
+pub record HaveServed {B : Type 0} (executed : B → List ℕ → Result Rescued CallError → Type 0) (bodies : List B)
+    (seats : List (List ℕ)) (rescued : List (Result Rescued CallError)) : Type 0 where
   pub a_seat_each : length seats ≡ length bodies
   pub an_answer_each : length rescued ≡ length bodies
-  pub each : (n : ℕ) (body : B) (seat : List ℕ) (answer : Result Rescued CallError) → slice_get bodies n ≡ Some body → slice_get seats n ≡ Some seat → slice_get rescued n ≡ Some answer
+  pub each : (n : ℕ) (body : B) (seat : List ℕ) (answer : Result Rescued CallError) → slice_get bodies n ≡ Some body
+      → slice_get seats n ≡ Some seat → slice_get rescued n ≡ Some answer
       → executed body seat answer
 
--- these callers were handed in, and those came back, in the same order, with their results and their seats; and what each of them
--- is said to have done, by what it was before and after
-pub record HaveCalled {C : Type 0} (did : C → C → Result (Unit {0}) CallError → List ℕ → Type 0) (before after : List C) (results : List (Result (Unit {0}) CallError)) (seats : List (List ℕ)) : Type 0 where
+-- these callers were handed in, and those came back, in the same order, with their results and their seats; and what
+-- each of them is said to have done, by what it was before and after
+pub record HaveCalled {C : Type 0} (did : C → C → Result (Unit {0}) CallError → List ℕ → Type 0) (before after : List C)
+    (results : List (Result (Unit {0}) CallError)) (seats : List (List ℕ)) : Type 0 where
   pub a_caller_each : length after ≡ length before
   pub a_result_each : length results ≡ length before
   pub a_seat_each : length seats ≡ length before
-  pub each : (n : ℕ) (old new : C) (result : Result (Unit {0}) CallError) (seat : List ℕ) → slice_get before n ≡ Some old → slice_get after n ≡ Some new → slice_get results n ≡ Some result
+  pub each : (n : ℕ) (old new : C) (result : Result (Unit {0}) CallError) (seat : List ℕ)
+      → slice_get before n ≡ Some old → slice_get after n ≡ Some new → slice_get results n ≡ Some result
       → slice_get seats n ≡ Some seat → did old new result seat
 
 -- these jobs are done, in order: `done` holds of each and of what came back of it
@@ -86,7 +90,9 @@ AreDone done _ _ = ⊥
 
 -- of so many contexts and callers, one was lost, a context or a caller: so many contexts and callers are left
 abbrev pub IsOneLost : ℕ → ℕ → ℕ → ℕ → Type 0
-IsOneLost contexts callers contexts_left callers_left = ((contexts_left + 1 ≡ contexts) × (callers_left ≡ callers)) ⊎ ((contexts_left ≡ contexts) × (callers_left + 1 ≡ callers))
+IsOneLost contexts callers contexts_left callers_left =
+    ((contexts_left + 1 ≡ contexts) × (callers_left ≡ callers))
+    ⊎ ((contexts_left ≡ contexts) × (callers_left + 1 ≡ callers))
 
 -- why not everything was run: there isn't a body for each of this many contexts; or there is, but a seat, memory or a thread is
 -- lacking

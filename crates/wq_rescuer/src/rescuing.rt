@@ -65,18 +65,20 @@ fn execute<N: Naming, A: Allocator, R: Wait, B: Body>(
     ensures width { B.width body.new ≡ B.width body.old }
     ensures finished { SameFinished seat.old seat.new }
     ensures may { B.may N.wiring body.old item result seat.old seat.new }
-    ensures no_more { (i : ℕ) (answer : Result (Unit {0}) Fault) (before : List ℕ) (after : List ℕ) → B.may N.wiring body.new i answer before after → B.may N.wiring body.old i answer before after }
+    ensures no_more { (i : ℕ) (answer : Result (Unit {0}) Fault) (before : List ℕ) (after : List ℕ)
+        → B.may N.wiring body.new i answer before after → B.may N.wiring body.old i answer before after }
 {
     let mut work = Work::new(runtime, seat, q, helper, item);
     body.run(rt, item, &mut work)
 }
 
-/// Serves a context of a workqueue until the runtime is closed and nothing is pending on the workqueue. For each item, what the seat
-/// counts as finished has risen by what the body ran.
+/// Serves a context of a workqueue until the runtime is closed and nothing is pending on the workqueue. For each item,
+/// what the seat counts as finished has risen by what the body ran.
 ///
-/// The body has run nothing before, and can count each item. It runs only items of this workqueue. The error is `WrongLane` (64),
-/// where there is no such context, or `HistoryFull` (60), where the seat is full, or `WrongLane` (64), where another caller drove
-/// the same context. Then what the seat counts as finished has risen by no more than what the body ran.
+/// The body has run nothing before, and can count each item. It runs only items of this workqueue. The error is
+/// `WrongLane` (64), where there is no such context, or `HistoryFull` (60), where the seat is full, or `WrongLane`
+/// (64), where another caller drove the same context. Then what the seat counts as finished has risen by no more than
+/// what the body ran.
 ///
 /// What the seat counts besides is what the runs of the body may change, and nothing else.
 #[tactic(auto, using(crate::proofs::Executions::none_executed, crate::proofs::Executions::stopped_between, crate::proofs::Executions::stopped_at_once))]

@@ -73,8 +73,8 @@ fn are_answered(results: &[Result<(), CallError>]) -> bool
     results.iter().all(|result| result.is_ok())
 }
 
-/// Runs the crew of a plan on the workqueues of a runtime, and hands back what the threads left. The error is `Tally`, too, where
-/// a caller was refused.
+/// Runs the crew of a plan on the workqueues of a runtime, and hands back what the threads left. The error is `Tally`,
+/// too, where a caller was refused.
 fn run_crew<
     't,
     'a,
@@ -89,7 +89,8 @@ fn run_crew<
 ) -> Result<CrewRan<'t, 'a, N, A>, RunStop>
     requires items { items N.wiring ≡ length table.now.names }
     ensures ran { IfOk result (λ r. IsRan N.wiring 2 r.seats.items (map runs_of r.bodies.items) 2 2 r.rescued.items r.finished r.faults) }
-    ensures called { IfOk result (λ r. HaveMade N.wiring (shared_by_two (length table.now.names)) (drop (length (contexts_of N.wiring)) r.seats.items)) }
+    ensures called { IfOk result (λ r. HaveMade N.wiring (shared_by_two (length table.now.names))
+        (drop (length (contexts_of N.wiring)) r.seats.items)) }
 {
     let Crew { bodies, callers } = make_crew(alloc, table, count_contexts(rt, runtime))?;
     let ran = match run_all(rt, alloc, runtime, bodies, callers) {

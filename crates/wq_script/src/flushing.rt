@@ -139,7 +139,9 @@ impl<'t, 'a, A: Allocator + Copy> Body for ScriptBody<'t, 'a, A> {
         ensures full { IfErr result (λ f. f.code ≡ 60 → seat_rows ≤ sum work.new.seat.now) }
         ensures cause { IfErr result (λ f. IsCodeOf work.new.flushed f.code) }
         ensures may { CountsRun (targets_of self.old.waits item) result work.old.seat.now work.new.seat.now }
-        ensures no_more { (i : ℕ) (answer : Result (Unit {0}) Fault) (before : List ℕ) (after : List ℕ) → CountsRun (targets_of self.new.waits i) answer before after → CountsRun (targets_of self.old.waits i) answer before after }
+        ensures no_more { (i : ℕ) (answer : Result (Unit {0}) Fault) (before : List ℕ) (after : List ℕ)
+            → CountsRun (targets_of self.new.waits i) answer before after
+            → CountsRun (targets_of self.old.waits i) answer before after }
     {
         self.counts[usize::from(item.get())] += 1;
         let table = self.table;

@@ -17,4 +17,5 @@ loop-caller-init g c = (
 pub returns-clause-callers : goal.returns-clause-callers
 returns-clause-callers g c =
     let l = c.loop-caller in
-    all_made (λ job. job.caller) c.args.callers.now.items l.jobs.items l.callers.items l.invariant.6 (nothing_in l.callers.items (sym l.callers.ok.0 ∙ c.in_default.ensures.cases.0))
+    all_made (λ job. job.caller) c.args.callers.now.items l.jobs.items l.callers.items l.invariant.6
+    (nothing_in l.callers.items (sym l.callers.ok.0 ∙ c.in_default.ensures.cases.0))

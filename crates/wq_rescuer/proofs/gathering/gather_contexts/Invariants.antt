@@ -14,7 +14,8 @@ invariant-loop-end g l =
     × (vec_capacity l.seats ≡ vec_capacity l.fn.seats)
     × (vec_capacity l.bodies ≡ vec_capacity l.fn.bodies)
     × (vec_capacity l.rescued ≡ vec_capacity l.fn.rescued)
-    × AreServedTo g.N.Naming.wiring (contexts_of g.N.Naming.wiring) (vec_len l.seats) l.seats.items (map g.B.Body.runs l.bodies.items) l.rescued.items
+    × AreServedTo g.N.Naming.wiring (contexts_of g.N.Naming.wiring) (vec_len l.seats) l.seats.items
+    (map g.B.Body.runs l.bodies.items) l.rescued.items
     × (l.finished ≡ sum_by finished_by l.rescued.items)
     × (l.faults ≡ sum_by faults_by l.rescued.items)
     × (l.finished ≤ vec_len l.seats * 4294967295)

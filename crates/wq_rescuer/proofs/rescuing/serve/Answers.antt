@@ -34,11 +34,15 @@ loop-preserved g c =
           c.finish_in.new.seat c.in_ok-finish_in.ensures.counted.2,
       ran_only_more g.N.Naming.wiring c.args.q (g.B.Body.runs c.loop.body) (g.B.Body.runs c.execute-answer.new.body) c.in-Some-2.item c.loop.invariant.3 c.execute-answer.ensures.ran (on_lane_of_next g.N.Naming.wiring c.args.q c.in-Some-2.item c.in_ok-item.field-0 c.in_ok-item.ensures.started.1 c.in-Some-2.is),
       c.loop.invariant.4,
-      one_executed (g.B.Body.may g.N.Naming.wiring c.args.body.now) c.args.seat.now c.loop.seat c.execute-answer.new.seat c.finish_in.new.seat
-          before.finished before.faults more.finished more.faults c.in-Some-2.item c.execute-answer.result c.loop.invariant.5
-          (c.loop.invariant.6 c.in-Some-2.item c.execute-answer.result c.loop.seat c.execute-answer.new.seat c.execute-answer.ensures.may)
+      one_executed (g.B.Body.may g.N.Naming.wiring c.args.body.now) c.args.seat.now c.loop.seat
+          c.execute-answer.new.seat c.finish_in.new.seat
+          before.finished before.faults more.finished more.faults c.in-Some-2.item c.execute-answer.result
+          c.loop.invariant.5
+          (c.loop.invariant.6 c.in-Some-2.item c.execute-answer.result c.loop.seat c.execute-answer.new.seat
+          c.execute-answer.ensures.may)
           c.in_ok-finish_in.ensures.counted.2 c.and-rescued.ensures.finished c.and-rescued.ensures.faults,
-      (λ i answer before after it. c.loop.invariant.6 i answer before after (c.execute-answer.ensures.no_more i answer before after it)),
+      (λ i answer before after it. c.loop.invariant.6 i answer before after
+          (c.execute-answer.ensures.no_more i answer before after it)),
     )
 
 pub returns-then-not-has_context-clause-own : goal.returns-then-not-has_context-clause-own
@@ -60,5 +64,7 @@ returns-in_err-finish_in-clause-stopped g c =
     let before = c.loop.rescued in
     let may = g.B.Body.may g.N.Naming.wiring c.args.body.now in
     on_err c.from_residual-in_err-finish_in.result (HasStopped may c.args.seat.now c.finish_in.new.seat)
-    (stopped_at_end may c.args.seat.now c.loop.seat c.execute-answer.new.seat c.finish_in.new.seat before.finished before.faults c.in-Some-2.item c.execute-answer.result c.loop.invariant.5
-    (c.loop.invariant.6 c.in-Some-2.item c.execute-answer.result c.loop.seat c.execute-answer.new.seat c.execute-answer.ensures.may) c.in_err-finish_in.ensures.refused.1)
+    (stopped_at_end may c.args.seat.now c.loop.seat c.execute-answer.new.seat c.finish_in.new.seat before.finished
+    before.faults c.in-Some-2.item c.execute-answer.result c.loop.invariant.5
+    (c.loop.invariant.6 c.in-Some-2.item c.execute-answer.result c.loop.seat c.execute-answer.new.seat
+    c.execute-answer.ensures.may) c.in_err-finish_in.ensures.refused.1)
