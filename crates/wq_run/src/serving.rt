@@ -70,7 +70,7 @@ fn make_crew<'t, 'a, A: Allocator + Copy>(
 fn are_answered(results: &[Result<(), CallError>]) -> bool
     ensures { IsTrue result → All (λ r. IsTrue (is_ok r)) results.now }
 {
-    results.iter().all(|result| result.is_ok())
+    results.iter().all(|answer| answer.is_ok())
 }
 
 /// Runs the crew of a plan on the workqueues of a runtime, and hands back what the threads left. The error is `Tally`,
