@@ -105,7 +105,7 @@ fn put_destroyed<N: Naming, R: Wait + Print>(
     rdisk: &Rdisk,
 ) -> Result<()> {
     let send_wq = runtime
-        .lane_of(rt, rdisk.send)
+        .lane_of(rdisk.send)
         .context("an item is missing")?;
     if let Err(error) = runtime.queue_work(rt, seat, send_wq, rdisk.send) {
         println!(rt; "queue_work after destroy: {} {error}", error.code())?;
@@ -154,7 +154,7 @@ fn serve<'a, N: Naming + Send + Sync, R: Threads + Wait + Sync + AllocGlobal>(
     requires { length N.wiring.waits ≡ items }
 {
     let alloc = rt.alloc();
-    let bodies = make_bodies(alloc, rdisk, runtime.lanes(rt), items)?;
+    let bodies = make_bodies(alloc, rdisk, runtime.lanes(), items)?;
     let writers = make_writers(alloc, rdisk)?;
     let ran = run_all(rt, alloc, runtime, bodies, writers).map_err(|refused| refused.why)?;
     Ok(ran)

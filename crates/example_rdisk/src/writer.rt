@@ -40,7 +40,7 @@ impl Caller for Writer<'_> {
         seat: &mut Seat<N, A>,
     ) -> Result<(), CallError> {
         let rdisk = self.rdisk;
-        let send_wq = runtime.lane_of(rt, rdisk.send).ok_or(CallError::NoItem)?;
+        let send_wq = runtime.lane_of(rdisk.send).ok_or(CallError::NoItem)?;
         for request in self.first..self.end {
             rdisk.disk.lock(rt).submit(request);
             runtime.queue_work(rt, seat, send_wq, rdisk.send)?;

@@ -2,12 +2,12 @@
 use Rattle.std.specs.Prelude.{◌≡◌, ℕ, ◌<◌, ◌≤◌, ◌⊎◌, List, Bool, true, false, Result, Ok, Err}
 use Rattle.wq_items.specs.Table.{ItemWaitsBy}
 use Rattle.wq_core.specs.Wiring.{Wiring, items, HasContext}
-use Rattle.wq_counts.specs.declared.kind.Kind.TheVariants.{Ask as AskKind, Told as ToldKind}
+use Rattle.wq_counts.specs.declared.kind.Kind.TheVariants.{Cancel as CancelKind, Ask as AskKind, Told as ToldKind}
 use Rattle.wq_counts.specs.Counting.{raised, raised_asked, raised_told, wait_kind, over_kind}
 use Rattle.wq_history.specs.declared.fault.CallError.{CallError}
 use Rattle.wq_history.specs.declared.fault.CallError.TheVariants.{HistoryFull, Closed, Undeclared, TooManyWaits, WrongLane, NotAsked, NoItem}
-use Rattle.wq_held.specs.Locked.{SeatHasRoom, IsOnLane, asked_and_cancelled}
-use Rattle.wq_under_lock.specs.Refusals.{RefusesWaitOf}
+use Rattle.wq_held.specs.Locked.{SeatHasRoom, IsOnLane}
+use Rattle.wq_api.specs.Refusals.{RefusesWaitOf}
 
 -- ---- flushes and cancellations
 
@@ -33,6 +33,10 @@ flush_refused old i Undeclared = old
 flush_refused old i TooManyWaits = old
 flush_refused old i WrongLane = old
 flush_refused old i NoItem = old
+
+-- counts after an ask and a cancellation in one call, with these answers
+abbrev pub asked_and_cancelled : List ℕ → ℕ → Bool → Bool → List ℕ
+asked_and_cancelled old i waits taken = raised (raised old i AskKind waits) i CancelKind taken
 
 -- counts after a cancellation that waits: those of the ask and of the cancellation, and if the ask waits, that of its end
 abbrev pub CountsCancelSync : List ℕ → List ℕ → ℕ → Bool → Type 0

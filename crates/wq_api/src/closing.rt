@@ -3,13 +3,13 @@
 //! `destroy` waits until no entry is unfinished. `close` takes time in the number of all counts, and no memory. In each seat
 //! there are 22 counts for each item, or for each workqueue where there are more of those.
 
-ghost use Rattle.std.specs.Prelude.{◌≡◌, true, IfOk, IfErr};
-ghost use Rattle.wq_core.specs.State.{HasUnfinished};
-ghost use Rattle.wq_history.specs.Book.{state};
+ghost use Rattle.std.specs.Prelude.{◌≡◌, vec_len, IfOk, IfErr};
+ghost use Rattle.wq_held.specs.Locked.{RefusesClose};
 ghost use Rattle.wq_held.specs.Closing.{IsClosed};
 ghost use Rattle.wq_api.specs.Locking.{UnderLock};
 
 use crate::runtime::WqRuntime;
+use crate::turns::Uncounted;
 use std::alloc::Allocator;
 use std::sync::Wait;
 use wq_held::{CloseWhy, Closed, Naming, Seat};
@@ -27,15 +27,9 @@ pub struct CloseRefused<N: Naming, A: Allocator> {
 
 impl<N: Naming, A: Allocator> WqRuntime<N, A> {
     /// Refuses queueings from now on, and waits until no entry is unfinished (`destroy_workqueue`, for all workqueues).
-    pub fn destroy<R: Wait>(&self, rt: &R)
-        ensures closed { UnderLock N.wiring N.rows (λ h. h.book.closed ≡ true) }
-        ensures idle { UnderLock N.wiring N.rows (λ h. ¬ HasUnfinished (state h.book)) }
-    {
-        self.lock.call(rt, &mut (), (), |held, _, _| {
-            wq_under_lock::refuse_queueings(held)
-        });
-        self.lock
-            .call(rt, &mut (), (), |held, _, _| wq_under_lock::be_idle(held));
+    pub fn destroy<R: Wait>(&self, rt: &R) {
+        let _closed = self.lock.call(rt, &mut (), Uncounted::Close);
+        let _idle = self.lock.call(rt, &mut (), Uncounted::Drain);
     }
 
     /// Closes an idle runtime, given all of its seats, and returns its book and the sums of their counts.
@@ -44,13 +38,16 @@ impl<N: Naming, A: Allocator> WqRuntime<N, A> {
     /// seats are handed in. Then the runtime and the seats are handed back as they were.
     pub fn close(self, seats: Vec<Seat<N, A>, A>) -> Result<Closed<N, A>, CloseRefused<N, A>>
         ensures closed { IfOk result (λ c. IsClosed N.wiring N.rows seats.items c.book c.counts c.agree) }
+        ensures why { IfErr result (λ e. UnderLock N.wiring N.rows (λ h. RefusesClose h (vec_len seats) e.why)) }
         ensures refused { IfErr result (λ e. e.seats.items ≡ seats.items) }
+        ensures kept { IfErr result (λ e. (e.seats ≡ seats) × (e.runtime.layout ≡ self.layout)
+            × (e.runtime.lock.condvars ≡ self.lock.condvars)) }
     {
-        let WqRuntime { lock } = self;
-        match lock.end(seats, |held, seats| wq_under_lock::close(held, seats)) {
+        let WqRuntime { lock, layout } = self;
+        match lock.end(seats) {
             Ok(closed) => Ok(closed),
             Err((lock, seats, why)) => Err(CloseRefused {
-                runtime: WqRuntime { lock },
+                runtime: WqRuntime { lock, layout },
                 seats,
                 why,
             }),

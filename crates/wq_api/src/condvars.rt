@@ -12,8 +12,8 @@ ghost use Rattle.wq_api.specs.Locking.{max_item_condvars, HasCondvar};
 use std::alloc::{AllocError, Allocator};
 use std::sync::Condvar;
 use wq_groups::LaneId;
+use wq_history::{Sleepers, Wake, WokenContexts};
 use wq_items::ItemId;
-use wq_under_lock::{Sleepers, Wake, WokenContexts};
 
 /// The most variables for those who wait for items.
 const MAX_ITEM_CONDVARS: u16 = 256;

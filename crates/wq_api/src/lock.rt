@@ -1,16 +1,69 @@
 //! The lock of a runtime, and those who sleep until what it protects has changed.
 //!
-//! Nothing else in this crate takes the lock. `call` takes it, hands what it protects to a call of `wq_under_lock`, and wakes whom that
-//! names; where the call has no answer yet, its caller sleeps among those whom it names. `Lock` knows nothing else of what it protects,
-//! and does nothing else to it. No caller sleeps with the lock held.
+//! Nothing else in this crate takes the lock. `call` takes it, hands over the call, and wakes whom the answer names; where
+//! the call is too early, its caller sleeps among those whom it names. `Lock` knows of what it protects that it takes
+//! turns, and of a call that it can be copied. So it hands over just the call that it was handed. No caller sleeps with
+//! the lock held.
 
-ghost use Rattle.std.specs.Prelude.{◌≡◌, min, vec_len, IfOk, IfErr};
-ghost use Rattle.wq_api.specs.Locking.{max_item_condvars, AlwaysWakes, SleepsUnchanged, HasAnswered, GivesBack};
+ghost use Rattle.std.specs.Prelude.{◌≡◌, ℕ, min, vec_len, Result, Ok, Err, IfOk, IfErr};
+ghost use Rattle.wq_history.specs.declared.sleepers.Wake.{Wake};
+ghost use Rattle.wq_api.specs.declared.turn.Turn.TheVariants.{Answers};
+ghost use Rattle.wq_api.specs.Locking.{max_item_condvars};
 
 use crate::condvars::Condvars;
+use crate::turn::Turn;
 use std::alloc::Allocator;
 use std::sync::{Mutex, Wait};
-use wq_under_lock::{Turn, Watched};
+
+/// What a lock protects, as its callers see it who sleep.
+pub(crate) trait Watched {
+    ghost use Rattle.std.specs.Prelude.{ℕ};
+    ghost use Rattle.wq_history.specs.declared.sleepers.Wake.{Wake};
+
+    // how many lanes there are, on which somebody may sleep
+    ghost lanes: { ℕ };
+
+    // how many items there are, for whose entries somebody may wait
+    ghost items: { ℕ };
+
+    // nothing has happened yet
+    ghost is_fresh: { Self → Type 0 };
+
+    // by what has happened, enough are woken
+    ghost wakes_enough: { Self → Self → Wake → Type 0 };
+}
+
+/// What takes turns under a lock, for calls of one kind, with something of the caller's own.
+pub(crate) trait Turns<S, C, T>: Watched {
+    ghost use Rattle.wq_api.specs.declared.turn.Turn.{Turn};
+    ghost use Rattle.wq_api.specs.Turns.{IfSleeps, Wakes};
+
+    // a call came to this: what is protected, and what is the caller's own, before and after
+    ghost takes: { Self → S → C → Turn T → Self → S → Type 0 };
+
+    /// Takes a turn for a call.
+    fn take(&mut self, own: &mut S, call: C) -> Turn<T>
+        ensures takes { takes self.old own.old call result self.new own.new }
+        ensures wakes { Wakes Self.lanes Self.items Self.wakes_enough self.old self.new result }
+        ensures sleeps { IfSleeps result (λ _. own.new ≡ own.old) };
+}
+
+/// What a lock protects that may come to an end, with something of the caller's own.
+pub(crate) trait Ends<S, T, E> {
+    ghost use Rattle.std.specs.Prelude.{Result, ℕ};
+
+    // it ended, and this is what is left of it
+    ghost ends: { Self → S → T → Type 0 };
+
+    // it can't end yet, for this cause
+    ghost refuses: { Self → S → E → Type 0 };
+
+    /// Ends, or gives both back as they were, with the cause.
+    fn end(self, own: S) -> Result<T, (Self, S, E)>
+        ensures ended { IfOk result (λ left. ends self own left) }
+        ensures refused { IfErr result (λ e. refuses self own e.2) }
+        ensures kept { IfErr result (λ e. (e.0 ≡ self) × (e.1 ≡ own)) };
+}
 
 /// Something under a lock, and the condition variables of those who sleep until it has changed.
 #[derive(Drop)]
@@ -31,36 +84,25 @@ impl<H: Watched, A: Allocator> Lock<H, A> {
         }
     }
 
-    /// Takes the lock, makes the call, releases the lock, and wakes whom the call names. Where the call has no answer yet, its caller
-    /// sleeps among those whom the call names, and the call is made again when one of them is woken. There is a condition variable for
-    /// each group of sleepers, which groups that wait for items may share.
-    ///
-    /// The call is lent what the lock protects, and what is its caller's own; it is given what its caller keeps while it sleeps.
-    pub(crate) fn call<R: Wait, S, W, T, F: for<'a> Fn(&'a mut H, &'a mut S, W) -> Turn<T, W>>(
-        &self,
-        rt: &R,
-        own: &mut S,
-        waits: W,
-        call: F,
-    ) -> T
+    /// Takes the lock, hands over the call, releases the lock, and wakes whom the answer names. Where the call is too
+    /// early, its caller sleeps among those whom it names, and the call is handed over again when one of them is woken.
+    /// There is a condition variable for each group of sleepers, which groups that wait for items may share.
+    pub(crate) fn call<R: Wait, S, C: Copy, T>(&self, rt: &R, own: &mut S, call: C) -> T
+    where
+        H: Turns<S, C, T>,
         requires lanes { vec_len self.now.condvars.lanes ≡ H.lanes }
         requires items { vec_len self.now.condvars.items ≡ min H.items max_item_condvars }
-        requires callable { F.IsAlwaysCallable call }
-        requires wakes { AlwaysWakes H.lanes H.items H.wakes_enough (F.post call) }
-        requires sleeps { SleepsUnchanged (F.post call) }
-        ensures { HasAnswered (F.post call) own.old waits result own.new }
+        ensures { (old : H) × (new : H) × (wake : Wake) × H.takes old own.old call (Answers result wake) new own.new }
     {
         let mut held = self.held.lock(rt);
-        let mut waits = waits;
         for _ in rt.forever() {
-            match call(&mut *held, own, waits) {
+            match held.take(own, call) {
                 Turn::Answers(answer, wake) => {
                     drop(held);
                     self.condvars.wake(&wake);
                     return answer;
                 }
-                Turn::Sleeps(again, among) => {
-                    waits = again;
+                Turn::Sleeps(among) => {
                     held = self.condvars.of(among).wait(rt, held);
                 }
             }
@@ -68,21 +110,18 @@ impl<H: Watched, A: Allocator> Lock<H, A> {
         unreachable!()
     }
 
-    /// Hands what the lock protects to a call that ends it, with what is its caller's own. Where the call is refused, it gives both
-    /// back as they were, and the lock is as it was.
-    pub(crate) fn end<S, T, E, F: FnOnce(H, S) -> Result<T, (H, S, E)>>(
-        self,
-        own: S,
-        call: F,
-    ) -> Result<T, (Self, S, E)>
-        requires callable { F.IsAlwaysCallable call }
-        requires gives_back { GivesBack (F.post call) }
-        ensures ended { IfOk result (λ t. (held : _) × F.post call held own (Ok t)) }
+    /// Ends what the lock protects, with what is the caller's own. Where it can't end, what is the caller's own comes back
+    /// as it was, and the lock with the same condition variables.
+    pub(crate) fn end<S, T, E>(self, own: S) -> Result<T, (Self, S, E)>
+    where
+        H: Ends<S, T, E>,
+        ensures ended { IfOk result (λ left. (held : H) × H.ends held own left) }
+        ensures why { IfErr result (λ e. (held : H) × H.refuses held own e.2) }
         ensures kept { IfErr result (λ e. (e.0.condvars ≡ self.condvars) × (e.1 ≡ own)) }
     {
         let Lock { held, condvars } = self;
-        match call(held.into_inner(), own) {
-            Ok(ended) => Ok(ended),
+        match held.into_inner().end(own) {
+            Ok(left) => Ok(left),
             Err((held, own, why)) => Err((
                 Lock {
                     held: Mutex::new(held),

@@ -6,61 +6,26 @@
 //! helper's call is the rescuer's with the number of the helper after the workqueue; both are one call by context. Apart from what
 //! it waits for, a call takes the time of the book's events.
 
-ghost use Rattle.std.specs.Prelude.{◌≡◌, ◌<◌, sum, true, false, IfOk, IfErr, OnOk, OnErr, IfSome, IfNone};
+ghost use Rattle.std.specs.Prelude.{◌≡◌, ◌<◌, true, false, IfOk, IfErr, OnOk, OnErr, IfSome};
 ghost use Rattle.wq_core.specs.Wiring.{items, HasContext};
 ghost use Rattle.wq_counts.specs.declared.kind.Kind.TheVariants.{Finish as FinishKind};
-ghost use Rattle.wq_counts.specs.Counting.{raised, wait_kind, over_kind};
+ghost use Rattle.wq_counts.specs.Counting.{raised};
 ghost use Rattle.wq_history.specs.declared.fault.CallError.TheVariants.{WrongLane};
+ghost use Rattle.wq_history.specs.declared.call.Call.TheVariants.{Start, Finish};
 ghost use Rattle.wq_held.specs.Locked.{IsOnLane, SeatHasRoom};
-ghost use Rattle.wq_under_lock.specs.Refusals.{RefusesWaitFor, RefusesWaitIn};
-ghost use Rattle.wq_under_lock.specs.Turns.{AnswersWith, IfAnswers, Wakes, WakesEnoughOf};
+ghost use Rattle.wq_api.specs.Refusals.{RefusesWaitFor, RefusesWaitIn};
 ghost use Rattle.wq_api.specs.WaitingCalls.{IsHelper, waited_for, RefusedWaitFor, RefusedWaitIn, RefusesHelpWaitFor, RefusedHelpWaitFor, HasWaiter};
-ghost use Rattle.wq_api.specs.Locking.{WasStartedIn, WasBegunIn, WasOverIn, WasFinishedIn, WasDone, WasDoneIn, WasWrongToStartIn, WasWrongToFinishIn, WasWrongToGoOnIn, WasRefusedWaitIn, WasCutShortIn};
+ghost use Rattle.wq_api.specs.Locking.{WasWrongToStartIn};
+ghost use Rattle.wq_api.specs.Taking.{context_of, flush_of, IsAnswered, Took, GivesDone, GivesItem, Waits};
 
 use crate::runtime::WqRuntime;
 use std::alloc::Allocator;
 use std::sync::Wait;
+use wq_core::Context;
 use wq_groups::LaneId;
-use wq_held::{CallError, Held, Naming, Seat};
+use wq_held::{CallError, Naming, Seat};
+use wq_history::Flush;
 use wq_items::ItemId;
-use wq_under_lock::Turn;
-
-// ---- turns under the lock, as far as a caller can know what they do
-
-/// The turn of `next_in`.
-fn next_turn<N: Naming, A: Allocator>(
-    held: &mut Held<N, A>,
-    q: LaneId,
-    helper: u8,
-) -> Turn<Result<Option<ItemId>, CallError>, ()>
-    ensures started { IfAnswers result (λ r wake. IfOk r (λ next. HasContext N.wiring q helper × IfSome next (λ item. IsOnLane N.wiring q item))) }
-    ensures refused { IfAnswers result (λ r wake. IfErr r (λ e. e ≡ WrongLane)) }
-    ensures ended { IfAnswers result (λ r wake. IfOk r (λ next. IfNone next (WasDoneIn N.wiring N.rows q helper))) }
-    ensures made { IfAnswers result (λ r wake. IfOk r (λ next. WasStartedIn N.wiring N.rows q helper next)) }
-    ensures cause { IfAnswers result (λ r wake. OnErr r (WasWrongToStartIn N.wiring N.rows q helper)) }
-    ensures wakes { Wakes N.wiring.lanes (items N.wiring) WakesEnoughOf held.old held.new result }
-{
-    wq_under_lock::next(held, q, helper)
-}
-
-/// The turn of `begin_wait`.
-fn wait_turn<N: Naming, A: Allocator>(
-    held: &mut Held<N, A>,
-    seat: &mut Seat<N, A>,
-    q: LaneId,
-    helper: u8,
-    whole: bool,
-    target: ItemId,
-) -> Turn<Result<bool, CallError>, ()>
-    ensures counted { AnswersWith result (λ r wake. IfOk r (λ unfinished. HasContext N.wiring q helper × (target < items N.wiring) × SeatHasRoom seat.old × (seat.new ≡ raised seat.old target (wait_kind whole) unfinished))) }
-    ensures refused { AnswersWith result (λ r wake. IfErr r (λ e. RefusesWaitIn N.wiring seat.old q helper e × (seat.new ≡ seat.old))) }
-    ensures waiter { AnswersWith result (λ r wake. HasContext N.wiring q helper → SeatHasRoom seat.old → HasWaiter N.wiring q whole target r) }
-    ensures began { AnswersWith result (λ r wake. IfOk r (λ unfinished. WasBegunIn N.wiring N.rows q helper whole target unfinished)) }
-    ensures cause { AnswersWith result (λ r wake. HasContext N.wiring q helper → SeatHasRoom seat.old → IfErr r (λ e. WasRefusedWaitIn N.wiring N.rows q helper whole target e)) }
-    ensures wakes { Wakes N.wiring.lanes (items N.wiring) WakesEnoughOf held.old held.new result }
-{
-    wq_under_lock::begin_wait(held, seat, q, helper, whole, target)
-}
 
 impl<N: Naming, A: Allocator> WqRuntime<N, A> {
     // ---- by context
@@ -76,78 +41,12 @@ impl<N: Naming, A: Allocator> WqRuntime<N, A> {
         q: LaneId,
         helper: u8,
     ) -> Result<Option<ItemId>, CallError>
+        ensures took { GivesItem (λ answer. IsAnswered N.wiring N.rows (Start (context_of q helper)) answer) result }
         ensures started { IfOk result (λ next. HasContext N.wiring q helper × IfSome next (λ item. IsOnLane N.wiring q item)) }
         ensures refused { IfErr result (λ e. e ≡ WrongLane) }
-        ensures ended { IfOk result (λ next. IfNone next (WasDoneIn N.wiring N.rows q helper)) }
-        ensures made { IfOk result (λ next. WasStartedIn N.wiring N.rows q helper next) }
         ensures cause { OnErr result (WasWrongToStartIn N.wiring N.rows q helper) }
     {
-        self.lock.call(rt, &mut (), (), |held, _, _| { next_turn(held, q, helper) })
-    }
-
-    /// Makes what a context runs begin to wait for an item, or for its whole workqueue: true where that has an unfinished entry.
-    fn begin_wait<R: Wait>(
-        &self,
-        rt: &R,
-        seat: &mut Seat<N, A>,
-        q: LaneId,
-        helper: u8,
-        whole: bool,
-        target: ItemId,
-    ) -> Result<bool, CallError>
-        ensures counted { IfOk result (λ unfinished. HasContext N.wiring q helper × (target < items N.wiring) × SeatHasRoom seat.old × (seat.new ≡ raised seat.old target (wait_kind whole) unfinished)) }
-        ensures refused { IfErr result (λ e. RefusesWaitIn N.wiring seat.old q helper e × (seat.new ≡ seat.old)) }
-        ensures waiter { HasContext N.wiring q helper → SeatHasRoom seat.old → HasWaiter N.wiring q whole target result }
-        ensures began { IfOk result (λ unfinished. WasBegunIn N.wiring N.rows q helper whole target unfinished) }
-        ensures cause { HasContext N.wiring q helper → SeatHasRoom seat.old → IfErr result (λ e. WasRefusedWaitIn N.wiring N.rows q helper whole target e) }
-    {
-        self.lock.call(rt, seat, (), |held, seat, _| {
-            wait_turn(held, seat, q, helper, whole, target)
-        })
-    }
-
-    /// Waits until the wait of a context for an item, or for its whole workqueue, is over.
-    #[tactic(auto, using(crate::proofs::Waiters::wait_over, crate::proofs::Waiters::over_wrong))]
-    fn go_on<R: Wait>(
-        &self,
-        rt: &R,
-        seat: &mut Seat<N, A>,
-        q: LaneId,
-        helper: u8,
-        whole: bool,
-        target: ItemId,
-    ) -> Result<(), CallError>
-        ensures counted { OnOk result (seat.new ≡ raised seat.old target (over_kind whole) true) }
-        ensures refused { IfErr result (λ e. (e ≡ WrongLane) × (seat.new ≡ seat.old)) }
-        ensures over { OnOk result (WasOverIn N.wiring N.rows q helper whole target) }
-        ensures cause { OnErr result (WasWrongToGoOnIn N.wiring N.rows q helper whole target) }
-    {
-        self.lock.call(rt, seat, (), |held, seat, _| {
-            wq_under_lock::go_on(held, seat, q, helper, whole, target)
-        })
-    }
-
-    /// Makes what a context runs wait for an item, as `wait_for_in`, or for its whole workqueue, as `wait_all_for_in`.
-    #[tactic(auto, using(crate::proofs::WaitsRefused::wait_not_counted, crate::proofs::WaitsRefused::over_refused, crate::proofs::WaitsRefused::over_counted))]
-    fn wait_by<R: Wait>(
-        &self,
-        rt: &R,
-        seat: &mut Seat<N, A>,
-        q: LaneId,
-        helper: u8,
-        whole: bool,
-        target: ItemId,
-    ) -> Result<bool, CallError>
-        ensures counted { IfOk result (λ unfinished. HasContext N.wiring q helper × (target < items N.wiring) × SeatHasRoom seat.old × (seat.new ≡ waited_for seat.old whole target unfinished)) }
-        ensures refused { IfErr result (λ e. RefusesWaitIn N.wiring seat.old q helper e × RefusedWaitIn N.wiring seat.old seat.new q helper whole target e) }
-        ensures waiter { HasContext N.wiring q helper → SeatHasRoom seat.old → HasWaiter N.wiring q whole target result }
-        ensures began { IfOk result (λ unfinished. WasBegunIn N.wiring N.rows q helper whole target unfinished) }
-        ensures over { OnOk result (WasOverIn N.wiring N.rows q helper whole target) }
-        ensures cause { HasContext N.wiring q helper → SeatHasRoom seat.old → IfErr result (λ e. WasCutShortIn N.wiring N.rows q helper whole target e) }
-    {
-        let unfinished = self.begin_wait(rt, seat, q, helper, whole, target)?;
-        self.go_on(rt, seat, q, helper, whole, target)?;
-        Ok(unfinished)
+        self.start(rt, Context { lane: q, helper })
     }
 
     /// Makes what a context runs wait for an item (`flush_work` in a work function), until none of its entries that were queued
@@ -165,14 +64,16 @@ impl<N: Naming, A: Allocator> WqRuntime<N, A> {
         helper: u8,
         target: ItemId,
     ) -> Result<bool, CallError>
+        ensures took { Waits N.wiring N.rows seat.old (context_of q helper) (flush_of false target) result seat.new }
         ensures counted { IfOk result (λ unfinished. HasContext N.wiring q helper × (target < items N.wiring) × SeatHasRoom seat.old × (seat.new ≡ waited_for seat.old false target unfinished)) }
         ensures refused { IfErr result (λ e. RefusesWaitIn N.wiring seat.old q helper e × RefusedWaitIn N.wiring seat.old seat.new q helper false target e) }
         ensures waiter { HasContext N.wiring q helper → SeatHasRoom seat.old → HasWaiter N.wiring q false target result }
-        ensures began { IfOk result (λ unfinished. WasBegunIn N.wiring N.rows q helper false target unfinished) }
-        ensures over { OnOk result (WasOverIn N.wiring N.rows q helper false target) }
-        ensures cause { HasContext N.wiring q helper → SeatHasRoom seat.old → IfErr result (λ e. WasCutShortIn N.wiring N.rows q helper false target e) }
     {
-        self.wait_by(rt, seat, q, helper, false, target)
+        let flush = Flush {
+            target,
+            whole: false,
+        };
+        self.wait(rt, seat, Context { lane: q, helper }, flush)
     }
 
     /// Makes what a context runs wait for the whole workqueue of an item (`flush_workqueue` in a work function), until none of
@@ -190,21 +91,22 @@ impl<N: Naming, A: Allocator> WqRuntime<N, A> {
         helper: u8,
         target: ItemId,
     ) -> Result<bool, CallError>
+        ensures took { Waits N.wiring N.rows seat.old (context_of q helper) (flush_of true target) result seat.new }
         ensures counted { IfOk result (λ unfinished. HasContext N.wiring q helper × (target < items N.wiring) × SeatHasRoom seat.old × (seat.new ≡ waited_for seat.old true target unfinished)) }
         ensures refused { IfErr result (λ e. RefusesWaitIn N.wiring seat.old q helper e × RefusedWaitIn N.wiring seat.old seat.new q helper true target e) }
         ensures waiter { HasContext N.wiring q helper → SeatHasRoom seat.old → HasWaiter N.wiring q true target result }
-        ensures began { IfOk result (λ unfinished. WasBegunIn N.wiring N.rows q helper true target unfinished) }
-        ensures over { OnOk result (WasOverIn N.wiring N.rows q helper true target) }
-        ensures cause { HasContext N.wiring q helper → SeatHasRoom seat.old → IfErr result (λ e. WasCutShortIn N.wiring N.rows q helper true target e) }
     {
-        self.wait_by(rt, seat, q, helper, true, target)
+        let flush = Flush {
+            target,
+            whole: true,
+        };
+        self.wait(rt, seat, Context { lane: q, helper }, flush)
     }
 
     /// Finishes what a context runs, an entry of this item.
     ///
     /// The only error is `WrongLane` (64): there is no such context, it runs nothing or an entry of another item, or it waits.
     /// After an error nothing is changed or counted.
-    #[tactic(auto, using(crate::proofs::Waiters::entry_finished, crate::proofs::Waiters::finish_refused))]
     pub fn finish_in<R: Wait>(
         &self,
         rt: &R,
@@ -213,14 +115,11 @@ impl<N: Naming, A: Allocator> WqRuntime<N, A> {
         helper: u8,
         item: ItemId,
     ) -> Result<(), CallError>
+        ensures took { GivesDone (λ answer. Took N.wiring N.rows seat.old (Finish (context_of q helper) item) answer seat.new) result }
         ensures counted { OnOk result (HasContext N.wiring q helper × IsOnLane N.wiring q item × (seat.new ≡ raised seat.old item FinishKind true)) }
         ensures refused { IfErr result (λ e. (e ≡ WrongLane) × (seat.new ≡ seat.old)) }
-        ensures made { OnOk result (WasFinishedIn N.wiring N.rows q helper item) }
-        ensures cause { OnErr result (WasWrongToFinishIn N.wiring N.rows q helper item) }
     {
-        self.lock.call(rt, seat, (), |held, seat, _| {
-            wq_under_lock::finish_work(held, seat, q, helper, item)
-        })
+        self.finish(rt, seat, Context { lane: q, helper }, item)
     }
 
     // ---- the rescuer
@@ -231,10 +130,9 @@ impl<N: Naming, A: Allocator> WqRuntime<N, A> {
     /// The only error is `WrongLane` (64), where there is no such workqueue or its rescuer runs an entry. After an error nothing is
     /// changed.
     pub fn next<R: Wait>(&self, rt: &R, q: LaneId) -> Result<Option<ItemId>, CallError>
+        ensures took { GivesItem (λ answer. IsAnswered N.wiring N.rows (Start (context_of q 0)) answer) result }
         ensures started { IfOk result (λ next. (q < N.wiring.lanes) × IfSome next (λ item. IsOnLane N.wiring q item)) }
         ensures refused { IfErr result (λ e. e ≡ WrongLane) }
-        ensures ended { IfOk result (λ next. IfNone next (WasDone N.wiring N.rows q)) }
-        ensures made { IfOk result (λ next. WasStartedIn N.wiring N.rows q 0 next) }
         ensures cause { OnErr result (WasWrongToStartIn N.wiring N.rows q 0) }
     {
         self.next_in(rt, q, 0)
@@ -254,12 +152,10 @@ impl<N: Naming, A: Allocator> WqRuntime<N, A> {
         q: LaneId,
         target: ItemId,
     ) -> Result<bool, CallError>
+        ensures took { Waits N.wiring N.rows seat.old (context_of q 0) (flush_of false target) result seat.new }
         ensures counted { IfOk result (λ unfinished. (q < N.wiring.lanes) × (target < items N.wiring) × SeatHasRoom seat.old × (seat.new ≡ waited_for seat.old false target unfinished)) }
         ensures refused { IfErr result (λ e. RefusesWaitFor N.wiring seat.old q e × RefusedWaitFor N.wiring seat.old seat.new q false target e) }
         ensures waiter { q < N.wiring.lanes → SeatHasRoom seat.old → HasWaiter N.wiring q false target result }
-        ensures began { IfOk result (λ unfinished. WasBegunIn N.wiring N.rows q 0 false target unfinished) }
-        ensures over { OnOk result (WasOverIn N.wiring N.rows q 0 false target) }
-        ensures cause { q < N.wiring.lanes → SeatHasRoom seat.old → IfErr result (λ e. WasCutShortIn N.wiring N.rows q 0 false target e) }
     {
         self.wait_for_in(rt, seat, q, 0, target)
     }
@@ -278,12 +174,10 @@ impl<N: Naming, A: Allocator> WqRuntime<N, A> {
         q: LaneId,
         target: ItemId,
     ) -> Result<bool, CallError>
+        ensures took { Waits N.wiring N.rows seat.old (context_of q 0) (flush_of true target) result seat.new }
         ensures counted { IfOk result (λ unfinished. (q < N.wiring.lanes) × (target < items N.wiring) × SeatHasRoom seat.old × (seat.new ≡ waited_for seat.old true target unfinished)) }
         ensures refused { IfErr result (λ e. RefusesWaitFor N.wiring seat.old q e × RefusedWaitFor N.wiring seat.old seat.new q true target e) }
         ensures waiter { q < N.wiring.lanes → SeatHasRoom seat.old → HasWaiter N.wiring q true target result }
-        ensures began { IfOk result (λ unfinished. WasBegunIn N.wiring N.rows q 0 true target unfinished) }
-        ensures over { OnOk result (WasOverIn N.wiring N.rows q 0 true target) }
-        ensures cause { q < N.wiring.lanes → SeatHasRoom seat.old → IfErr result (λ e. WasCutShortIn N.wiring N.rows q 0 true target e) }
     {
         self.wait_all_for_in(rt, seat, q, 0, target)
     }
@@ -299,10 +193,9 @@ impl<N: Naming, A: Allocator> WqRuntime<N, A> {
         q: LaneId,
         item: ItemId,
     ) -> Result<(), CallError>
+        ensures took { GivesDone (λ answer. Took N.wiring N.rows seat.old (Finish (context_of q 0) item) answer seat.new) result }
         ensures counted { OnOk result (IsOnLane N.wiring q item × (seat.new ≡ raised seat.old item FinishKind true)) }
         ensures refused { IfErr result (λ e. (e ≡ WrongLane) × (seat.new ≡ seat.old)) }
-        ensures made { OnOk result (WasFinishedIn N.wiring N.rows q 0 item) }
-        ensures cause { OnErr result (WasWrongToFinishIn N.wiring N.rows q 0 item) }
     {
         self.finish_in(rt, seat, q, 0, item)
     }
@@ -315,10 +208,9 @@ impl<N: Naming, A: Allocator> WqRuntime<N, A> {
     /// The only error is `WrongLane` (64), where the workqueue has no helper `h`, or that helper runs an entry. After an error nothing
     /// is changed.
     pub fn help_next<R: Wait>(&self, rt: &R, q: LaneId, h: u8) -> Result<Option<ItemId>, CallError>
+        ensures took { 0 < h → GivesItem (λ answer. IsAnswered N.wiring N.rows (Start (context_of q h)) answer) result }
         ensures started { IfOk result (λ next. IsHelper N.wiring q h × IfSome next (λ item. IsOnLane N.wiring q item)) }
         ensures refused { IfErr result (λ e. e ≡ WrongLane) }
-        ensures ended { IfOk result (λ next. IfNone next (WasDoneIn N.wiring N.rows q h)) }
-        ensures made { IfOk result (λ next. WasStartedIn N.wiring N.rows q h next) }
         ensures cause { 0 < h → OnErr result (WasWrongToStartIn N.wiring N.rows q h) }
     {
         if h == 0 {
@@ -341,12 +233,10 @@ impl<N: Naming, A: Allocator> WqRuntime<N, A> {
         h: u8,
         target: ItemId,
     ) -> Result<bool, CallError>
+        ensures took { 0 < h → Waits N.wiring N.rows seat.old (context_of q h) (flush_of false target) result seat.new }
         ensures counted { IfOk result (λ unfinished. IsHelper N.wiring q h × (target < items N.wiring) × SeatHasRoom seat.old × (seat.new ≡ waited_for seat.old false target unfinished)) }
         ensures refused { IfErr result (λ e. RefusesHelpWaitFor N.wiring seat.old q h e × RefusedHelpWaitFor N.wiring seat.old seat.new q h false target e) }
         ensures waiter { IsHelper N.wiring q h → SeatHasRoom seat.old → HasWaiter N.wiring q false target result }
-        ensures began { IfOk result (λ unfinished. WasBegunIn N.wiring N.rows q h false target unfinished) }
-        ensures over { OnOk result (WasOverIn N.wiring N.rows q h false target) }
-        ensures cause { IsHelper N.wiring q h → SeatHasRoom seat.old → IfErr result (λ e. WasCutShortIn N.wiring N.rows q h false target e) }
     {
         if h == 0 {
             return Err(CallError::WrongLane);
@@ -368,12 +258,10 @@ impl<N: Naming, A: Allocator> WqRuntime<N, A> {
         h: u8,
         target: ItemId,
     ) -> Result<bool, CallError>
+        ensures took { 0 < h → Waits N.wiring N.rows seat.old (context_of q h) (flush_of true target) result seat.new }
         ensures counted { IfOk result (λ unfinished. IsHelper N.wiring q h × (target < items N.wiring) × SeatHasRoom seat.old × (seat.new ≡ waited_for seat.old true target unfinished)) }
         ensures refused { IfErr result (λ e. RefusesHelpWaitFor N.wiring seat.old q h e × RefusedHelpWaitFor N.wiring seat.old seat.new q h true target e) }
         ensures waiter { IsHelper N.wiring q h → SeatHasRoom seat.old → HasWaiter N.wiring q true target result }
-        ensures began { IfOk result (λ unfinished. WasBegunIn N.wiring N.rows q h true target unfinished) }
-        ensures over { OnOk result (WasOverIn N.wiring N.rows q h true target) }
-        ensures cause { IsHelper N.wiring q h → SeatHasRoom seat.old → IfErr result (λ e. WasCutShortIn N.wiring N.rows q h true target e) }
     {
         if h == 0 {
             return Err(CallError::WrongLane);
@@ -393,10 +281,10 @@ impl<N: Naming, A: Allocator> WqRuntime<N, A> {
         h: u8,
         item: ItemId,
     ) -> Result<(), CallError>
+        ensures took { 0 < h →
+            GivesDone (λ answer. Took N.wiring N.rows seat.old (Finish (context_of q h) item) answer seat.new) result }
         ensures counted { OnOk result (IsHelper N.wiring q h × IsOnLane N.wiring q item × (seat.new ≡ raised seat.old item FinishKind true)) }
         ensures refused { IfErr result (λ e. (e ≡ WrongLane) × (seat.new ≡ seat.old)) }
-        ensures made { OnOk result (WasFinishedIn N.wiring N.rows q h item) }
-        ensures cause { 0 < h → OnErr result (WasWrongToFinishIn N.wiring N.rows q h item) }
     {
         if h == 0 {
             return Err(CallError::WrongLane);

@@ -4,14 +4,14 @@ use Rattle.wq_api.proofs.runtime.WqRuntime.wait_all_for.Goals as goal
 
 pub returns-clause-counted : goal.returns-clause-counted
 returns-clause-counted g c =
-    rescuer_waited g.N.Naming.wiring c.args.seat.now c.wait_all_for_in.new.seat c.args.q true c.args.target c.wait_all_for_in.result c.wait_all_for_in.ensures.counted
+    rescuer_waited g.N.Naming.wiring c.args.seat.now c.wait_all_for_in.new.seat c.args.q true c.args.target c.wait_all_for_in.result
+    c.wait_all_for_in.ensures.counted
 
 pub returns-clause-refused : goal.returns-clause-refused
 returns-clause-refused g c =
-    rescuer_refusal g.N.Naming.wiring c.args.seat.now c.wait_all_for_in.new.seat c.args.q true c.args.target c.wait_all_for_in.result c.wait_all_for_in.ensures.refused
+    rescuer_refusal g.N.Naming.wiring c.args.seat.now c.wait_all_for_in.new.seat c.args.q true c.args.target c.wait_all_for_in.result
+    c.wait_all_for_in.ensures.refused
 
 pub returns-clause-waiter : goal.returns-clause-waiter
-returns-clause-waiter g c there room = c.wait_all_for_in.ensures.waiter (rescuer_context g.N.Naming.wiring c.args.q there) room
-
-pub returns-clause-cause : goal.returns-clause-cause
-returns-clause-cause g c there room = c.wait_all_for_in.ensures.cause (rescuer_context g.N.Naming.wiring c.args.q there) room
+returns-clause-waiter g c there room =
+    c.wait_all_for_in.ensures.waiter (rescuer_context g.N.Naming.wiring c.args.q there) room

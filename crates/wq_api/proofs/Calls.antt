@@ -1,0 +1,157 @@
+-- What a call writes and counts, and why it is refused.
+use Rattle.std.proofs.Common.{◌≡◌, ℕ, zero, suc, ◌<◌, ◌≤◌, ◌⊎◌, inl, inr, Bool, true, false, List, refl, sym, ap, subst, ◌∙◌}
+use Rattle.std.specs.Prelude.{Result, Ok, Err}
+use Rattle.std.proofs.lemmas.Bool.{cases_lt}
+use Rattle.wq_core.specs.declared.step.Context.{Context}
+use Rattle.wq_core.specs.Wiring.{Wiring}
+use Rattle.wq_rows.specs.declared.event.Event.{Event}
+use Rattle.wq_rows.specs.declared.event.Row.{Row}
+use Rattle.wq_counts.specs.declared.kind.Kind.TheVariants.{Finish as FinishKind}
+use Rattle.wq_counts.specs.Counting.{wait_kind, over_kind, raised, noted, noted_as}
+use Rattle.wq_history.specs.declared.asking.Subject.{Subject}
+use Rattle.wq_history.specs.declared.call.Flush.{Flush}
+use Rattle.wq_history.specs.declared.call.Call.{Call}
+use Rattle.wq_history.specs.declared.call.Call.TheVariants.{Queue, Cancel, Ask, Told, CancelSync, Start, Wait, Over, Finish, Close, Drain}
+use Rattle.wq_history.specs.declared.call.Reply.{Reply}
+use Rattle.wq_history.specs.declared.call.Reply.TheVariants.{Wrote, WroteTwo, Done, NotYet}
+use Rattle.wq_history.specs.declared.fault.CallError.{CallError}
+use Rattle.wq_history.specs.declared.fault.CallError.TheVariants.{HistoryFull, Closed, Undeclared, TooManyWaits, WrongLane, NotAsked, NoItem}
+use Rattle.wq_history.specs.Events.{told_event, wait_event, over_event, finish_event}
+use Rattle.wq_history.specs.History.{MayCome}
+use Rattle.wq_history.specs.Book.{BookView}
+use Rattle.wq_history.specs.Calls.{RefusesToTell, RefusesIf, Refuses, Replies}
+use Rattle.wq_history.proofs.CallRows.{told-yes, over-yes, finish-yes}
+use Rattle.wq_held.specs.Locked.{SeatHasRoom, seat_rows}
+use Rattle.wq_api.specs.Calls.{IsNamed, missing, IsBarred, IsAdmitted}
+use Rattle.wq_api.specs.Taking.{WritesOne, IsAnswered, Took, ComesTo}
+use Rattle.std.specs.Prelude.{sum}
+
+-- ---- replies
+
+-- a call that writes one row isn't answered otherwise
+pub never_two : (old new : BookView) (call : Call) (ask taken : Row) → WritesOne call
+    → Replies old call (WroteTwo ask taken) new → ⊥
+never_two old new (Queue i) ask taken writes replies = absurd replies
+never_two old new (Cancel i) ask taken writes replies = absurd replies
+never_two old new (Ask x) ask taken writes replies = absurd replies
+never_two old new (Told x mark) ask taken writes replies = absurd replies
+never_two old new (Wait c f) ask taken writes replies = absurd replies
+never_two old new (Over c f) ask taken writes replies = absurd replies
+never_two old new (Finish c i) ask taken writes replies = absurd replies
+never_two old new (CancelSync i) ask taken writes replies = absurd writes
+never_two old new (Start c) ask taken writes replies = absurd writes
+never_two old new Close ask taken writes replies = absurd writes
+never_two old new Drain ask taken writes replies = absurd writes
+
+pub never_done : (old new : BookView) (call : Call) → WritesOne call → Replies old call Done new → ⊥
+never_done old new (Queue i) writes replies = absurd replies.0
+never_done old new (Cancel i) writes replies = absurd replies.0
+never_done old new (Ask x) writes replies = absurd replies.0
+never_done old new (Told x mark) writes replies = absurd replies.0
+never_done old new (Wait c f) writes replies = absurd replies.0
+never_done old new (Over c f) writes replies = absurd replies.0
+never_done old new (Finish c i) writes replies = absurd replies.0
+never_done old new (CancelSync i) writes replies = absurd writes
+never_done old new (Start c) writes replies = absurd writes
+never_done old new Close writes replies = absurd writes
+never_done old new Drain writes replies = absurd writes
+
+-- ---- counts
+
+-- counts after a row of this event that says this
+pub noted_so : (counts left : List ℕ) (row : Row) (event : Event) (said : Bool) → row.event ≡ event → row.yes ≡ said
+    → left ≡ noted counts row → left ≡ noted_as counts event said
+noted_so counts left row event said is says counted =
+    counted ∙ (ap (λ (x : Event). noted_as counts x row.yes) is ∙ ap (λ (k : Bool). noted_as counts event k) says)
+
+-- whoever is told is told yes
+pub told_counted : (w : Wiring) (rows : ℕ) (counts left : List ℕ) (x : Subject) (mark : ℕ) (row : Row)
+    → Took w rows counts (Told x mark) (Ok (Wrote row)) left → left ≡ noted_as counts (told_event x) true
+told_counted w rows counts left x mark row took =
+    let b : BookView = took.0.old in
+    let is : row.event ≡ told_event x = took.0.answers.0.0 in
+    let may = subst (λ (e : Event). MayCome b.wiring b.rows e row.yes row.number) is took.0.answers.1.may in
+    noted_so counts left row (told_event x) true is (told-yes b.wiring b.rows x row.yes row.number may) took.1
+
+-- what a context does is counted for the item of the wait, or of the entry
+wait-noted : (counts : List ℕ) (whole : Bool) (q c b : ℕ) (said : Bool)
+    → noted_as counts (wait_event whole q c b) said ≡ raised counts b (wait_kind whole) said
+wait-noted counts false q zero b said = refl
+wait-noted counts false q (suc h) b said = refl
+wait-noted counts true q zero b said = refl
+wait-noted counts true q (suc h) b said = refl
+
+over-noted : (counts : List ℕ) (whole : Bool) (q c b : ℕ) (said : Bool)
+    → noted_as counts (over_event whole q c b) said ≡ raised counts b (over_kind whole) said
+over-noted counts false q zero b said = refl
+over-noted counts false q (suc h) b said = refl
+over-noted counts true q zero b said = refl
+over-noted counts true q (suc h) b said = refl
+
+finish-noted : (counts : List ℕ) (q c i : ℕ) (said : Bool)
+    → noted_as counts (finish_event q c i) said ≡ raised counts i FinishKind said
+finish-noted counts q zero i said = refl
+finish-noted counts q (suc h) i said = refl
+
+pub wait_counted : (w : Wiring) (rows : ℕ) (counts left : List ℕ) (c : Context) (f : Flush) (row : Row) (said : Bool)
+    → row.yes ≡ said → Took w rows counts (Wait c f) (Ok (Wrote row)) left
+    → left ≡ raised counts f.target (wait_kind f.whole) said
+wait_counted w rows counts left c f row said says took =
+    noted_so counts left row (wait_event f.whole c.lane c.helper f.target) said took.0.answers.0 says took.1
+    ∙ wait-noted counts f.whole c.lane c.helper f.target said
+
+pub over_counted : (w : Wiring) (rows : ℕ) (counts left : List ℕ) (c : Context) (f : Flush) (row : Row)
+    → Took w rows counts (Over c f) (Ok (Wrote row)) left → left ≡ raised counts f.target (over_kind f.whole) true
+over_counted w rows counts left c f row took =
+    let b : BookView = took.0.old in
+    let event : Event = over_event f.whole c.lane c.helper f.target in
+    let is : row.event ≡ event = took.0.answers.0 in
+    let may = subst (λ (e : Event). MayCome b.wiring b.rows e row.yes row.number) is took.0.answers.1.may in
+    let yes : row.yes ≡ true = over-yes b.wiring b.rows f.whole c.lane c.helper f.target row.yes row.number may in
+    noted_so counts left row event true is yes took.1 ∙ over-noted counts f.whole c.lane c.helper f.target true
+
+pub finish_counted : (w : Wiring) (rows : ℕ) (counts left : List ℕ) (c : Context) (i : ℕ) (row : Row)
+    → Took w rows counts (Finish c i) (Ok (Wrote row)) left → left ≡ raised counts i FinishKind true
+finish_counted w rows counts left c i row took =
+    let b : BookView = took.0.old in
+    let is : row.event ≡ finish_event c.lane c.helper i = took.0.answers.0 in
+    let may = subst (λ (e : Event). MayCome b.wiring b.rows e row.yes row.number) is took.0.answers.1.may in
+    let yes : row.yes ≡ true = finish-yes b.wiring b.rows c.lane c.helper i row.yes row.number may in
+    noted_so counts left row (finish_event c.lane c.helper i) true is yes took.1
+    ∙ finish-noted counts c.lane c.helper i true
+
+-- ---- refusals
+
+-- what isn't below is at or above
+pub not_below : (a b : ℕ) → ¬ (a < b) → b ≤ a
+not_below a b none = elim (cases_lt a b) [
+  | inl below ↦ absurd (none below)
+  | inr above ↦ above
+]
+
+-- what holds if something is missing, and if the seat is full, holds of whatever bars a call
+pub barred_by : (P : CallError → Type 0) (w : Wiring) (counts : List ℕ) (call : Call) (e : CallError)
+    → (¬ IsNamed w call → P (missing call)) → (IsNamed w call → seat_rows ≤ sum counts → P HistoryFull)
+    → IsBarred w counts call e → P e
+barred_by P w counts call e gone full (inl (none, is)) = subst P (sym is) (gone none)
+barred_by P w counts call e gone full (inr (named, needs, over, is)) = subst P (sym is) (full named over)
+
+-- a caller isn't told for one cause alone
+pub told_refused : (b : BookView) (x : Subject) (e : CallError) → RefusesToTell b x e → e ≡ NotAsked
+told_refused b x HistoryFull why = absurd why
+told_refused b x Closed why = absurd why
+told_refused b x Undeclared why = absurd why
+told_refused b x TooManyWaits why = absurd why
+told_refused b x WrongLane why = absurd why
+told_refused b x NotAsked why = refl
+told_refused b x NoItem why = absurd why
+
+-- a context that can't make a call is refused for one cause alone
+pub wrong_lane : (wrong : Type 0) (e : CallError) → RefusesIf wrong e → (e ≡ WrongLane) × wrong
+wrong_lane wrong HistoryFull why = absurd why
+wrong_lane wrong Closed why = absurd why
+wrong_lane wrong Undeclared why = absurd why
+wrong_lane wrong TooManyWaits why = absurd why
+wrong_lane wrong WrongLane why = (refl, why)
+wrong_lane wrong NotAsked why = absurd why
+wrong_lane wrong NoItem why = absurd why

@@ -1,0 +1,10 @@
+use Rattle.wq_api.proofs.Projections.{queue_counted, queue_refused}
+use Rattle.wq_api.proofs.runtime.WqRuntime.queue_item.Goals as goal
+
+pub returns-clause-counted : goal.returns-clause-counted
+returns-clause-counted g c =
+    queue_counted g.N.Naming.wiring g.N.Naming.rows c.args.seat.now c.yes.new.seat c.args.item c.yes.result c.yes.ensures
+
+pub returns-clause-refused : goal.returns-clause-refused
+returns-clause-refused g c =
+    queue_refused g.N.Naming.wiring g.N.Naming.rows c.args.seat.now c.yes.new.seat c.args.item c.yes.result c.yes.ensures

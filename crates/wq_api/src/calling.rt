@@ -1,0 +1,260 @@
+//! How a runtime is called: what the caller can know is refused at once, and all else is answered under the lock.
+//!
+//! The methods of `runtime` and `serving` are made of these. What is asked under the lock is a call, a value. So the clause
+//! `took` of a method says which call it makes, and of a method that waits, which two. Apart from what it waits for, a call
+//! takes the time of the book's answer.
+
+ghost use Rattle.std.specs.Prelude.{◌↔◌, ◌≡◌, IsTrue, Result, IfErr, OnOk};
+ghost use Rattle.wq_history.specs.declared.call.Call.TheVariants.{CancelSync, Start, Finish};
+ghost use Rattle.wq_api.specs.Calls.{IsNamed, missing, needs_room, IsBarred, IsAdmitted, IsSettled};
+ghost use Rattle.wq_api.specs.Taking.{WritesOne, IsAnswered, Took, ComesTo, GivesRow, GivesTwo, GivesYes, GivesDone, GivesItem, IsTold, IsNotTold, Flushes, CancelsSync, Waits};
+
+use crate::layout::Layout;
+use crate::runtime::WqRuntime;
+use crate::turns::Uncounted;
+use std::alloc::Allocator;
+use std::sync::Wait;
+use wq_core::Context;
+use wq_held::{CallError, Naming, Seat};
+use wq_history::{Call, Flush, Reply, Row, Subject};
+use wq_items::ItemId;
+
+// ---- what a caller can know
+
+impl<N: Naming, A: Allocator> Layout<N, A> {
+    /// Whether what a call names is there.
+    fn has_named(&self, call: Call) -> bool
+        ensures { IsTrue result ↔ IsNamed N.wiring call }
+    {
+        match call {
+            Call::Queue(item) => self.has_item(item),
+            Call::Cancel(item) => self.has_item(item),
+            Call::Ask(Subject::Item(item)) => self.has_item(item),
+            Call::Ask(Subject::Lane(q)) => self.has_lane(q),
+            Call::CancelSync(item) => self.has_item(item),
+            Call::Wait(context, _) => self.has_context(context.lane, context.helper),
+            Call::Told(_, _) => true,
+            Call::Start(_) => true,
+            Call::Over(_, _) => true,
+            Call::Finish(_, _) => true,
+            Call::Close => true,
+            Call::Drain => true,
+        }
+    }
+}
+
+/// The refusal of a call that names what isn't there.
+fn missing(call: Call) -> CallError
+    ensures { result ≡ missing call }
+{
+    match call {
+        Call::Queue(_) => CallError::NoItem,
+        Call::Cancel(_) => CallError::NoItem,
+        Call::Ask(Subject::Item(_)) => CallError::NoItem,
+        Call::CancelSync(_) => CallError::NoItem,
+        Call::Ask(Subject::Lane(_)) => CallError::WrongLane,
+        Call::Wait(_, _) => CallError::WrongLane,
+        Call::Told(_, _) => CallError::WrongLane,
+        Call::Start(_) => CallError::WrongLane,
+        Call::Over(_, _) => CallError::WrongLane,
+        Call::Finish(_, _) => CallError::WrongLane,
+        Call::Close => CallError::WrongLane,
+        Call::Drain => CallError::WrongLane,
+    }
+}
+
+/// Whether a full seat refuses a call.
+fn needs_room(call: Call) -> bool
+    ensures { result ≡ needs_room call }
+{
+    match call {
+        Call::Queue(_) => true,
+        Call::Cancel(_) => true,
+        Call::Ask(_) => true,
+        Call::CancelSync(_) => true,
+        Call::Wait(_, _) => true,
+        Call::Told(_, _) => false,
+        Call::Start(_) => false,
+        Call::Over(_, _) => false,
+        Call::Finish(_, _) => false,
+        Call::Close => false,
+        Call::Drain => false,
+    }
+}
+
+impl<N: Naming, A: Allocator> WqRuntime<N, A> {
+    /// Whether its caller may make a call: the error is that what it names isn't there (64, 66), or else that the seat is
+    /// full (60). It doesn't take the lock.
+    fn admit(&self, seat: &Seat<N, A>, call: Call) -> Result<(), CallError>
+        ensures admitted { OnOk result (IsAdmitted N.wiring seat.now call) }
+        ensures barred { IfErr result (λ e. IsBarred N.wiring seat.now call e) }
+    {
+        if !self.layout.has_named(call) {
+            return Err(missing(call));
+        }
+        if needs_room(call) && seat.is_full() {
+            return Err(CallError::HistoryFull);
+        }
+        Ok(())
+    }
+
+    // ---- one call
+
+    /// Has a call answered under the lock, once it isn't too early.
+    fn answer<R: Wait>(&self, rt: &R, seat: &mut Seat<N, A>, call: Call) -> Result<Reply, CallError>
+        ensures took { Took N.wiring N.rows seat.old call result seat.new }
+        ensures settled { IsSettled result }
+    {
+        self.lock.call(rt, seat, call)
+    }
+
+    /// Has a call that writes one row answered under the lock.
+    fn written<R: Wait>(&self, rt: &R, seat: &mut Seat<N, A>, call: Call) -> Result<Row, CallError>
+        requires { WritesOne call }
+        ensures { GivesRow (λ answer. Took N.wiring N.rows seat.old call answer seat.new) result }
+    {
+        match self.answer(rt, seat, call) {
+            Ok(Reply::Wrote(row)) => Ok(row),
+            Ok(Reply::WroteTwo(_, _)) => unreachable!(),
+            Ok(Reply::Done) => unreachable!(),
+            Ok(Reply::NotYet) => unreachable!(),
+            Err(e) => Err(e),
+        }
+    }
+
+    /// Makes a call that writes one row, and gives the row.
+    fn row<R: Wait>(&self, rt: &R, seat: &mut Seat<N, A>, call: Call) -> Result<Row, CallError>
+        requires { WritesOne call }
+        ensures { GivesRow (λ answer. ComesTo N.wiring N.rows seat.old call answer seat.new) result }
+    {
+        self.admit(seat, call)?;
+        self.written(rt, seat, call)
+    }
+
+    /// Makes a call that writes one row, and gives what the row says.
+    pub(crate) fn yes<R: Wait>(
+        &self,
+        rt: &R,
+        seat: &mut Seat<N, A>,
+        call: Call,
+    ) -> Result<bool, CallError>
+        requires { WritesOne call }
+        ensures { GivesYes (λ answer. ComesTo N.wiring N.rows seat.old call answer seat.new) result }
+    {
+        let row = self.row(rt, seat, call)?;
+        Ok(row.yes)
+    }
+
+    /// Starts what a context can start next, once there is something.
+    pub(crate) fn start<R: Wait>(
+        &self,
+        rt: &R,
+        context: Context,
+    ) -> Result<Option<ItemId>, CallError>
+        ensures { GivesItem (λ answer. IsAnswered N.wiring N.rows (Start context) answer) result }
+    {
+        match self.lock.call(rt, &mut (), Uncounted::Start(context)) {
+            Ok(Reply::Wrote(row)) => Ok(Some(row.event.item())),
+            Ok(Reply::WroteTwo(_, _)) => unreachable!(),
+            Ok(Reply::Done) => Ok(None),
+            Ok(Reply::NotYet) => unreachable!(),
+            Err(e) => Err(e),
+        }
+    }
+
+    /// Finishes what a context runs, an entry of this item.
+    pub(crate) fn finish<R: Wait>(
+        &self,
+        rt: &R,
+        seat: &mut Seat<N, A>,
+        context: Context,
+        item: ItemId,
+    ) -> Result<(), CallError>
+        ensures { GivesDone (λ answer. Took N.wiring N.rows seat.old (Finish context item) answer seat.new) result }
+    {
+        self.written(rt, seat, Call::Finish(context, item))?;
+        Ok(())
+    }
+
+    // ---- two calls
+
+    /// Makes an ask and a cancellation in one call, and gives both rows.
+    fn two_rows<R: Wait>(
+        &self,
+        rt: &R,
+        seat: &mut Seat<N, A>,
+        item: ItemId,
+    ) -> Result<(Row, Row), CallError>
+        ensures { GivesTwo (λ answer. ComesTo N.wiring N.rows seat.old (CancelSync item) answer seat.new) result }
+    {
+        let call = Call::CancelSync(item);
+        self.admit(seat, call)?;
+        match self.answer(rt, seat, call) {
+            Ok(Reply::WroteTwo(asked, taken)) => Ok((asked, taken)),
+            Ok(Reply::Wrote(_)) => unreachable!(),
+            Ok(Reply::Done) => unreachable!(),
+            Ok(Reply::NotYet) => unreachable!(),
+            Err(e) => Err(e),
+        }
+    }
+
+    /// Waits until an ask is told that its wait is over, where it waits.
+    fn be_told<R: Wait>(
+        &self,
+        rt: &R,
+        seat: &mut Seat<N, A>,
+        subject: Subject,
+        asked: Row,
+    ) -> Result<(), CallError>
+        ensures told { OnOk result (IsTold N.wiring N.rows seat.old subject asked seat.new) }
+        ensures refused { IfErr result (λ e. IsNotTold N.wiring N.rows seat.old subject asked e seat.new) }
+    {
+        if asked.yes {
+            self.written(rt, seat, Call::Told(subject, asked.number))?;
+        }
+        Ok(())
+    }
+
+    /// Asks whether anything is unfinished there, and where it is, waits until it is told with the mark of its ask.
+    pub(crate) fn flush<R: Wait>(
+        &self,
+        rt: &R,
+        seat: &mut Seat<N, A>,
+        subject: Subject,
+    ) -> Result<bool, CallError>
+        ensures { Flushes N.wiring N.rows seat.old subject result seat.new }
+    {
+        let asked = self.row(rt, seat, Call::Ask(subject))?;
+        self.be_told(rt, seat, subject, asked)?;
+        Ok(asked.yes)
+    }
+
+    /// Asks about an item and removes its pending entry in one call, and where the ask waits, waits until it is told.
+    pub(crate) fn cancel_and_wait<R: Wait>(
+        &self,
+        rt: &R,
+        seat: &mut Seat<N, A>,
+        item: ItemId,
+    ) -> Result<bool, CallError>
+        ensures { CancelsSync N.wiring N.rows seat.old item result seat.new }
+    {
+        let (asked, taken) = self.two_rows(rt, seat, item)?;
+        self.be_told(rt, seat, Subject::Item(item), asked)?;
+        Ok(taken.yes)
+    }
+
+    /// Makes what a context runs begin to wait, and waits until that is over.
+    pub(crate) fn wait<R: Wait>(
+        &self,
+        rt: &R,
+        seat: &mut Seat<N, A>,
+        context: Context,
+        flush: Flush,
+    ) -> Result<bool, CallError>
+        ensures { Waits N.wiring N.rows seat.old context flush result seat.new }
+    {
+        let began = self.row(rt, seat, Call::Wait(context, flush))?;
+        self.written(rt, seat, Call::Over(context, flush))?;
+        Ok(began.yes)
+    }
+}
