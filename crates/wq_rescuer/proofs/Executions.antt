@@ -11,11 +11,10 @@ use Rattle.wq_counts.specs.Counting.{counts_each, place, HasCountsOf, raised}
 use Rattle.wq_counts.proofs.Places.{place-same, made-raised_same, made-raised_other}
 use Rattle.wq_core.specs.Wiring.{Wiring, HasContext}
 use Rattle.wq_held.specs.Locked.{IsOnLane, seat_rows}
-use Rattle.wq_rescuer.specs.Executing.{NeverRan, RanOnce, RanOnly, finished_of, finished_in_all, faults_of, SameFinished, CountsRuns, Execution, AreExecuted, HasExecuted, HasStopped, Executes, RefusesRescue, RefusesServe, RefusesHelper, WasDrivenIn}
+use Rattle.wq_rescuer.specs.Executing.{NeverRan, RanOnce, RanOnly, finished_of, finished_in_all, faults_of, SameFinished, CountsRuns, Execution, AreExecuted, HasExecuted, HasLeftOne, HasStopped, Executes, RefusesRescue, RefusesServe, RefusesHelper}
 use Rattle.wq_history.specs.declared.fault.CallError.{CallError}
 use Rattle.wq_history.specs.declared.fault.CallError.TheVariants.{WrongLane}
 use Rattle.wq_api.specs.WaitingCalls.{IsHelper}
-use Rattle.wq_api.specs.Locking.{WasStartedIn, WasWrongToFinishIn}
 use Rattle.wq_rescuer.specs.declared.body.BodyFault.{BodyFault}
 use Rattle.wq_rescuer.specs.declared.rescuing.Rescued.{Rescued}
 
@@ -162,15 +161,25 @@ stopped_between may old new finished faults before =
     record { executions = before.executions; between = new; executed = before.executed; last = inl refl }
 
 -- it was refused when it was to finish one more
-pub stopped_at_end : (may : ℕ → Result (Unit {0}) BodyFault → List ℕ → List ℕ → Type 0) (old mid counts new : List ℕ)
-    (finished faults i : ℕ)
-    (answer : Result (Unit {0}) BodyFault) → HasExecuted may old mid finished faults → may i answer mid counts
-    → new ≡ counts → HasStopped may old new
-stopped_at_end may old mid counts new finished faults i answer before one is = record {
+pub left_one : (may : ℕ → Result (Unit {0}) BodyFault → List ℕ → List ℕ → Type 0) (old mid counts new : List ℕ)
+    (finished faults i : ℕ) (answer : Result (Unit {0}) BodyFault) → HasExecuted may old mid finished faults
+    → may i answer mid counts → new ≡ counts → HasLeftOne may old new
+left_one may old mid counts new finished faults i answer before one is = record {
   executions = before.executions;
   between = mid;
   executed = before.executed;
-  last = inr (i, answer, subst (λ (c : List ℕ). may i answer mid c) (sym is) one);
+  item = i;
+  answer = answer;
+  ran = subst (λ (c : List ℕ). may i answer mid c) (sym is) one;
+}
+
+pub stopped_at_end : (may : ℕ → Result (Unit {0}) BodyFault → List ℕ → List ℕ → Type 0) (old new : List ℕ)
+    → HasLeftOne may old new → HasStopped may old new
+stopped_at_end may old new left = record {
+  executions = left.executions;
+  between = left.between;
+  executed = left.executed;
+  last = inr (left.item, left.answer, left.ran);
 }
 
 -- before it executed anything
@@ -225,13 +234,9 @@ below_limit b limit n says is = elim (cases_lt n limit) [
 ]
 
 -- whatever the refusal is, it has this cause
-pub has_cause : (w : Wiring) (rows q c : ℕ) (r : Result Rescued CallError) → WasDrivenIn w rows q c → IfErr r (λ e. e ≡ WrongLane → WasDrivenIn w rows q c)
-has_cause w rows q c (Ok rescued) driven = tt
-has_cause w rows q c (Err e) driven = λ is. driven
-
--- what was started can't be finished
-pub not_finished : (w : Wiring) (rows q c i : ℕ) (next : Option ℕ) → WasStartedIn w rows q c next → next ≡ Some i → WasWrongToFinishIn w rows q c i → WasDrivenIn w rows q c
-not_finished w rows q c i next started is wrong = inr (i, subst (λ n. WasStartedIn w rows q c n) is started, wrong)
+pub has_cause : (cause : Type 0) (r : Result Rescued CallError) → cause → IfErr r (λ e. e ≡ WrongLane → cause)
+has_cause cause (Ok rescued) is = tt
+has_cause cause (Err e) is = λ wrong_lane. is
 
 -- ---- a rescuer, and a helper
 

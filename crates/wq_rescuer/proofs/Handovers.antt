@@ -13,11 +13,10 @@ use Rattle.wq_history.specs.declared.fault.CallError.TheVariants.{WrongLane}
 use Rattle.wq_rescuer.specs.declared.rescuing.Rescued.{Rescued}
 use Rattle.wq_core.specs.declared.step.Context.{Context}
 use Rattle.wq_core.specs.Wiring.{Wiring, items, HasContext}
-use Rattle.wq_api.specs.Locking.{WasDoneIn}
-use Rattle.wq_rescuer.specs.Executing.{RanOnly, RefusesServe, WasDrivenIn, finished_of, finished_in_all, CountsRuns, CountsAtMost}
+use Rattle.wq_rescuer.specs.Executing.{RanOnly, RefusesServe, finished_of, finished_in_all, CountsRuns, CountsAtMost}
 use Rattle.wq_rescuer.specs.declared.running.RunWhy.{RunWhy}
 use Rattle.wq_rescuer.specs.declared.running.RunWhy.TheVariants.{BodiesDiffer, TooManySeats, OutOfMemory, NoThread}
-use Rattle.wq_rescuer.specs.Serving.{IsServed, AreServed, CameBack, AreBack, IsNoSeat, IsOneLost, IsUnstarted, RefusesRun}
+use Rattle.wq_rescuer.specs.Serving.{IsServed, AreServed, IsNoSeat, IsOneLost, IsUnstarted, RefusesRun}
 
 -- ---- a seat without counts
 
@@ -59,16 +58,6 @@ is_served w context n before counts runs answer none own all in_all few why most
       refused = λ f is. let same : e ≡ f = cc in
           (subst (λ (y : CallError). RefusesServe w context.lane context.helper counts y) same why, λ i. omega (arith, (most i).1, none_finished n i));
     }
-
--- a context comes back as it was when it ended
-pub came_back : (w : Wiring) (rows : ℕ) (context : Context) (answer : Result Rescued CallError) → OnOk answer (WasDoneIn w rows context.lane context.helper)
-    → (HasContext w context.lane context.helper → IfErr answer (λ e. e ≡ WrongLane → WasDrivenIn w rows context.lane context.helper))
-    → CameBack w rows context answer
-came_back w rows context (Ok r) done cause = ((λ x is. ∣ done ∣₁), (λ e is. (let wrong : true ≡ false = ap is_ok is in cc)))
-came_back w rows context (Err e) done cause = (
-  (λ x is. (let wrong : true ≡ false = ap is_err is in cc)),
-  (λ f is wrong_lane there. (let same : e ≡ f = cc in ∣ cause there (same ∙ wrong_lane) ∣₁)),
-)
 
 -- ---- all contexts
 
@@ -216,22 +205,6 @@ all_served w all n seats runs rescued are ended = record {
   an_answer_each = are.an_answer_each ∙ ended;
   served = are.served;
 }
-
--- no context has answered
-pub none_done : (w : Wiring) (rows : ℕ) (all : List Context) (rescued : List (Result Rescued CallError)) → rescued ≡ [] → AreBack w rows all rescued
-none_done w rows all rescued none = λ n c a c_at a_at. absurd (past rescued n a a_at (omega (arith, ap length none)))
-
--- one more context has answered
-pub done_more : (w : Wiring) (rows : ℕ) (all : List Context) (n : ℕ) (rescued more : List (Result Rescued CallError)) (context : Context) (answer : Result Rescued CallError)
-    → AreBack w rows all rescued → length rescued ≡ n → slice_get all n ≡ Some context → CameBack w rows context answer
-    → more ≡ rescued ++ (answer ∷ []) → AreBack w rows all more
-done_more w rows all n rescued more context answer are long here is added =
-    subst (AreBack w rows all) (sym added) (λ k c a c_at a_at. elim (at_place rescued answer k a a_at) [
-      | inl among ↦ are k c a c_at among
-      | inr last ↦ (let place : n ≡ k = omega (arith, last.0, long) in
-          let same : context ≡ c = some_same context c (sym here ∙ ap (slice_get all) place ∙ c_at) in
-          subst (λ (x : Context). CameBack w rows x a) same (subst (λ (x : Result Rescued CallError). CameBack w rows context x) last.1 is))
-    ])
 
 -- a sum over a list that is known to have one more
 pub sum_by-added : {X : Type 0} (f : X → ℕ) (xs ys : List X) (x : X) → ys ≡ xs ++ (x ∷ []) → sum_by f ys ≡ sum_by f xs + f x

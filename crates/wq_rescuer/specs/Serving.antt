@@ -3,15 +3,13 @@ use Rattle.std.specs.Prelude.{◌≡◌, ◌≢◌, ℕ, ◌+◌, ◌*◌, ◌<�
 use Rattle.std.specs.Result.{ForOk, ForErr}
 use Rattle.std.specs.List.{All, sum_by}
 use Rattle.wq_core.specs.declared.step.Context.{Context}
-use Rattle.wq_core.specs.Wiring.{Wiring, items, HasContext}
+use Rattle.wq_core.specs.Wiring.{Wiring, items}
 use Rattle.wq_counts.specs.Counting.{counts_each}
 use Rattle.wq_history.specs.declared.fault.CallError.{CallError}
-use Rattle.wq_history.specs.declared.fault.CallError.TheVariants.{WrongLane}
-use Rattle.wq_api.specs.Locking.{WasDoneIn}
 use Rattle.wq_rescuer.specs.declared.rescuing.Rescued.{Rescued}
 use Rattle.wq_rescuer.specs.declared.running.RunWhy.{RunWhy}
 use Rattle.wq_rescuer.specs.declared.running.RunWhy.TheVariants.{BodiesDiffer, TooManySeats, OutOfMemory, NoThread}
-use Rattle.wq_rescuer.specs.Executing.{RanOnly, RefusesServe, WasDrivenIn, finished_of, finished_in_all}
+use Rattle.wq_rescuer.specs.Executing.{RanOnly, RefusesServe, finished_of, finished_in_all}
 use Rattle.wq_rescuer.specs.Contexts.{contexts_of}
 
 -- a context, whose seat had no counts, and whose body had run nothing: only items of its lane ran; for each item, the seat counts as
@@ -38,17 +36,6 @@ pub record AreServed (w : Wiring) (served_by : List Context) (seats : List (List
   pub an_answer_each : length rescued ≡ length served_by
   pub served : (n : ℕ) (context : Context) (seat : List ℕ) (ran : ℕ → ℕ) (answer : Result Rescued CallError) → slice_get served_by n ≡ Some context → slice_get seats n ≡ Some seat
       → slice_get runs n ≡ Some ran → slice_get rescued n ≡ Some answer → IsServed w context seat ran answer
-
--- a context of a runtime with this wiring and this many rows came back with this answer: if it wasn't refused, it was done; if it is
--- there and was refused with 64, another caller drove it, too. (What its lock may protect, so that it was, isn't handed back.)
-abbrev pub CameBack : Wiring → ℕ → Context → Result Rescued CallError → Type 0
-CameBack w rows context answer = ForOk answer (λ (rescued : Rescued). ∥ WasDoneIn w rows context.lane context.helper ∥₁)
-    × ForErr answer (λ (e : CallError). e ≡ WrongLane → HasContext w context.lane context.helper → ∥ WasDrivenIn w rows context.lane context.helper ∥₁)
-
--- so did each of these contexts, one after the other
-abbrev pub AreBack : Wiring → ℕ → List Context → List (Result Rescued CallError) → Type 0
-AreBack w rows served_by rescued = (n : ℕ) (context : Context) (answer : Result Rescued CallError) → slice_get served_by n ≡ Some context → slice_get rescued n ≡ Some answer
-    → CameBack w rows context answer
 
 -- everything was run, with this wiring, and this many callers: there is a seat for each context and then for each caller; what the
 -- contexts hand back is true; each caller answered; and the numbers of executions and faults are the sums over the contexts that

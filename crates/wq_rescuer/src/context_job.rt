@@ -6,7 +6,7 @@
 ghost use Rattle.std.specs.Prelude.{◌≡◌, ◌≤◌};
 ghost use Rattle.wq_core.specs.Wiring.{items};
 ghost use Rattle.wq_rescuer.specs.Executing.{Executes, NeverRan, no_counts};
-ghost use Rattle.wq_rescuer.specs.Serving.{IsServed, CameBack};
+ghost use Rattle.wq_rescuer.specs.Serving.{IsServed};
 
 use crate::body::Body;
 use crate::rescuing::{Rescued, serve};
@@ -36,7 +36,6 @@ pub(crate) struct ContextEnd<N: Naming, A: Allocator, B: Body + Drop> {
     pub(crate) body: B,
     pub(crate) rescued: Result<Rescued, CallError>,
     ghost served: { IsServed N.wiring context seat (B.runs body) rescued },
-    ghost ended: { CameBack N.wiring N.rows context rescued },
 }
 
 /// What is promised of the end of a context: that it is the end of this one, and what it executed, by what this body

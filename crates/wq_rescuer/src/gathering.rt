@@ -5,7 +5,7 @@
 ghost use Rattle.std.specs.Prelude.{◌≡◌, ℕ, ◌+◌, ◌<◌, ◌≤◌, [], ◌++◌, length, map, reverse, take, drop, vec_len, vec_capacity};
 ghost use Rattle.std.specs.List.{sum_by};
 ghost use Rattle.wq_rescuer.specs.Contexts.{contexts_of};
-ghost use Rattle.wq_rescuer.specs.Serving.{AreServed, AreBack, HasRoomFor, IsRan, finished_by, faults_by};
+ghost use Rattle.wq_rescuer.specs.Serving.{AreServed, HasRoomFor, IsRan, finished_by, faults_by};
 ghost use Rattle.wq_rescuer.specs.declared.running.RunWhy.TheVariants.{NoThread};
 
 use crate::board::{Board, Jobs};
@@ -77,7 +77,6 @@ fn gather_contexts<N: Naming, A: Allocator, B: Body + Drop>(
     requires rescued_room { vec_len ends ≤ vec_capacity rescued }
     ensures served { AreServed N.wiring (contexts_of N.wiring) result.seats.items
         (map B.runs result.bodies.items) result.rescued.items }
-    ensures ended { AreBack N.wiring N.rows (contexts_of N.wiring) result.rescued.items }
     ensures seats { result.seats.items ≡ reverse (map (λ end. end.seat) ends.items) }
     ensures rescued { result.rescued.items ≡ reverse (map (λ end. end.rescued) ends.items) }
     ensures finished { result.finished ≡ sum_by finished_by result.rescued.items }
@@ -159,7 +158,6 @@ pub(crate) fn gather<N: Naming, A: Allocator, B: Body + Drop, C: Caller + Drop>(
         ≡ reverse (map (λ end. end.seat) board.callers.ends.items) }
     ensures callers { result.callers.items ≡ reverse (map (λ end. end.caller) board.callers.ends.items) }
     ensures results { result.results.items ≡ reverse (map (λ end. end.result) board.callers.ends.items) }
-    ensures ended { AreBack N.wiring N.rows (contexts_of N.wiring) result.rescued.items }
 {
     let Board {
         contexts: served,

@@ -9,7 +9,6 @@ ghost use Rattle.wq_core.specs.Wiring.{items, HasContext};
 ghost use Rattle.wq_history.specs.declared.fault.CallError.TheVariants.{WrongLane};
 ghost use Rattle.wq_held.specs.Locked.{IsOnLane};
 ghost use Rattle.wq_api.specs.WaitingCalls.{IsHelper};
-ghost use Rattle.wq_api.specs.Locking.{WasDone, WasDoneIn};
 ghost use Rattle.wq_rescuer.specs.declared.body.BodyFault.{BodyFault as Fault};
 ghost use Rattle.wq_rescuer.specs.Executing.{NeverRan, RanOnce, RanOnly, SameFinished, CountsRuns, CountsAtMost, HasExecuted, HasStopped, finished_in_all, faults_of, RefusesRescue, RefusesServe, RefusesHelper, WasDrivenIn};
 
@@ -98,13 +97,13 @@ pub fn serve<N: Naming, A: Allocator, R: Wait, B: Body>(
     ensures context { OnOk result (HasContext N.wiring q helper) }
     ensures own { RanOnly N.wiring q (B.runs body.new) }
     ensures why { IfErr result (λ e. RefusesServe N.wiring q helper seat.new e) }
-    ensures cause { HasContext N.wiring q helper → IfErr result (λ e. e ≡ WrongLane → WasDrivenIn N.wiring N.rows q helper) }
+    ensures cause { HasContext N.wiring q helper → IfErr result (λ e. e ≡ WrongLane
+        → WasDrivenIn N.wiring N.rows q helper (B.may N.wiring body.old) seat.old seat.new) }
     ensures refused { OnErr result (CountsAtMost seat.old seat.new (B.runs body.new)) }
-    ensures ended { OnOk result (WasDoneIn N.wiring N.rows q helper) }
     ensures executed { IfOk result (λ r. HasExecuted (B.may N.wiring body.old) seat.old seat.new r.finished r.faults) }
     ensures stopped { OnErr result (HasStopped (B.may N.wiring body.old) seat.old seat.new) }
 {
-    if !runtime.has_context(rt, q, helper) {
+    if !runtime.has_context(q, helper) {
         return Err(CallError::WrongLane);
     }
     let mut rescued = Rescued {
@@ -148,9 +147,9 @@ pub fn rescue<N: Naming, A: Allocator, R: Wait, B: Body>(
     ensures lane { OnOk result (q < N.wiring.lanes) }
     ensures own { RanOnly N.wiring q (B.runs body.new) }
     ensures why { IfErr result (λ e. RefusesRescue N.wiring q seat.new e) }
-    ensures cause { q < N.wiring.lanes → IfErr result (λ e. e ≡ WrongLane → WasDrivenIn N.wiring N.rows q 0) }
+    ensures cause { q < N.wiring.lanes → IfErr result (λ e. e ≡ WrongLane
+        → WasDrivenIn N.wiring N.rows q 0 (B.may N.wiring body.old) seat.old seat.new) }
     ensures refused { OnErr result (CountsAtMost seat.old seat.new (B.runs body.new)) }
-    ensures ended { OnOk result (WasDone N.wiring N.rows q) }
     ensures executed { IfOk result (λ r. HasExecuted (B.may N.wiring body.old) seat.old seat.new r.finished r.faults) }
     ensures stopped { OnErr result (HasStopped (B.may N.wiring body.old) seat.old seat.new) }
 {
@@ -179,9 +178,9 @@ pub fn help<N: Naming, A: Allocator, R: Wait, B: Body>(
     ensures helper { OnOk result (IsHelper N.wiring q h) }
     ensures own { RanOnly N.wiring q (B.runs body.new) }
     ensures why { IfErr result (λ e. RefusesHelper N.wiring q h seat.new e) }
-    ensures cause { IsHelper N.wiring q h → IfErr result (λ e. e ≡ WrongLane → WasDrivenIn N.wiring N.rows q h) }
+    ensures cause { IsHelper N.wiring q h → IfErr result (λ e. e ≡ WrongLane
+        → WasDrivenIn N.wiring N.rows q h (B.may N.wiring body.old) seat.old seat.new) }
     ensures refused { OnErr result (CountsAtMost seat.old seat.new (B.runs body.new)) }
-    ensures ended { OnOk result (WasDoneIn N.wiring N.rows q h) }
     ensures executed { IfOk result (λ r. HasExecuted (B.may N.wiring body.old) seat.old seat.new r.finished r.faults) }
     ensures stopped { OnErr result (HasStopped (B.may N.wiring body.old) seat.old seat.new) }
 {

@@ -9,7 +9,7 @@ ghost use Rattle.wq_core.specs.Wiring.{items};
 ghost use Rattle.wq_held.specs.Locked.{slots};
 ghost use Rattle.wq_rescuer.specs.Executing.{NeverRan, Executes, no_counts};
 ghost use Rattle.wq_rescuer.specs.Contexts.{contexts_of};
-ghost use Rattle.wq_rescuer.specs.Serving.{AreBack, AreFirstSeats, HasRoomFor, HaveCalled, HaveServed, IsNoSeat, IsOneLost, IsRan, RefusesRun, run_code};
+ghost use Rattle.wq_rescuer.specs.Serving.{AreFirstSeats, HasRoomFor, HaveCalled, HaveServed, IsNoSeat, IsOneLost, IsRan, RefusesRun, run_code};
 ghost use Rattle.wq_rescuer.specs.declared.running.RunWhy.TheVariants.{BodiesDiffer, OutOfMemory, NoThread};
 
 use crate::board::{Unstarted, add_callers, add_contexts};
@@ -174,7 +174,6 @@ pub fn run_all<
     requires width { All (λ body. items N.wiring ≤ B.width body) bodies.items }
     requires never_ran { All (λ body. NeverRan (B.runs body)) bodies.items }
     ensures ran { IfOk result (λ r. (vec_len bodies ≡ length (contexts_of N.wiring)) × IsRan N.wiring (vec_len callers) r.seats.items (map B.runs r.bodies.items) (vec_len r.callers) (vec_len r.results) r.rescued.items r.finished r.faults) }
-    ensures ended { IfOk result (λ r. AreBack N.wiring N.rows (contexts_of N.wiring) r.rescued.items) }
     ensures served { IfOk result (λ r. HaveServed
         (λ body seat answer. Executes (B.may N.wiring body) (no_counts N.wiring) seat answer) bodies.items
         (take (length (contexts_of N.wiring)) r.seats.items) r.rescued.items) }

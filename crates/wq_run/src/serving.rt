@@ -92,7 +92,7 @@ fn run_crew<
     ensures called { IfOk result (λ r. HaveMade N.wiring (shared_by_two (length table.now.names))
         (drop (length (contexts_of N.wiring)) r.seats.items)) }
 {
-    let Crew { bodies, callers } = make_crew(alloc, table, count_contexts(rt, runtime))?;
+    let Crew { bodies, callers } = make_crew(alloc, table, count_contexts(runtime))?;
     let ran = match run_all(rt, alloc, runtime, bodies, callers) {
         Ok(ran) => ran,
         Err(refused) => return Err(RunStop::from(refused.why)),

@@ -9,7 +9,7 @@ ghost use Rattle.std.specs.Prelude.{◌≡◌, ◌<◌, ◌≤◌, ℕ, List, Re
 ghost use Rattle.wq_items.specs.Table.{targets_of};
 ghost use Rattle.wq_core.specs.Wiring.{items};
 ghost use Rattle.wq_held.specs.Locked.{seat_rows};
-ghost use Rattle.wq_under_lock.specs.Refusals.{RefusesWaitIn};
+ghost use Rattle.wq_api.specs.Refusals.{RefusesWaitIn};
 ghost use Rattle.wq_api.specs.WaitingCalls.{waited_for, RefusedWaitIn};
 ghost use Rattle.wq_rescuer.specs.declared.body.BodyFault.{BodyFault as Fault};
 ghost use Rattle.wq_rescuer.specs.Executing.{NeverRan, RanOnce, SameFinished};

@@ -1,7 +1,7 @@
 use Rattle.std.proofs.Common.{◌≡◌, ◌+◌, ◌*◌, ◌≤◌, map, vec_len, vec_capacity}
 use Rattle.std.specs.List.{sum_by}
 use Rattle.wq_rescuer.specs.Contexts.{contexts_of}
-use Rattle.wq_rescuer.specs.Serving.{AreBack, finished_by, faults_by}
+use Rattle.wq_rescuer.specs.Serving.{finished_by, faults_by}
 use Rattle.wq_rescuer.proofs.Handovers.{AreHanded, AreLeft, AreServedTo}
 use Rattle.wq_rescuer.proofs.gathering.gather_contexts.Given as goal
 
@@ -21,7 +21,6 @@ invariant-loop-end g l =
     × (l.finished ≤ vec_len l.seats * 4294967295)
     × (l.faults ≤ vec_len l.seats * 4294967295)
     × AreLeft (contexts_of g.N.Naming.wiring) (vec_len l.seats) (map (λ end. end.context) l.ends.items)
-    × AreBack g.N.Naming.wiring g.N.Naming.rows (contexts_of g.N.Naming.wiring) l.rescued.items
     × AreHanded (λ end. end.seat) l.fn.seats.items l.fn.ends.items l.seats.items l.ends.items
     × AreHanded (λ end. end.rescued) l.fn.rescued.items l.fn.ends.items l.rescued.items l.ends.items
 
