@@ -30,8 +30,8 @@ within (y ∷ ys) (suc n) x is = omega (arith, within ys n x is)
 -- calls that weren't refused
 answered : (w : Wiring) (acts : List Act) (r : Result (Unit {0}) CallError) (old new : List ℕ) → IsTrue (is_ok r)
     → CountsCalls w acts r old new → CountsActs w old new acts
-answered w acts (Ok done) old new yes counts = counts
-answered w acts (Err e) old new yes counts = absurd cc
+answered w acts (Ok done) old new told counts = counts
+answered w acts (Err e) old new told counts = absurd cc
 
 made_each : (w : Wiring) (lists : List (List Act)) (seats : List (List ℕ)) → length seats ≡ length lists
     → ((n : ℕ) (acts : List Act) (seat : List ℕ) → slice_get lists n ≡ Some acts → slice_get seats n ≡ Some seat
