@@ -1,6 +1,6 @@
 -- What a call writes and counts, and why it is refused.
 use Rattle.std.proofs.Common.{◌≡◌, ℕ, zero, suc, ◌<◌, ◌≤◌, ◌⊎◌, inl, inr, Bool, true, false, List, refl, sym, ap, subst, ◌∙◌}
-use Rattle.std.specs.Prelude.{Result, Ok, Err}
+use Rattle.std.specs.Prelude.{◌+◌, Result, Ok, Err, IfErr, OnOk, sum}
 use Rattle.std.proofs.lemmas.Bool.{cases_lt}
 use Rattle.wq_core.specs.declared.step.Context.{Context}
 use Rattle.wq_core.specs.Wiring.{Wiring}
@@ -19,12 +19,15 @@ use Rattle.wq_history.specs.declared.fault.CallError.TheVariants.{HistoryFull, C
 use Rattle.wq_history.specs.Events.{told_event, wait_event, over_event, finish_event}
 use Rattle.wq_history.specs.History.{MayCome}
 use Rattle.wq_history.specs.Book.{BookView}
+use Rattle.wq_history.specs.declared.sleepers.Wake.{Wake}
+use Rattle.wq_history.specs.Waits.{WakesEnough}
 use Rattle.wq_history.specs.Calls.{RefusesToTell, RefusesIf, Refuses, Replies}
 use Rattle.wq_history.proofs.CallRows.{told-yes, over-yes, finish-yes}
-use Rattle.wq_held.specs.Locked.{SeatHasRoom, seat_rows}
-use Rattle.wq_api.specs.Calls.{IsNamed, missing, IsBarred, IsAdmitted}
-use Rattle.wq_api.specs.Taking.{WritesOne, IsAnswered, Took, ComesTo}
-use Rattle.std.specs.Prelude.{sum}
+use Rattle.wq_history.proofs.Wakes.{unchanged-enough}
+use Rattle.wq_held.specs.declared.fault.SeatError.{SeatError}
+use Rattle.wq_held.specs.Locked.{HeldView, seat_rows}
+use Rattle.wq_held.specs.Calls.{IsNamed, missing, IsBarred}
+use Rattle.wq_api.specs.Taking.{WritesOne, Took}
 
 -- ---- replies
 
@@ -155,3 +158,26 @@ wrong_lane wrong TooManyWaits why = absurd why
 wrong_lane wrong WrongLane why = (refl, why)
 wrong_lane wrong NotAsked why = absurd why
 wrong_lane wrong NoItem why = absurd why
+
+-- ---- answers under the lock
+
+-- a call that writes one row isn't answered otherwise
+pub took_two : (w : Wiring) (rows : ℕ) (counts left : List ℕ) (call : Call) (ask taken : Row) → WritesOne call
+    → Took w rows counts call (Ok (WroteTwo ask taken)) left → ⊥
+took_two w rows counts left call ask taken writes took =
+    never_two took.0.old took.0.new call ask taken writes took.0.answers
+
+pub took_done : (w : Wiring) (rows : ℕ) (counts left : List ℕ) (call : Call) → WritesOne call
+    → Took w rows counts call (Ok Done) left → ⊥
+took_done w rows counts left call writes took = never_done took.0.old took.0.new call writes took.0.answers
+
+-- enough are woken if a seat is made, or isn't
+pub seat_wakes : (old new : HeldView) (r : Result (List ℕ) SeatError) (few : Type 0) (wake : Wake)
+    → OnOk r (few × (new ≡ record old { seats = old.seats + 1 })) → IfErr r (λ e. new ≡ old)
+    → WakesEnough old.book new.book wake
+seat_wakes old new (Ok seat) few wake made refused =
+    subst (λ (b : BookView). WakesEnough old.book b wake) (sym (ap (λ (h : HeldView). h.book) made.1))
+    (unchanged-enough old.book wake)
+seat_wakes old new (Err e) few wake made refused =
+    subst (λ (b : BookView). WakesEnough old.book b wake) (sym (ap (λ (h : HeldView). h.book) refused))
+    (unchanged-enough old.book wake)

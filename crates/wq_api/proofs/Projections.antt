@@ -15,7 +15,7 @@ use Rattle.wq_history.specs.declared.fault.CallError.TheVariants.{HistoryFull, C
 use Rattle.wq_history.specs.Book.{BookView}
 use Rattle.wq_history.specs.Calls.{RefusesToQueue, RefusesToCancel, RefusesToAsk, RefusesToCancelSync}
 use Rattle.wq_held.specs.Locked.{SeatHasRoom, seat_rows}
-use Rattle.wq_api.specs.Calls.{IsAdmitted, IsBarred}
+use Rattle.wq_held.specs.Calls.{IsAdmitted, IsBarred}
 use Rattle.wq_api.specs.Refusals.{RefusesQueueWork, RefusesCancelWork}
 use Rattle.wq_api.specs.WaitingCalls.{RefusesFlushWork, flushed, flush_refused, asked_and_cancelled, CountsCancelSync, RefusedCancelSync, RefusesFlushWorkqueue, lane_flushed, lane_flush_refused}
 use Rattle.wq_api.specs.Taking.{Took, ComesTo, GivesYes, IsTold, IsNotTold, Flushes, FlushesSo, CancelsSync}
@@ -103,18 +103,18 @@ item-asked w rows counts between i asked said says came =
 pub flush_counted : (w : Wiring) (rows : ℕ) (counts left : List ℕ) (i : ℕ) (r : Result Bool CallError)
     → Flushes w rows counts (OfItem i) r left
     → IfOk r (λ waited. (i < items w) × SeatHasRoom counts × (left ≡ flushed counts i waited))
-flush_counted w rows counts left i (Ok waited) (asked, between, says, came, inl (no, same)) = (
+flush_counted w rows counts left i (Ok waited) (asked, between, says, came, inl (idle, same)) = (
   came.0.0,
   came.0.1 refl,
-  subst (λ (k : Bool). left ≡ flushed counts i k) (sym no ∙ says)
-      (same ∙ item-asked w rows counts between i asked false no came),
+  subst (λ (k : Bool). left ≡ flushed counts i k) (sym idle ∙ says)
+      (same ∙ item-asked w rows counts between i asked false idle came),
 )
-flush_counted w rows counts left i (Ok waited) (asked, between, says, came, inr (yes, told)) = (
+flush_counted w rows counts left i (Ok waited) (asked, between, says, came, inr (waits, told)) = (
   came.0.0,
   came.0.1 refl,
-  subst (λ (k : Bool). left ≡ flushed counts i k) (sym yes ∙ says)
+  subst (λ (k : Bool). left ≡ flushed counts i k) (sym waits ∙ says)
       (told_counted w rows between left (OfItem i) asked.number told.0 told.1
-      ∙ ap (λ (c : List ℕ). raised c i ToldKind true) (item-asked w rows counts between i asked true yes came)),
+      ∙ ap (λ (c : List ℕ). raised c i ToldKind true) (item-asked w rows counts between i asked true waits came)),
 )
 flush_counted w rows counts left i (Err e) came = tt
 
@@ -138,10 +138,10 @@ flush_not_done w rows counts left i (Err e) (inl (inl (barred, same))) =
     (λ none. (not_below i (items w) none, same)) (λ there full. (there, same)) barred
 flush_not_done w rows counts left i (Err e) (inl (inr (admitted, took))) =
     flush-refusal w took.0.old counts left i e took.0.holds.of_wiring admitted.0 took.0.answers.0 took.1
-flush_not_done w rows counts left i (Err e) (inr (asked, between, came, (yes, took))) =
+flush_not_done w rows counts left i (Err e) (inr (asked, between, came, (waits, took))) =
     let is : e ≡ NotAsked = told_refused took.0.old (OfItem i) e took.0.answers.0 in
     subst (λ (x : CallError). RefusesFlushWork w counts i x × (left ≡ flush_refused counts i x)) (sym is)
-    ((came.0.0, came.0.1 refl), took.1 ∙ item-asked w rows counts between i asked true yes came)
+    ((came.0.0, came.0.1 refl), took.1 ∙ item-asked w rows counts between i asked true waits came)
 
 -- ---- flush_workqueue
 
@@ -154,18 +154,18 @@ lane-asked w rows counts between q asked said says came =
 lane-flushed : (w : Wiring) (rows : ℕ) (counts left : List ℕ) (q : ℕ) (waited : Bool)
     → Flushes w rows counts (OfLane q) (Ok waited) left
     → (q < w.lanes) × SeatHasRoom counts × (left ≡ lane_flushed counts q waited)
-lane-flushed w rows counts left q waited (asked, between, says, came, inl (no, same)) = (
+lane-flushed w rows counts left q waited (asked, between, says, came, inl (idle, same)) = (
   came.0.0,
   came.0.1 refl,
-  subst (λ (k : Bool). left ≡ lane_flushed counts q k) (sym no ∙ says)
-      (same ∙ lane-asked w rows counts between q asked false no came),
+  subst (λ (k : Bool). left ≡ lane_flushed counts q k) (sym idle ∙ says)
+      (same ∙ lane-asked w rows counts between q asked false idle came),
 )
-lane-flushed w rows counts left q waited (asked, between, says, came, inr (yes, told)) = (
+lane-flushed w rows counts left q waited (asked, between, says, came, inr (waits, told)) = (
   came.0.0,
   came.0.1 refl,
-  subst (λ (k : Bool). left ≡ lane_flushed counts q k) (sym yes ∙ says)
+  subst (λ (k : Bool). left ≡ lane_flushed counts q k) (sym waits ∙ says)
       (told_counted w rows between left (OfLane q) asked.number told.0 told.1
-      ∙ ap (λ (c : List ℕ). raised_told c q) (lane-asked w rows counts between q asked true yes came)),
+      ∙ ap (λ (c : List ℕ). raised_told c q) (lane-asked w rows counts between q asked true waits came)),
 )
 
 pub lane_flush_counted : (w : Wiring) (rows : ℕ) (counts left : List ℕ) (q : ℕ) (r : Result (Unit {0}) CallError)
@@ -195,10 +195,10 @@ lane-not-flushed w rows counts left q e (inl (inl (barred, same))) =
     (Ask (OfLane q)) e (λ none. (not_below q w.lanes none, same)) (λ there full. (there, same)) barred
 lane-not-flushed w rows counts left q e (inl (inr (admitted, took))) =
     lane-flush-refusal w took.0.old counts left q e took.0.holds.of_wiring admitted.0 took.0.answers.0 took.1
-lane-not-flushed w rows counts left q e (inr (asked, between, came, (yes, took))) =
+lane-not-flushed w rows counts left q e (inr (asked, between, came, (waits, took))) =
     let is : e ≡ NotAsked = told_refused took.0.old (OfLane q) e took.0.answers.0 in
     subst (λ (x : CallError). RefusesFlushWorkqueue w counts q x × (left ≡ lane_flush_refused counts q x)) (sym is)
-    ((came.0.0, came.0.1 refl), took.1 ∙ lane-asked w rows counts between q asked true yes came)
+    ((came.0.0, came.0.1 refl), took.1 ∙ lane-asked w rows counts between q asked true waits came)
 
 pub lane_flush_not_done : (w : Wiring) (rows : ℕ) (counts left : List ℕ) (q : ℕ) (r : Result (Unit {0}) CallError)
     → FlushesSo w rows counts (OfLane q) r left
@@ -223,17 +223,17 @@ both-counted w rows counts between i asked taken waits said waited says came =
 pub cancel_sync_counted : (w : Wiring) (rows : ℕ) (counts left : List ℕ) (i : ℕ) (r : Result Bool CallError)
     → CancelsSync w rows counts i r left
     → IfOk r (λ taken. (i < items w) × SeatHasRoom counts × CountsCancelSync counts left i taken)
-cancel_sync_counted w rows counts left i (Ok said) (asked, taken, between, says, came, inl (no, same)) = (
+cancel_sync_counted w rows counts left i (Ok said) (asked, taken, between, says, came, inl (idle, same)) = (
   came.0.0,
   came.0.1 refl,
-  inl (same ∙ both-counted w rows counts between i asked taken false said no says came),
+  inl (same ∙ both-counted w rows counts between i asked taken false said idle says came),
 )
-cancel_sync_counted w rows counts left i (Ok said) (asked, taken, between, says, came, inr (yes, told)) = (
+cancel_sync_counted w rows counts left i (Ok said) (asked, taken, between, says, came, inr (waits, told)) = (
   came.0.0,
   came.0.1 refl,
   inr (told_counted w rows between left (OfItem i) asked.number told.0 told.1
       ∙ ap (λ (c : List ℕ). raised c i ToldKind true)
-      (both-counted w rows counts between i asked taken true said yes says came)),
+      (both-counted w rows counts between i asked taken true said waits says came)),
 )
 cancel_sync_counted w rows counts left i (Err e) came = tt
 
@@ -258,9 +258,9 @@ cancel_sync_not_done w rows counts left i (Err e) (inl (inl (barred, same))) =
     (λ none. (not_below i (items w) none, same)) (λ there full. (there, same)) barred
 cancel_sync_not_done w rows counts left i (Err e) (inl (inr (admitted, took))) =
     cancel-sync-refusal w took.0.old counts left i e took.0.holds.of_wiring admitted.0 took.0.answers.0 took.1
-cancel_sync_not_done w rows counts left i (Err e) (inr (asked, taken, between, came, (yes, took))) =
+cancel_sync_not_done w rows counts left i (Err e) (inr (asked, taken, between, came, (waits, took))) =
     let is : e ≡ NotAsked = told_refused took.0.old (OfItem i) e took.0.answers.0 in
     subst (λ (x : CallError). RefusesFlushWork w counts i x × RefusedCancelSync counts left i x) (sym is) (
       (came.0.0, came.0.1 refl),
-      (taken.yes, took.1 ∙ both-counted w rows counts between i asked taken true taken.yes yes refl came),
+      (taken.yes, took.1 ∙ both-counted w rows counts between i asked taken true taken.yes waits refl came),
     )

@@ -3,9 +3,9 @@ pub use Rattle.wq_groups.specs.Assignment
 pub use Rattle.wq_core.specs.Deadlock
 pub use Rattle.wq_held.specs.Locked
 pub use Rattle.wq_held.specs.Closing
-pub use Rattle.wq_under_lock.specs.Refusals as Making
-pub mod Turns
-pub mod Calls
+pub use Rattle.wq_held.specs.Turns
+pub use Rattle.wq_held.specs.Calls
+pub use Rattle.wq_held.specs.Making
 pub mod Refusals
 pub mod WaitingCalls
 pub mod Locking

@@ -10,8 +10,8 @@ use Rattle.wq_history.specs.Book.{IsWrongToStart}
 use Rattle.wq_held.specs.declared.fault.SeatError.{SeatError}
 use Rattle.wq_held.specs.declared.fault.SeatError.TheVariants.{TooManySeats, OutOfMemory}
 use Rattle.wq_held.specs.Locked.{HeldView, Holds, slots}
-use Rattle.wq_api.specs.declared.turn.Turn.{Turn}
-use Rattle.wq_api.specs.declared.turn.Turn.TheVariants.{Answers, Sleeps}
+use Rattle.wq_held.specs.declared.turn.Turn.{Turn}
+use Rattle.wq_held.specs.declared.turn.Turn.TheVariants.{Answers, Sleeps}
 use Rattle.wq_api.specs.declared.turns.Uncounted.{Uncounted}
 use Rattle.wq_api.specs.declared.turns.Uncounted.TheVariants.{Start, Close, Drain}
 

@@ -18,7 +18,7 @@ use Rattle.wq_history.specs.declared.fault.CallError.{CallError}
 use Rattle.wq_history.specs.Book.{BookView}
 use Rattle.wq_history.specs.Calls.{Answers}
 use Rattle.wq_held.specs.Locked.{Holds}
-use Rattle.wq_api.specs.Calls.{counts_after, IsBarred, IsAdmitted}
+use Rattle.wq_held.specs.Calls.{counts_after, IsBarred, IsAdmitted}
 
 -- context c of lane q
 abbrev pub context_of : ℕ → ℕ → Context

@@ -1,12 +1,14 @@
 //! How a runtime is called: what the caller can know is refused at once, and all else is answered under the lock.
 //!
-//! The methods of `runtime` and `serving` are made of these. What is asked under the lock is a call, a value. So the clause
-//! `took` of a method says which call it makes, and of a method that waits, which two. Apart from what it waits for, a call
-//! takes the time of the book's answer.
+//! The methods of `runtime`, `serving` and `closing` are made of these. What is asked under the lock is a call, a value. So
+//! the clause `took` of a method says which call it makes, and of a method that waits, which two. Apart from what it waits
+//! for, a call takes the time of the book's answer.
 
 ghost use Rattle.std.specs.Prelude.{◌↔◌, ◌≡◌, IsTrue, Result, IfErr, OnOk};
 ghost use Rattle.wq_history.specs.declared.call.Call.TheVariants.{CancelSync, Start, Finish};
-ghost use Rattle.wq_api.specs.Calls.{IsNamed, missing, needs_room, IsBarred, IsAdmitted, IsSettled};
+ghost use Rattle.wq_history.specs.History.{IsThere};
+ghost use Rattle.wq_held.specs.Calls.{IsNamed, missing, needs_room, IsBarred, IsAdmitted, IsSettled};
+ghost use Rattle.wq_api.specs.Locking.{uncounted_call};
 ghost use Rattle.wq_api.specs.Taking.{WritesOne, IsAnswered, Took, ComesTo, GivesRow, GivesTwo, GivesYes, GivesDone, GivesItem, IsTold, IsNotTold, Flushes, CancelsSync, Waits};
 
 use crate::layout::Layout;
@@ -22,15 +24,24 @@ use wq_items::ItemId;
 // ---- what a caller can know
 
 impl<N: Naming, A: Allocator> Layout<N, A> {
-    /// Whether what a call names is there.
-    fn has_named(&self, call: Call) -> bool
-        ensures { IsTrue result ↔ IsNamed N.wiring call }
+    /// Whether there is such an item, or such a workqueue.
+    fn has_subject(&self, subject: &Subject) -> bool
+        ensures { IsTrue result ↔ IsThere N.wiring subject.now }
     {
-        match call {
+        match *subject {
+            Subject::Item(item) => self.has_item(item),
+            Subject::Lane(q) => self.has_lane(q),
+        }
+    }
+
+    /// Whether what a call names is there.
+    fn has_named(&self, call: &Call) -> bool
+        ensures { IsTrue result ↔ IsNamed N.wiring call.now }
+    {
+        match *call {
             Call::Queue(item) => self.has_item(item),
             Call::Cancel(item) => self.has_item(item),
-            Call::Ask(Subject::Item(item)) => self.has_item(item),
-            Call::Ask(Subject::Lane(q)) => self.has_lane(q),
+            Call::Ask(subject) => self.has_subject(&subject),
             Call::CancelSync(item) => self.has_item(item),
             Call::Wait(context, _) => self.has_context(context.lane, context.helper),
             Call::Told(_, _) => true,
@@ -44,10 +55,10 @@ impl<N: Naming, A: Allocator> Layout<N, A> {
 }
 
 /// The refusal of a call that names what isn't there.
-fn missing(call: Call) -> CallError
-    ensures { result ≡ missing call }
+fn missing(call: &Call) -> CallError
+    ensures { result ≡ missing call.now }
 {
-    match call {
+    match *call {
         Call::Queue(_) => CallError::NoItem,
         Call::Cancel(_) => CallError::NoItem,
         Call::Ask(Subject::Item(_)) => CallError::NoItem,
@@ -64,10 +75,10 @@ fn missing(call: Call) -> CallError
 }
 
 /// Whether a full seat refuses a call.
-fn needs_room(call: Call) -> bool
-    ensures { result ≡ needs_room call }
+fn needs_room(call: &Call) -> bool
+    ensures { result ≡ needs_room call.now }
 {
-    match call {
+    match *call {
         Call::Queue(_) => true,
         Call::Cancel(_) => true,
         Call::Ask(_) => true,
@@ -85,9 +96,9 @@ fn needs_room(call: Call) -> bool
 impl<N: Naming, A: Allocator> WqRuntime<N, A> {
     /// Whether its caller may make a call: the error is that what it names isn't there (64, 66), or else that the seat is
     /// full (60). It doesn't take the lock.
-    fn admit(&self, seat: &Seat<N, A>, call: Call) -> Result<(), CallError>
-        ensures admitted { OnOk result (IsAdmitted N.wiring seat.now call) }
-        ensures barred { IfErr result (λ e. IsBarred N.wiring seat.now call e) }
+    fn admit(&self, seat: &Seat<N, A>, call: &Call) -> Result<(), CallError>
+        ensures admitted { OnOk result (IsAdmitted N.wiring seat.now call.now) }
+        ensures barred { IfErr result (λ e. IsBarred N.wiring seat.now call.now e) }
     {
         if !self.layout.has_named(call) {
             return Err(missing(call));
@@ -108,6 +119,14 @@ impl<N: Naming, A: Allocator> WqRuntime<N, A> {
         self.lock.call(rt, seat, call)
     }
 
+    /// The same of a call that no seat counts.
+    pub(crate) fn settle<R: Wait>(&self, rt: &R, call: Uncounted) -> Result<Reply, CallError>
+        ensures took { IsAnswered N.wiring N.rows (uncounted_call call) result }
+        ensures settled { IsSettled result }
+    {
+        self.lock.call(rt, &mut (), call)
+    }
+
     /// Has a call that writes one row answered under the lock.
     fn written<R: Wait>(&self, rt: &R, seat: &mut Seat<N, A>, call: Call) -> Result<Row, CallError>
         requires { WritesOne call }
@@ -123,12 +142,14 @@ impl<N: Naming, A: Allocator> WqRuntime<N, A> {
     }
 
     /// Makes a call that writes one row, and gives the row.
-    fn row<R: Wait>(&self, rt: &R, seat: &mut Seat<N, A>, call: Call) -> Result<Row, CallError>
-        requires { WritesOne call }
-        ensures { GivesRow (λ answer. ComesTo N.wiring N.rows seat.old call answer seat.new) result }
+    fn row<R: Wait>(&self, rt: &R, seat: &mut Seat<N, A>, call: &Call) -> Result<Row, CallError>
+        requires { WritesOne call.now }
+        ensures { GivesRow (λ answer. ComesTo N.wiring N.rows seat.old call.now answer seat.new) result }
     {
-        self.admit(seat, call)?;
-        self.written(rt, seat, call)
+        match self.admit(seat, call) {
+            Ok(()) => self.written(rt, seat, *call),
+            Err(e) => Err(e),
+        }
     }
 
     /// Makes a call that writes one row, and gives what the row says.
@@ -136,13 +157,15 @@ impl<N: Naming, A: Allocator> WqRuntime<N, A> {
         &self,
         rt: &R,
         seat: &mut Seat<N, A>,
-        call: Call,
+        call: &Call,
     ) -> Result<bool, CallError>
-        requires { WritesOne call }
-        ensures { GivesYes (λ answer. ComesTo N.wiring N.rows seat.old call answer seat.new) result }
+        requires { WritesOne call.now }
+        ensures { GivesYes (λ answer. ComesTo N.wiring N.rows seat.old call.now answer seat.new) result }
     {
-        let row = self.row(rt, seat, call)?;
-        Ok(row.yes)
+        match self.row(rt, seat, call) {
+            Ok(row) => Ok(row.yes),
+            Err(e) => Err(e),
+        }
     }
 
     /// Starts what a context can start next, once there is something.
@@ -153,7 +176,7 @@ impl<N: Naming, A: Allocator> WqRuntime<N, A> {
     ) -> Result<Option<ItemId>, CallError>
         ensures { GivesItem (λ answer. IsAnswered N.wiring N.rows (Start context) answer) result }
     {
-        match self.lock.call(rt, &mut (), Uncounted::Start(context)) {
+        match self.settle(rt, Uncounted::Start(context)) {
             Ok(Reply::Wrote(row)) => Ok(Some(row.event.item())),
             Ok(Reply::WroteTwo(_, _)) => unreachable!(),
             Ok(Reply::Done) => Ok(None),
@@ -172,8 +195,10 @@ impl<N: Naming, A: Allocator> WqRuntime<N, A> {
     ) -> Result<(), CallError>
         ensures { GivesDone (λ answer. Took N.wiring N.rows seat.old (Finish context item) answer seat.new) result }
     {
-        self.written(rt, seat, Call::Finish(context, item))?;
-        Ok(())
+        match self.written(rt, seat, Call::Finish(context, item)) {
+            Ok(_row) => Ok(()),
+            Err(e) => Err(e),
+        }
     }
 
     // ---- two calls
@@ -187,9 +212,10 @@ impl<N: Naming, A: Allocator> WqRuntime<N, A> {
     ) -> Result<(Row, Row), CallError>
         ensures { GivesTwo (λ answer. ComesTo N.wiring N.rows seat.old (CancelSync item) answer seat.new) result }
     {
-        let call = Call::CancelSync(item);
-        self.admit(seat, call)?;
-        match self.answer(rt, seat, call) {
+        if let Err(e) = self.admit(seat, &Call::CancelSync(item)) {
+            return Err(e);
+        }
+        match self.answer(rt, seat, Call::CancelSync(item)) {
             Ok(Reply::WroteTwo(asked, taken)) => Ok((asked, taken)),
             Ok(Reply::Wrote(_)) => unreachable!(),
             Ok(Reply::Done) => unreachable!(),
@@ -203,16 +229,19 @@ impl<N: Naming, A: Allocator> WqRuntime<N, A> {
         &self,
         rt: &R,
         seat: &mut Seat<N, A>,
-        subject: Subject,
-        asked: Row,
+        subject: &Subject,
+        asked: &Row,
     ) -> Result<(), CallError>
-        ensures told { OnOk result (IsTold N.wiring N.rows seat.old subject asked seat.new) }
-        ensures refused { IfErr result (λ e. IsNotTold N.wiring N.rows seat.old subject asked e seat.new) }
+        ensures told { OnOk result (IsTold N.wiring N.rows seat.old subject.now asked.now seat.new) }
+        ensures refused { IfErr result (λ e. IsNotTold N.wiring N.rows seat.old subject.now asked.now e seat.new) }
     {
-        if asked.yes {
-            self.written(rt, seat, Call::Told(subject, asked.number))?;
+        if !asked.yes {
+            return Ok(());
         }
-        Ok(())
+        match self.written(rt, seat, Call::Told(*subject, asked.number)) {
+            Ok(_row) => Ok(()),
+            Err(e) => Err(e),
+        }
     }
 
     /// Asks whether anything is unfinished there, and where it is, waits until it is told with the mark of its ask.
@@ -220,13 +249,18 @@ impl<N: Naming, A: Allocator> WqRuntime<N, A> {
         &self,
         rt: &R,
         seat: &mut Seat<N, A>,
-        subject: Subject,
+        subject: &Subject,
     ) -> Result<bool, CallError>
-        ensures { Flushes N.wiring N.rows seat.old subject result seat.new }
+        ensures { Flushes N.wiring N.rows seat.old subject.now result seat.new }
     {
-        let asked = self.row(rt, seat, Call::Ask(subject))?;
-        self.be_told(rt, seat, subject, asked)?;
-        Ok(asked.yes)
+        let asked = match self.row(rt, seat, &Call::Ask(*subject)) {
+            Ok(asked) => asked,
+            Err(e) => return Err(e),
+        };
+        match self.be_told(rt, seat, subject, &asked) {
+            Ok(()) => Ok(asked.yes),
+            Err(e) => Err(e),
+        }
     }
 
     /// Asks about an item and removes its pending entry in one call, and where the ask waits, waits until it is told.
@@ -238,9 +272,14 @@ impl<N: Naming, A: Allocator> WqRuntime<N, A> {
     ) -> Result<bool, CallError>
         ensures { CancelsSync N.wiring N.rows seat.old item result seat.new }
     {
-        let (asked, taken) = self.two_rows(rt, seat, item)?;
-        self.be_told(rt, seat, Subject::Item(item), asked)?;
-        Ok(taken.yes)
+        let (asked, taken) = match self.two_rows(rt, seat, item) {
+            Ok(rows) => rows,
+            Err(e) => return Err(e),
+        };
+        match self.be_told(rt, seat, &Subject::Item(item), &asked) {
+            Ok(()) => Ok(taken.yes),
+            Err(e) => Err(e),
+        }
     }
 
     /// Makes what a context runs begin to wait, and waits until that is over.
@@ -248,13 +287,18 @@ impl<N: Naming, A: Allocator> WqRuntime<N, A> {
         &self,
         rt: &R,
         seat: &mut Seat<N, A>,
-        context: Context,
-        flush: Flush,
+        context: &Context,
+        flush: &Flush,
     ) -> Result<bool, CallError>
-        ensures { Waits N.wiring N.rows seat.old context flush result seat.new }
+        ensures { Waits N.wiring N.rows seat.old context.now flush.now result seat.new }
     {
-        let began = self.row(rt, seat, Call::Wait(context, flush))?;
-        self.written(rt, seat, Call::Over(context, flush))?;
-        Ok(began.yes)
+        let began = match self.row(rt, seat, &Call::Wait(*context, *flush)) {
+            Ok(began) => began,
+            Err(e) => return Err(e),
+        };
+        match self.written(rt, seat, Call::Over(*context, *flush)) {
+            Ok(_row) => Ok(began.yes),
+            Err(e) => Err(e),
+        }
     }
 }

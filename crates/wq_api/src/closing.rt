@@ -28,8 +28,8 @@ pub struct CloseRefused<N: Naming, A: Allocator> {
 impl<N: Naming, A: Allocator> WqRuntime<N, A> {
     /// Refuses queueings from now on, and waits until no entry is unfinished (`destroy_workqueue`, for all workqueues).
     pub fn destroy<R: Wait>(&self, rt: &R) {
-        let _closed = self.lock.call(rt, &mut (), Uncounted::Close);
-        let _idle = self.lock.call(rt, &mut (), Uncounted::Drain);
+        let _closed = self.settle(rt, Uncounted::Close);
+        let _idle = self.settle(rt, Uncounted::Drain);
     }
 
     /// Closes an idle runtime, given all of its seats, and returns its book and the sums of their counts.

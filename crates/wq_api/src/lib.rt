@@ -14,8 +14,6 @@ mod layout;
 mod lock;
 mod runtime;
 mod serving;
-mod stub;
-mod turn;
 mod turns;
 
 pub use closing::CloseRefused;
@@ -23,6 +21,6 @@ pub use runtime::WqRuntime;
 pub use wq_core::{Context, MAX_HELPERS};
 pub use wq_counts::{Counts, Kind};
 pub use wq_held::{
-    CallError, CloseWhy, Closed, Held, MAX_SEATS, Naming, SEAT_ROWS, Seat, SeatError,
+    CallError, CloseWhy, Closed, Held, MAX_LANES, MAX_SEATS, Naming, NewError, SEAT_ROWS, Seat,
+    SeatError,
 };
-pub use wq_under_lock::{MAX_LANES, NewError};

@@ -7,13 +7,13 @@
 
 ghost use Rattle.std.specs.Prelude.{◌≡◌, ℕ, min, vec_len, Result, Ok, Err, IfOk, IfErr};
 ghost use Rattle.wq_history.specs.declared.sleepers.Wake.{Wake};
-ghost use Rattle.wq_api.specs.declared.turn.Turn.TheVariants.{Answers};
+ghost use Rattle.wq_held.specs.declared.turn.Turn.TheVariants.{Answers};
 ghost use Rattle.wq_api.specs.Locking.{max_item_condvars};
 
 use crate::condvars::Condvars;
-use crate::turn::Turn;
 use std::alloc::Allocator;
 use std::sync::{Mutex, Wait};
+use wq_held::Turn;
 
 /// What a lock protects, as its callers see it who sleep.
 pub(crate) trait Watched {
@@ -35,8 +35,8 @@ pub(crate) trait Watched {
 
 /// What takes turns under a lock, for calls of one kind, with something of the caller's own.
 pub(crate) trait Turns<S, C, T>: Watched {
-    ghost use Rattle.wq_api.specs.declared.turn.Turn.{Turn};
-    ghost use Rattle.wq_api.specs.Turns.{IfSleeps, Wakes};
+    ghost use Rattle.wq_held.specs.declared.turn.Turn.{Turn};
+    ghost use Rattle.wq_held.specs.Turns.{IfSleeps, Wakes};
 
     // a call came to this: what is protected, and what is the caller's own, before and after
     ghost takes: { Self → S → C → Turn T → Self → S → Type 0 };

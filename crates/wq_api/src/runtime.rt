@@ -16,7 +16,7 @@ ghost use Rattle.wq_history.specs.declared.asking.Subject.TheVariants.{Item as O
 ghost use Rattle.wq_history.specs.declared.call.Call.TheVariants.{Queue as QueueCall, Cancel as CancelCall};
 ghost use Rattle.wq_held.specs.declared.fault.SeatError.TheVariants.{OutOfMemory as SeatOutOfMemory};
 ghost use Rattle.wq_held.specs.Locked.{max_runtime_lanes, slots, IsOnLane, SeatHasRoom};
-ghost use Rattle.wq_under_lock.specs.Refusals.{RefusesRuntime, MakesRuntime};
+ghost use Rattle.wq_held.specs.Making.{RefusesRuntime, MakesRuntime};
 ghost use Rattle.wq_api.specs.Refusals.{RefusesQueueWork, RefusesCancelWork};
 ghost use Rattle.wq_api.specs.WaitingCalls.{RefusesFlushWork, flushed, flush_refused, CountsCancelSync, RefusedCancelSync, RefusesFlushWorkqueue, lane_flushed, lane_flush_refused};
 ghost use Rattle.wq_api.specs.Locking.{max_item_condvars};
@@ -30,10 +30,9 @@ use std::alloc::Allocator;
 use std::sync::Wait;
 use std::sync::ledger::Blank;
 use wq_groups::{Assignment, Groups, LaneId};
-use wq_held::{CallError, Held, Naming, Seat, SeatError};
+use wq_held::{CallError, Held, Naming, NewError, Seat, SeatError, new_held};
 use wq_history::{Call, Subject};
 use wq_items::{ItemId, ItemTable};
-use wq_under_lock::{NewError, new_held};
 
 /// A runtime: the workqueues of one assignment, which any number of threads share by reference.
 #[derive(Drop)]
@@ -193,7 +192,7 @@ impl<N: Naming, A: Allocator> WqRuntime<N, A> {
         ensures counted { IfOk result (λ accepted. (item < items N.wiring) × SeatHasRoom seat.old × (seat.new ≡ raised seat.old item Queue accepted)) }
         ensures refused { IfErr result (λ e. RefusesQueueWork N.wiring seat.old (lane_of N.wiring item) item e × (seat.new ≡ seat.old)) }
     {
-        self.yes(rt, seat, Call::Queue(item))
+        self.yes(rt, seat, &Call::Queue(item))
     }
 
     /// Removes the pending entry of an item (`cancel_work`): true where one was pending.
@@ -210,7 +209,7 @@ impl<N: Naming, A: Allocator> WqRuntime<N, A> {
         ensures counted { IfOk result (λ taken. (item < items N.wiring) × SeatHasRoom seat.old × (seat.new ≡ raised seat.old item Cancel taken)) }
         ensures refused { IfErr result (λ e. RefusesCancelWork N.wiring item e × (seat.new ≡ seat.old)) }
     {
-        self.yes(rt, seat, Call::Cancel(item))
+        self.yes(rt, seat, &Call::Cancel(item))
     }
 
     /// Waits until none of an item's entries that were queued before the call is unfinished (`flush_work`): true where it had to
@@ -229,7 +228,7 @@ impl<N: Naming, A: Allocator> WqRuntime<N, A> {
         ensures counted { IfOk result (λ waited. (item < items N.wiring) × SeatHasRoom seat.old × (seat.new ≡ flushed seat.old item waited)) }
         ensures refused { IfErr result (λ e. RefusesFlushWork N.wiring seat.old item e × (seat.new ≡ flush_refused seat.old item e)) }
     {
-        self.flush(rt, seat, Subject::Item(item))
+        self.flush(rt, seat, &Subject::Item(item))
     }
 
     /// Waits until none of a workqueue's entries that were queued before the call is unfinished (`flush_workqueue`). It returns at
@@ -248,8 +247,10 @@ impl<N: Naming, A: Allocator> WqRuntime<N, A> {
         ensures counted { OnOk result ((q < N.wiring.lanes) × SeatHasRoom seat.old × ((waited : Bool) × (seat.new ≡ lane_flushed seat.old q waited))) }
         ensures refused { IfErr result (λ e. RefusesFlushWorkqueue N.wiring seat.old q e × (seat.new ≡ lane_flush_refused seat.old q e)) }
     {
-        self.flush(rt, seat, Subject::Lane(q))?;
-        Ok(())
+        match self.flush(rt, seat, &Subject::Lane(q)) {
+            Ok(_waited) => Ok(()),
+            Err(e) => Err(e),
+        }
     }
 
     /// Removes the pending entry of an item, and waits until none of its entries that were queued before the call is unfinished

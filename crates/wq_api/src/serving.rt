@@ -73,7 +73,7 @@ impl<N: Naming, A: Allocator> WqRuntime<N, A> {
             target,
             whole: false,
         };
-        self.wait(rt, seat, Context { lane: q, helper }, flush)
+        self.wait(rt, seat, &Context { lane: q, helper }, &flush)
     }
 
     /// Makes what a context runs wait for the whole workqueue of an item (`flush_workqueue` in a work function), until none of
@@ -100,7 +100,7 @@ impl<N: Naming, A: Allocator> WqRuntime<N, A> {
             target,
             whole: true,
         };
-        self.wait(rt, seat, Context { lane: q, helper }, flush)
+        self.wait(rt, seat, &Context { lane: q, helper }, &flush)
     }
 
     /// Finishes what a context runs, an entry of this item.

@@ -2,20 +2,18 @@
 //! whoever is to have a seat. And it is closed at the end.
 
 ghost use Rattle.std.specs.Prelude.{◌≡◌};
-ghost use Rattle.wq_api.specs.Calls.{IsUncounted};
+ghost use Rattle.wq_held.specs.Calls.{IsUncounted};
 ghost use Rattle.wq_api.specs.Locking.{uncounted_call};
 
 use crate::lock::{Ends, Turns, Watched};
-use crate::stub;
-use crate::turn::Turn;
 use std::alloc::Allocator;
 use wq_core::Context;
-use wq_held::{CallError, CloseWhy, Closed, Held, Naming, Seat, SeatError};
+use wq_held::{CallError, CloseWhy, Closed, Held, Naming, Seat, SeatError, Turn};
 use wq_history::{Call, Reply, Wake};
 
 impl<N: Naming, A: Allocator> Watched for Held<N, A> {
     ghost use Rattle.wq_core.specs.Wiring.{items as items_of};
-    ghost use Rattle.wq_api.specs.Turns.{IsFresh, WakesEnoughOf};
+    ghost use Rattle.wq_held.specs.Turns.{IsFresh, WakesEnoughOf};
 
     ghost lanes = { N.wiring.lanes };
 
@@ -30,12 +28,12 @@ impl<N: Naming, A: Allocator> Watched for Held<N, A> {
 
 impl<N: Naming, A: Allocator> Turns<Seat<N, A>, Call, Result<Reply, CallError>> for Held<N, A> {
     ghost use Rattle.wq_held.specs.Locked.{Holds};
-    ghost use Rattle.wq_api.specs.Calls.{TakesTurn};
+    ghost use Rattle.wq_held.specs.Calls.{TakesTurn};
 
     ghost takes = { λ old counts call turn new left. Holds N.wiring N.rows old.book × TakesTurn old counts call turn new left };
 
     fn take(&mut self, own: &mut Seat<N, A>, call: Call) -> Turn<Result<Reply, CallError>> {
-        stub::turn(self, own, call)
+        self.turn(own, call)
     }
 }
 
@@ -69,14 +67,14 @@ impl Uncounted {
 impl<N: Naming, A: Allocator> Turns<(), Uncounted, Result<Reply, CallError>> for Held<N, A> {
     ghost use Rattle.std.specs.Prelude.{ℕ, List};
     ghost use Rattle.wq_held.specs.Locked.{Holds};
-    ghost use Rattle.wq_api.specs.Calls.{TakesTurn};
+    ghost use Rattle.wq_held.specs.Calls.{TakesTurn};
     ghost use Rattle.wq_api.specs.Locking.{uncounted_call};
 
     ghost takes = { λ old none call turn new left. Holds N.wiring N.rows old.book
         × ((counts : List ℕ) → TakesTurn old counts (uncounted_call call) turn new counts) };
 
     fn take(&mut self, _own: &mut (), call: Uncounted) -> Turn<Result<Reply, CallError>> {
-        stub::turn_uncounted(self, call.call())
+        self.turn_uncounted(call.call())
     }
 }
 
@@ -113,6 +111,6 @@ impl<N: Naming, A: Allocator> Ends<Vec<Seat<N, A>, A>, Closed<N, A>, CloseWhy> f
         own: Vec<Seat<N, A>, A>,
     ) -> Result<Closed<N, A>, (Held<N, A>, Vec<Seat<N, A>, A>, CloseWhy)> {
         self.holds();
-        wq_under_lock::close(self, own)
+        self.close(own)
     }
 }

@@ -1,3 +1,5 @@
 pub mod Locking
-pub mod Refused
+pub mod Making
 pub mod Closings
+pub mod TakenTurns
+pub mod IdleLanes

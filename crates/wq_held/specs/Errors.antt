@@ -1,14 +1,19 @@
--- The errors of a runtime's calls: their numbers, and what a refusal of the book comes to.
-use Rattle.std.specs.Prelude.{◌≡◌, ℕ, Some}
-use Rattle.wq_history.specs.declared.fault.BookError.{BookError}
-use Rattle.wq_history.specs.declared.fault.CallError.{CallError}
-use Rattle.wq_history.specs.Errors.{call_error}
+-- The errors of a runtime: their numbers.
+use Rattle.std.specs.Prelude.{ℕ}
+use Rattle.wq_held.specs.declared.fault.NewError.{NewError}
+use Rattle.wq_held.specs.declared.fault.NewError.TheVariants.{TooManyLanes, TooManyRows, TooManyHelpers, NotSafe, OutOfMemory as NewOutOfMemory}
 use Rattle.wq_held.specs.declared.fault.SeatError.{SeatError}
 use Rattle.wq_held.specs.declared.fault.SeatError.TheVariants.{TooManySeats, OutOfMemory}
 use Rattle.wq_held.specs.declared.fault.CloseWhy.{CloseWhy}
 use Rattle.wq_held.specs.declared.fault.CloseWhy.TheVariants.{NotIdle, SeatsMissing}
 
--- ---- numbers
+-- why no runtime is made
+abbrev pub new_code : NewError → ℕ
+new_code NewOutOfMemory = 20
+new_code NotSafe = 67
+new_code TooManyRows = 68
+new_code TooManyLanes = 69
+new_code TooManyHelpers = 74
 
 -- why no seat is made
 abbrev pub seat_code : SeatError → ℕ
@@ -19,9 +24,3 @@ seat_code TooManySeats = 70
 abbrev pub close_code : CloseWhy → ℕ
 close_code NotIdle = 71
 close_code SeatsMissing = 72
-
--- ---- refusals of the book, as a runtime hands them on
-
--- the book refuses for a cause that this states, and its refusal is handed on
-abbrev pub RefusedAs : (BookError → Type 0) → CallError → Type 0
-RefusedAs cause e = (b : BookError) × cause b × (call_error b ≡ Some e)

@@ -1,31 +1,15 @@
 -- What the lock of a runtime guards, and what the calls under the lock do to it and to the caller's seat.
-use Rattle.std.specs.Prelude.{◌≡◌, ◌≢◌, ℕ, max, ◌+◌, ◌*◌, ◌<◌, ◌≤◌, ◌⊎◌, List, [], sum, replicate, Bool, true, false}
-use Rattle.wq_core.specs.declared.entry.Waiting.{Waiting as WaitingOf}
+use Rattle.std.specs.Prelude.{◌≡◌, ◌≢◌, ℕ, max, ◌+◌, ◌*◌, ◌<◌, ◌≤◌, ◌⊎◌, List, sum, replicate}
 use Rattle.wq_core.specs.Wiring.{Wiring, items, lane_of, max_helpers}
-use Rattle.wq_core.specs.State.{lane_at, HasUnfinished}
-use Rattle.wq_core.specs.Rules.{IsHeldBack}
+use Rattle.wq_core.specs.State.{HasUnfinished}
 use Rattle.wq_core.specs.Deadlock.{IsStuck, IsSafe}
-use Rattle.wq_rows.specs.declared.event.Event.TheVariants.{Cancel}
-use Rattle.wq_counts.specs.declared.kind.Kind.TheVariants.{Cancel as CancelKind, Ask as AskKind, Told as ToldKind}
-use Rattle.wq_counts.specs.Counting.{counts_each, over_kind, HasCountsOf, AreTallies, raised, raised_asked, raised_told, counted_rows}
-use Rattle.wq_history.specs.declared.asking.Ask.{Ask}
-use Rattle.wq_history.specs.declared.asking.Ask.TheVariants.{Idle, Waiting}
-use Rattle.wq_history.specs.declared.asking.Told.{Told}
-use Rattle.wq_history.specs.declared.asking.Told.TheVariants.{Done, NotYet, NotAsked as BookNotAsked}
-use Rattle.wq_history.specs.declared.asking.LaneAsk.{LaneAsk}
-use Rattle.wq_history.specs.declared.asking.LaneAsk.TheVariants.{Idle as LaneIdle, Waiting as LaneWaiting}
-use Rattle.wq_history.specs.declared.asking.LaneTold.{LaneTold}
-use Rattle.wq_history.specs.declared.asking.LaneTold.TheVariants.{Done as LaneDone, NotYet as LaneNotYet, NotAsked as LaneNotAsked}
-use Rattle.wq_history.specs.Events.{over_event}
+use Rattle.wq_counts.specs.Counting.{counts_each, HasCountsOf, AreTallies, counted_rows}
 use Rattle.wq_history.specs.History.{all_asks_waiting}
-use Rattle.wq_history.specs.Book.{BookView, state, free, IsBook, IsWaitingBy, WaitsFor, RunsItem, IsNotAwake, AppendsOne}
-use Rattle.wq_history.specs.Answers.{AnswersAsk}
-use Rattle.wq_history.specs.declared.fault.CallError.{CallError}
-use Rattle.wq_history.specs.declared.fault.CallError.TheVariants.{HistoryFull, NoItem}
+use Rattle.wq_history.specs.Book.{BookView, state, IsBook}
 use Rattle.wq_held.specs.declared.fault.CloseWhy.{CloseWhy}
 use Rattle.wq_held.specs.declared.fault.CloseWhy.TheVariants.{NotIdle, SeatsMissing}
 
--- what contracts see of it: the book, and how many seats were made
+-- what contracts see of it: the book, and how many seats were made, each with a part of the ledger
 pub record HeldView : Type 0 where
   pub book : BookView
   pub seats : ℕ
@@ -92,83 +76,11 @@ seat_rows = 33554432
 abbrev pub SeatHasRoom : List ℕ → Type 0
 SeatHasRoom counts = sum counts < seat_rows
 
--- a caller who asked: a row says whether it waits
-abbrev pub CountsAsk : List ℕ → List ℕ → ℕ → Ask → Type 0
-CountsAsk old new i Idle = new ≡ raised old i AskKind false
-CountsAsk old new i (Waiting asked) = new ≡ raised old i AskKind true
-
--- a caller who waits: a row says that its wait is over, or there is no row
-abbrev pub CountsTold : List ℕ → List ℕ → ℕ → Told → Type 0
-CountsTold old new i Done = new ≡ raised old i ToldKind true
-CountsTold old new i (NotYet same) = new ≡ old
-CountsTold old new i (BookNotAsked same) = new ≡ old
-
--- a caller who asked about a whole lane: a row says whether it waits
-abbrev pub CountsAskLane : List ℕ → List ℕ → ℕ → LaneAsk → Type 0
-CountsAskLane old new q LaneIdle = new ≡ raised_asked old q false
-CountsAskLane old new q (LaneWaiting asked) = new ≡ raised_asked old q true
-
--- a caller who waits for a whole lane: a row says that its wait is over, or there is no row
-abbrev pub CountsToldLane : List ℕ → List ℕ → ℕ → LaneTold → Type 0
-CountsToldLane old new q LaneDone = new ≡ raised_told old q
-CountsToldLane old new q (LaneNotYet same) = new ≡ old
-CountsToldLane old new q (LaneNotAsked same) = new ≡ old
-
--- a lane that waits, by a wait of this kind: a row says that its wait is over, or there is no row
-abbrev pub CountsOver : List ℕ → List ℕ → Bool → ℕ → Bool → Type 0
-CountsOver old new whole b true = new ≡ raised old b (over_kind whole) true
-CountsOver old new whole b false = new ≡ old
-
--- ---- two events under one hold of the lock
-
--- an ask of item i, and then a cancellation of it
-pub record AsksAndCancels (old new : BookView) (i : ℕ) (answer : Ask) (taken : Bool) : Type 0 where
-  pub between : BookView
-  pub asks : AnswersAsk old between i answer
-  pub cancels : AppendsOne between new (Cancel i) taken
-
--- counts after an ask and a cancellation under one hold of the lock, with these answers
-abbrev pub asked_and_cancelled : List ℕ → ℕ → Bool → Bool → List ℕ
-asked_and_cancelled old i waits taken = raised (raised old i AskKind waits) i CancelKind taken
-
--- what a seat counts after both: an ask of item i with this answer, and a cancellation that took its entry or didn't
-abbrev pub CountsAskAndCancel : List ℕ → List ℕ → ℕ → Ask → Bool → Type 0
-CountsAskAndCancel old new i Idle taken = new ≡ asked_and_cancelled old i false taken
-CountsAskAndCancel old new i (Waiting asked) taken = new ≡ asked_and_cancelled old i true taken
-
--- an ask and a cancellation of item i under one hold of the lock: no such item; otherwise fewer than 3 rows are free
-abbrev pub RefusesAskAndCancel : BookView → ℕ → CallError → Type 0
-RefusesAskAndCancel b i NoItem = items b.wiring ≤ i
-RefusesAskAndCancel b i HistoryFull = (i < items b.wiring) × (free b < 3)
-RefusesAskAndCancel b i _ = ⊥
-
 -- ---- lanes
 
 -- the item exists, and belongs to the lane
 abbrev pub IsOnLane : Wiring → ℕ → ℕ → Type 0
 IsOnLane w q i = (i < items w) × (lane_of w i ≡ q)
-
--- nothing is pending on lane q
-abbrev pub HasNothingPending : BookView → ℕ → Type 0
-HasNothingPending b q = (lane_at (state b) q).pending ≡ []
-
--- ---- contexts of a lane: 0 is its rescuer, and from 1 on its helpers
-
--- it doesn't wait so
-abbrev pub IsWrongToGoOn : BookView → ℕ → ℕ → Bool → ℕ → Type 0
-IsWrongToGoOn b q c whole target = ¬ WaitsFor b q c whole target
-
--- whether the wait of context c of lane q for item `target`, or for the whole lane of `target`, is over: a row says that it is; or
--- nothing is changed, because the wait goes on
-abbrev pub AnswersOverOf : BookView → BookView → ℕ → ℕ → Bool → ℕ → Bool → Type 0
-AnswersOverOf old new q c whole target true = AppendsOne old new (over_event whole q c target) true
-AnswersOverOf old new q c whole target false = (f : WaitingOf) × IsWaitingBy old q c whole f × (f.target ≡ target)
-    × IsHeldBack old.wiring (state old) whole target f.mark × (new ≡ old)
-
--- context c of lane q doesn't run an entry of item i that could finish: there is no such context, it runs nothing or an entry of
--- another item, or it waits
-abbrev pub IsWrongToFinish : BookView → ℕ → ℕ → ℕ → Type 0
-IsWrongToFinish b q c i = (¬ RunsItem b q c i) ⊎ IsNotAwake b q c
 
 -- ---- closing
 

@@ -4,12 +4,12 @@
 //! many rows as were written. Starts aren't counted. Closing takes time in the number of all counts, which are 22 for each seat and
 //! slot (there are as many slots as items or lanes, whichever are more), and no memory.
 
-ghost use Rattle.std.specs.Prelude.{◌≡◌, ℕ, ◌+◌, ◌<◌, ◌≤◌, ◌*◌, sum, replicate, vec_len};
-ghost use Rattle.std.specs.List.{sum_by};
-ghost use Rattle.wq_counts.specs.Counting.{counts_each, HasCountsOf, counted_rows};
-ghost use Rattle.wq_held.specs.Locked.{slots, Closes};
+ghost use Rattle.std.specs.Prelude.{◌≡◌, ◌+◌, ◌<◌, ◌*◌, sum, replicate, vec_len, IfOk, IfErr};
+ghost use Rattle.wq_counts.specs.Counting.{counts_each, HasCountsOf};
+ghost use Rattle.wq_held.specs.Locked.{slots, RefusesClose, Closes};
 ghost use Rattle.wq_held.specs.Closing.{SumsSeats, IsClosed};
 
+use crate::fault::CloseWhy;
 use crate::held::Held;
 use crate::naming::Naming;
 use crate::seat::Seat;
@@ -81,6 +81,24 @@ impl<N: Naming, A: Allocator> Held<N, A> {
             counts: sums,
             agree,
             of: PhantomData,
+        }
+    }
+
+    /// Closes an idle runtime, given all of its seats, and gives its book and the sums of their counts.
+    ///
+    /// The error is `NotIdle` (71) where an entry is unfinished or a caller waits, or else `SeatsMissing` (72) where not
+    /// all seats are handed in. It comes with what the lock protects and with the seats, as they were.
+    pub fn close(
+        self,
+        seats: Vec<Seat<N, A>, A>,
+    ) -> Result<Closed<N, A>, (Self, Vec<Seat<N, A>, A>, CloseWhy)>
+        ensures closed { IfOk result (λ c. IsClosed N.wiring N.rows seats.items c.book c.counts c.agree) }
+        ensures refused { IfErr result (λ e. RefusesClose self (vec_len seats) e.2) }
+        ensures kept { IfErr result (λ e. (e.0 ≡ self) × (e.1 ≡ seats)) }
+    {
+        match self.closable(seats.len()) {
+            Ok(()) => Ok(self.closed(seats)),
+            Err(why) => Err((self, seats, why)),
         }
     }
 }

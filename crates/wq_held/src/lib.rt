@@ -9,14 +9,21 @@
 mod closing;
 mod fault;
 mod held;
+pub mod laws;
+mod making;
 mod naming;
 mod seat;
 mod tallies;
+mod turn;
+mod turning;
+mod waking;
 
 pub use closing::Closed;
-pub use fault::{CloseWhy, SeatError};
+pub use fault::{CloseWhy, NewError, SeatError};
 pub use held::{Held, MAX_SEATS};
+pub use making::{MAX_LANES, new_held};
 pub use naming::Naming;
 pub use seat::{SEAT_ROWS, Seat};
+pub use turn::Turn;
 pub use wq_counts::{Counts, Kind};
 pub use wq_history::CallError;

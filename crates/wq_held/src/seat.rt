@@ -3,7 +3,7 @@
 //! A seat belongs to one caller at a time, who lends it to each of its calls. It holds one part of the runtime's ledger. So what
 //! all seats count together is known when they come back. Every call takes constant time.
 
-ghost use Rattle.std.specs.Prelude.{◌≡◌, ℕ, ◌+◌, ◌*◌, ◌<◌, ◌≤◌, ◌↔◌, sum, replicate, length, true, IsTrue, IfOk, OnErr};
+ghost use Rattle.std.specs.Prelude.{◌≡◌, ℕ, ◌<◌, ◌≤◌, ◌↔◌, sum, true, IsTrue};
 ghost use Rattle.wq_counts.specs.Counting.{HasCountsOf, made, asked_lane, told_lane};
 ghost use Rattle.wq_held.specs.Locked.{slots, seat_rows};
 ghost use Rattle.wq_counts.specs.declared.kind.Kind.TheVariants.{Queue, Cancel, Finish};

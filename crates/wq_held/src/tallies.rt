@@ -3,9 +3,12 @@
 //! Each counted row is counted twice: here, for the history, and in the seat of the caller whose call wrote it. The ledger
 //! shows that both grow by one together. A count takes constant time and no memory.
 
-ghost use Rattle.std.specs.Prelude.{◌≡◌, ◌+◌, ◌<◌, ◌≤◌, sum, true};
-ghost use Rattle.wq_counts.specs.Counting.{is_counted, slot_in, noted_as};
-ghost use Rattle.wq_held.specs.Locked.{slots};
+ghost use Rattle.std.specs.Prelude.{◌≡◌, ◌+◌, ◌<◌, ◌≤◌, sum};
+ghost use Rattle.wq_counts.specs.Counting.{noted};
+ghost use Rattle.wq_history.specs.Events.{subject_in};
+ghost use Rattle.wq_history.specs.History.{IsThere};
+ghost use Rattle.wq_held.specs.Calls.{AreThere, counts_after};
+ghost use Rattle.std.specs.Prelude.{Ok};
 
 use crate::naming::Naming;
 use crate::seat::Seat;
@@ -13,7 +16,8 @@ use std::alloc::Allocator;
 use std::marker::Model;
 use std::sync::ledger;
 use wq_counts::Counts;
-use wq_rows::Event;
+use wq_history::{CallError, Reply};
+use wq_rows::Row;
 
 /// The tallies. Contracts see the counts.
 #[derive(Drop)]
@@ -42,20 +46,50 @@ impl<N: Naming, A: Allocator> Tallies<N, A> {
         self.ledger.audit(&mut seat.share);
     }
 
-    /// Counts a row of an event that is counted, with this answer: here, and in the seat of the caller who made the row.
-    #[inline(always)]
-    pub fn count(&mut self, seat: &mut Seat<N, A>, event: &Event, yes: bool)
-        requires counted { is_counted event.now ≡ true }
-        requires slot { slot_in event.now < slots N.wiring }
+    /// Counts a row, unless it is of a start: here, and in the seat of the caller whose call wrote it.
+    fn count_row(&mut self, seat: &mut Seat<N, A>, row: &Row)
+        requires there { IsThere N.wiring (subject_in row.now.event) }
         requires few { sum self.old < 4294967295 }
-        ensures tallies { self.new ≡ noted_as self.old event.now yes }
-        ensures seat { seat.new ≡ noted_as seat.old event.now yes }
-        ensures total { sum self.new ≡ sum self.old + 1 }
-        ensures seat_total { sum seat.new ≡ sum seat.old + 1 }
+        ensures tallies { self.new ≡ noted self.old row.now }
+        ensures seat { seat.new ≡ noted seat.old row.now }
+        ensures few { sum self.new ≤ sum self.old + 1 }
     {
         self.ledger.audit(&mut seat.share);
-        self.counts.note_as(event, yes);
-        seat.counts.note_as(event, yes);
-        self.ledger.add(&mut seat.share, 1);
+        let before = seat.counts.total();
+        self.counts.note(row);
+        seat.counts.note(row);
+        self.ledger
+            .add(&mut seat.share, seat.counts.total() - before);
+    }
+
+    /// Counts the rows of a reply.
+    fn count_reply(&mut self, seat: &mut Seat<N, A>, reply: &Reply)
+        requires there { AreThere N.wiring (Ok reply.now) }
+        requires few { sum self.old < 4294967294 }
+        ensures tallies { self.new ≡ counts_after self.old (Ok reply.now) }
+        ensures seat { seat.new ≡ counts_after seat.old (Ok reply.now) }
+    {
+        match reply {
+            Reply::Wrote(row) => self.count_row(seat, row),
+            Reply::WroteTwo(ask, taken) => {
+                self.count_row(seat, ask);
+                self.count_row(seat, taken);
+            }
+            Reply::Done => {}
+            Reply::NotYet => {}
+        }
+    }
+
+    /// Counts the rows of an answer.
+    pub fn count_answer(&mut self, seat: &mut Seat<N, A>, answer: &Result<Reply, CallError>)
+        requires there { AreThere N.wiring answer.now }
+        requires few { sum self.old < 4294967294 }
+        ensures tallies { self.new ≡ counts_after self.old answer.now }
+        ensures seat { seat.new ≡ counts_after seat.old answer.now }
+    {
+        match answer {
+            Ok(reply) => self.count_reply(seat, reply),
+            Err(_) => {}
+        }
     }
 }

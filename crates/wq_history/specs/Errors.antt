@@ -1,5 +1,5 @@
 -- The errors of calls, and of the named calls of a book.
-use Rattle.std.specs.Prelude.{◌≡◌, ℕ, Option, Some, None}
+use Rattle.std.specs.Prelude.{ℕ, Option, Some, None}
 use Rattle.wq_history.specs.declared.fault.BookError.{BookError}
 use Rattle.wq_history.specs.declared.fault.BookError.TheVariants.{HistoryFull as BookFull, Closed as BookClosed, Undeclared as BookUndeclared, TooManyWaits as BookTooManyWaits, WrongLane as BookWrongLane, NoItem as BookNoItem}
 use Rattle.wq_history.specs.declared.fault.CallError.{CallError}
@@ -24,10 +24,6 @@ call_error BookTooManyWaits = Some TooManyWaits
 call_error BookWrongLane = Some WrongLane
 call_error BookNoItem = Some NoItem
 call_error _ = None
-
--- the refusal is one of a call on a book that was made
-abbrev pub IsOfCall : BookError → Type 0
-IsOfCall e = (c : CallError) × (call_error e ≡ Some c)
 
 -- the refusal is one of a named call
 abbrev pub IsOfBook : CallError → Type 0

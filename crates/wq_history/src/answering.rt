@@ -199,8 +199,9 @@ impl<A: Allocator> Book<A> {
         Ok(Reply::WroteTwo(asked, taken))
     }
 
-    /// Whether a lane has ended: the book is closed, and nothing is pending on it.
-    fn has_ended(&self, q: LaneId) -> bool
+    /// Whether a lane has ended: the book is closed, and nothing is pending on it. So nobody who serves it has anything
+    /// more to do.
+    pub fn has_ended(&self, q: LaneId) -> bool
         ensures { IsTrue result ↔ IsMet self.now (EndOf q) }
     {
         self.closed && !self.is_pending_on(q)

@@ -5,11 +5,11 @@
 //! makes, and nothing that grows with the number of rows, of lanes or of asks. An ask about a lane takes constant time. Only
 //! `new` takes memory: 12 bytes for each row, and two counts for each item or each lane, whichever are more.
 
-ghost use Rattle.std.specs.Prelude.{◌≡◌, ℕ, ◌+◌, ◌<◌, ◌≤◌, ◌↔◌, [], length, Some, None, true, false, IfOk, IfErr, OnOk, IfSome, IfNone, IsTrue, MatchBool};
+ghost use Rattle.std.specs.Prelude.{◌≡◌, ℕ, ◌+◌, ◌<◌, ◌≤◌, ◌↔◌, [], Some, None, true, false, IfOk, IfErr, OnOk, IfSome, IfNone, IsTrue, MatchBool};
 ghost use Rattle.std.specs.List.{count_by};
 ghost use Rattle.wq_core.specs.declared.entry.Running.{Running};
 ghost use Rattle.wq_core.specs.declared.entry.Waiting.{Waiting};
-ghost use Rattle.wq_core.specs.Wiring.{IsWiring, items, lane_of, declared_by, helpers_of, HasContext};
+ghost use Rattle.wq_core.specs.Wiring.{items, lane_of, helpers_of, HasContext};
 ghost use Rattle.wq_core.specs.State.{empty_state, lane_at, run_by, next_of, HasPending, HasUnfinished, IsBusy};
 ghost use Rattle.wq_core.specs.Rules.{Lawful, Gives, IsHeldBack, step_in};
 ghost use Rattle.wq_rows.specs.declared.event.Event.TheVariants.{Queue, Cancel, Wait, WaitAll, Finish, Ask as AskEvent};
@@ -19,7 +19,7 @@ ghost use Rattle.wq_history.specs.declared.asking.Subject.{Subject as SubjectVal
 ghost use Rattle.wq_history.specs.Events.{step_of, event_in, wait_event, finish_event, ask_event, told_event, begins_to_wait, ends_a_wait};
 ghost use Rattle.wq_history.specs.History.{asks_waiting, all_asks_waiting, MayCome, Says, SaysUnfinished, SaysBusy, SaysUnfinishedOf};
 ghost use Rattle.wq_history.specs.Reserve.{rows_needed};
-ghost use Rattle.wq_history.specs.Book.{BookView, state, free, IsBook, AppendsOne, LaneRuns, IsAwake, IsWaiting, IsWaitingBy, HelperRuns, HelperWaitsBy, HasPendingOn, IsNotWaiting, IsNotAwake, IsWrongToStart, RefusesNew, RefusesQueue, RefusesItem, RefusesAskLane, RefusesLane, RefusesWait, RefusesHelp, WaitGoesOn};
+ghost use Rattle.wq_history.specs.Book.{BookView, state, free, IsBook, AppendsOne, LaneRuns, IsAwake, IsWaiting, IsWaitingBy, HelperRuns, HelperWaitsBy, HasPendingOn, IsNotWaiting, IsNotAwake, IsWrongToStart, RefusesNew, RefusesQueue, RefusesItem, RefusesAskLane, RefusesLane, RefusesWait, RefusesHelp};
 ghost use Rattle.wq_history.specs.Answers.{AnswersAsk, AnswersTold, AnswersAskLane, AnswersToldLane, AnswersStart, AnswersOver};
 ghost use Rattle.wq_history.specs.declared.call.Reply.TheVariants.{Wrote};
 ghost use Rattle.wq_history.specs.Calls.{IsUnfinishedBelow, AlwaysWrites, Writes, Replies, RefusesAs};
@@ -437,7 +437,7 @@ impl<A: Allocator> Book<A> {
     /// The error is `WrongLane` (64), exactly where there is no such lane or no such context, or it runs an entry. After an error
     /// nothing is changed.
     #[tactic(auto, using(crate::proofs::Answered::start_some, crate::proofs::Answered::start_none, crate::proofs::Answered::start_later, crate::proofs::Answered::lane_refused, crate::proofs::Answered::lane_of_book))]
-    pub fn start_in(&mut self, q: LaneId, helper: u8) -> Result<Option<ItemId>, BookError>
+    fn start_in(&mut self, q: LaneId, helper: u8) -> Result<Option<ItemId>, BookError>
         ensures row { IfOk result (λ answer. AnswersStart self.old self.new q helper answer) }
         ensures known { IfOk result (λ answer. IfSome answer (λ item.
             (item < items self.old.wiring) × (lane_of self.old.wiring item ≡ q))) }
@@ -457,7 +457,7 @@ impl<A: Allocator> Book<A> {
     /// Makes what a context runs begin to wait for an item, as `wait`, or for the whole lane of the item, as `wait_all`: true where
     /// that has an unfinished entry. The errors are theirs.
     #[tactic(auto, using(crate::proofs::Answered::wait_refused, crate::proofs::Answered::wait_row))]
-    pub fn wait_in(
+    fn wait_in(
         &mut self,
         q: LaneId,
         helper: u8,
@@ -480,7 +480,7 @@ impl<A: Allocator> Book<A> {
     /// The error is `WrongLane` (64), exactly where there is no such lane or no such context, it runs nothing, or its entry doesn't
     /// wait. After an error nothing is changed.
     #[tactic(auto, using(crate::proofs::Answered::over_true, crate::proofs::Answered::over_false, crate::proofs::Answered::over_not_refused))]
-    pub fn over_in(&mut self, q: LaneId, helper: u8) -> Result<bool, BookError>
+    fn over_in(&mut self, q: LaneId, helper: u8) -> Result<bool, BookError>
         ensures row { IfOk result (λ answer. AnswersOver self.old self.new q helper answer) }
         ensures refused { IfErr result (λ e. RefusesLane (IsNotWaiting self.old q helper) e
             × (self.new ≡ self.old)) }
@@ -506,7 +506,7 @@ impl<A: Allocator> Book<A> {
     /// The error is `WrongLane` (64), exactly where there is no such lane or no such context, it runs nothing, or its entry waits.
     /// After an error nothing is changed.
     #[tactic(auto, using(crate::proofs::Answered::finish_done, crate::proofs::Answered::finish_refused, crate::proofs::Answered::not_awake))]
-    pub fn finish_in(&mut self, q: LaneId, helper: u8) -> Result<(), BookError>
+    fn finish_in(&mut self, q: LaneId, helper: u8) -> Result<(), BookError>
         ensures row { IfOk result (λ _. (r : Running) × LaneRuns self.old q helper r
             × AppendsOne self.old self.new (finish_event q helper r.entry.item) true) }
         ensures refused { IfErr result (λ e. RefusesLane (IsNotAwake self.old q helper) e

@@ -4,7 +4,7 @@
 
 ghost use Rattle.std.specs.Prelude.{◌≡◌, Some};
 ghost use Rattle.wq_history.specs.Book.{book_code};
-ghost use Rattle.wq_history.specs.Errors.{call_code, call_error, IsOfCall, IsOfBook};
+ghost use Rattle.wq_history.specs.Errors.{call_code, call_error, IsOfBook};
 ghost use Rattle.wq_history.specs.declared.fault.BookError.TheVariants.{OutOfMemory};
 
 use std::alloc::AllocError;
@@ -120,22 +120,6 @@ impl CallError {
             CallError::WrongLane => 64,
             CallError::NotAsked => 65,
             CallError::NoItem => 66,
-        }
-    }
-
-    /// The refusal that an error of a book means, where the error isn't one of making a book.
-    pub fn of(e: BookError) -> CallError
-        requires { IsOfCall e }
-        ensures { call_error e ≡ Some result }
-    {
-        match e {
-            BookError::HistoryFull => CallError::HistoryFull,
-            BookError::Closed => CallError::Closed,
-            BookError::Undeclared => CallError::Undeclared,
-            BookError::TooManyWaits => CallError::TooManyWaits,
-            BookError::WrongLane => CallError::WrongLane,
-            BookError::NoItem => CallError::NoItem,
-            BookError::TooManyRows | BookError::OutOfMemory => unreachable!(),
         }
     }
 }

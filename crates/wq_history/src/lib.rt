@@ -25,5 +25,4 @@ pub use fault::{BookError, CallError};
 pub use judging::check_rows;
 pub use row_error::{RowError, RowFault};
 pub use sleepers::{Sleepers, Wake, WokenContexts};
-pub use waits::{event_of, finish_event, over_event, wait_event};
 pub use wq_rows::{Event, MAX_ROWS, Row, Rows, pack, unpack};

@@ -7,7 +7,7 @@ ghost use Rattle.std.specs.Prelude.{◌≡◌, ◌<◌, ◌↔◌, IsTrue, true,
 ghost use Rattle.wq_core.specs.Wiring.{items, lane_of};
 ghost use Rattle.wq_core.specs.State.{lane_at, IsBusy};
 ghost use Rattle.wq_core.specs.Rules.{IsHeldBack};
-ghost use Rattle.wq_history.specs.Events.{event_in, wait_event, over_event, finish_event};
+ghost use Rattle.wq_history.specs.Events.{event_in};
 ghost use Rattle.wq_history.specs.History.{SaysUnfinished, SaysBusy};
 
 use std::alloc::Allocator;
@@ -32,7 +32,7 @@ fn rescuer_event(q: LaneId, deed: &HelpStep) -> Event
 
 /// The event of what a context does: the rescuer of a lane, 0, or its helper of this number.
 #[inline(always)]
-pub fn event_of(q: LaneId, helper: u8, deed: &HelpStep) -> Event
+pub(crate) fn event_of(q: LaneId, helper: u8, deed: &HelpStep) -> Event
     ensures { result ≡ event_in q helper deed.now }
 {
     if helper == 0 {
@@ -40,27 +40,6 @@ pub fn event_of(q: LaneId, helper: u8, deed: &HelpStep) -> Event
     } else {
         Event::Help(q, helper, *deed)
     }
-}
-
-/// The event of a context's wait that begins.
-pub fn wait_event(whole: bool, q: LaneId, helper: u8, target: ItemId) -> Event
-    ensures { result ≡ wait_event whole q helper target }
-{
-    event_of(q, helper, &HelpStep::wait_of(whole, target))
-}
-
-/// The event of a context's wait that is over.
-pub fn over_event(whole: bool, q: LaneId, helper: u8, target: ItemId) -> Event
-    ensures { result ≡ over_event whole q helper target }
-{
-    event_of(q, helper, &HelpStep::over_of(whole, target))
-}
-
-/// The event of a context that finishes an entry of an item.
-pub fn finish_event(q: LaneId, helper: u8, item: ItemId) -> Event
-    ensures { result ≡ finish_event q helper item }
-{
-    event_of(q, helper, &HelpStep::Finish(item))
 }
 
 /// Whether a lane has an unfinished entry; false where there is no such lane.

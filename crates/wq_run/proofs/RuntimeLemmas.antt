@@ -11,10 +11,11 @@ use Rattle.wq_plan.proofs.Plans.{IsSafe-plan}
 use Rattle.wq_counts.specs.Counting.{made}
 use Rattle.wq_history.specs.Book.{BookView}
 use Rattle.wq_history.specs.declared.fault.CallError.{CallError}
-use Rattle.wq_under_lock.specs.declared.fault.NewError.{NewError}
-use Rattle.wq_under_lock.specs.declared.fault.NewError.TheVariants.{TooManyLanes, TooManyRows, TooManyHelpers, NotSafe, OutOfMemory}
+use Rattle.wq_held.specs.declared.fault.NewError.{NewError}
+use Rattle.wq_held.specs.declared.fault.NewError.TheVariants.{TooManyLanes, TooManyRows, TooManyHelpers, NotSafe, OutOfMemory}
 use Rattle.wq_held.specs.Locked.{max_runtime_lanes}
-use Rattle.wq_under_lock.specs.Refusals.{RefusesRuntime, new_code}
+use Rattle.wq_held.specs.Errors.{new_code}
+use Rattle.wq_held.specs.Making.{RefusesRuntime}
 use Rattle.wq_held.specs.Closing.{IsClosed, Agrees}
 use Rattle.wq_rescuer.specs.declared.rescuing.Rescued.{Rescued}
 use Rattle.wq_rescuer.specs.Contexts.{contexts_of}

@@ -1,7 +1,7 @@
 -- All numbers that the program prints.
 use Rattle.std.specs.Prelude.{ℕ}
-use Rattle.wq_under_lock.specs.Refusals.{new_code}
-use Rattle.wq_under_lock.specs.declared.fault.NewError.TheVariants.{TooManyLanes}
+use Rattle.wq_held.specs.Errors.{new_code}
+use Rattle.wq_held.specs.declared.fault.NewError.TheVariants.{TooManyLanes}
 use Rattle.wq_commands.specs.Numbers.{IsPrinted}
 
 -- the number of a refused text or of a `no`, or the number of a plan that `run` refuses because it has more workqueues than a

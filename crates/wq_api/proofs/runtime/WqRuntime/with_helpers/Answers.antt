@@ -2,7 +2,7 @@ use Rattle.std.proofs.Common.{◌<◌, ap, subst, inl, inr, arith}
 use Rattle.std.proofs.lemmas.Result.{err_from_is_err_and}
 use Rattle.wq_core.specs.Wiring.{Wiring, IsWiring, items}
 use Rattle.wq_held.specs.Locked.{slots}
-use Rattle.wq_under_lock.proofs.CallsRefused.{some_lanes}
+use Rattle.wq_held.proofs.RefusedMaking.{some_lanes}
 use Rattle.wq_api.proofs.runtime.WqRuntime.with_helpers.Goals as goal
 
 -- where there are items, there are lanes

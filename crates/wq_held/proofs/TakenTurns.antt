@@ -1,0 +1,263 @@
+-- A call under the lock: what its rows are about is there, what the lock guards stays as it has to be, enough are
+-- woken, and whoever sleeps has a group.
+use Rattle.std.proofs.Common.{◌≡◌, ℕ, zero, suc, ◌<◌, ◌≤◌, Bool, List, refl, sym, ap, subst, ◌∙◌, arith}
+use Rattle.std.specs.Prelude.{Result, Ok, Err, sum}
+use Rattle.wq_core.specs.declared.step.Context.{Context}
+use Rattle.wq_core.specs.Wiring.{Wiring, items, max_helpers}
+use Rattle.wq_core.specs.Held.{IsSoundState}
+use Rattle.wq_core.proofs.LaneLemmas.{lane_within}
+use Rattle.wq_core.proofs.Machines.{unfinished-own_lane}
+use Rattle.wq_rows.specs.declared.event.Event.{Event}
+use Rattle.wq_rows.specs.declared.event.Event.TheVariants.{Ask as AskEvent}
+use Rattle.wq_rows.specs.declared.event.Row.{Row}
+use Rattle.wq_counts.specs.Counting.{AreTallies, counted_rows, noted, noted_as}
+use Rattle.wq_counts.proofs.Tallies.{counted_rows-le-length}
+use Rattle.wq_history.specs.declared.asking.Subject.{Subject}
+use Rattle.wq_history.specs.declared.asking.Subject.TheVariants.{Item as OfItem, Lane as OfLane}
+use Rattle.wq_history.specs.declared.call.Flush.{Flush}
+use Rattle.wq_history.specs.declared.call.Call.{Call}
+use Rattle.wq_history.specs.declared.call.Call.TheVariants.{Queue, Cancel, Ask, Told, CancelSync, Start, Wait, Over, Finish, Close, Drain}
+use Rattle.wq_history.specs.declared.call.Reply.{Reply}
+use Rattle.wq_history.specs.declared.call.Reply.TheVariants.{Wrote, WroteTwo, Done, NotYet}
+use Rattle.wq_history.specs.declared.fault.CallError.{CallError}
+use Rattle.wq_history.specs.Events.{subject_in, start_event}
+use Rattle.wq_history.specs.History.{IsThere}
+use Rattle.wq_history.specs.Book.{BookView, state, IsBook}
+use Rattle.wq_history.specs.Calls.{IsUnfinishedBelow, IsRowOf, Writes, WritesTwo, after, IsEarly, Answers, waiters_for, sleepers_of}
+use Rattle.wq_history.proofs.KeptRows.{exist}
+use Rattle.wq_history.proofs.LegalRows.{IsSoundState-legal}
+use Rattle.wq_history.proofs.Upheld.{answer-upheld}
+use Rattle.wq_history.proofs.WaitEvents.{declared-item}
+use Rattle.wq_history.proofs.Woken.{answer-enough}
+use Rattle.wq_held.specs.declared.turn.Turn.{Turn}
+use Rattle.wq_held.specs.declared.turn.Turn.TheVariants.{Answers as Answered, Sleeps}
+use Rattle.wq_held.specs.Locked.{slots, HeldView, IsProtected, Holds}
+use Rattle.wq_held.specs.Calls.{counts_after, IsUncounted, WasAnswered, AreThere, BecomesTurn, TakesTurn}
+use Rattle.wq_held.specs.Turns.{IfSleeps, IsGroup, Wakes, WakesEnoughOf}
+use Rattle.wq_held.proofs.Locking.{IsProtected-noted}
+
+-- ---- what the rows of an answer are about is there
+
+row-there : (old new : BookView) (row : Row) → IsBook old → Writes old row new
+    → IsThere old.wiring (subject_in row.event)
+row-there old new row book writes =
+    (exist old.wiring old.rows row.event row.yes row.number book.wiring book.legal writes.may).0
+
+-- the book between an ask and a cancellation
+between-upheld : (old between : BookView) (i : ℕ) (ask : Row) → IsBook old → ask.event ≡ AskEvent i
+    → Writes old ask between → IsBook between × (between.wiring ≡ old.wiring) × (between.room ≡ old.room)
+between-upheld old between i ask book event writes =
+    answer-upheld old between (Ask (OfItem i)) (Ok (Wrote ask)) book (event, writes)
+
+two-there : (old new : BookView) (call : Call) (ask taken : Row) → IsBook old → WritesTwo old call ask taken new
+    → IsThere old.wiring (subject_in ask.event) × IsThere old.wiring (subject_in taken.event)
+two-there old new (CancelSync i) ask taken book writes =
+    let both = writes.1 in
+    let mid = between-upheld old both.0 i ask book both.1 both.2 in (
+      row-there old both.0 ask book both.2,
+      subst (λ (w : Wiring). IsThere w (subject_in taken.event)) mid.1 (row-there both.0 new taken mid.0 both.4),
+    )
+two-there old new _ ask taken book writes = absurd writes
+
+pub answered-there : (old new : BookView) (call : Call) (answer : Result Reply CallError) → IsBook old
+    → Answers old call answer new → AreThere old.wiring answer
+answered-there old new call (Ok (Wrote row)) book answers = row-there old new row book answers.1
+answered-there old new call (Ok (WroteTwo ask taken)) book answers = two-there old new call ask taken book answers
+answered-there old new call (Ok Done) book answers = tt
+answered-there old new call (Ok NotYet) book answers = tt
+answered-there old new call (Err e) book answers = tt
+
+-- the same of the book after
+pub now-there : (b : BookView) (call : Call) (answer : Result Reply CallError) → WasAnswered b call answer
+    → AreThere b.wiring answer
+now-there b call answer (old, book, answers) =
+    subst (λ (w : Wiring). AreThere w answer) (sym (answer-upheld old b call answer book answers).1)
+    (answered-there old b call answer book answers)
+
+-- a book that has just answered that it is too early is the same
+pub now-early : (b : BookView) (call : Call) → WasAnswered b call (Ok NotYet) → IsBook b × IsEarly b call
+now-early b call (old, book, answers) =
+    subst (λ (x : BookView). IsBook x × IsEarly x call) (sym answers.1) (book, answers.0)
+
+-- ---- what the lock guards
+
+-- there are few tallies: at most as many as the rows that a history may have
+pub few-tallies : (w : Wiring) (rows parts : ℕ) (b : BookView) (tallies sums : List ℕ) (seats left amount : ℕ)
+    → IsProtected w rows parts b tallies sums seats left amount → IsBook b → sum tallies < 4294967294
+few-tallies w rows parts b tallies sums seats left amount held book =
+    omega (arith, held.counted, counted_rows-le-length b.rows, book.enough, book.limit)
+
+-- a book with the same wiring, rows and room is guarded as well
+same-protected : (w : Wiring) (rows parts : ℕ) (b new : BookView) (tallies sums : List ℕ) (seats left amount : ℕ)
+    → new.wiring ≡ b.wiring → new.rows ≡ b.rows → new.room ≡ b.room
+    → IsProtected w rows parts b tallies sums seats left amount
+    → IsProtected w rows parts new tallies sums seats left amount
+same-protected w rows parts b new tallies sums seats left amount wirings all_rows rooms held = record {
+  of_wiring = wirings ∙ held.of_wiring;
+  of_rows = rooms ∙ held.of_rows;
+  few_lanes = held.few_lanes;
+  few_helpers = held.few_helpers;
+  safe = held.safe;
+  a_count_each = held.a_count_each;
+  tallied = subst (λ rs. AreTallies (slots w) rs tallies) (sym all_rows) held.tallied;
+  counted = held.counted ∙ ap counted_rows (sym all_rows);
+  no_sums = held.no_sums;
+  all_parts = held.all_parts;
+  parts_given = held.parts_given;
+  a_part_left = held.a_part_left;
+  no_amount_left = held.no_amount_left;
+}
+
+-- a call that is done without a row leaves them as they were
+same-after : (b : BookView) (call : Call)
+    → ((after b call).wiring ≡ b.wiring) × ((after b call).rows ≡ b.rows) × ((after b call).room ≡ b.room)
+same-after b Close = (refl, refl, refl)
+same-after b (Queue i) = (refl, refl, refl)
+same-after b (Cancel i) = (refl, refl, refl)
+same-after b (Ask x) = (refl, refl, refl)
+same-after b (Told x mark) = (refl, refl, refl)
+same-after b (CancelSync i) = (refl, refl, refl)
+same-after b (Start c) = (refl, refl, refl)
+same-after b (Wait c f) = (refl, refl, refl)
+same-after b (Over c f) = (refl, refl, refl)
+same-after b (Finish c i) = (refl, refl, refl)
+same-after b Drain = (refl, refl, refl)
+
+module _ (w : Wiring) (rows parts : ℕ) (b new : BookView) (tallies sums : List ℕ) (seats left amount : ℕ)
+    (held : IsProtected w rows parts b tallies sums seats left amount) (book : IsBook b) where
+  two-protected : (call : Call) (ask taken : Row) → WritesTwo b call ask taken new
+      → IsProtected w rows parts new (noted (noted tallies ask) taken) sums seats left amount
+  two-protected (CancelSync i) ask taken writes =
+      let both = writes.1 in
+      let mid = between-upheld b both.0 i ask book both.1 both.2 in
+      IsProtected-noted w rows parts both.0 new (noted tallies ask) sums seats left amount taken.event taken.yes
+      taken.number
+      (IsProtected-noted w rows parts b both.0 tallies sums seats left amount ask.event ask.yes ask.number held book
+      both.2) mid.0 both.4
+  two-protected _ ask taken writes = absurd writes
+
+  -- an answer, whose rows are counted
+  pub answered-protected : (call : Call) (answer : Result Reply CallError) → Answers b call answer new
+      → IsProtected w rows parts new (counts_after tallies answer) sums seats left amount
+  answered-protected call (Ok (Wrote row)) answers =
+      IsProtected-noted w rows parts b new tallies sums seats left amount row.event row.yes row.number held book
+      answers.1
+  answered-protected call (Ok (WroteTwo ask taken)) answers = two-protected call ask taken answers
+  answered-protected call (Ok Done) answers =
+      let same = same-after b call in
+      same-protected w rows parts b new tallies sums seats left amount
+      (ap (λ (x : BookView). x.wiring) answers.1 ∙ same.0) (ap (λ (x : BookView). x.rows) answers.1 ∙ same.1)
+      (ap (λ (x : BookView). x.room) answers.1 ∙ same.2) held
+  answered-protected call (Ok NotYet) answers =
+      subst (λ (x : BookView). IsProtected w rows parts x tallies sums seats left amount) (sym answers.1) held
+  answered-protected call (Err e) answers =
+      subst (λ (x : BookView). IsProtected w rows parts x tallies sums seats left amount) (sym answers.1) held
+
+-- ---- calls of which no seat counts anything
+
+start-uncounted : (counts : List ℕ) (q c i : ℕ) (said : Bool) → noted_as counts (start_event q c i) said ≡ counts
+start-uncounted counts q zero i said = refl
+start-uncounted counts q (suc h) i said = refl
+
+row-uncounted : (b : BookView) (call : Call) (row : Row) (counts : List ℕ) → IsUncounted call → IsRowOf b call row
+    → noted counts row ≡ counts
+row-uncounted b (Start c) row counts uncounted (i, next, is) =
+    ap (λ (e : Event). noted_as counts e row.yes) is ∙ start-uncounted counts c.lane c.helper i row.yes
+row-uncounted b Close row counts uncounted is = absurd is
+row-uncounted b Drain row counts uncounted is = absurd is
+row-uncounted b _ row counts uncounted is = absurd uncounted
+
+two-uncounted : (b new : BookView) (call : Call) (ask taken : Row) (counts : List ℕ) → IsUncounted call
+    → WritesTwo b call ask taken new → noted (noted counts ask) taken ≡ counts
+two-uncounted b new (CancelSync i) ask taken counts uncounted writes = absurd uncounted
+two-uncounted b new _ ask taken counts uncounted writes = absurd writes
+
+pub answered-uncounted : (old new : BookView) (call : Call) (answer : Result Reply CallError) (counts : List ℕ)
+    → IsUncounted call → Answers old call answer new → counts_after counts answer ≡ counts
+answered-uncounted old new call (Ok (Wrote row)) counts uncounted answers =
+    row-uncounted old call row counts uncounted answers.0
+answered-uncounted old new call (Ok (WroteTwo ask taken)) counts uncounted answers =
+    two-uncounted old new call ask taken counts uncounted answers
+answered-uncounted old new call (Ok Done) counts uncounted answers = refl
+answered-uncounted old new call (Ok NotYet) counts uncounted answers = refl
+answered-uncounted old new call (Err e) counts uncounted answers = refl
+
+-- ---- who sleeps
+
+module _ (b : BookView) (book : IsBook b) where
+  sound : IsSoundState b.wiring (state b)
+  sound = IsSoundState-legal b.wiring b.rows book.legal
+
+  -- those who wait for an unfinished entry are a group
+  waiters-group : (x : Subject) (mark : ℕ) → IsUnfinishedBelow (state b) x mark
+      → IsGroup b.wiring.lanes (items b.wiring) (waiters_for x)
+  waiters-group (OfItem i) mark left = (unfinished-own_lane b.wiring (state b) i mark sound left).0
+  waiters-group (OfLane q) mark left =
+      omega (arith, lane_within (state b) q left.entry left.unfinished, sound.one_each)
+
+  -- so are those among whom the caller of a call sleeps that is too early
+  early-group : (call : Call) → IsEarly b call → IsGroup b.wiring.lanes (items b.wiring) (sleepers_of b.wiring call)
+  early-group (Told x mark) early = waiters-group x mark early.1
+  early-group (Start c) early = early.0.0.0
+  early-group (Over c f) early = waiters-group _ early.0 early.2
+  early-group Drain early = tt
+  early-group (Queue i) early = absurd early
+  early-group (Cancel i) early = absurd early
+  early-group (Ask x) early = absurd early
+  early-group (CancelSync i) early = absurd early
+  early-group (Wait c f) early = absurd early
+  early-group (Finish c i) early = absurd early
+  early-group Close early = absurd early
+
+  -- what a context waits for is there
+  pub awaited-there : (c : Context) (f : Flush) → IsEarly b (Over c f) → f.target < items b.wiring
+  awaited-there c f (mark, (g, ((r, runs, waits), kind), same, of_mark), left) =
+      let there = declared-item b.wiring g.whole r.entry.item g.target book.wiring
+      ((sound.running c.lane c.helper r runs).waits g waits).1 in
+      subst (λ (t : ℕ). t < items b.wiring) same there
+
+-- ---- turns
+
+same-held : (old new : HeldView) → new.book ≡ old.book → new.seats ≡ old.seats → new ≡ old
+same-held old new books seats = λ t. record { book = books t; seats = seats t }
+
+pub turn-taken : (old new : HeldView) (counts left : List ℕ) (call : Call) (answer : Result Reply CallError)
+    (turn : Turn (Result Reply CallError)) → Answers old.book call answer new.book → new.seats ≡ old.seats
+    → left ≡ counts_after counts answer → BecomesTurn new.book call answer turn → TakesTurn old counts call turn new left
+turn-taken old new counts left call answer (Answered same wake) answers seats counted comes =
+    subst (λ (a : Result Reply CallError). TakesTurn old counts call (Answered a wake) new left) (sym comes.0)
+    record {
+      answers = answers;
+      settled = comes.1;
+      seats = seats;
+      counted = counted;
+      wakes = comes.2;
+    }
+turn-taken old new counts left call answer (Sleeps among) answers seats counted comes =
+    let early = subst (λ (a : Result Reply CallError). Answers old.book call a new.book) comes.0 answers in
+    record {
+      early = early.0;
+      unchanged = same-held old new early.1 seats;
+      uncounted = counted ∙ ap (counts_after counts) comes.0;
+      sleeps = comes.1 ∙ ap (λ (b : BookView). sleepers_of b.wiring call) early.1;
+    }
+
+-- nothing was counted for a caller who sleeps
+pub turn-sleeps : (old new : HeldView) (counts left : List ℕ) (call : Call) (turn : Turn (Result Reply CallError))
+    → TakesTurn old counts call turn new left → IfSleeps turn (λ among. left ≡ counts)
+turn-sleeps old new counts left call (Answered answer wake) takes = tt
+turn-sleeps old new counts left call (Sleeps among) takes = takes.uncounted
+
+-- enough are woken, and who sleeps has a group
+pub turn-wakes : (w : Wiring) (rows : ℕ) (old new : HeldView) (counts left : List ℕ) (call : Call)
+    (turn : Turn (Result Reply CallError)) → Holds w rows old.book → TakesTurn old counts call turn new left
+    → Wakes w.lanes (items w) WakesEnoughOf old new turn
+turn-wakes w rows old new counts left call (Answered answer wake) holds takes =
+    answer-enough old.book new.book call answer wake holds.legal
+    (subst (λ (x : Wiring). x.helpers ≤ max_helpers) (sym holds.of_wiring) holds.few_helpers) takes.answers takes.wakes
+turn-wakes w rows old new counts left call (Sleeps among) holds takes = (
+  takes.unchanged,
+  subst (λ (x : Wiring). IsGroup x.lanes (items x) among) holds.of_wiring
+      (subst (IsGroup old.book.wiring.lanes (items old.book.wiring)) (sym takes.sleeps)
+      (early-group old.book holds.legal call takes.early)),
+)

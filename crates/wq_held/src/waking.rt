@@ -1,0 +1,202 @@
+//! Whom a row wakes, once it is written, and among whom the caller of a call sleeps that is too early.
+//!
+//! A queueing lets one context of its workqueue go on. So does a finish, where the next entry of the item is pending:
+//! no other context could start that while the item ran. An entry that ends, by a finish or a cancellation, can end
+//! each wait for its item, and for its workqueue; and the last one that is unfinished, all waits in `destroy`. Where
+//! the book is closed, the contexts of a workqueue end with its last pending entry, by a start or a cancellation. Every
+//! call takes constant time.
+
+ghost use Rattle.std.specs.Prelude.{◌≡◌, ◌<◌};
+ghost use Rattle.wq_core.specs.Wiring.{items, lane_of};
+ghost use Rattle.wq_history.specs.Events.{subject_in};
+ghost use Rattle.wq_history.specs.History.{IsThere};
+ghost use Rattle.wq_history.specs.Book.{IsBook};
+ghost use Rattle.wq_history.specs.Calls.{IsEarly, subject_of, waiters_for, sleepers_of, woken_by_done, woken_by_refusal};
+ghost use Rattle.wq_history.specs.Waits.{WakesBy, WakesByDeed, WakesIfEnded, WakesIfPending, WakesWaiters, WakesByStart, WakesByFinish};
+ghost use Rattle.wq_rows.specs.declared.event.Event.TheVariants.{Queue as QueueEvent, Cancel as CancelEvent};
+
+use std::alloc::Allocator;
+use wq_core::HelpStep;
+use wq_groups::LaneId;
+use wq_history::{Book, Call, Flush, Sleepers, Subject, Wake, WokenContexts};
+use wq_items::ItemId;
+use wq_rows::{Event, Row};
+
+/// All contexts of a workqueue, where it has ended.
+fn if_ended<A: Allocator>(book: &Book<A>, q: LaneId) -> WokenContexts
+    ensures { WakesIfEnded book.now q result }
+{
+    if book.has_ended(q) {
+        WokenContexts::All(q)
+    } else {
+        WokenContexts::Nobody
+    }
+}
+
+/// One context of a workqueue, where an entry of the item is pending.
+fn if_pending<A: Allocator>(book: &Book<A>, q: LaneId, item: ItemId) -> WokenContexts
+    ensures { WakesIfPending book.now q item result }
+{
+    if book.is_pending(item) {
+        WokenContexts::One(q)
+    } else {
+        WokenContexts::Nobody
+    }
+}
+
+/// The workqueue of an item, which exists.
+fn lane_of_item<A: Allocator>(book: &Book<A>, item: ItemId) -> LaneId
+    requires { item < items book.now.wiring }
+    ensures { result ≡ lane_of book.now.wiring item }
+{
+    let Some(q) = book.lane_of(item) else {
+        unreachable!()
+    };
+    q
+}
+
+/// Whom a queueing of an item, which exists, wakes, where it was accepted or wasn't.
+fn by_queueing<A: Allocator>(book: &Book<A>, item: ItemId, accepted: bool) -> Wake
+    requires { item < items book.now.wiring }
+    ensures { WakesBy book.now (QueueEvent item) accepted result }
+{
+    if !accepted {
+        return Wake::nobody();
+    }
+    Wake::one_context(lane_of_item(book, item))
+}
+
+/// Whom a start on a workqueue wakes.
+fn by_start<A: Allocator>(book: &Book<A>, q: LaneId) -> Wake
+    ensures { WakesByStart book.now q result }
+{
+    Wake {
+        contexts: if_ended(book, q),
+        item_waiters: None,
+        lane_waiters: None,
+        destroyers: false,
+    }
+}
+
+/// Whom it wakes that an entry of an item has ended, on a workqueue: these contexts, and who waited for that.
+fn by_end<A: Allocator>(book: &Book<A>, contexts: WokenContexts, q: LaneId, item: ItemId) -> Wake
+    ensures contexts { result.contexts ≡ contexts }
+    ensures waiters { WakesWaiters book.now q item result }
+{
+    Wake {
+        contexts,
+        item_waiters: Some(item),
+        lane_waiters: Some(q),
+        destroyers: book.is_idle(),
+    }
+}
+
+/// Whom a finish of an item on a workqueue wakes.
+fn by_finish<A: Allocator>(book: &Book<A>, q: LaneId, item: ItemId) -> Wake
+    ensures { WakesByFinish book.now q item result }
+{
+    by_end(book, if_pending(book, q, item), q, item)
+}
+
+/// Whom a cancellation of an item, which exists, wakes, where it took an entry or didn't.
+fn by_cancel<A: Allocator>(book: &Book<A>, item: ItemId, taken: bool) -> Wake
+    requires { item < items book.now.wiring }
+    ensures { WakesBy book.now (CancelEvent item) taken result }
+{
+    if !taken {
+        return Wake::nobody();
+    }
+    let q = lane_of_item(book, item);
+    by_end(book, if_ended(book, q), q, item)
+}
+
+/// Whom a step of a context of a workqueue wakes.
+fn by_step<A: Allocator>(book: &Book<A>, q: LaneId, step: &HelpStep) -> Wake
+    ensures { WakesByDeed book.now q step.now result }
+{
+    match *step {
+        HelpStep::Start(_) => by_start(book, q),
+        HelpStep::Finish(item) => by_finish(book, q, item),
+        HelpStep::Wait(_) => Wake::nobody(),
+        HelpStep::WaitAll(_) => Wake::nobody(),
+        HelpStep::Over(_) => Wake::nobody(),
+        HelpStep::OverAll(_) => Wake::nobody(),
+    }
+}
+
+/// Whom a row wakes that was written, of an item or a workqueue that exists.
+pub(crate) fn by_row<A: Allocator>(book: &Book<A>, row: &Row) -> Wake
+    requires { IsThere book.now.wiring (subject_in row.now.event) }
+    ensures { WakesBy book.now row.now.event row.now.yes result }
+{
+    match row.event {
+        Event::Queue(item) => by_queueing(book, item, row.yes),
+        Event::Cancel(item) => by_cancel(book, item, row.yes),
+        Event::Start(q, _) => by_start(book, q),
+        Event::Finish(q, item) => by_finish(book, q, item),
+        Event::Help(q, _, step) => by_step(book, q, &step),
+        Event::Wait(_, _) => Wake::nobody(),
+        Event::WaitAll(_, _) => Wake::nobody(),
+        Event::Over(_, _) => Wake::nobody(),
+        Event::OverAll(_, _) => Wake::nobody(),
+        Event::Ask(_) => Wake::nobody(),
+        Event::Told(_) => Wake::nobody(),
+        Event::AskLane(_) => Wake::nobody(),
+        Event::ToldLane(_) => Wake::nobody(),
+    }
+}
+
+/// Whom a call wakes that is done without a row: the closing, all contexts.
+pub(crate) fn by_done(call: &Call) -> Wake
+    ensures { result ≡ woken_by_done call.now }
+{
+    match *call {
+        Call::Close => Wake::every_context(),
+        _ => Wake::nobody(),
+    }
+}
+
+/// Whom a refused call wakes: a start, another context, in whose place its own may have been woken.
+pub(crate) fn by_refusal(call: &Call) -> Wake
+    ensures { result ≡ woken_by_refusal call.now }
+{
+    match *call {
+        Call::Start(context) => Wake::one_context(context.lane),
+        _ => Wake::nobody(),
+    }
+}
+
+/// Those who wait for an item, or for a workqueue.
+fn waiters(subject: &Subject) -> Sleepers
+    ensures { result ≡ waiters_for subject.now }
+{
+    match *subject {
+        Subject::Item(item) => Sleepers::ItemWaiters(item),
+        Subject::Lane(q) => Sleepers::LaneWaiters(q),
+    }
+}
+
+/// What a wait for an item, which exists, or for its whole workqueue, is for.
+fn awaited<A: Allocator>(book: &Book<A>, flush: &Flush) -> Subject
+    requires { flush.now.target < items book.now.wiring }
+    ensures { result ≡ subject_of book.now.wiring flush.now.whole flush.now.target }
+{
+    if !flush.whole {
+        return Subject::Item(flush.target);
+    }
+    Subject::Lane(lane_of_item(book, flush.target))
+}
+
+/// Among whom the caller of a call sleeps that is too early.
+pub(crate) fn sleepers<A: Allocator>(book: &Book<A>, call: &Call) -> Sleepers
+    requires book { IsBook book.now }
+    requires early { IsEarly book.now call.now }
+    ensures { result ≡ sleepers_of book.now.wiring call.now }
+{
+    match *call {
+        Call::Told(subject, _) => waiters(&subject),
+        Call::Start(context) => Sleepers::Contexts(context.lane),
+        Call::Over(_, flush) => waiters(&awaited(book, &flush)),
+        _ => Sleepers::Destroyers,
+    }
+}

@@ -1,3 +1,0 @@
-pub mod CallsRefused
-pub mod IdleLanes
-pub mod Woken

@@ -1,6 +1,0 @@
-use Rattle.std.proofs.Common.{subst}
-use Rattle.wq_held.specs.Locked.{RefusesClose}
-use Rattle.wq_under_lock.proofs.turns.close.Goals as goal
-
-pub returns-in-Err-clause-refused : goal.returns-in-Err-clause-refused
-returns-in-Err-clause-refused g c = subst (λ n. RefusesClose c.args.held n c.in-Err.why) c.len.ensures c.in-Err.ensures.refused
