@@ -1,5 +1,5 @@
 pub mod Locking
-pub mod Making
+pub mod RefusedMaking
 pub mod Closings
 pub mod TakenTurns
 pub mod IdleLanes

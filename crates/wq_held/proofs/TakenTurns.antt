@@ -223,7 +223,8 @@ same-held old new books seats = λ t. record { book = books t; seats = seats t }
 
 pub turn-taken : (old new : HeldView) (counts left : List ℕ) (call : Call) (answer : Result Reply CallError)
     (turn : Turn (Result Reply CallError)) → Answers old.book call answer new.book → new.seats ≡ old.seats
-    → left ≡ counts_after counts answer → BecomesTurn new.book call answer turn → TakesTurn old counts call turn new left
+    → left ≡ counts_after counts answer → BecomesTurn new.book call answer turn
+    → TakesTurn old counts call turn new left
 turn-taken old new counts left call answer (Answered same wake) answers seats counted comes =
     subst (λ (a : Result Reply CallError). TakesTurn old counts call (Answered a wake) new left) (sym comes.0)
     record {

@@ -13,7 +13,8 @@ abbrev pub RefusesRuntime : Wiring → ℕ → NewError → Type 0
 RefusesRuntime w rows TooManyLanes = max_runtime_lanes < w.lanes
 RefusesRuntime w rows TooManyRows = (w.lanes ≤ max_runtime_lanes) × (max_rows < rows)
 RefusesRuntime w rows TooManyHelpers = (w.lanes ≤ max_runtime_lanes) × (rows ≤ max_rows) × (max_helpers < w.helpers)
-RefusesRuntime w rows NotSafe = (w.lanes ≤ max_runtime_lanes) × (rows ≤ max_rows) × (w.helpers ≤ max_helpers) × (¬ IsSafe w)
+RefusesRuntime w rows NotSafe = (w.lanes ≤ max_runtime_lanes) × (rows ≤ max_rows) × (w.helpers ≤ max_helpers)
+    × (¬ IsSafe w)
 RefusesRuntime w rows OutOfMemory = (w.lanes ≤ max_runtime_lanes) × (rows ≤ max_rows) × (w.helpers ≤ max_helpers)
     × ((0 < w.lanes) ⊎ (0 < rows))
 

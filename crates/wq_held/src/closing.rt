@@ -86,8 +86,8 @@ impl<N: Naming, A: Allocator> Held<N, A> {
 
     /// Closes an idle runtime, given all of its seats, and gives its book and the sums of their counts.
     ///
-    /// The error is `NotIdle` (71) where an entry is unfinished or a caller waits, or else `SeatsMissing` (72) where not
-    /// all seats are handed in. It comes with what the lock protects and with the seats, as they were.
+    /// The error is `NotIdle` (71) where an entry is unfinished or a caller waits, or else `SeatsMissing` (72) where
+    /// not all seats are handed in. It comes with what the lock protects and with the seats, as they were.
     pub fn close(
         self,
         seats: Vec<Seat<N, A>, A>,

@@ -3,12 +3,11 @@
 //! Each counted row is counted twice: here, for the history, and in the seat of the caller whose call wrote it. The ledger
 //! shows that both grow by one together. A count takes constant time and no memory.
 
-ghost use Rattle.std.specs.Prelude.{◌≡◌, ◌+◌, ◌<◌, ◌≤◌, sum};
+ghost use Rattle.std.specs.Prelude.{◌≡◌, ◌+◌, ◌<◌, ◌≤◌, sum, Ok};
 ghost use Rattle.wq_counts.specs.Counting.{noted};
 ghost use Rattle.wq_history.specs.Events.{subject_in};
 ghost use Rattle.wq_history.specs.History.{IsThere};
 ghost use Rattle.wq_held.specs.Calls.{AreThere, counts_after};
-ghost use Rattle.std.specs.Prelude.{Ok};
 
 use crate::naming::Naming;
 use crate::seat::Seat;

@@ -3,7 +3,7 @@ use Rattle.wq_rows.specs.Stored.{max_rows}
 use Rattle.wq_groups.specs.Declaration.{declaration_of}
 use Rattle.wq_core.specs.Wiring.{wiring, max_helpers}
 use Rattle.wq_held.specs.Locked.{max_runtime_lanes}
-use Rattle.wq_held.proofs.Making.{not_safe_refused}
+use Rattle.wq_held.proofs.RefusedMaking.{not_safe_refused}
 use Rattle.wq_held.proofs.making.new_held.Goals as goal
 
 pub returns-then-not-safe-clause-refused : goal.returns-then-not-safe-clause-refused

@@ -40,7 +40,8 @@ invariant_of-self g c =
 pub returns-clause-wakes : goal.returns-clause-wakes
 returns-clause-wakes g c =
     let old : HeldView = c.args.self.now in
-    let new : HeldView = record { book = c.answer-answer.new.self; seats = g.N.Ledger.parts - c.self.inside.rest.parts } in
+    let seats : ℕ = g.N.Ledger.parts - c.self.inside.rest.parts in
+    let new : HeldView = record { book = c.answer-answer.new.self; seats = seats } in
     let answer = c.answer-answer.result in
     turn-wakes g.N.Naming.wiring g.N.Naming.rows old new c.args.seat.now c.count_answer.new.seat c.args.call
     c.turn_of.result c.holds.ensures

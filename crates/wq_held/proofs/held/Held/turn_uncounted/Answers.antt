@@ -1,4 +1,4 @@
-use Rattle.std.proofs.Common.{ℕ, List, [], sym, ap, subst}
+use Rattle.std.proofs.Common.{◌-◌, ℕ, List, [], sym, ap, subst}
 use Rattle.wq_history.specs.Book.{IsBook}
 use Rattle.wq_history.specs.Calls.{Answers}
 use Rattle.wq_held.specs.Locked.{HeldView, IsProtected}
@@ -19,7 +19,8 @@ invariant_of-self g c =
 pub returns-clause-takes : goal.returns-clause-takes
 returns-clause-takes g c counts =
     let old : HeldView = c.args.self.now in
-    let new : HeldView = record { book = c.answer-answer.new.self; seats = g.N.Ledger.parts - c.self.inside.rest.parts } in
+    let seats : ℕ = g.N.Ledger.parts - c.self.inside.rest.parts in
+    let new : HeldView = record { book = c.answer-answer.new.self; seats = seats } in
     let answer = c.answer-answer.result in
     turn-taken old new counts counts c.args.call answer c.turn_of.result
     (subst (λ (x : HeldView). Answers x.book c.args.call answer new.book) c.self.view_is c.answer-answer.ensures)
@@ -30,6 +31,7 @@ returns-clause-takes g c counts =
 pub returns-clause-wakes : goal.returns-clause-wakes
 returns-clause-wakes g c =
     let old : HeldView = c.args.self.now in
-    let new : HeldView = record { book = c.answer-answer.new.self; seats = g.N.Ledger.parts - c.self.inside.rest.parts } in
+    let seats : ℕ = g.N.Ledger.parts - c.self.inside.rest.parts in
+    let new : HeldView = record { book = c.answer-answer.new.self; seats = seats } in
     turn-wakes g.N.Naming.wiring g.N.Naming.rows old new [] [] c.args.call c.turn_of.result c.holds.ensures
     (returns-clause-takes g c [])
