@@ -5,7 +5,7 @@ use Rattle.wq_held.specs.Locked.{seat_rows, slots}
 use Rattle.std.proofs.Math.Nat.{le-max_left}
 use Rattle.std.specs.Prelude.{sum}
 use Rattle.wq_rescuer.proofs.ContextLemmas.{on_err}
-use Rattle.wq_rescuer.proofs.Executions.{serving_more, one_fault_at_most, ran_only_more, on_lane_of_next, nothing_else, few_finished, few_runs, below_limit, has_cause, left_one, one_executed, stopped_at_end}
+use Rattle.wq_rescuer.proofs.Executions.{serving_more, one_fault_at_most, ran_only_more, on_lane_of_next, nothing_else, few_finished, few_runs, below_limit, has_cause, left_one, one_executed, stopped_at_end, stopped_between}
 use Rattle.wq_rescuer.proofs.rescuing.serve.Goals as goal
 
 pub execute-answer-requires-clause-few : goal.execute-answer-requires-clause-few
@@ -78,3 +78,10 @@ returns-in_err-finish_in-clause-stopped g c =
     (left_one may c.args.seat.now c.loop.seat counts c.finish_in.new.seat before.finished before.faults item answer
     c.loop.invariant.5 (c.loop.invariant.6 item answer c.loop.seat counts c.execute-answer.ensures.may)
     c.in_err-finish_in.ensures.refused.1))
+
+pub returns-in_err-item-clause-stopped : goal.returns-in_err-item-clause-stopped
+returns-in_err-item-clause-stopped g c =
+    let before = c.loop.rescued in
+    let may = g.B.Body.may g.N.Naming.wiring c.args.body.now in
+    on_err c.from_residual.result (HasStopped may c.args.seat.now c.loop.seat)
+    (stopped_between may c.args.seat.now c.loop.seat before.finished before.faults c.loop.invariant.5)

@@ -9,9 +9,11 @@ use Rattle.wq_rescuer.proofs.context_job.ContextJob.serve.Goals as goal
 pub invariant_of-result : goal.invariant_of-result
 invariant_of-result g c =
     let did = c.serve-rescued.ensures in
-    is_served g.N.Naming.wiring c.args.self.context (counts_each * slots g.N.Naming.wiring) c.args.self.seat
-    c.serve-rescued.new.seat (g.B.Body.runs c.serve-rescued.new.body) c.serve-rescued.result
-    c.args.self.fresh did.own did.ran did.finished did.faults did.why did.refused
+    record {
+      served = is_served g.N.Naming.wiring c.args.self.context (counts_each * slots g.N.Naming.wiring) c.args.self.seat
+          c.serve-rescued.new.seat (g.B.Body.runs c.serve-rescued.new.body) c.serve-rescued.result
+          c.args.self.fresh did.own did.ran did.finished did.faults did.why did.refused;
+    }
 
 pub returns-clause-executed : goal.returns-clause-executed
 returns-clause-executed g c =
