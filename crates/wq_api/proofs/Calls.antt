@@ -162,14 +162,17 @@ wrong_lane wrong NoItem why = absurd why
 -- ---- answers under the lock
 
 -- a call that writes one row isn't answered otherwise
-pub took_two : (w : Wiring) (rows : ℕ) (counts left : List ℕ) (call : Call) (ask taken : Row) → WritesOne call
-    → Took w rows counts call (Ok (WroteTwo ask taken)) left → ⊥
-took_two w rows counts left call ask taken writes took =
-    never_two took.0.old took.0.new call ask taken writes took.0.answers
+pub took_two : (w : Wiring) (rows : ℕ) (counts left : List ℕ) (call : Call) (r : Reply) (ask taken : Row) → WritesOne call
+    → r ≡ WroteTwo ask taken → Took w rows counts call (Ok r) left → ⊥
+took_two w rows counts left call r ask taken writes is took =
+    never_two took.0.old took.0.new call ask taken writes
+    (subst (λ (x : Reply). Replies took.0.old call x took.0.new) is took.0.answers)
 
-pub took_done : (w : Wiring) (rows : ℕ) (counts left : List ℕ) (call : Call) → WritesOne call
-    → Took w rows counts call (Ok Done) left → ⊥
-took_done w rows counts left call writes took = never_done took.0.old took.0.new call writes took.0.answers
+pub took_done : (w : Wiring) (rows : ℕ) (counts left : List ℕ) (call : Call) (r : Reply) → WritesOne call → r ≡ Done
+    → Took w rows counts call (Ok r) left → ⊥
+took_done w rows counts left call r writes is took =
+    never_done took.0.old took.0.new call writes
+    (subst (λ (x : Reply). Replies took.0.old call x took.0.new) is took.0.answers)
 
 -- enough are woken if a seat is made, or isn't
 pub seat_wakes : (old new : HeldView) (r : Result (List ℕ) SeatError) (few : Type 0) (wake : Wake)

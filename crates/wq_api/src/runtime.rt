@@ -97,10 +97,12 @@ impl<N: Naming, A: Allocator + Copy> WqRuntime<N, A> {
         ensures made { OnOk result (MakesRuntime N.wiring rows) }
         ensures refused { IfErr result (RefusesRuntime N.wiring rows) }
     {
+        let items = table.len();
+        let lanes = assignment.lanes();
         let held = new_held(alloc, blank, table, groups, assignment, rows, helpers)?;
         held.holds();
-        let layout = Layout::new(alloc, &held, table.len(), assignment.lanes())?;
-        let condvars = Condvars::new(alloc, assignment.lanes(), table.len())?;
+        let layout = Layout::new(alloc, &held, items, lanes)?;
+        let condvars = Condvars::new(alloc, lanes, items)?;
         Ok(WqRuntime {
             lock: Lock::new(held, condvars),
             layout,
