@@ -77,7 +77,7 @@ pub(crate) fn serve<
 >(rt: &R, ample: A, heap: A, runtime: WqRuntime<N, A>, table: &ItemTable<'_, A>) -> TrialEnd
     requires { items N.wiring ≡ length table.now.waits }
 {
-    let Ok(bodies) = script_bodies(ample, table, count_contexts(rt, &runtime)) else {
+    let Ok(bodies) = script_bodies(ample, table, count_contexts(&runtime)) else {
         return TrialEnd::Wrong;
     };
     let Ok(callers) = script_callers(ample, table.len()) else {

@@ -11,11 +11,10 @@ use Rattle.wq_counts.specs.Counting.{counts_each, place, HasCountsOf, raised}
 use Rattle.wq_counts.proofs.Places.{place-same, made-raised_same, made-raised_other}
 use Rattle.wq_core.specs.Wiring.{Wiring, HasContext}
 use Rattle.wq_held.specs.Locked.{IsOnLane, seat_rows}
-use Rattle.wq_rescuer.specs.Executing.{NeverRan, RanOnce, RanOnly, finished_of, finished_in_all, faults_of, SameFinished, CountsRuns, Execution, AreExecuted, HasExecuted, HasStopped, Executes, RefusesRescue, RefusesServe, RefusesHelper, WasDrivenIn}
+use Rattle.wq_rescuer.specs.Executing.{NeverRan, RanOnce, RanOnly, finished_of, finished_in_all, faults_of, SameFinished, CountsRuns, Execution, AreExecuted, HasExecuted, HasLeftOne, HasStopped, Executes, RefusesRescue, RefusesServe, RefusesHelper}
 use Rattle.wq_history.specs.declared.fault.CallError.{CallError}
 use Rattle.wq_history.specs.declared.fault.CallError.TheVariants.{WrongLane}
 use Rattle.wq_api.specs.WaitingCalls.{IsHelper}
-use Rattle.wq_api.specs.Locking.{WasStartedIn, WasWrongToFinishIn}
 use Rattle.wq_rescuer.specs.declared.body.BodyFault.{BodyFault}
 use Rattle.wq_rescuer.specs.declared.rescuing.Rescued.{Rescued}
 
@@ -119,52 +118,82 @@ serving_more items slots before counts after width wider runs now finished fault
 -- ---- executions, one after the other
 
 -- one more execution
-executed_more : (may : ℕ → Result (Unit {0}) BodyFault → List ℕ → List ℕ → Type 0) (old mid : List ℕ) (es : List Execution) (e : Execution) → AreExecuted may old es mid
+executed_more : (may : ℕ → Result (Unit {0}) BodyFault → List ℕ → List ℕ → Type 0) (old mid : List ℕ)
+    (es : List Execution) (e : Execution) → AreExecuted may old es mid
     → may e.item e.answer mid e.counts → AreExecuted may old (es ++ (e ∷ [])) (raised e.counts e.item Finish true)
 executed_more may old mid [] e done one = (subst (λ (c : List ℕ). may e.item e.answer c e.counts) done one, refl)
-executed_more may old mid (x ∷ xs) e done one = (done.0, executed_more may (raised x.counts x.item Finish true) mid xs e done.1 one)
+executed_more may old mid (x ∷ xs) e done one =
+    (done.0, executed_more may (raised x.counts x.item Finish true) mid xs e done.1 one)
 
 -- none yet
-pub none_executed : (may : ℕ → Result (Unit {0}) BodyFault → List ℕ → List ℕ → Type 0) (counts : List ℕ) → HasExecuted may counts counts 0 0
+pub none_executed : (may : ℕ → Result (Unit {0}) BodyFault → List ℕ → List ℕ → Type 0) (counts : List ℕ)
+    → HasExecuted may counts counts 0 0
 none_executed may counts = record { executions = []; executed = refl; finished_is = refl; faults_is = refl }
 
 -- a context ran one more body, and finished the execution
-pub one_executed : (may : ℕ → Result (Unit {0}) BodyFault → List ℕ → List ℕ → Type 0) (old mid counts new : List ℕ) (finished faults more_finished more_faults i : ℕ)
-    (answer : Result (Unit {0}) BodyFault) → HasExecuted may old mid finished faults → may i answer mid counts → new ≡ raised counts i Finish true
-    → more_finished ≡ finished + 1 → more_faults ≡ faults + faults_of answer → HasExecuted may old new more_finished more_faults
+pub one_executed : (may : ℕ → Result (Unit {0}) BodyFault → List ℕ → List ℕ → Type 0) (old mid counts new : List ℕ)
+    (finished faults more_finished more_faults i : ℕ)
+    (answer : Result (Unit {0}) BodyFault) → HasExecuted may old mid finished faults → may i answer mid counts
+    → new ≡ raised counts i Finish true
+    → more_finished ≡ finished + 1 → more_faults ≡ faults + faults_of answer
+    → HasExecuted may old new more_finished more_faults
 one_executed may old mid counts new finished faults more_finished more_faults i answer before one is more fault =
     let e : Execution = record { item = i; answer = answer; counts = counts } in
     let es : List Execution = before.executions ++ (e ∷ []) in
     record {
       executions = es;
-      executed = subst (λ (c : List ℕ). AreExecuted may old es c) (sym is) (executed_more may old mid before.executions e before.executed one);
+      executed = subst (λ (c : List ℕ). AreExecuted may old es c) (sym is)
+          (executed_more may old mid before.executions e before.executed one);
       finished_is = omega (arith, more, before.finished_is, length-append before.executions (e ∷ []));
-      faults_is = omega (arith, fault, before.faults_is, sum_by_push (λ (x : Execution). faults_of x.answer) before.executions e);
+      faults_is = omega (
+        arith,
+        fault,
+        before.faults_is,
+        sum_by_push (λ (x : Execution). faults_of x.answer) before.executions e,
+      );
     }
 
 -- it was refused after it had finished these
-pub stopped_between : (may : ℕ → Result (Unit {0}) BodyFault → List ℕ → List ℕ → Type 0) (old new : List ℕ) (finished faults : ℕ) → HasExecuted may old new finished faults
+pub stopped_between : (may : ℕ → Result (Unit {0}) BodyFault → List ℕ → List ℕ → Type 0) (old new : List ℕ)
+    (finished faults : ℕ) → HasExecuted may old new finished faults
     → HasStopped may old new
-stopped_between may old new finished faults before = record { executions = before.executions; between = new; executed = before.executed; last = inl refl }
+stopped_between may old new finished faults before =
+    record { executions = before.executions; between = new; executed = before.executed; last = inl refl }
 
 -- it was refused when it was to finish one more
-pub stopped_at_end : (may : ℕ → Result (Unit {0}) BodyFault → List ℕ → List ℕ → Type 0) (old mid counts new : List ℕ) (finished faults i : ℕ)
-    (answer : Result (Unit {0}) BodyFault) → HasExecuted may old mid finished faults → may i answer mid counts → new ≡ counts → HasStopped may old new
-stopped_at_end may old mid counts new finished faults i answer before one is = record {
+pub left_one : (may : ℕ → Result (Unit {0}) BodyFault → List ℕ → List ℕ → Type 0) (old mid counts new : List ℕ)
+    (finished faults i : ℕ) (answer : Result (Unit {0}) BodyFault) → HasExecuted may old mid finished faults
+    → may i answer mid counts → new ≡ counts → HasLeftOne may old new
+left_one may old mid counts new finished faults i answer before one is = record {
   executions = before.executions;
   between = mid;
   executed = before.executed;
-  last = inr (i, answer, subst (λ (c : List ℕ). may i answer mid c) (sym is) one);
+  item = i;
+  answer = answer;
+  ran = subst (λ (c : List ℕ). may i answer mid c) (sym is) one;
+}
+
+pub stopped_at_end : (may : ℕ → Result (Unit {0}) BodyFault → List ℕ → List ℕ → Type 0) (old new : List ℕ)
+    → HasLeftOne may old new → HasStopped may old new
+stopped_at_end may old new left = record {
+  executions = left.executions;
+  between = left.between;
+  executed = left.executed;
+  last = inr (left.item, left.answer, left.ran);
 }
 
 -- before it executed anything
-pub stopped_at_once : (may : ℕ → Result (Unit {0}) BodyFault → List ℕ → List ℕ → Type 0) (counts : List ℕ) → HasStopped may counts counts
+pub stopped_at_once : (may : ℕ → Result (Unit {0}) BodyFault → List ℕ → List ℕ → Type 0) (counts : List ℕ)
+    → HasStopped may counts counts
 stopped_at_once may counts = stopped_between may counts counts 0 0 (none_executed may counts)
 
 -- what a context did, by its answer
-pub executes : (may : ℕ → Result (Unit {0}) BodyFault → List ℕ → List ℕ → Type 0) (none old new : List ℕ) (r : Result Rescued CallError) → old ≡ none
-    → IfOk r (λ rescued. HasExecuted may old new rescued.finished rescued.faults) → OnErr r (HasStopped may old new) → Executes may none new r
-executes may none old new (Ok rescued) is executed stopped = subst (λ (c : List ℕ). HasExecuted may c new rescued.finished rescued.faults) is executed
+pub executes : (may : ℕ → Result (Unit {0}) BodyFault → List ℕ → List ℕ → Type 0) (none old new : List ℕ)
+    (r : Result Rescued CallError) → old ≡ none
+    → IfOk r (λ rescued. HasExecuted may old new rescued.finished rescued.faults) → OnErr r (HasStopped may old new)
+    → Executes may none new r
+executes may none old new (Ok rescued) is executed stopped =
+    subst (λ (c : List ℕ). HasExecuted may c new rescued.finished rescued.faults) is executed
 executes may none old new (Err e) is executed stopped = subst (λ (c : List ℕ). HasStopped may c new) is stopped
 
 -- what is started is on the lane
@@ -205,13 +234,9 @@ below_limit b limit n says is = elim (cases_lt n limit) [
 ]
 
 -- whatever the refusal is, it has this cause
-pub has_cause : (w : Wiring) (rows q c : ℕ) (r : Result Rescued CallError) → WasDrivenIn w rows q c → IfErr r (λ e. e ≡ WrongLane → WasDrivenIn w rows q c)
-has_cause w rows q c (Ok rescued) driven = tt
-has_cause w rows q c (Err e) driven = λ is. driven
-
--- what was started can't be finished
-pub not_finished : (w : Wiring) (rows q c i : ℕ) (next : Option ℕ) → WasStartedIn w rows q c next → next ≡ Some i → WasWrongToFinishIn w rows q c i → WasDrivenIn w rows q c
-not_finished w rows q c i next started is wrong = inr (i, subst (λ n. WasStartedIn w rows q c n) is started, wrong)
+pub has_cause : (cause : Type 0) (r : Result Rescued CallError) → cause → IfErr r (λ e. e ≡ WrongLane → cause)
+has_cause cause (Ok rescued) is = tt
+has_cause cause (Err e) is = λ wrong_lane. is
 
 -- ---- a rescuer, and a helper
 

@@ -13,11 +13,10 @@ use Rattle.wq_history.specs.declared.fault.CallError.TheVariants.{WrongLane}
 use Rattle.wq_rescuer.specs.declared.rescuing.Rescued.{Rescued}
 use Rattle.wq_core.specs.declared.step.Context.{Context}
 use Rattle.wq_core.specs.Wiring.{Wiring, items, HasContext}
-use Rattle.wq_api.specs.Locking.{WasDoneIn}
-use Rattle.wq_rescuer.specs.Executing.{RanOnly, RefusesServe, WasDrivenIn, finished_of, finished_in_all, CountsRuns, CountsAtMost}
+use Rattle.wq_rescuer.specs.Executing.{RanOnly, RefusesServe, finished_of, finished_in_all, CountsRuns, CountsAtMost}
 use Rattle.wq_rescuer.specs.declared.running.RunWhy.{RunWhy}
 use Rattle.wq_rescuer.specs.declared.running.RunWhy.TheVariants.{BodiesDiffer, TooManySeats, OutOfMemory, NoThread}
-use Rattle.wq_rescuer.specs.Serving.{IsServed, AreServed, CameBack, AreBack, IsNoSeat, IsOneLost, RefusesRun}
+use Rattle.wq_rescuer.specs.Serving.{IsServed, AreServed, IsNoSeat, IsOneLost, IsUnstarted, RefusesRun}
 
 -- ---- a seat without counts
 
@@ -60,16 +59,6 @@ is_served w context n before counts runs answer none own all in_all few why most
           (subst (λ (y : CallError). RefusesServe w context.lane context.helper counts y) same why, λ i. omega (arith, (most i).1, none_finished n i));
     }
 
--- a context comes back as it was when it ended
-pub came_back : (w : Wiring) (rows : ℕ) (context : Context) (answer : Result Rescued CallError) → OnOk answer (WasDoneIn w rows context.lane context.helper)
-    → (HasContext w context.lane context.helper → IfErr answer (λ e. e ≡ WrongLane → WasDrivenIn w rows context.lane context.helper))
-    → CameBack w rows context answer
-came_back w rows context (Ok r) done cause = ((λ x is. ∣ done ∣₁), (λ e is. (let wrong : true ≡ false = ap is_ok is in cc)))
-came_back w rows context (Err e) done cause = (
-  (λ x is. (let wrong : true ≡ false = ap is_err is in cc)),
-  (λ f is wrong_lane there. (let same : e ≡ f = cc in ∣ cause there (same ∙ wrong_lane) ∣₁)),
-)
-
 -- ---- all contexts
 
 -- there is nothing past the end
@@ -95,7 +84,8 @@ some_same : {X : Type 0} (a b : X) → Some a ≡ Some b → a ≡ b
 some_same a b same = cc
 
 -- what is at a place of a list in reverse
-in_reverse : (all : List Context) (p n : ℕ) (m : Context) → slice_get (reverse all) p ≡ Some m → n + p + 1 ≡ length all → slice_get all n ≡ Some m
+in_reverse : (all : List Context) (p n : ℕ) (m : Context) → slice_get (reverse all) p ≡ Some m → n + p + 1 ≡ length all
+    → slice_get all n ≡ Some m
 in_reverse [] p n m at adds = absurd (omega (arith, adds))
 in_reverse (x ∷ xs) p zero m at adds =
     elim (at_place (reverse xs) x p m (ap (λ zs. slice_get zs p) (sym (reverse-append (x ∷ []) xs)) ∙ at)) [
@@ -109,7 +99,8 @@ in_reverse (x ∷ xs) p (suc n) m at adds =
     ]
 
 -- there are as many as there are in reverse
-pub as_many : {X : Type 0} (context : X → Context) (ends : List X) (all : List Context) → map context ends ≡ reverse all → length ends ≡ length all
+pub as_many : {X : Type 0} (context : X → Context) (ends : List X) (all : List Context) → map context ends ≡ reverse all
+    → length ends ≡ length all
 as_many context ends all are = sym (length-map ends context) ∙ ap length are ∙ length-reverse all
 
 -- what is at a place stays there where one more value comes
@@ -128,9 +119,11 @@ abbrev pub AreLeft : List Context → ℕ → List Context → Type 0
 AreLeft all before left = (p n : ℕ) (context : Context) → slice_get left p ≡ Some context → n + p + 1 ≡ before + length left → slice_get all n ≡ Some context
 
 -- none came back before
-pub none_left : (all : List Context) (before : ℕ) (back : List Context) → before ≡ 0 → back ≡ reverse all → AreLeft all before back
+pub none_left : (all : List Context) (before : ℕ) (back : List Context) → before ≡ 0 → back ≡ reverse all
+    → AreLeft all before back
 none_left all before back none ordered = λ p n c at adds.
-    in_reverse all p n c (ap (λ zs. slice_get zs p) (sym ordered) ∙ at) (omega (arith, adds, none, ap length ordered, length-reverse all))
+    in_reverse all p n c (ap (λ zs. slice_get zs p) (sym ordered) ∙ at)
+    (omega (arith, adds, none, ap length ordered, length-reverse all))
 
 -- where the first context, which is last, is taken away, the others stay in their places
 pub left_popped : (all : List Context) (before : ℕ) (back left : List Context) (m : Context) → AreLeft all before back → back ≡ left ++ (m ∷ [])
@@ -213,22 +206,6 @@ all_served w all n seats runs rescued are ended = record {
   served = are.served;
 }
 
--- no context has answered
-pub none_done : (w : Wiring) (rows : ℕ) (all : List Context) (rescued : List (Result Rescued CallError)) → rescued ≡ [] → AreBack w rows all rescued
-none_done w rows all rescued none = λ n c a c_at a_at. absurd (past rescued n a a_at (omega (arith, ap length none)))
-
--- one more context has answered
-pub done_more : (w : Wiring) (rows : ℕ) (all : List Context) (n : ℕ) (rescued more : List (Result Rescued CallError)) (context : Context) (answer : Result Rescued CallError)
-    → AreBack w rows all rescued → length rescued ≡ n → slice_get all n ≡ Some context → CameBack w rows context answer
-    → more ≡ rescued ++ (answer ∷ []) → AreBack w rows all more
-done_more w rows all n rescued more context answer are long here is added =
-    subst (AreBack w rows all) (sym added) (λ k c a c_at a_at. elim (at_place rescued answer k a a_at) [
-      | inl among ↦ are k c a c_at among
-      | inr last ↦ (let place : n ≡ k = omega (arith, last.0, long) in
-          let same : context ≡ c = some_same context c (sym here ∙ ap (slice_get all) place ∙ c_at) in
-          subst (λ (x : Context). CameBack w rows x a) same (subst (λ (x : Result Rescued CallError). CameBack w rows context x) last.1 is))
-    ])
-
 -- a sum over a list that is known to have one more
 pub sum_by-added : {X : Type 0} (f : X → ℕ) (xs ys : List X) (x : X) → ys ≡ xs ++ (x ∷ []) → sum_by f ys ≡ sum_by f xs + f x
 sum_by-added f xs ys x more = ap (sum_by f) more ∙ sum_by_push f xs x
@@ -256,7 +233,8 @@ contexts_first w all n context_seats seats runs rescued are first long =
     subst (λ ss. AreServed w all ss runs rescued) (sym same) are
 
 -- one was lost before one more context came back
-pub one_lost_more : (contexts callers contexts_left callers_left all left : ℕ) → IsOneLost contexts callers contexts_left callers_left → all ≡ contexts + 1 → left ≡ contexts_left + 1
+pub one_lost_more : (contexts callers contexts_left callers_left all left : ℕ)
+    → IsOneLost contexts callers contexts_left callers_left → all ≡ contexts + 1 → left ≡ contexts_left + 1
     → IsOneLost all callers left callers_left
 one_lost_more contexts callers contexts_left callers_left all left lost more back = elim lost [
   | inl one ↦ inl (omega (arith, one.0, more, back), one.1)
@@ -264,12 +242,25 @@ one_lost_more contexts callers contexts_left callers_left all left lost more bac
 ]
 
 -- the same numbers, seen elsewhere
-pub one_lost_seen : (contexts callers contexts_left callers_left bodies calls bodies_left calls_left : ℕ) → IsOneLost contexts callers contexts_left callers_left
-    → contexts ≡ bodies → callers ≡ calls → contexts_left ≡ bodies_left → callers_left ≡ calls_left → IsOneLost bodies calls bodies_left calls_left
+pub one_lost_seen : (contexts callers contexts_left callers_left bodies calls bodies_left calls_left : ℕ)
+    → IsOneLost contexts callers contexts_left callers_left → contexts ≡ bodies → callers ≡ calls
+    → bodies_left ≡ contexts_left → calls_left ≡ callers_left → IsOneLost bodies calls bodies_left calls_left
 one_lost_seen contexts callers contexts_left callers_left bodies calls bodies_left calls_left lost a b x y = elim lost [
   | inl one ↦ inl (omega (arith, one.0, a, x), omega (arith, one.1, b, y))
   | inr one ↦ inr (omega (arith, one.0, a, x), omega (arith, one.1, b, y))
 ]
+
+-- no more are left than there were
+pub few_left : {contexts callers contexts_left callers_left : ℕ} → IsOneLost contexts callers contexts_left callers_left
+    → (contexts_left ≤ contexts) × (callers_left ≤ callers)
+few_left {contexts} {callers} {contexts_left} {callers_left} lost = elim lost [
+  | inl one ↦ (omega (arith, one.0), omega (arith, one.1))
+  | inr one ↦ (omega (arith, one.0), omega (arith, one.1))
+]
+
+-- where no thread was started, nothing is said of what was lost
+pub none_lost : (why : RunWhy) (P : Type 0) → IsUnstarted why → why ≡ NoThread → P
+none_lost why P unstarted is = absurd (subst IsUnstarted is unstarted)
 
 -- ---- callers
 

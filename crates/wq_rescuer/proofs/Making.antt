@@ -12,7 +12,8 @@ none_made part all jobs none = ap (λ js. map part js ++ reverse all) none
 
 -- the last one that is left becomes a job
 pub made_more : {J X : Type 0} (part : J → X) (all : List X) (jobs more : List J) (left rest : List X) (job : J) (x : X)
-    → AreMade part all jobs left → left ≡ rest ++ (x ∷ []) → more ≡ jobs ++ (job ∷ []) → part job ≡ x → AreMade part all more rest
+    → AreMade part all jobs left → left ≡ rest ++ (x ∷ []) → more ≡ jobs ++ (job ∷ []) → part job ≡ x
+    → AreMade part all more rest
 made_more {J} {X} part all jobs more left rest job x are left_is more_is same =
     ap (λ (js : List J). map part js ++ reverse rest) more_is
     ∙ ap (λ (ys : List X). ys ++ reverse rest) (map-append part jobs (job ∷ []))
@@ -23,5 +24,7 @@ made_more {J} {X} part all jobs more left rest job x are left_is more_is same =
     ∙ are
 
 -- nothing is left
-pub all_made : {J X : Type 0} (part : J → X) (all : List X) (jobs : List J) (left : List X) → AreMade part all jobs left → left ≡ [] → map part jobs ≡ reverse all
-all_made {J} {X} part all jobs left are none = sym (append-nil (map part jobs)) ∙ ap (λ (xs : List X). map part jobs ++ reverse xs) (sym none) ∙ are
+pub all_made : {J X : Type 0} (part : J → X) (all : List X) (jobs : List J) (left : List X) → AreMade part all jobs left
+    → left ≡ [] → map part jobs ≡ reverse all
+all_made {J} {X} part all jobs left are none =
+    sym (append-nil (map part jobs)) ∙ ap (λ (xs : List X). map part jobs ++ reverse xs) (sym none) ∙ are

@@ -9,7 +9,7 @@ use Rattle.wq_history.specs.declared.fault.CallError.TheVariants.{HistoryFull, C
 use Rattle.wq_history.specs.Errors.{call_code}
 use Rattle.wq_held.specs.Locked.{IsOnLane, SeatHasRoom, seat_rows, slots}
 use Rattle.wq_api.specs.WaitingCalls.{IsHelper}
-use Rattle.wq_api.specs.Locking.{WasStartedIn, WasWrongToStartIn, WasWrongToFinishIn}
+use Rattle.wq_api.specs.Locking.{WasWrongToStartIn}
 use Rattle.wq_rescuer.specs.declared.body.BodyFault.{BodyFault}
 use Rattle.wq_rescuer.specs.declared.rescuing.Rescued.{Rescued}
 
@@ -66,32 +66,47 @@ pub record Execution : Type 0 where
   pub answer : Result (Unit {0}) BodyFault
   pub counts : List ℕ
 
--- executions, one after the other, with nothing between them: each turned the counts that it found into others, as its body may,
--- and was finished; from these counts to those
-abbrev pub AreExecuted : (ℕ → Result (Unit {0}) BodyFault → List ℕ → List ℕ → Type 0) → List ℕ → List Execution → List ℕ → Type 0
+-- executions, one after the other, with nothing between them: each turned the counts that it found into others, as its
+-- body may, and was finished; from these counts to those
+abbrev pub AreExecuted : (ℕ → Result (Unit {0}) BodyFault → List ℕ → List ℕ → Type 0) → List ℕ → List Execution → List ℕ
+    → Type 0
 AreExecuted may old [] new = new ≡ old
-AreExecuted may old (e ∷ es) new = may e.item e.answer old e.counts × AreExecuted may (raised e.counts e.item Finish true) es new
+AreExecuted may old (e ∷ es) new = may e.item e.answer old e.counts
+    × AreExecuted may (raised e.counts e.item Finish true) es new
 
 -- how many of them ended with a fault
 abbrev pub faults_in : List Execution → ℕ
 faults_in executions = sum_by (λ (e : Execution). faults_of e.answer) executions
 
 -- such executions, as many as were finished; so many of them ended with a fault
-pub record HasExecuted (may : ℕ → Result (Unit {0}) BodyFault → List ℕ → List ℕ → Type 0) (old new : List ℕ) (finished faults : ℕ) : Type 0 where
+pub record HasExecuted (may : ℕ → Result (Unit {0}) BodyFault → List ℕ → List ℕ → Type 0) (old new : List ℕ)
+    (finished faults : ℕ) : Type 0 where
   pub executions : List Execution
   pub executed : AreExecuted may old executions new
   pub finished_is : finished ≡ length executions
   pub faults_is : faults ≡ faults_in executions
 
 -- such executions, and then nothing, or one more run of a body, which wasn't finished
-pub record HasStopped (may : ℕ → Result (Unit {0}) BodyFault → List ℕ → List ℕ → Type 0) (old new : List ℕ) : Type 0 where
+pub record HasStopped (may : ℕ → Result (Unit {0}) BodyFault → List ℕ → List ℕ → Type 0)
+    (old new : List ℕ) : Type 0 where
   pub executions : List Execution
   pub between : List ℕ
   pub executed : AreExecuted may old executions between
   pub last : (new ≡ between) ⊎ ((item : ℕ) × (answer : Result (Unit {0}) BodyFault) × may item answer between new)
 
--- what a context did, by its answer: it finished what it executed; or it was refused, before an execution or at the end of one
-abbrev pub Executes : (ℕ → Result (Unit {0}) BodyFault → List ℕ → List ℕ → Type 0) → List ℕ → List ℕ → Result Rescued CallError → Type 0
+-- such executions, and then one more run of a body, which wasn't finished
+pub record HasLeftOne (may : ℕ → Result (Unit {0}) BodyFault → List ℕ → List ℕ → Type 0) (old new : List ℕ) : Type 0 where
+  pub executions : List Execution
+  pub between : List ℕ
+  pub executed : AreExecuted may old executions between
+  pub item : ℕ
+  pub answer : Result (Unit {0}) BodyFault
+  pub ran : may item answer between new
+
+-- what a context did, by its answer: it finished what it executed; or it was refused, before an execution or at the end
+-- of one
+abbrev pub Executes : (ℕ → Result (Unit {0}) BodyFault → List ℕ → List ℕ → Type 0) → List ℕ → List ℕ
+    → Result Rescued CallError → Type 0
 Executes may old new (Ok rescued) = HasExecuted may old new rescued.finished rescued.faults
 Executes may old new (Err e) = HasStopped may old new
 
@@ -118,8 +133,9 @@ RefusesServe w q c seat e = call_code e ≢ 64 → (call_code e ≡ 60) × HasCo
 abbrev pub RefusesHelper : Wiring → ℕ → ℕ → List ℕ → CallError → Type 0
 RefusesHelper w q h seat e = call_code e ≢ 64 → (call_code e ≡ 60) × IsHelper w q h × (seat_rows ≤ sum seat)
 
--- of something that the lock may protect: context c of lane q was to start an entry, while it ran one or wasn't there; or it was to
--- finish an entry of an item that it had started, while it ran none of that item, or one that waited. A context that is there comes
--- to this only where another caller drives it, too
-abbrev pub WasDrivenIn : Wiring → ℕ → ℕ → ℕ → Type 0
-WasDrivenIn w rows q c = WasWrongToStartIn w rows q c ⊎ ((i : ℕ) × WasStartedIn w rows q c (Some i) × WasWrongToFinishIn w rows q c i)
+-- context c of lane q was refused (64), where it executed by this body and turned these counts into those: when it was to start an
+-- entry, which something that the lock may protect refuses, since the context runs one already or isn't there; or when it was to
+-- finish what its body had run last. A context that is there comes to this only where another caller drives it, too
+abbrev pub WasDrivenIn : Wiring → ℕ → ℕ → ℕ → (ℕ → Result (Unit {0}) BodyFault → List ℕ → List ℕ → Type 0) → List ℕ → List ℕ
+    → Type 0
+WasDrivenIn w rows q c may old new = WasWrongToStartIn w rows q c ⊎ HasLeftOne may old new

@@ -3,15 +3,13 @@ use Rattle.std.specs.Prelude.{◌≡◌, ◌≢◌, ℕ, ◌+◌, ◌*◌, ◌<�
 use Rattle.std.specs.Result.{ForOk, ForErr}
 use Rattle.std.specs.List.{All, sum_by}
 use Rattle.wq_core.specs.declared.step.Context.{Context}
-use Rattle.wq_core.specs.Wiring.{Wiring, items, HasContext}
+use Rattle.wq_core.specs.Wiring.{Wiring, items}
 use Rattle.wq_counts.specs.Counting.{counts_each}
 use Rattle.wq_history.specs.declared.fault.CallError.{CallError}
-use Rattle.wq_history.specs.declared.fault.CallError.TheVariants.{WrongLane}
-use Rattle.wq_api.specs.Locking.{WasDoneIn}
 use Rattle.wq_rescuer.specs.declared.rescuing.Rescued.{Rescued}
 use Rattle.wq_rescuer.specs.declared.running.RunWhy.{RunWhy}
 use Rattle.wq_rescuer.specs.declared.running.RunWhy.TheVariants.{BodiesDiffer, TooManySeats, OutOfMemory, NoThread}
-use Rattle.wq_rescuer.specs.Executing.{RanOnly, RefusesServe, WasDrivenIn, finished_of, finished_in_all}
+use Rattle.wq_rescuer.specs.Executing.{RanOnly, RefusesServe, finished_of, finished_in_all}
 use Rattle.wq_rescuer.specs.Contexts.{contexts_of}
 
 -- a context, whose seat had no counts, and whose body had run nothing: only items of its lane ran; for each item, the seat counts as
@@ -39,17 +37,6 @@ pub record AreServed (w : Wiring) (served_by : List Context) (seats : List (List
   pub served : (n : ℕ) (context : Context) (seat : List ℕ) (ran : ℕ → ℕ) (answer : Result Rescued CallError) → slice_get served_by n ≡ Some context → slice_get seats n ≡ Some seat
       → slice_get runs n ≡ Some ran → slice_get rescued n ≡ Some answer → IsServed w context seat ran answer
 
--- a context of a runtime with this wiring and this many rows came back with this answer: if it wasn't refused, it was done; if it is
--- there and was refused with 64, another caller drove it, too. (What its lock may protect, so that it was, isn't handed back.)
-abbrev pub CameBack : Wiring → ℕ → Context → Result Rescued CallError → Type 0
-CameBack w rows context answer = ForOk answer (λ (rescued : Rescued). ∥ WasDoneIn w rows context.lane context.helper ∥₁)
-    × ForErr answer (λ (e : CallError). e ≡ WrongLane → HasContext w context.lane context.helper → ∥ WasDrivenIn w rows context.lane context.helper ∥₁)
-
--- so did each of these contexts, one after the other
-abbrev pub AreBack : Wiring → ℕ → List Context → List (Result Rescued CallError) → Type 0
-AreBack w rows served_by rescued = (n : ℕ) (context : Context) (answer : Result Rescued CallError) → slice_get served_by n ≡ Some context → slice_get rescued n ≡ Some answer
-    → CameBack w rows context answer
-
 -- everything was run, with this wiring, and this many callers: there is a seat for each context and then for each caller; what the
 -- contexts hand back is true; each caller answered; and the numbers of executions and faults are the sums over the contexts that
 -- weren't refused
@@ -61,21 +48,25 @@ pub record IsRan (w : Wiring) (callers : ℕ) (seats : List (List ℕ)) (runs : 
   pub finished_is : finished ≡ sum_by finished_by rescued
   pub faults_is : faults ≡ sum_by faults_by rescued
 
--- contexts that were handed these bodies, and how each of them is said to have executed: by its body, what its seat counts in the
--- end, and its answer
-pub record HaveServed {B : Type 0} (executed : B → List ℕ → Result Rescued CallError → Type 0) (bodies : List B) (seats : List (List ℕ)) (rescued : List (Result Rescued CallError)) : Type 0 where
+-- contexts that were handed these bodies, and how each of them is said to have executed: by its body, what its seat
+-- counts in the end, and its answer
+pub record HaveServed {B : Type 0} (executed : B → List ℕ → Result Rescued CallError → Type 0) (bodies : List B)
+    (seats : List (List ℕ)) (rescued : List (Result Rescued CallError)) : Type 0 where
   pub a_seat_each : length seats ≡ length bodies
   pub an_answer_each : length rescued ≡ length bodies
-  pub each : (n : ℕ) (body : B) (seat : List ℕ) (answer : Result Rescued CallError) → slice_get bodies n ≡ Some body → slice_get seats n ≡ Some seat → slice_get rescued n ≡ Some answer
+  pub each : (n : ℕ) (body : B) (seat : List ℕ) (answer : Result Rescued CallError) → slice_get bodies n ≡ Some body
+      → slice_get seats n ≡ Some seat → slice_get rescued n ≡ Some answer
       → executed body seat answer
 
--- these callers were handed in, and those came back, in the same order, with their results and their seats; and what each of them
--- is said to have done, by what it was before and after
-pub record HaveCalled {C : Type 0} (did : C → C → Result (Unit {0}) CallError → List ℕ → Type 0) (before after : List C) (results : List (Result (Unit {0}) CallError)) (seats : List (List ℕ)) : Type 0 where
+-- these callers were handed in, and those came back, in the same order, with their results and their seats; and what
+-- each of them is said to have done, by what it was before and after
+pub record HaveCalled {C : Type 0} (did : C → C → Result (Unit {0}) CallError → List ℕ → Type 0) (before after : List C)
+    (results : List (Result (Unit {0}) CallError)) (seats : List (List ℕ)) : Type 0 where
   pub a_caller_each : length after ≡ length before
   pub a_result_each : length results ≡ length before
   pub a_seat_each : length seats ≡ length before
-  pub each : (n : ℕ) (old new : C) (result : Result (Unit {0}) CallError) (seat : List ℕ) → slice_get before n ≡ Some old → slice_get after n ≡ Some new → slice_get results n ≡ Some result
+  pub each : (n : ℕ) (old new : C) (result : Result (Unit {0}) CallError) (seat : List ℕ)
+      → slice_get before n ≡ Some old → slice_get after n ≡ Some new → slice_get results n ≡ Some result
       → slice_get seats n ≡ Some seat → did old new result seat
 
 -- these jobs are done, in order: `done` holds of each and of what came back of it
@@ -86,7 +77,9 @@ AreDone done _ _ = ⊥
 
 -- of so many contexts and callers, one was lost, a context or a caller: so many contexts and callers are left
 abbrev pub IsOneLost : ℕ → ℕ → ℕ → ℕ → Type 0
-IsOneLost contexts callers contexts_left callers_left = ((contexts_left + 1 ≡ contexts) × (callers_left ≡ callers)) ⊎ ((contexts_left ≡ contexts) × (callers_left + 1 ≡ callers))
+IsOneLost contexts callers contexts_left callers_left =
+    ((contexts_left + 1 ≡ contexts) × (callers_left ≡ callers))
+    ⊎ ((contexts_left ≡ contexts) × (callers_left + 1 ≡ callers))
 
 -- why not everything was run: there isn't a body for each of this many contexts; or there is, but a seat, memory or a thread is
 -- lacking
@@ -109,6 +102,11 @@ abbrev pub IsNoSeat : RunWhy → Type 0
 IsNoSeat TooManySeats = Unit {0}
 IsNoSeat OutOfMemory = Unit {0}
 IsNoSeat _ = ⊥
+
+-- no thread was started
+abbrev pub IsUnstarted : RunWhy → Type 0
+IsUnstarted NoThread = ⊥
+IsUnstarted _ = Unit {0}
 
 -- the number of each cause
 abbrev pub run_code : RunWhy → ℕ

@@ -63,8 +63,16 @@ impl<N: Naming, A: Allocator + Copy, B: Body + Drop, C: Caller + Drop> Board<N, 
     }
 }
 
-/// Makes the jobs of these contexts, that of the first one last. Each job takes the last seat that is left. No context and no body is
-/// left.
+/// All jobs, before any of them is started: nothing has come back.
+#[derive(Drop)]
+pub(crate) struct Unstarted<N: Naming, A: Allocator, B: Body + Drop, C: Caller + Drop> {
+    pub(crate) board: Board<N, A, B, C>,
+    ghost no_contexts: { board.contexts.ends.items ≡ [] },
+    ghost no_callers: { board.callers.ends.items ≡ [] },
+}
+
+/// Makes the jobs of these contexts, that of the first one last. Each job takes the last seat that is left. No context
+/// and no body is left.
 pub(crate) fn add_contexts<N: Naming, A: Allocator, B: Body + Drop>(
     jobs: &mut Vec<ContextJob<N, A, B>, A>,
     seats: &mut Vec<Seat<N, A>, A>,

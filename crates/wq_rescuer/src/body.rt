@@ -37,10 +37,11 @@ pub trait Body {
     // in a runtime of this wiring, a run of this item that is answered so may turn these counts of its seat into those
     ghost may: { Wiring → Self → ℕ → Result (Unit {0}) Fault → List ℕ → List ℕ → Type 0 };
 
-    /// Runs an item once. It may take any time, and wait by the calls of `Work`, which is that of this item, on its workqueue.
+    /// Runs an item once. It may take any time, and wait by the calls of `Work`, which is that of this item, on its
+    /// workqueue.
     ///
-    /// It counts one run of this item, whether it succeeds or gives up. What its seat counts as finished it leaves as it is, and
-    /// what else the seat counts it changes as it may. What it may do then, it might before.
+    /// It counts one run of this item, whether it succeeds or gives up. What its seat counts as finished it leaves as
+    /// it is, and what else the seat counts it changes as it may. What it may do then, it might before.
     fn run<N: Naming, A: Allocator, R: Wait>(
         &mut self,
         rt: &R,
@@ -56,7 +57,8 @@ pub trait Body {
         ensures finished { SameFinished work.old.seat.now work.new.seat.now }
         ensures same_seat { work.new.seat.ghost_name ≡ work.old.seat.ghost_name }
         ensures may { may N.wiring self.old item result work.old.seat.now work.new.seat.now }
-        ensures no_more { (i : ℕ) (answer : Result (Unit {0}) Fault) (before : List ℕ) (after : List ℕ) → may N.wiring self.new i answer before after → may N.wiring self.old i answer before after };
+        ensures no_more { (i : ℕ) (answer : Result (Unit {0}) Fault) (before : List ℕ) (after : List ℕ)
+            → may N.wiring self.new i answer before after → may N.wiring self.old i answer before after };
 
     /// How often an item ran.
     fn ran(&self, item: ItemId) -> u32

@@ -17,8 +17,8 @@ pub trait Caller {
     ghost use Rattle.wq_core.specs.Wiring.{Wiring};
     ghost use Rattle.wq_history.specs.declared.fault.CallError.{CallError as Refusal};
 
-    // in a runtime of this wiring, calls with this result that this caller made, and what it was afterwards; they turned these counts
-    // of its seat into those
+    // in a runtime of this wiring, calls with this result that this caller made, and what it was afterwards; they
+    // turned these counts of its seat into those
     ghost did: { Wiring → Self → Self → Result (Unit {0}) Refusal → List ℕ → List ℕ → Type 0 };
 
     /// Makes the calls. The error is the first refusal that the caller doesn't handle.

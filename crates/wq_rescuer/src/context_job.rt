@@ -1,12 +1,12 @@
 //! What the thread of a context is given, and what it hands back.
 //!
-//! The type of what it hands back says what is so of each context's seat and body. What ties that to the context and the body that it
-//! was given is a promise, with which its thread is started.
+//! The type of what it hands back says what is so of each context's seat and body. What ties that to the context and
+//! the body that it was given is a promise, with which its thread is started.
 
 ghost use Rattle.std.specs.Prelude.{◌≡◌, ◌≤◌};
 ghost use Rattle.wq_core.specs.Wiring.{items};
 ghost use Rattle.wq_rescuer.specs.Executing.{Executes, NeverRan, no_counts};
-ghost use Rattle.wq_rescuer.specs.Serving.{IsServed, CameBack};
+ghost use Rattle.wq_rescuer.specs.Serving.{IsServed};
 
 use crate::body::Body;
 use crate::rescuing::{Rescued, serve};
@@ -36,10 +36,10 @@ pub(crate) struct ContextEnd<N: Naming, A: Allocator, B: Body + Drop> {
     pub(crate) body: B,
     pub(crate) rescued: Result<Rescued, CallError>,
     ghost served: { IsServed N.wiring context seat (B.runs body) rescued },
-    ghost ended: { CameBack N.wiring N.rows context rescued },
 }
 
-/// What is promised of the end of a context: that it is the end of this one, and what it executed, by what this body may do.
+/// What is promised of the end of a context: that it is the end of this one, and what it executed, by what this body
+/// may do.
 #[derive(Drop)]
 pub(crate) struct EndOfContext<B: Body + Drop> {
     pub(crate) context: Context,
@@ -50,7 +50,8 @@ impl<N: Naming, A: Allocator, B: Body + Drop> Promise<ContextEnd<N, A, B>> for E
     ghost use Rattle.std.specs.Prelude.{◌≡◌};
     ghost use Rattle.wq_rescuer.specs.Executing.{Executes, no_counts};
 
-    ghost kept_by = { λ p end. (end.context ≡ p.context) × Executes (B.may N.wiring p.body.value) (no_counts N.wiring) end.seat end.rescued };
+    ghost kept_by = { λ p end. (end.context ≡ p.context)
+        × Executes (B.may N.wiring p.body.value) (no_counts N.wiring) end.seat end.rescued };
 }
 
 impl<N: Naming, A: Allocator, B: Body + Drop> ContextJob<N, A, B> {

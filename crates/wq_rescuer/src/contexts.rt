@@ -7,19 +7,18 @@ ghost use Rattle.std.specs.List.{range_with_len};
 ghost use Rattle.wq_rescuer.specs.Contexts.{context_at, contexts_of};
 
 use std::alloc::{AllocError, Allocator};
-use std::sync::Wait;
 use wq_api::{Naming, WqRuntime};
 use wq_core::Context;
 use wq_groups::LaneId;
 
 /// How many contexts a runtime has: for each workqueue one more than it has helpers. So many bodies `run_all` wants.
-pub fn count_contexts<N: Naming, A: Allocator, R: Wait>(rt: &R, runtime: &WqRuntime<N, A>) -> usize
+pub fn count_contexts<N: Naming, A: Allocator>(runtime: &WqRuntime<N, A>) -> usize
     ensures count { result ≡ length (contexts_of N.wiring) }
     ensures few { result ≤ 65536 }
 {
     let mut count = 0usize;
-    for q in 0..runtime.lanes(rt) {
-        count += 1 + usize::from(runtime.helpers_of(rt, LaneId::new(q)));
+    for q in 0..runtime.lanes() {
+        count += 1 + usize::from(runtime.helpers_of(LaneId::new(q)));
     }
     count
 }
@@ -44,18 +43,17 @@ fn add_contexts_on<A: Allocator>(
 
 /// Lists the contexts of a runtime, workqueue by workqueue: the rescuer, then its helpers. The only error is out of memory (20), and
 /// never where there is none.
-pub fn contexts_of<N: Naming, A: Allocator, R: Wait>(
-    rt: &R,
+pub fn contexts_of<N: Naming, A: Allocator>(
     alloc: A,
     runtime: &WqRuntime<N, A>,
 ) -> Result<Vec<Context, A>, AllocError>
     ensures contexts { IfOk result (λ r. r.items ≡ contexts_of N.wiring) }
     ensures memory { OnErr result (0 < length (contexts_of N.wiring)) }
 {
-    let mut contexts = Vec::with_capacity(alloc, count_contexts(rt, runtime))?;
-    for q in 0..runtime.lanes(rt) {
+    let mut contexts = Vec::with_capacity(alloc, count_contexts(runtime))?;
+    for q in 0..runtime.lanes() {
         let lane = LaneId::new(q);
-        add_contexts_on(&mut contexts, lane, runtime.helpers_of(rt, lane))?;
+        add_contexts_on(&mut contexts, lane, runtime.helpers_of(lane))?;
     }
     Ok(contexts)
 }

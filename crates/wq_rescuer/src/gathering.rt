@@ -5,7 +5,7 @@
 ghost use Rattle.std.specs.Prelude.{◌≡◌, ℕ, ◌+◌, ◌<◌, ◌≤◌, [], ◌++◌, length, map, reverse, take, drop, vec_len, vec_capacity};
 ghost use Rattle.std.specs.List.{sum_by};
 ghost use Rattle.wq_rescuer.specs.Contexts.{contexts_of};
-ghost use Rattle.wq_rescuer.specs.Serving.{AreServed, AreBack, HasRoomFor, IsRan, finished_by, faults_by};
+ghost use Rattle.wq_rescuer.specs.Serving.{AreServed, HasRoomFor, IsRan, finished_by, faults_by};
 ghost use Rattle.wq_rescuer.specs.declared.running.RunWhy.TheVariants.{NoThread};
 
 use crate::board::{Board, Jobs};
@@ -59,7 +59,8 @@ struct Served<N: Naming, A: Allocator, B: Body + Drop> {
     faults: u64,
 }
 
-/// Takes back the contexts, which are all, the first one, which is last in the list, first. The lists are empty and have room for them.
+/// Takes back the contexts, which are all, the first one, which is last in the list, first. The lists are empty and
+/// have room for them.
 fn gather_contexts<N: Naming, A: Allocator, B: Body + Drop>(
     mut ends: Vec<ContextEnd<N, A, B>, A>,
     mut seats: Vec<Seat<N, A>, A>,
@@ -74,8 +75,8 @@ fn gather_contexts<N: Naming, A: Allocator, B: Body + Drop>(
     requires body_room { vec_len ends ≤ vec_capacity bodies }
     requires none_rescued { rescued.items ≡ [] }
     requires rescued_room { vec_len ends ≤ vec_capacity rescued }
-    ensures served { AreServed N.wiring (contexts_of N.wiring) result.seats.items (map B.runs result.bodies.items) result.rescued.items }
-    ensures ended { AreBack N.wiring N.rows (contexts_of N.wiring) result.rescued.items }
+    ensures served { AreServed N.wiring (contexts_of N.wiring) result.seats.items
+        (map B.runs result.bodies.items) result.rescued.items }
     ensures seats { result.seats.items ≡ reverse (map (λ end. end.seat) ends.items) }
     ensures rescued { result.rescued.items ≡ reverse (map (λ end. end.rescued) ends.items) }
     ensures finished { result.finished ≡ sum_by finished_by result.rescued.items }
@@ -136,8 +137,8 @@ fn gather_callers<N: Naming, A: Allocator, C: Caller + Drop>(
     }
 }
 
-/// Puts together what came back of the contexts and of the callers, where all of it came back. The last one came back first, of
-/// either.
+/// Puts together what came back of the contexts and of the callers, where all of it came back. The last one came back
+/// first, of either.
 pub(crate) fn gather<N: Naming, A: Allocator, B: Body + Drop, C: Caller + Drop>(
     board: Board<N, A, B, C>,
     back: Back<N, A, B, C>,
@@ -150,12 +151,13 @@ pub(crate) fn gather<N: Naming, A: Allocator, B: Body + Drop, C: Caller + Drop>(
     requires rescued { HasRoomFor (vec_len board.contexts.ends) (vec_len back.rescued) (vec_capacity back.rescued) }
     requires results { HasRoomFor (vec_len board.callers.ends) (vec_len back.results) (vec_capacity back.results) }
     ensures ran { IsRan N.wiring (vec_len board.callers.ends) result.seats.items (map B.runs result.bodies.items) (vec_len result.callers) (vec_len result.results) result.rescued.items result.finished result.faults }
-    ensures first_seats { take (length (contexts_of N.wiring)) result.seats.items ≡ reverse (map (λ end. end.seat) board.contexts.ends.items) }
+    ensures first_seats { take (length (contexts_of N.wiring)) result.seats.items
+        ≡ reverse (map (λ end. end.seat) board.contexts.ends.items) }
     ensures rescued { result.rescued.items ≡ reverse (map (λ end. end.rescued) board.contexts.ends.items) }
-    ensures seats { drop (length (contexts_of N.wiring)) result.seats.items ≡ reverse (map (λ end. end.seat) board.callers.ends.items) }
+    ensures seats { drop (length (contexts_of N.wiring)) result.seats.items
+        ≡ reverse (map (λ end. end.seat) board.callers.ends.items) }
     ensures callers { result.callers.items ≡ reverse (map (λ end. end.caller) board.callers.ends.items) }
     ensures results { result.results.items ≡ reverse (map (λ end. end.result) board.callers.ends.items) }
-    ensures ended { AreBack N.wiring N.rows (contexts_of N.wiring) result.rescued.items }
 {
     let Board {
         contexts: served,
@@ -193,8 +195,10 @@ fn hand_back_contexts<N: Naming, A: Allocator, B: Body + Drop>(
     seats: &mut Vec<Seat<N, A>, A>,
     bodies: &mut Vec<B, A>,
 )
-    requires seat_room { vec_len seats.old + (vec_len contexts.waiting + vec_len contexts.ends) ≤ vec_capacity seats.old }
-    requires body_room { vec_len bodies.old + (vec_len contexts.waiting + vec_len contexts.ends) ≤ vec_capacity bodies.old }
+    requires seat_room { vec_len seats.old + (vec_len contexts.waiting + vec_len contexts.ends)
+        ≤ vec_capacity seats.old }
+    requires body_room { vec_len bodies.old + (vec_len contexts.waiting + vec_len contexts.ends)
+        ≤ vec_capacity bodies.old }
     ensures seats { vec_len seats.new ≡ vec_len seats.old + (vec_len contexts.waiting + vec_len contexts.ends) }
     ensures seat_room { vec_capacity seats.new ≡ vec_capacity seats.old }
     ensures bodies { vec_len bodies.new ≡ vec_len bodies.old + (vec_len contexts.waiting + vec_len contexts.ends) }
@@ -222,7 +226,8 @@ fn hand_back_callers<N: Naming, A: Allocator, C: Caller + Drop>(
     callers: &mut Vec<C, A>,
 )
     requires seat_room { vec_len seats.old + (vec_len calls.waiting + vec_len calls.ends) ≤ vec_capacity seats.old }
-    requires caller_room { vec_len callers.old + (vec_len calls.waiting + vec_len calls.ends) ≤ vec_capacity callers.old }
+    requires caller_room { vec_len callers.old + (vec_len calls.waiting + vec_len calls.ends)
+        ≤ vec_capacity callers.old }
     ensures seats { vec_len seats.new ≡ vec_len seats.old + (vec_len calls.waiting + vec_len calls.ends) }
     ensures callers { vec_len callers.new ≡ vec_len callers.old + (vec_len calls.waiting + vec_len calls.ends) }
 {
@@ -247,11 +252,15 @@ pub(crate) fn hand_back<N: Naming, A: Allocator, B: Body + Drop, C: Caller + Dro
     board: Board<N, A, B, C>,
     back: Back<N, A, B, C>,
 ) -> RunFault<N, A, B, C>
-    requires seats { HasRoomFor ((vec_len board.contexts.waiting + vec_len board.contexts.ends) + (vec_len board.callers.waiting + vec_len board.callers.ends)) (vec_len back.seats) (vec_capacity back.seats) }
-    requires bodies { HasRoomFor (vec_len board.contexts.waiting + vec_len board.contexts.ends) (vec_len back.bodies) (vec_capacity back.bodies) }
-    requires callers { HasRoomFor (vec_len board.callers.waiting + vec_len board.callers.ends) (vec_len back.callers) (vec_capacity back.callers) }
+    requires seats { HasRoomFor ((vec_len board.contexts.waiting + vec_len board.contexts.ends)
+        + (vec_len board.callers.waiting + vec_len board.callers.ends)) (vec_len back.seats) (vec_capacity back.seats) }
+    requires bodies { HasRoomFor (vec_len board.contexts.waiting + vec_len board.contexts.ends) (vec_len back.bodies)
+        (vec_capacity back.bodies) }
+    requires callers { HasRoomFor (vec_len board.callers.waiting + vec_len board.callers.ends) (vec_len back.callers)
+        (vec_capacity back.callers) }
     ensures why { result.why ≡ NoThread }
-    ensures seats { vec_len result.seats ≡ (vec_len board.contexts.waiting + vec_len board.contexts.ends) + (vec_len board.callers.waiting + vec_len board.callers.ends) }
+    ensures seats { vec_len result.seats ≡ (vec_len board.contexts.waiting + vec_len board.contexts.ends)
+        + (vec_len board.callers.waiting + vec_len board.callers.ends) }
     ensures bodies { vec_len result.bodies ≡ vec_len board.contexts.waiting + vec_len board.contexts.ends }
     ensures callers { vec_len result.callers ≡ vec_len board.callers.waiting + vec_len board.callers.ends }
 {

@@ -9,7 +9,6 @@ ghost use Rattle.wq_core.specs.Wiring.{items, HasContext};
 ghost use Rattle.wq_history.specs.declared.fault.CallError.TheVariants.{WrongLane};
 ghost use Rattle.wq_held.specs.Locked.{IsOnLane};
 ghost use Rattle.wq_api.specs.WaitingCalls.{IsHelper};
-ghost use Rattle.wq_api.specs.Locking.{WasDone, WasDoneIn};
 ghost use Rattle.wq_rescuer.specs.declared.body.BodyFault.{BodyFault as Fault};
 ghost use Rattle.wq_rescuer.specs.Executing.{NeverRan, RanOnce, RanOnly, SameFinished, CountsRuns, CountsAtMost, HasExecuted, HasStopped, finished_in_all, faults_of, RefusesRescue, RefusesServe, RefusesHelper, WasDrivenIn};
 
@@ -65,18 +64,20 @@ fn execute<N: Naming, A: Allocator, R: Wait, B: Body>(
     ensures width { B.width body.new ≡ B.width body.old }
     ensures finished { SameFinished seat.old seat.new }
     ensures may { B.may N.wiring body.old item result seat.old seat.new }
-    ensures no_more { (i : ℕ) (answer : Result (Unit {0}) Fault) (before : List ℕ) (after : List ℕ) → B.may N.wiring body.new i answer before after → B.may N.wiring body.old i answer before after }
+    ensures no_more { (i : ℕ) (answer : Result (Unit {0}) Fault) (before : List ℕ) (after : List ℕ)
+        → B.may N.wiring body.new i answer before after → B.may N.wiring body.old i answer before after }
 {
     let mut work = Work::new(runtime, seat, q, helper, item);
     body.run(rt, item, &mut work)
 }
 
-/// Serves a context of a workqueue until the runtime is closed and nothing is pending on the workqueue. For each item, what the seat
-/// counts as finished has risen by what the body ran.
+/// Serves a context of a workqueue until the runtime is closed and nothing is pending on the workqueue. For each item,
+/// what the seat counts as finished has risen by what the body ran.
 ///
-/// The body has run nothing before, and can count each item. It runs only items of this workqueue. The error is `WrongLane` (64),
-/// where there is no such context, or `HistoryFull` (60), where the seat is full, or `WrongLane` (64), where another caller drove
-/// the same context. Then what the seat counts as finished has risen by no more than what the body ran.
+/// The body has run nothing before, and can count each item. It runs only items of this workqueue. The error is
+/// `WrongLane` (64), where there is no such context, or `HistoryFull` (60), where the seat is full, or `WrongLane`
+/// (64), where another caller drove the same context. Then what the seat counts as finished has risen by no more than
+/// what the body ran.
 ///
 /// What the seat counts besides is what the runs of the body may change, and nothing else.
 #[tactic(auto, using(crate::proofs::Executions::none_executed, crate::proofs::Executions::stopped_between, crate::proofs::Executions::stopped_at_once))]
@@ -96,13 +97,13 @@ pub fn serve<N: Naming, A: Allocator, R: Wait, B: Body>(
     ensures context { OnOk result (HasContext N.wiring q helper) }
     ensures own { RanOnly N.wiring q (B.runs body.new) }
     ensures why { IfErr result (λ e. RefusesServe N.wiring q helper seat.new e) }
-    ensures cause { HasContext N.wiring q helper → IfErr result (λ e. e ≡ WrongLane → WasDrivenIn N.wiring N.rows q helper) }
+    ensures cause { HasContext N.wiring q helper → IfErr result (λ e. e ≡ WrongLane
+        → WasDrivenIn N.wiring N.rows q helper (B.may N.wiring body.old) seat.old seat.new) }
     ensures refused { OnErr result (CountsAtMost seat.old seat.new (B.runs body.new)) }
-    ensures ended { OnOk result (WasDoneIn N.wiring N.rows q helper) }
     ensures executed { IfOk result (λ r. HasExecuted (B.may N.wiring body.old) seat.old seat.new r.finished r.faults) }
     ensures stopped { OnErr result (HasStopped (B.may N.wiring body.old) seat.old seat.new) }
 {
-    if !runtime.has_context(rt, q, helper) {
+    if !runtime.has_context(q, helper) {
         return Err(CallError::WrongLane);
     }
     let mut rescued = Rescued {
@@ -146,9 +147,9 @@ pub fn rescue<N: Naming, A: Allocator, R: Wait, B: Body>(
     ensures lane { OnOk result (q < N.wiring.lanes) }
     ensures own { RanOnly N.wiring q (B.runs body.new) }
     ensures why { IfErr result (λ e. RefusesRescue N.wiring q seat.new e) }
-    ensures cause { q < N.wiring.lanes → IfErr result (λ e. e ≡ WrongLane → WasDrivenIn N.wiring N.rows q 0) }
+    ensures cause { q < N.wiring.lanes → IfErr result (λ e. e ≡ WrongLane
+        → WasDrivenIn N.wiring N.rows q 0 (B.may N.wiring body.old) seat.old seat.new) }
     ensures refused { OnErr result (CountsAtMost seat.old seat.new (B.runs body.new)) }
-    ensures ended { OnOk result (WasDone N.wiring N.rows q) }
     ensures executed { IfOk result (λ r. HasExecuted (B.may N.wiring body.old) seat.old seat.new r.finished r.faults) }
     ensures stopped { OnErr result (HasStopped (B.may N.wiring body.old) seat.old seat.new) }
 {
@@ -177,9 +178,9 @@ pub fn help<N: Naming, A: Allocator, R: Wait, B: Body>(
     ensures helper { OnOk result (IsHelper N.wiring q h) }
     ensures own { RanOnly N.wiring q (B.runs body.new) }
     ensures why { IfErr result (λ e. RefusesHelper N.wiring q h seat.new e) }
-    ensures cause { IsHelper N.wiring q h → IfErr result (λ e. e ≡ WrongLane → WasDrivenIn N.wiring N.rows q h) }
+    ensures cause { IsHelper N.wiring q h → IfErr result (λ e. e ≡ WrongLane
+        → WasDrivenIn N.wiring N.rows q h (B.may N.wiring body.old) seat.old seat.new) }
     ensures refused { OnErr result (CountsAtMost seat.old seat.new (B.runs body.new)) }
-    ensures ended { OnOk result (WasDoneIn N.wiring N.rows q h) }
     ensures executed { IfOk result (λ r. HasExecuted (B.may N.wiring body.old) seat.old seat.new r.finished r.faults) }
     ensures stopped { OnErr result (HasStopped (B.may N.wiring body.old) seat.old seat.new) }
 {

@@ -3,16 +3,16 @@
 //!
 //! All memory is taken, and all seats are made, before any thread starts.
 
-ghost use Rattle.std.specs.Prelude.{◌≡◌, ◌≢◌, ℕ, ◌+◌, ◌<◌, ◌≤◌, [], length, map, take, drop, vec_len, IfOk, IfErr};
+ghost use Rattle.std.specs.Prelude.{◌≡◌, ◌≢◌, ℕ, ◌+◌, ◌<◌, ◌≤◌, [], length, map, reverse, take, drop, vec_len, vec_capacity, IfOk, IfErr};
 ghost use Rattle.std.specs.List.{All};
 ghost use Rattle.wq_core.specs.Wiring.{items};
 ghost use Rattle.wq_held.specs.Locked.{slots};
 ghost use Rattle.wq_rescuer.specs.Executing.{NeverRan, Executes, no_counts};
 ghost use Rattle.wq_rescuer.specs.Contexts.{contexts_of};
-ghost use Rattle.wq_rescuer.specs.Serving.{AreBack, AreFirstSeats, HaveCalled, HaveServed, IsNoSeat, IsOneLost, IsRan, RefusesRun, run_code};
+ghost use Rattle.wq_rescuer.specs.Serving.{AreFirstSeats, HasRoomFor, HaveCalled, HaveServed, IsNoSeat, IsOneLost, IsRan, RefusesRun, run_code};
 ghost use Rattle.wq_rescuer.specs.declared.running.RunWhy.TheVariants.{BodiesDiffer, OutOfMemory, NoThread};
 
-use crate::board::{add_callers, add_contexts};
+use crate::board::{Unstarted, add_callers, add_contexts};
 use crate::body::Body;
 use crate::calling::Caller;
 use crate::gathering::{Back, gather, hand_back};
@@ -88,6 +88,63 @@ pub struct RunFault<N: Naming, A: Allocator, B: Body + Drop, C: Caller + Drop> {
     pub why: RunWhy,
 }
 
+/// Makes the jobs of all contexts and callers. The lists for what comes back are empty then, and have room for all of
+/// it.
+fn make_jobs<N: Naming, A: Allocator, B: Body + Drop, C: Caller + Drop>(
+    space: Space<N, A, B, C>,
+    mut bodies: Vec<B, A>,
+    mut callers: Vec<C, A>,
+) -> (Unstarted<N, A, B, C>, Back<N, A, B, C>)
+    requires all { (vec_len bodies ≡ length (contexts_of N.wiring)) × (space.contexts.items ≡ contexts_of N.wiring) }
+    requires contexts { HasRoomFor (vec_len bodies) (vec_len space.board.contexts.waiting)
+        (vec_capacity space.board.contexts.waiting)
+        × HasRoomFor (vec_len bodies) (vec_len space.board.contexts.ends) (vec_capacity space.board.contexts.ends)
+        × HasRoomFor (vec_len bodies) (vec_len space.rescued) (vec_capacity space.rescued) }
+    requires callers { HasRoomFor (vec_len callers) (vec_len space.board.callers.waiting)
+        (vec_capacity space.board.callers.waiting)
+        × HasRoomFor (vec_len callers) (vec_len space.board.callers.ends) (vec_capacity space.board.callers.ends)
+        × HasRoomFor (vec_len callers) (vec_len space.results) (vec_capacity space.results) }
+    requires seats { (vec_len space.seats ≡ vec_len bodies + vec_len callers)
+        × (vec_len bodies + vec_len callers ≤ vec_capacity space.seats) }
+    requires no_counts { All (λ seat. seat ≡ no_counts N.wiring) space.seats.items }
+    requires width { All (λ body. items N.wiring ≤ B.width body) bodies.items }
+    requires never_ran { All (λ body. NeverRan (B.runs body)) bodies.items }
+    ensures contexts { map (λ job. job.context) result.0.board.contexts.waiting.items ≡ reverse (contexts_of N.wiring) }
+    ensures bodies { map (λ job. job.body) result.0.board.contexts.waiting.items ≡ reverse bodies.items }
+    ensures callers { map (λ job. job.caller) result.0.board.callers.waiting.items ≡ reverse callers.items }
+    ensures jobs { (vec_len result.0.board.contexts.waiting ≡ vec_len bodies)
+        × (vec_len result.0.board.callers.waiting ≡ vec_len callers) }
+    ensures seat_room { HasRoomFor (vec_len bodies + vec_len callers) (vec_len result.1.seats)
+        (vec_capacity result.1.seats) }
+    ensures body_room { HasRoomFor (vec_len bodies) (vec_len result.1.bodies) (vec_capacity result.1.bodies) }
+    ensures caller_room { HasRoomFor (vec_len callers) (vec_len result.1.callers) (vec_capacity result.1.callers) }
+    ensures rescued_room { HasRoomFor (vec_len bodies) (vec_len result.1.rescued) (vec_capacity result.1.rescued) }
+    ensures result_room { HasRoomFor (vec_len callers) (vec_len result.1.results) (vec_capacity result.1.results) }
+{
+    let Space {
+        mut contexts,
+        mut board,
+        mut seats,
+        rescued,
+        results,
+    } = space;
+    add_callers(&mut board.callers.waiting, &mut seats, &mut callers);
+    add_contexts(
+        &mut board.contexts.waiting,
+        &mut seats,
+        &mut bodies,
+        &mut contexts,
+    );
+    let back = Back {
+        seats,
+        bodies,
+        callers,
+        rescued,
+        results,
+    };
+    (Unstarted { board }, back)
+}
+
 /// Runs everything: makes a seat for each context and each caller, starts a thread for each context, which serves its workqueue, and
 /// then a thread that makes the calls of each caller, waits for the callers, closes the runtime by `destroy`, and waits for the
 /// threads of the contexts. The contexts are, workqueue by workqueue, its rescuer and then its helpers, and so are the bodies.
@@ -111,31 +168,28 @@ pub fn run_all<
     rt: &R,
     alloc: A,
     runtime: &WqRuntime<N, A>,
-    mut bodies: Vec<B, A>,
-    mut callers: Vec<C, A>,
+    bodies: Vec<B, A>,
+    callers: Vec<C, A>,
 ) -> Result<Ran<N, A, B, C>, RunFault<N, A, B, C>>
     requires width { All (λ body. items N.wiring ≤ B.width body) bodies.items }
     requires never_ran { All (λ body. NeverRan (B.runs body)) bodies.items }
     ensures ran { IfOk result (λ r. (vec_len bodies ≡ length (contexts_of N.wiring)) × IsRan N.wiring (vec_len callers) r.seats.items (map B.runs r.bodies.items) (vec_len r.callers) (vec_len r.results) r.rescued.items r.finished r.faults) }
-    ensures ended { IfOk result (λ r. AreBack N.wiring N.rows (contexts_of N.wiring) r.rescued.items) }
-    ensures served { IfOk result (λ r. HaveServed (λ body seat answer. Executes (B.may N.wiring body) (no_counts N.wiring) seat answer) bodies.items (take (length (contexts_of N.wiring)) r.seats.items) r.rescued.items) }
-    ensures called { IfOk result (λ r. HaveCalled (λ before after answer seat. C.did N.wiring before after answer (no_counts N.wiring) seat) callers.items r.callers.items r.results.items (drop (length (contexts_of N.wiring)) r.seats.items)) }
+    ensures served { IfOk result (λ r. HaveServed
+        (λ body seat answer. Executes (B.may N.wiring body) (no_counts N.wiring) seat answer) bodies.items
+        (take (length (contexts_of N.wiring)) r.seats.items) r.rescued.items) }
+    ensures called { IfOk result (λ r. HaveCalled
+        (λ before after answer seat. C.did N.wiring before after answer (no_counts N.wiring) seat) callers.items
+        r.callers.items r.results.items (drop (length (contexts_of N.wiring)) r.seats.items)) }
     ensures refused { IfErr result (λ f. RefusesRun (length (contexts_of N.wiring)) (vec_len bodies) f.why) }
     ensures no_seats { IfErr result (λ f. f.why ≡ BodiesDiffer → f.seats.items ≡ []) }
     ensures made { IfErr result (λ f. IsNoSeat f.why → AreFirstSeats (slots N.wiring) (vec_len bodies + vec_len callers) f.seats.items) }
     ensures memory { IfErr result (λ f. f.why ≡ OutOfMemory → 0 < vec_len bodies + vec_len callers) }
     ensures kept { IfErr result (λ f. f.why ≢ NoThread → (f.bodies.items ≡ bodies.items) × (f.callers.items ≡ callers.items)) }
-    ensures lost { IfErr result (λ f. f.why ≡ NoThread → (vec_len f.seats ≡ vec_len f.bodies + vec_len f.callers) × IsOneLost (vec_len bodies) (vec_len callers) (vec_len f.bodies) (vec_len f.callers)) }
+    ensures lost { IfErr result (λ f. f.why ≡ NoThread
+        → (vec_len f.seats ≡ vec_len f.bodies + vec_len f.callers)
+        × IsOneLost (vec_len bodies) (vec_len callers) (vec_len f.bodies) (vec_len f.callers)) }
 {
-    let wanted = bodies.len();
-    let count = callers.len();
-    let Space {
-        mut contexts,
-        mut board,
-        mut seats,
-        rescued,
-        results,
-    } = match reserve(rt, alloc, runtime, wanted, count) {
+    let space = match reserve(rt, alloc, runtime, bodies.len(), callers.len()) {
         Ok(space) => space,
         Err(NoSpace { seats, why }) => return Err(RunFault {
             seats,
@@ -144,21 +198,8 @@ pub fn run_all<
             why,
         }),
     };
-    add_callers(&mut board.callers.waiting, &mut seats, &mut callers);
-    add_contexts(
-        &mut board.contexts.waiting,
-        &mut seats,
-        &mut bodies,
-        &mut contexts,
-    );
-    let (board, all) = run_threads(rt, runtime, board);
-    let back = Back {
-        seats,
-        bodies,
-        callers,
-        rescued,
-        results,
-    };
+    let (jobs, back) = make_jobs(space, bodies, callers);
+    let (board, all) = run_threads(rt, runtime, jobs);
     if !all {
         return Err(hand_back(board, back));
     }

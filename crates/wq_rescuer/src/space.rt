@@ -9,7 +9,7 @@ ghost use Rattle.std.specs.List.{All};
 ghost use Rattle.wq_counts.specs.Counting.{counts_each};
 ghost use Rattle.wq_held.specs.Locked.{slots};
 ghost use Rattle.wq_rescuer.specs.Contexts.{contexts_of};
-ghost use Rattle.wq_rescuer.specs.Serving.{AreFirstSeats, HasRoomFor, IsNoSeat, RefusesRun};
+ghost use Rattle.wq_rescuer.specs.Serving.{AreFirstSeats, HasRoomFor, IsNoSeat, IsUnstarted, RefusesRun};
 ghost use Rattle.wq_rescuer.specs.declared.running.RunWhy.TheVariants.{BodiesDiffer, OutOfMemory};
 
 use crate::board::Board;
@@ -98,8 +98,7 @@ fn make_seats<N: Naming, A: Allocator + Copy, R: Wait>(
 
 /// Lists the contexts of a runtime, which are so many, and makes room for them and for this many callers. The only error is out of
 /// memory (20), and never where there is neither a context nor a caller.
-fn take_room<N: Naming, A: Allocator + Copy, R: Wait, B: Body + Drop, C: Caller + Drop>(
-    rt: &R,
+fn take_room<N: Naming, A: Allocator + Copy, B: Body + Drop, C: Caller + Drop>(
     alloc: A,
     runtime: &WqRuntime<N, A>,
     count: usize,
@@ -117,7 +116,7 @@ fn take_room<N: Naming, A: Allocator + Copy, R: Wait, B: Body + Drop, C: Caller 
     ensures seats { IfOk result (λ r. (r.seats.items ≡ []) × (count + callers ≤ vec_capacity r.seats)) }
     ensures memory { OnErr result (0 < count + callers) }
 {
-    let contexts = contexts_of(rt, alloc, runtime)?;
+    let contexts = contexts_of(alloc, runtime)?;
     Space::new(alloc, contexts, callers)
 }
 
@@ -141,17 +140,18 @@ pub(crate) fn reserve<N: Naming, A: Allocator + Copy, R: Wait, B: Body + Drop, C
     ensures seats { IfOk result (λ r. (vec_len r.seats ≡ bodies + callers) × (bodies + callers ≤ vec_capacity r.seats)
         × All (λ seat. seat ≡ replicate (counts_each * slots N.wiring) 0) r.seats.items) }
     ensures refused { IfErr result (λ e. RefusesRun (length (contexts_of N.wiring)) bodies e.why) }
+    ensures unstarted { IfErr result (λ e. IsUnstarted e.why) }
     ensures no_seats { IfErr result (λ e. e.why ≡ BodiesDiffer → e.seats.items ≡ []) }
     ensures made { IfErr result (λ e. IsNoSeat e.why → AreFirstSeats (slots N.wiring) (bodies + callers) e.seats.items) }
     ensures memory { IfErr result (λ e. e.why ≡ OutOfMemory → 0 < bodies + callers) }
 {
-    if bodies != count_contexts(rt, runtime) {
+    if bodies != count_contexts(runtime) {
         return Err(NoSpace {
             seats: Vec::new(alloc),
             why: RunWhy::BodiesDiffer,
         });
     }
-    let Ok(mut space) = take_room(rt, alloc, runtime, bodies, callers) else {
+    let Ok(mut space) = take_room(alloc, runtime, bodies, callers) else {
         return Err(NoSpace {
             seats: Vec::new(alloc),
             why: RunWhy::OutOfMemory,

@@ -9,10 +9,11 @@ ghost use Rattle.std.specs.Prelude.{◌≡◌, ◌<◌, true, false, IfOk, IfErr
 ghost use Rattle.wq_core.specs.Wiring.{items, HasContext};
 ghost use Rattle.wq_counts.specs.declared.kind.Kind.TheVariants.{Queue, Cancel};
 ghost use Rattle.wq_counts.specs.Counting.{HasCountsOf, raised};
+ghost use Rattle.wq_history.specs.declared.call.Call.TheVariants.{Queue as QueueCall, Cancel as CancelCall};
 ghost use Rattle.wq_held.specs.Locked.{slots, SeatHasRoom};
-ghost use Rattle.wq_under_lock.specs.Refusals.{RefusesCancelWork, RefusesWaitIn};
+ghost use Rattle.wq_api.specs.Refusals.{RefusesCancelWork, RefusesWaitIn};
 ghost use Rattle.wq_api.specs.WaitingCalls.{waited_for, RefusedWaitIn, HasWaiter};
-ghost use Rattle.wq_api.specs.Locking.{WasBegunIn, WasOverIn, WasCutShortIn};
+ghost use Rattle.wq_api.specs.Taking.{context_of, flush_of, ComesTo, GivesYes, Waits};
 ghost use Rattle.wq_rescuer.specs.Executing.{SameFinished, RefusesQueueByBody};
 
 use std::alloc::Allocator;
@@ -76,6 +77,8 @@ impl<'a, N: Naming, A: Allocator> Work<'a, N, A> {
     /// `HistoryFull` (60), where fewer rows are free than it needs: 1 where the item is pending, else 3, and 2 more for each flush
     /// that it declares. After an error nothing is changed or counted.
     pub fn queue<R: Wait>(&mut self, rt: &R, item: ItemId) -> Result<bool, CallError>
+        ensures took { GivesYes
+            (λ answer. ComesTo N.wiring N.rows self.old.seat.now (QueueCall item) answer self.new.seat.now) result }
         ensures counted { IfOk result (λ accepted. (item < items N.wiring) × SeatHasRoom self.old.seat.now × (self.new.seat.now ≡ raised self.old.seat.now item Queue accepted)) }
         ensures refused { IfErr result (λ e. RefusesQueueByBody N.wiring self.old.seat.now item e × (self.new.seat.now ≡ self.old.seat.now)) }
         ensures finished { SameFinished self.old.seat.now self.new.seat.now }
@@ -91,6 +94,8 @@ impl<'a, N: Naming, A: Allocator> Work<'a, N, A> {
     /// The error is `NoItem` (66), or else `HistoryFull` (60), where the seat is full, or nothing is pending and no row is free.
     /// After an error nothing is changed or counted.
     pub fn cancel<R: Wait>(&mut self, rt: &R, item: ItemId) -> Result<bool, CallError>
+        ensures took { GivesYes
+            (λ answer. ComesTo N.wiring N.rows self.old.seat.now (CancelCall item) answer self.new.seat.now) result }
         ensures counted { IfOk result (λ taken. (item < items N.wiring) × SeatHasRoom self.old.seat.now × (self.new.seat.now ≡ raised self.old.seat.now item Cancel taken)) }
         ensures refused { IfErr result (λ e. RefusesCancelWork N.wiring item e × (self.new.seat.now ≡ self.old.seat.now)) }
         ensures finished { SameFinished self.old.seat.now self.new.seat.now }
@@ -111,9 +116,8 @@ impl<'a, N: Naming, A: Allocator> Work<'a, N, A> {
         ensures counted { IfOk result (λ unfinished. HasContext N.wiring self.old.context.lane self.old.context.helper × (target < items N.wiring) × SeatHasRoom self.old.seat.now × (self.new.seat.now ≡ waited_for self.old.seat.now false target unfinished)) }
         ensures refused { IfErr result (λ e. RefusesWaitIn N.wiring self.old.seat.now self.old.context.lane self.old.context.helper e × RefusedWaitIn N.wiring self.old.seat.now self.new.seat.now self.old.context.lane self.old.context.helper false target e) }
         ensures waiter { HasContext N.wiring self.old.context.lane self.old.context.helper → SeatHasRoom self.old.seat.now → HasWaiter N.wiring self.old.context.lane false target result }
-        ensures began { IfOk result (λ unfinished. WasBegunIn N.wiring N.rows self.old.context.lane self.old.context.helper false target unfinished) }
-        ensures over { OnOk result (WasOverIn N.wiring N.rows self.old.context.lane self.old.context.helper false target) }
-        ensures cause { HasContext N.wiring self.old.context.lane self.old.context.helper → SeatHasRoom self.old.seat.now → IfErr result (λ e. WasCutShortIn N.wiring N.rows self.old.context.lane self.old.context.helper false target e) }
+        ensures took { Waits N.wiring N.rows self.old.seat.now
+            (context_of self.old.context.lane self.old.context.helper) (flush_of false target) result self.new.seat.now }
         ensures finished { SameFinished self.old.seat.now self.new.seat.now }
         ensures same_seat { self.new.seat.ghost_name ≡ self.old.seat.ghost_name }
         ensures context { self.new.context ≡ self.old.context }
@@ -137,9 +141,8 @@ impl<'a, N: Naming, A: Allocator> Work<'a, N, A> {
         ensures counted { IfOk result (λ unfinished. HasContext N.wiring self.old.context.lane self.old.context.helper × (target < items N.wiring) × SeatHasRoom self.old.seat.now × (self.new.seat.now ≡ waited_for self.old.seat.now true target unfinished)) }
         ensures refused { IfErr result (λ e. RefusesWaitIn N.wiring self.old.seat.now self.old.context.lane self.old.context.helper e × RefusedWaitIn N.wiring self.old.seat.now self.new.seat.now self.old.context.lane self.old.context.helper true target e) }
         ensures waiter { HasContext N.wiring self.old.context.lane self.old.context.helper → SeatHasRoom self.old.seat.now → HasWaiter N.wiring self.old.context.lane true target result }
-        ensures began { IfOk result (λ unfinished. WasBegunIn N.wiring N.rows self.old.context.lane self.old.context.helper true target unfinished) }
-        ensures over { OnOk result (WasOverIn N.wiring N.rows self.old.context.lane self.old.context.helper true target) }
-        ensures cause { HasContext N.wiring self.old.context.lane self.old.context.helper → SeatHasRoom self.old.seat.now → IfErr result (λ e. WasCutShortIn N.wiring N.rows self.old.context.lane self.old.context.helper true target e) }
+        ensures took { Waits N.wiring N.rows self.old.seat.now
+            (context_of self.old.context.lane self.old.context.helper) (flush_of true target) result self.new.seat.now }
         ensures finished { SameFinished self.old.seat.now self.new.seat.now }
         ensures same_seat { self.new.seat.ghost_name ≡ self.old.seat.ghost_name }
         ensures context { self.new.context ≡ self.old.context }

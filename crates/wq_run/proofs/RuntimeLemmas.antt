@@ -59,9 +59,11 @@ RunsDeclared-no_runtime helpers s w a rows e answer sound plan is few room why r
 pub PrintsRun-closed : (helpers : ℕ) (s : Declared) (w : Wiring) (a : Assignment) (rows : ℕ) (seats : List (List ℕ)) (runs : List (ℕ → ℕ)) (rescued : List (Result Rescued CallError)) (finished faults : ℕ)
     (book : BookView) (counts out : List ℕ) → items w ≡ length s.table.names
     → IsPlan (declared_waits s) a → a.lanes ≤ max_runtime_lanes → w ≡ run_wiring helpers s a → rows ≡ rows_for s
-    → IsRan w 2 seats runs 2 2 rescued finished faults → HaveMade w (shared_by_two (length s.table.names)) (drop (length (contexts_of w)) seats)
+    → IsRan w 2 seats runs 2 2 rescued finished faults
+    → HaveMade w (shared_by_two (length s.table.names)) (drop (length (contexts_of w)) seats)
     → IsClosed w rows seats book counts true → out ≡ report_text s a (λ i kind. made counts i kind true) faults → PrintsRun helpers s out
-PrintsRun-closed helpers s w a rows seats runs rescued finished faults book counts out of_items plan few is room ran called closed text =
+PrintsRun-closed helpers s w a rows seats runs rescued finished faults book counts out of_items plan few is room ran
+    called closed text =
     let agrees : Agrees w book counts = closed.agrees.0 refl in
     record {
       assignment = a;
@@ -73,7 +75,8 @@ PrintsRun-closed helpers s w a rows seats runs rescued finished faults book coun
       finished = finished;
       faults = faults;
       ran = subst (λ (x : Wiring). IsRan x 2 seats runs 2 2 rescued finished faults) is ran;
-      called = subst (λ (x : Wiring). HaveMade x (shared_by_two (length s.table.names)) (drop (length (contexts_of x)) seats)) is called;
+      called = subst (λ (x : Wiring). HaveMade x (shared_by_two (length s.table.names))
+          (drop (length (contexts_of x)) seats)) is called;
       book = book;
       counts = counts;
       closed = subst (λ (n : ℕ). IsClosed (run_wiring helpers s a) n seats book counts true) room (subst (λ (x : Wiring). IsClosed x rows seats book counts true) is closed);

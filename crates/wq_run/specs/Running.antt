@@ -47,11 +47,11 @@ HaveMade w [] [] = Unit {0}
 HaveMade w (acts ∷ others) (seat ∷ seats) = CountsActs w (no_counts w) seat acts × HaveMade w others seats
 HaveMade w _ _ = ⊥
 
--- the plan was run with this many helpers, as far as a text can show it: there is a book, which was closed with all seats. It is
--- idle and a legal history under the plan, and the seats' counts agree with it, item by item and workqueue by workqueue. The last
--- two seats are those of the callers, who between them queued each item once and flushed it once, and weren't refused. What is
--- printed is the text of the book's tallies, and of the faults that rescuers and helpers counted. It isn't said that the book is
--- that of the threads, nor that no rescuer and no helper was refused
+-- the plan was run with this many helpers, as far as a text can show it: there is a book, which was closed with all
+-- seats. It is idle and a legal history under the plan, and the seats' counts agree with it, item by item and workqueue
+-- by workqueue. The last two seats are those of the callers, who between them queued each item once and flushed it
+-- once, and weren't refused. What is printed is the text of the book's tallies, and of the faults that rescuers and
+-- helpers counted. It isn't said that the book is that of the threads, nor that no rescuer and no helper was refused
 pub record PrintsRun (helpers : ℕ) (s : Declared) (out : List ℕ) : Type 0 where
   pub assignment : Assignment
   pub plan : IsPlan (declared_waits s) assignment
@@ -62,7 +62,8 @@ pub record PrintsRun (helpers : ℕ) (s : Declared) (out : List ℕ) : Type 0 wh
   pub finished : ℕ
   pub faults : ℕ
   pub ran : IsRan (run_wiring helpers s assignment) 2 seats runs 2 2 rescued finished faults
-  pub called : HaveMade (run_wiring helpers s assignment) (shared_by_two (length s.table.names)) (drop (length (contexts_of (run_wiring helpers s assignment))) seats)
+  pub called : HaveMade (run_wiring helpers s assignment) (shared_by_two (length s.table.names))
+      (drop (length (contexts_of (run_wiring helpers s assignment))) seats)
   pub book : BookView
   pub counts : List ℕ
   pub closed : IsClosed (run_wiring helpers s assignment) (rows_for s) seats book counts true

@@ -19,7 +19,8 @@ pub enum CommandFault {
     Common(Fault),
     /// A thread couldn't be made.
     Thread,
-    /// The runtime couldn't be closed with counts that agree, or a caller was refused. No input is known that leads to it.
+    /// The runtime couldn't be closed with counts that agree, or a caller was refused. No input is known that leads to
+    /// it.
     Tally,
 }
 
@@ -61,8 +62,8 @@ pub enum RunStop {
     OutOfMemory,
     /// A thread couldn't be made.
     Thread,
-    /// The runtime couldn't be closed with counts that agree, or had too few seats or bodies, or a caller was refused. No input is
-    /// known that leads to it.
+    /// The runtime couldn't be closed with counts that agree, or had too few seats or bodies, or a caller was refused.
+    /// No input is known that leads to it.
     Tally,
 }
 

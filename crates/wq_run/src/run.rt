@@ -194,18 +194,20 @@ pub fn carry_out_run<
     ended
 }
 
-/// Reads a declaration to its end, runs its plan, and writes how often each item was queued, cancelled and finished. Where there
-/// is no plan, it writes the text of the circle in which the groups wait, with a run that shows it; where the text is refused,
-/// the refusal.
+/// Reads a declaration to its end, runs its plan, and writes how often each item was queued, cancelled and finished.
+/// Where there is no plan, it writes the text of the circle in which the groups wait, with a run that shows it; where
+/// the text is refused, the refusal.
 ///
-/// The plan has a rescuer thread for each workqueue, and this many helper threads, at most 8, for each that isn't ordered. Their bodies
-/// make the declared flushes. There are two callers, one for the items with even numbers and one for the others. Each queues its items
-/// once and then flushes them. A plan of more than 256 workqueues is refused (69).
+/// The plan has a rescuer thread for each workqueue, and this many helper threads, at most 8, for each that isn't
+/// ordered. Their bodies make the declared flushes. There are two callers, one for the items with even numbers and one
+/// for the others. Each queues its items once and then flushes them. A plan of more than 256 workqueues is refused
+/// (69).
 ///
-/// At most 1,048,577 bytes are read, in at most as many calls. The errors are those of `plan_cmd`: a read failed, out of memory,
-/// or a write failed or took no byte; and `Thread`, where a thread couldn't be made, and `Tally`, where the runtime couldn't
-/// be closed with counts that agree, or a caller was refused. After a write that failed, a prefix of the answer is written, and after
-/// the other errors nothing. It isn't promised that the calls of the threads ever return.
+/// At most 1,048,577 bytes are read, in at most as many calls. The errors are those of `plan_cmd`: a read failed, out
+/// of memory, or a write failed or took no byte; and `Thread`, where a thread couldn't be made, and `Tally`, where the
+/// runtime couldn't be closed with counts that agree, or a caller was refused. After a write that failed, a prefix of
+/// the answer is written, and after the other errors nothing. It isn't promised that the calls of the threads ever
+/// return.
 ///
 /// The names are hashed with `seed`. No answer depends on it.
 pub fn run_cmd<R: Threads + Wait + Sync, D: Read, W: Write, A: Allocator + Copy + Send + Sync>(

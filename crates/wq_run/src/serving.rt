@@ -70,11 +70,11 @@ fn make_crew<'t, 'a, A: Allocator + Copy>(
 fn are_answered(results: &[Result<(), CallError>]) -> bool
     ensures { IsTrue result → All (λ r. IsTrue (is_ok r)) results.now }
 {
-    results.iter().all(|result| result.is_ok())
+    results.iter().all(|answer| answer.is_ok())
 }
 
-/// Runs the crew of a plan on the workqueues of a runtime, and hands back what the threads left. The error is `Tally`, too, where
-/// a caller was refused.
+/// Runs the crew of a plan on the workqueues of a runtime, and hands back what the threads left. The error is `Tally`,
+/// too, where a caller was refused.
 fn run_crew<
     't,
     'a,
@@ -89,9 +89,10 @@ fn run_crew<
 ) -> Result<CrewRan<'t, 'a, N, A>, RunStop>
     requires items { items N.wiring ≡ length table.now.names }
     ensures ran { IfOk result (λ r. IsRan N.wiring 2 r.seats.items (map runs_of r.bodies.items) 2 2 r.rescued.items r.finished r.faults) }
-    ensures called { IfOk result (λ r. HaveMade N.wiring (shared_by_two (length table.now.names)) (drop (length (contexts_of N.wiring)) r.seats.items)) }
+    ensures called { IfOk result (λ r. HaveMade N.wiring (shared_by_two (length table.now.names))
+        (drop (length (contexts_of N.wiring)) r.seats.items)) }
 {
-    let Crew { bodies, callers } = make_crew(alloc, table, count_contexts(rt, runtime))?;
+    let Crew { bodies, callers } = make_crew(alloc, table, count_contexts(runtime))?;
     let ran = match run_all(rt, alloc, runtime, bodies, callers) {
         Ok(ran) => ran,
         Err(refused) => return Err(RunStop::from(refused.why)),

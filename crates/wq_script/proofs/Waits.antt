@@ -14,7 +14,7 @@ use Rattle.wq_history.specs.declared.fault.CallError.{CallError}
 use Rattle.wq_history.specs.Errors.{call_code}
 use Rattle.wq_held.specs.Locked.{seat_rows, slots}
 use Rattle.wq_held.proofs.Locking.{items_within_slots}
-use Rattle.wq_under_lock.specs.Refusals.{RefusesWaitIn}
+use Rattle.wq_api.specs.Refusals.{RefusesWaitIn}
 use Rattle.wq_history.specs.declared.fault.CallError.TheVariants.{HistoryFull, Closed, Undeclared, TooManyWaits, WrongLane, NotAsked, NoItem}
 use Rattle.wq_api.specs.WaitingCalls.{waited_for, RefusedWaitIn}
 use Rattle.wq_rescuer.specs.Executing.{SameFinished}

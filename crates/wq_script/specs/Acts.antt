@@ -4,7 +4,7 @@ use Rattle.wq_core.specs.Wiring.{Wiring, items}
 use Rattle.wq_counts.specs.declared.kind.Kind.TheVariants.{Queue as QueueKind, Cancel as CancelKind}
 use Rattle.wq_counts.specs.Counting.{raised}
 use Rattle.wq_history.specs.declared.fault.CallError.{CallError}
-use Rattle.wq_under_lock.specs.Refusals.{RefusesCancelWork}
+use Rattle.wq_api.specs.Refusals.{RefusesCancelWork}
 use Rattle.wq_api.specs.WaitingCalls.{RefusesFlushWork, flushed, flush_refused, CountsCancelSync, RefusedCancelSync, RefusesFlushWorkqueue, lane_flushed, lane_flush_refused}
 use Rattle.wq_rescuer.specs.Executing.{RefusesQueueByBody}
 use Rattle.wq_script.specs.declared.acting.Act.{Act}

@@ -42,7 +42,8 @@ abbrev pub CountsOnlyWaits : List ℕ → List ℕ → Type 0
 CountsOnlyWaits old new = (p : ℕ) → ((b : ℕ) (whole said : Bool) → p ≢ place b (wait_kind whole) said) → ((b : ℕ) (whole : Bool) → p ≢ place b (over_kind whole) true)
     → slice_index new p ≡ slice_index old p
 
--- counts after a run of a body that is to flush these targets, with its answer: all were flushed, or, if it gave up, the first ones
+-- counts after a run of a body that is to flush these targets, with its answer: all were flushed, or, if it gave up,
+-- the first ones
 abbrev pub CountsRun : List Target → Result (Unit {0}) BodyFault → List ℕ → List ℕ → Type 0
 CountsRun targets (Ok done) old new = CountsWaits old new targets × CountsOnlyWaits old new
 CountsRun targets (Err fault) old new = CountsFirstWaits old new targets × CountsOnlyWaits old new

@@ -9,7 +9,7 @@ ghost use Rattle.std.specs.Prelude.{◌≡◌, ◌<◌, ◌≤◌, ℕ, List, Re
 ghost use Rattle.wq_items.specs.Table.{targets_of};
 ghost use Rattle.wq_core.specs.Wiring.{items};
 ghost use Rattle.wq_held.specs.Locked.{seat_rows};
-ghost use Rattle.wq_under_lock.specs.Refusals.{RefusesWaitIn};
+ghost use Rattle.wq_api.specs.Refusals.{RefusesWaitIn};
 ghost use Rattle.wq_api.specs.WaitingCalls.{waited_for, RefusedWaitIn};
 ghost use Rattle.wq_rescuer.specs.declared.body.BodyFault.{BodyFault as Fault};
 ghost use Rattle.wq_rescuer.specs.Executing.{NeverRan, RanOnce, SameFinished};
@@ -139,7 +139,9 @@ impl<'t, 'a, A: Allocator + Copy> Body for ScriptBody<'t, 'a, A> {
         ensures full { IfErr result (λ f. f.code ≡ 60 → seat_rows ≤ sum work.new.seat.now) }
         ensures cause { IfErr result (λ f. IsCodeOf work.new.flushed f.code) }
         ensures may { CountsRun (targets_of self.old.waits item) result work.old.seat.now work.new.seat.now }
-        ensures no_more { (i : ℕ) (answer : Result (Unit {0}) Fault) (before : List ℕ) (after : List ℕ) → CountsRun (targets_of self.new.waits i) answer before after → CountsRun (targets_of self.old.waits i) answer before after }
+        ensures no_more { (i : ℕ) (answer : Result (Unit {0}) Fault) (before : List ℕ) (after : List ℕ)
+            → CountsRun (targets_of self.new.waits i) answer before after
+            → CountsRun (targets_of self.old.waits i) answer before after }
     {
         self.counts[usize::from(item.get())] += 1;
         let table = self.table;

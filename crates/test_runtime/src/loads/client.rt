@@ -212,7 +212,7 @@ fn queue<N: Naming, A: Allocator, R: Wait>(
     seat: &mut Seat<N, A>,
     item: ItemId,
 ) -> Result<bool, CallError> {
-    let q = runtime.lane_of(rt, item).unwrap_or(LaneId::new(0));
+    let q = runtime.lane_of(item).unwrap_or(LaneId::new(0));
     runtime.queue_work(rt, seat, q, item)
 }
 

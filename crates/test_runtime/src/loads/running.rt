@@ -67,8 +67,8 @@ fn run_counted<N: Naming + Send + Sync, R: Threads + Wait + Clock + Sync>(
 ) -> Result<u8, AllocError>
     requires { N.wiring ≡ with_helpers (wiring (declaration_of bed.now.table.now bed.now.groups.now) bed.now.assignment.now) bed.now.helpers }
 {
-    let lanes = runtime.lanes(rt);
-    let contexts = contexts_of(rt, alloc, &runtime)?;
+    let lanes = runtime.lanes();
+    let contexts = contexts_of(alloc, &runtime)?;
     let servers = make_servers(alloc, load, bed.table, contexts.len())?;
     let clients = make_clients(alloc, load, bed.table.len(), lanes, working)?;
     let Ok(begun) = Instant::now(rt) else {

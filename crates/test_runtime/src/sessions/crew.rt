@@ -100,7 +100,7 @@ impl PlottedCrew {
     ) -> Result<u8, AllocError>
         requires { N.wiring ≡ with_helpers (wiring (declaration_of bed.now.table.now bed.now.groups.now) bed.now.assignment.now) bed.now.helpers }
     {
-        let contexts = contexts_of(rt, alloc, &runtime)?;
+        let contexts = contexts_of(alloc, &runtime)?;
         let ran = self.perform(rt, alloc, &runtime, bed);
         let status = put_end(out, alloc, bed, runtime, &contexts, ran, account);
         // Written as a call, so that the proof has one step for it.

@@ -71,7 +71,7 @@ impl Script {
     ) -> Result<ScriptRan<'t, 't, N>, AllocError>
         requires { N.wiring ≡ with_helpers (wiring (declaration_of bed.now.table.now bed.now.groups.now) bed.now.assignment.now) bed.now.helpers }
     {
-        let bodies = script_bodies(alloc, bed.table, count_contexts(rt, runtime))?;
+        let bodies = script_bodies(alloc, bed.table, count_contexts(runtime))?;
         let callers = self.callers(alloc, bed.table.len())?;
         Ok(run_all(rt, alloc, runtime, bodies, callers))
     }
@@ -87,7 +87,7 @@ impl Script {
     ) -> Result<u8, AllocError>
         requires { N.wiring ≡ with_helpers (wiring (declaration_of bed.now.table.now bed.now.groups.now) bed.now.assignment.now) bed.now.helpers }
     {
-        let contexts = contexts_of(rt, alloc, &runtime)?;
+        let contexts = contexts_of(alloc, &runtime)?;
         let ran = self.perform(rt, alloc, &runtime, bed);
         let status = put_end(out, alloc, bed, runtime, &contexts, ran, Account::Whole);
         drop(contexts);

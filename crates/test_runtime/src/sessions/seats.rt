@@ -193,9 +193,9 @@ impl<N: Naming> Seats<N> {
             RuntimeCall::TellLane(q) => self.tell_lane(q, out),
             RuntimeCall::Next(q) => put_next(out, table, runtime.next(rt, q)),
             RuntimeCall::HelpNext(q, h) => put_next(out, table, runtime.help_next(rt, q, h)),
-            RuntimeCall::Helpers(q) => write!(out, "{}", runtime.helpers_of(rt, q)),
-            RuntimeCall::Lanes => write!(out, "{}", runtime.lanes(rt)),
-            RuntimeCall::Lane(item) => put_lane(out, runtime.lane_of(rt, item)),
+            RuntimeCall::Helpers(q) => write!(out, "{}", runtime.helpers_of(q)),
+            RuntimeCall::Lanes => write!(out, "{}", runtime.lanes()),
+            RuntimeCall::Lane(item) => put_lane(out, runtime.lane_of(item)),
             RuntimeCall::Destroy => {
                 runtime.destroy(rt);
                 out.push_str("ok")

@@ -1,6 +1,6 @@
 use Rattle.std.proofs.Common.{rules, sym, ◌∙◌}
 use Rattle.wq_rescuer.proofs.Handovers.{nothing_in}
-use Rattle.wq_rescuer.proofs.Making.{none_made, made_more, all_made}
+use Rattle.wq_rescuer.proofs.Making.{none_made, all_made}
 use Rattle.wq_rescuer.proofs.board.add_callers.Goals as goal
 
 pub loop-caller-init : goal.loop-caller-init
@@ -17,17 +17,5 @@ loop-caller-init g c = (
 pub returns-clause-callers : goal.returns-clause-callers
 returns-clause-callers g c =
     let l = c.loop-caller in
-    all_made (λ job. job.caller) c.args.callers.now.items l.jobs.items l.callers.items l.invariant.6 (nothing_in l.callers.items (sym l.callers.ok.0 ∙ c.in_default.ensures.cases.0))
-
-pub loop-caller-preserved : goal.loop-caller-preserved
-loop-caller-preserved g c =
-    let l = c.loop-caller in (
-      search rules,
-      search rules,
-      search rules,
-      search rules,
-      search rules,
-      search rules,
-      made_more (λ job. job.caller) c.args.callers.now.items l.jobs.items c.push_reserved.new.self.items l.callers.items c.pop.new.self.items c.new.result c.in-Some.caller
-          l.invariant.6 c.in-Some.ensures.items c.push_reserved.ensures.items c.new.ensures.caller,
-    )
+    all_made (λ job. job.caller) c.args.callers.now.items l.jobs.items l.callers.items l.invariant.6
+    (nothing_in l.callers.items (sym l.callers.ok.0 ∙ c.in_default.ensures.cases.0))

@@ -28,4 +28,5 @@ returns-clause-contexts g c =
 pub returns-clause-bodies : goal.returns-clause-bodies
 returns-clause-bodies g c =
     let l = c.loop-body in
-    all_made (λ job. job.body) c.args.bodies.now.items l.jobs.items l.bodies.items l.invariant.11 (nothing_in l.bodies.items (sym l.bodies.ok.0 ∙ c.in_default.ensures.cases.0))
+    all_made (λ job. job.body) c.args.bodies.now.items l.jobs.items l.bodies.items l.invariant.11
+    (nothing_in l.bodies.items (sym l.bodies.ok.0 ∙ c.in_default.ensures.cases.0))

@@ -2,7 +2,7 @@ use Rattle.std.proofs.Common.{rules, ◌≡◌, [], ◌∷◌, ◌++◌, length,
 use Rattle.std.proofs.lemmas.List.{map-append}
 use Rattle.wq_rescuer.specs.Contexts.{contexts_of}
 use Rattle.wq_rescuer.specs.Serving.{finished_by, faults_by}
-use Rattle.wq_rescuer.proofs.Handovers.{added, all_served, as_many, done_more, handed_all, handed_more, left_popped, AreLeft, none_done, none_left, none_served, nothing_in, sum_by-added}
+use Rattle.wq_rescuer.proofs.Handovers.{added, all_served, as_many, handed_all, handed_more, left_popped, AreLeft, none_left, none_served, nothing_in, sum_by-added}
 use Rattle.wq_rescuer.proofs.gathering.gather_contexts.Goals as goal
 
 pub loop-end-init : goal.loop-end-init
@@ -14,14 +14,17 @@ loop-end-init g c =
       search rules,
       search rules,
       search rules,
-      none_served g.N.Naming.wiring (contexts_of g.N.Naming.wiring) (vec_len c.args.seats) c.args.seats.items (map g.B.Body.runs c.args.bodies.items) c.args.rescued.items none c.requires.no_seats
+      none_served g.N.Naming.wiring (contexts_of g.N.Naming.wiring) (vec_len c.args.seats) c.args.seats.items
+          (map g.B.Body.runs c.args.bodies.items) c.args.rescued.items none c.requires.no_seats
           (ap (map g.B.Body.runs) c.requires.no_bodies) c.requires.none_rescued,
       search rules,
       search rules,
       search rules,
       search rules,
-      none_left (contexts_of g.N.Naming.wiring) (vec_len c.args.seats) (map (λ end. end.context) c.args.ends.items) none c.requires.in_order,
-      none_done g.N.Naming.wiring g.N.Naming.rows (contexts_of g.N.Naming.wiring) c.args.rescued.items c.requires.none_rescued,
+      none_left (contexts_of g.N.Naming.wiring) (vec_len c.args.seats)
+          (map (λ end. end.context) c.args.ends.items) none c.requires.in_order,
+      refl,
+      refl,
     )
 
 pub loop-end-preserved : goal.loop-end-preserved
@@ -49,26 +52,37 @@ loop-end-preserved g c =
       omega (arith, old.9, c.count_finished-finished.ensures.few, seat.len),
       omega (arith, old.10, c.count_faults-faults.ensures.few, seat.len),
       subst (λ k. AreLeft all k left) (sym seat.len) order.0,
-      done_more g.N.Naming.wiring g.N.Naming.rows all n c.loop-end.rescued.items c.push_reserved-in-Some-2.new.self.items c.in-Some.end.context c.in-Some.end.rescued
-          old.12 old.6.an_answer_each order.1 c.in-Some.end.ended answer.items,
-      handed_more (λ e. e.seat) c.args.seats.items c.args.ends.items c.loop-end.seats.items c.push_reserved.new.self.items c.loop-end.ends.items c.pop.new.self.items c.in-Some.end old.13 c.in-Some.ensures.items seat.items,
-      handed_more (λ e. e.rescued) c.args.rescued.items c.args.ends.items c.loop-end.rescued.items c.push_reserved-in-Some-2.new.self.items c.loop-end.ends.items c.pop.new.self.items c.in-Some.end old.14 c.in-Some.ensures.items answer.items,
+      handed_more (λ e. e.seat) c.args.seats.items c.args.ends.items c.loop-end.seats.items
+          c.push_reserved.new.self.items c.loop-end.ends.items c.pop.new.self.items c.in-Some.end old.12
+          c.in-Some.ensures.items seat.items,
+      handed_more (λ e. e.rescued) c.args.rescued.items c.args.ends.items c.loop-end.rescued.items
+          c.push_reserved-in-Some-2.new.self.items c.loop-end.ends.items c.pop.new.self.items c.in-Some.end old.13
+          c.in-Some.ensures.items answer.items,
     )
 
 pub returns-clause-served : goal.returns-clause-served
 returns-clause-served g c =
     let l = c.loop-end in
-    all_served g.N.Naming.wiring (contexts_of g.N.Naming.wiring) (vec_len l.seats) l.seats.items (map g.B.Body.runs l.bodies.items) l.rescued.items l.invariant.6
-    (omega (arith, l.invariant.0, c.args.ends.ok.0, as_many (λ end. end.context) c.args.ends.items (contexts_of g.N.Naming.wiring) c.requires.in_order, c.in_default.ensures.cases.0))
+    all_served g.N.Naming.wiring (contexts_of g.N.Naming.wiring) (vec_len l.seats) l.seats.items
+    (map g.B.Body.runs l.bodies.items) l.rescued.items l.invariant.6
+    (omega (
+      arith,
+      l.invariant.0,
+      c.args.ends.ok.0,
+      as_many (λ end. end.context) c.args.ends.items (contexts_of g.N.Naming.wiring) c.requires.in_order,
+      c.in_default.ensures.cases.0,
+    ))
 
 pub returns-clause-seats : goal.returns-clause-seats
 returns-clause-seats g c =
     let l = c.loop-end in
-    handed_all (λ e. e.seat) c.args.seats.items c.args.ends.items l.seats.items l.ends.items l.invariant.13 (nothing_in l.ends.items (sym l.ends.ok.0 ∙ c.in_default.ensures.cases.0))
+    handed_all (λ e. e.seat) c.args.seats.items c.args.ends.items l.seats.items l.ends.items l.invariant.12
+    (nothing_in l.ends.items (sym l.ends.ok.0 ∙ c.in_default.ensures.cases.0))
     ∙ ap (λ xs. xs ++ reverse (map (λ e. e.seat) c.args.ends.items)) c.requires.no_seats
 
 pub returns-clause-rescued : goal.returns-clause-rescued
 returns-clause-rescued g c =
     let l = c.loop-end in
-    handed_all (λ e. e.rescued) c.args.rescued.items c.args.ends.items l.rescued.items l.ends.items l.invariant.14 (nothing_in l.ends.items (sym l.ends.ok.0 ∙ c.in_default.ensures.cases.0))
+    handed_all (λ e. e.rescued) c.args.rescued.items c.args.ends.items l.rescued.items l.ends.items l.invariant.13
+    (nothing_in l.ends.items (sym l.ends.ok.0 ∙ c.in_default.ensures.cases.0))
     ∙ ap (λ xs. xs ++ reverse (map (λ e. e.rescued) c.args.ends.items)) c.requires.none_rescued

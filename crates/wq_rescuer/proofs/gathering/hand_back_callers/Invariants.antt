@@ -16,7 +16,8 @@ decreases-loop-end g l = vec_len l.ends
 abbrev pub invariant-loop-job : goal.invariant-loop-job
 invariant-loop-job g l =
     (vec_len l.seats + vec_len l.waiting ≡ vec_len l.fn.seats + (vec_len l.fn.calls.waiting + vec_len l.fn.calls.ends))
-    × (vec_len l.callers + vec_len l.waiting ≡ vec_len l.fn.callers + (vec_len l.fn.calls.waiting + vec_len l.fn.calls.ends))
+    × (vec_len l.callers + vec_len l.waiting
+    ≡ vec_len l.fn.callers + (vec_len l.fn.calls.waiting + vec_len l.fn.calls.ends))
     × (vec_capacity l.seats ≡ vec_capacity l.fn.seats)
     × (vec_capacity l.callers ≡ vec_capacity l.fn.callers)
 

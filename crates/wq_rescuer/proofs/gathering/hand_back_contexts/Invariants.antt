@@ -15,8 +15,10 @@ decreases-loop-end g l = vec_len l.ends
 -- all ends were added, and what is gone of the jobs
 abbrev pub invariant-loop-job : goal.invariant-loop-job
 invariant-loop-job g l =
-    (vec_len l.seats + vec_len l.waiting ≡ vec_len l.fn.seats + (vec_len l.fn.contexts.waiting + vec_len l.fn.contexts.ends))
-    × (vec_len l.bodies + vec_len l.waiting ≡ vec_len l.fn.bodies + (vec_len l.fn.contexts.waiting + vec_len l.fn.contexts.ends))
+    (vec_len l.seats + vec_len l.waiting
+    ≡ vec_len l.fn.seats + (vec_len l.fn.contexts.waiting + vec_len l.fn.contexts.ends))
+    × (vec_len l.bodies + vec_len l.waiting
+    ≡ vec_len l.fn.bodies + (vec_len l.fn.contexts.waiting + vec_len l.fn.contexts.ends))
     × (vec_capacity l.seats ≡ vec_capacity l.fn.seats)
     × (vec_capacity l.bodies ≡ vec_capacity l.fn.bodies)
 

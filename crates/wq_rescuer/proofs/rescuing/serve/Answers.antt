@@ -1,11 +1,11 @@
-use Rattle.std.proofs.Common.{arith, inl}
+use Rattle.std.proofs.Common.{arith, inl, inr}
 use Rattle.wq_core.specs.Wiring.{items}
 use Rattle.wq_rescuer.specs.Executing.{HasStopped}
 use Rattle.wq_held.specs.Locked.{seat_rows, slots}
 use Rattle.std.proofs.Math.Nat.{le-max_left}
 use Rattle.std.specs.Prelude.{sum}
 use Rattle.wq_rescuer.proofs.ContextLemmas.{on_err}
-use Rattle.wq_rescuer.proofs.Executions.{serving_more, one_fault_at_most, ran_only_more, on_lane_of_next, not_finished, nothing_else, few_finished, few_runs, below_limit, has_cause, one_executed, stopped_at_end}
+use Rattle.wq_rescuer.proofs.Executions.{serving_more, one_fault_at_most, ran_only_more, on_lane_of_next, nothing_else, few_finished, few_runs, below_limit, has_cause, left_one, one_executed, stopped_at_end, stopped_between}
 use Rattle.wq_rescuer.proofs.rescuing.serve.Goals as goal
 
 pub execute-answer-requires-clause-few : goal.execute-answer-requires-clause-few
@@ -34,11 +34,15 @@ loop-preserved g c =
           c.finish_in.new.seat c.in_ok-finish_in.ensures.counted.2,
       ran_only_more g.N.Naming.wiring c.args.q (g.B.Body.runs c.loop.body) (g.B.Body.runs c.execute-answer.new.body) c.in-Some-2.item c.loop.invariant.3 c.execute-answer.ensures.ran (on_lane_of_next g.N.Naming.wiring c.args.q c.in-Some-2.item c.in_ok-item.field-0 c.in_ok-item.ensures.started.1 c.in-Some-2.is),
       c.loop.invariant.4,
-      one_executed (g.B.Body.may g.N.Naming.wiring c.args.body.now) c.args.seat.now c.loop.seat c.execute-answer.new.seat c.finish_in.new.seat
-          before.finished before.faults more.finished more.faults c.in-Some-2.item c.execute-answer.result c.loop.invariant.5
-          (c.loop.invariant.6 c.in-Some-2.item c.execute-answer.result c.loop.seat c.execute-answer.new.seat c.execute-answer.ensures.may)
+      one_executed (g.B.Body.may g.N.Naming.wiring c.args.body.now) c.args.seat.now c.loop.seat
+          c.execute-answer.new.seat c.finish_in.new.seat
+          before.finished before.faults more.finished more.faults c.in-Some-2.item c.execute-answer.result
+          c.loop.invariant.5
+          (c.loop.invariant.6 c.in-Some-2.item c.execute-answer.result c.loop.seat c.execute-answer.new.seat
+          c.execute-answer.ensures.may)
           c.in_ok-finish_in.ensures.counted.2 c.and-rescued.ensures.finished c.and-rescued.ensures.faults,
-      (λ i answer before after it. c.loop.invariant.6 i answer before after (c.execute-answer.ensures.no_more i answer before after it)),
+      (λ i answer before after it. c.loop.invariant.6 i answer before after
+          (c.execute-answer.ensures.no_more i answer before after it)),
     )
 
 pub returns-then-not-has_context-clause-own : goal.returns-then-not-has_context-clause-own
@@ -49,16 +53,35 @@ returns-in_err-finish_in-clause-own g c =
     ran_only_more g.N.Naming.wiring c.args.q (g.B.Body.runs c.loop.body) (g.B.Body.runs c.execute-answer.new.body) c.in-Some-2.item c.loop.invariant.3 c.execute-answer.ensures.ran (on_lane_of_next g.N.Naming.wiring c.args.q c.in-Some-2.item c.in_ok-item.field-0 c.in_ok-item.ensures.started.1 c.in-Some-2.is)
 
 pub returns-in_err-item-clause-cause : goal.returns-in_err-item-clause-cause
-returns-in_err-item-clause-cause g c = λ there. has_cause g.N.Naming.wiring g.N.Naming.rows c.args.q c.args.helper c.from_residual.result (inl c.in_err-item.ensures.cause)
+returns-in_err-item-clause-cause g c = λ there. has_cause _ c.from_residual.result (inl c.in_err-item.ensures.cause)
 
 pub returns-in_err-finish_in-clause-cause : goal.returns-in_err-finish_in-clause-cause
-returns-in_err-finish_in-clause-cause g c = λ there. has_cause g.N.Naming.wiring g.N.Naming.rows c.args.q c.args.helper c.from_residual-in_err-finish_in.result
-    (not_finished g.N.Naming.wiring g.N.Naming.rows c.args.q c.args.helper c.in-Some-2.item c.in_ok-item.field-0 c.in_ok-item.ensures.made c.in-Some-2.is c.in_err-finish_in.ensures.cause)
+returns-in_err-finish_in-clause-cause g c = λ there.
+    let before = c.loop.rescued in
+    let item = c.in-Some-2.item in
+    let answer = c.execute-answer.result in
+    let counts = c.execute-answer.new.seat in
+    has_cause _ c.from_residual-in_err-finish_in.result
+    (inr (left_one (g.B.Body.may g.N.Naming.wiring c.args.body.now) c.args.seat.now c.loop.seat counts c.finish_in.new.seat
+    before.finished before.faults item answer c.loop.invariant.5
+    (c.loop.invariant.6 item answer c.loop.seat counts c.execute-answer.ensures.may) c.in_err-finish_in.ensures.refused.1))
 
 pub returns-in_err-finish_in-clause-stopped : goal.returns-in_err-finish_in-clause-stopped
 returns-in_err-finish_in-clause-stopped g c =
     let before = c.loop.rescued in
+    let item = c.in-Some-2.item in
+    let answer = c.execute-answer.result in
+    let counts = c.execute-answer.new.seat in
     let may = g.B.Body.may g.N.Naming.wiring c.args.body.now in
     on_err c.from_residual-in_err-finish_in.result (HasStopped may c.args.seat.now c.finish_in.new.seat)
-    (stopped_at_end may c.args.seat.now c.loop.seat c.execute-answer.new.seat c.finish_in.new.seat before.finished before.faults c.in-Some-2.item c.execute-answer.result c.loop.invariant.5
-    (c.loop.invariant.6 c.in-Some-2.item c.execute-answer.result c.loop.seat c.execute-answer.new.seat c.execute-answer.ensures.may) c.in_err-finish_in.ensures.refused.1)
+    (stopped_at_end may c.args.seat.now c.finish_in.new.seat
+    (left_one may c.args.seat.now c.loop.seat counts c.finish_in.new.seat before.finished before.faults item answer
+    c.loop.invariant.5 (c.loop.invariant.6 item answer c.loop.seat counts c.execute-answer.ensures.may)
+    c.in_err-finish_in.ensures.refused.1))
+
+pub returns-in_err-item-clause-stopped : goal.returns-in_err-item-clause-stopped
+returns-in_err-item-clause-stopped g c =
+    let before = c.loop.rescued in
+    let may = g.B.Body.may g.N.Naming.wiring c.args.body.now in
+    on_err c.from_residual.result (HasStopped may c.args.seat.now c.loop.seat)
+    (stopped_between may c.args.seat.now c.loop.seat before.finished before.faults c.loop.invariant.5)

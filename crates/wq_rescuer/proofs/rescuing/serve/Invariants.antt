@@ -5,8 +5,8 @@ use Rattle.wq_rescuer.specs.Executing.{HasExecuted, RanOnly}
 use Rattle.wq_rescuer.proofs.Executions.{IsServing}
 use Rattle.wq_rescuer.proofs.rescuing.serve.Given as goal
 
--- the seat counts as finished what the body ran, and that is of its lane; it counts what the executions left; and what the body may
--- do now, it might before
+-- the seat counts as finished what the body ran, and that is of its lane; it counts what the executions left; and what
+-- the body may do now, it might before
 abbrev pub invariant-loop : goal.invariant-loop
 invariant-loop g l =
     (goal.iterator-loop g).can_next l.iterator' × (goal.iterator-loop g).is_finite l.iterator'
@@ -14,4 +14,6 @@ invariant-loop g l =
     × RanOnly g.N.Naming.wiring l.fn.q (g.B.Body.runs l.body)
     × HasContext g.N.Naming.wiring l.fn.q l.fn.helper
     × HasExecuted (g.B.Body.may g.N.Naming.wiring l.fn.body) l.fn.seat l.seat l.rescued.finished l.rescued.faults
-    × ((i : ℕ) (answer : Result (Unit {0}) BodyFault) (before after : List ℕ) → g.B.Body.may g.N.Naming.wiring l.body i answer before after → g.B.Body.may g.N.Naming.wiring l.fn.body i answer before after)
+    × ((i : ℕ) (answer : Result (Unit {0}) BodyFault) (before after : List ℕ)
+    → g.B.Body.may g.N.Naming.wiring l.body i answer before after
+    → g.B.Body.may g.N.Naming.wiring l.fn.body i answer before after)

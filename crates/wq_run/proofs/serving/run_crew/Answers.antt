@@ -1,7 +1,23 @@
-use Rattle.std.proofs.Common.{arith, drop, length}
+use Rattle.std.proofs.Common.{rules, ◌≡◌, arith, drop, length, subst}
+use Rattle.std.specs.Prelude.{IsTrue}
+use Rattle.wq_rescuer.specs.Executing.{no_counts}
 use Rattle.wq_rescuer.specs.Contexts.{contexts_of}
+use Rattle.wq_rescuer.specs.Serving.{HaveCalled}
+use Rattle.wq_script.specs.Acts.{CountsCalls}
+use Rattle.wq_script.specs.Crews.{shared_by_two}
 use Rattle.wq_run.proofs.CallerLemmas.{have_made}
 use Rattle.wq_run.proofs.serving.run_crew.Goals as goal
 
 pub run_all-requires-clause-width : goal.run_all-requires-clause-width
 run_all-requires-clause-width g c = λ κs within k d below. omega (arith, c.requires.items, c.in_ok-bodies.ensures.width k d below)
+
+pub returns-clause-called : goal.returns-clause-called
+returns-clause-called g c =
+    let w = g.N.Naming.wiring in
+    let ran = c.in-Ok.ran in
+    let seats = drop (length (contexts_of w)) ran.seats.items in
+    let yes : IsTrue c.are_answered.result = search rules in
+    have_made w (shared_by_two (length c.args.table.now.names)) ran.callers.items ran.results.items seats
+    (subst (λ lists. HaveCalled (λ before now answer seat. CountsCalls w before answer (no_counts w) seat × (now ≡ before))
+    lists ran.callers.items ran.results.items seats) c.in_ok-bodies.ensures.callers c.in-Ok.ensures.called)
+    (c.are_answered.ensures yes)

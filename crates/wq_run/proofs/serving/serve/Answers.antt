@@ -13,7 +13,8 @@ returns-in-Ok-clause-ran g c =
     let ran = c.in-Ok.ran in
     IfOk-weaker c.conclude.result _ _
     (λ text h. PrintsRun-closed g.N.Naming.wiring.helpers s g.N.Naming.wiring c.args.assignment.now g.N.Naming.rows ran.seats.items (map runs_of ran.bodies.items) ran.rescued.items ran.finished ran.faults
-    h.0 h.1 text.items c.requires.items c.requires.plan c.requires.few c.requires.of_wiring c.requires.of_rows c.in-Ok.ensures.ran c.in-Ok.ensures.called h.2 h.3) c.conclude.ensures.reported
+    h.0 h.1 text.items c.requires.items c.requires.plan c.requires.few c.requires.of_wiring c.requires.of_rows
+    c.in-Ok.ensures.ran c.in-Ok.ensures.called h.2 h.3) c.conclude.ensures.reported
 
 pub returns-in-Ok-clause-stopped : goal.returns-in-Ok-clause-stopped
 returns-in-Ok-clause-stopped g c =

@@ -15,7 +15,8 @@ returns-in_err-make-clause-calls g c =
     let l = c.loop-act in
     let p = err_from_is_err_and c.from_residual.result c.from_residual.ensures.1 in
     rw (p.1, p.2)
-    (RefusedActs-at g.N.Naming.wiring c.args.acts.now l.act-index c.act-item.result c.args.seat.now l.seat c.make.new.seat c.in_err-make.field-0.0
+    (RefusedActs-at g.N.Naming.wiring c.args.acts.now l.act-index c.act-item.result c.args.seat.now l.seat
+    c.make.new.seat c.in_err-make.field-0.0
     c.loop-act-test.true c.act-item.is l.invariant c.in_err-make.ensures.refused)
 
 pub loop-act-preserved : goal.loop-act-preserved
