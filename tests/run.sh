@@ -27,8 +27,8 @@
 # $XDG_CACHE_HOME/wqplan, or else the one on the PATH; test_runtime and example_rdisk are at crates/NAME/out. The variables WQPLAN, TEST_RUNTIME and
 # EXAMPLE_RDISK name others, as in `WQPLAN=/tmp/wqplan bash tests/run.sh cli model`. The gate doesn't heed them.
 #
-# What the toolchain says of a crate has the seconds since the start beside it. At the end come when each crate was proved,
-# and the seconds and the processor seconds of each script. The last line counts what the toolchain counts, crates and edits,
+# What the toolchain says of a crate has the seconds since the start beside it. At the end come when each crate was proved and
+# its processor seconds, with those of its tests and of its build, and the seconds and the processor seconds of each script. The last line counts what the toolchain counts, crates and edits,
 # and each script as one. The status is that of the first that failed. It is 2 where a PART is unknown.
 set -uo pipefail
 
@@ -39,6 +39,7 @@ scripts='
 lib      time_limit   lib/time_limit.sh
 docs     definitions  docs/definitions.py | docs/headline_lines.py
 docs     pages        docs/pages.py | docs/made.py --check
+docs     widths       docs/widths.py
 docs     manual       docs/manual.py
 docs     completion   docs/completion.py
 docs     citations    docs/citations.py
@@ -176,8 +177,20 @@ script() {
     return "$first"
 }
 
-# toolchain: the toolchain's gate.
+# toolchain: the toolchain's gate, while the processor seconds of each crate are noted.
 toolchain() {
+    local noting ended
+    : >"$work/crates"
+    # (started in a subshell, it ends without a word of this one)
+    noting=$(python3 -B tests/lib/processor_times.py $$ "$work/crates" >/dev/null 2>&1 & echo $!)
+    proofs
+    ended=$?
+    kill "$noting" 2>/dev/null
+    return "$ended"
+}
+
+# proofs: what it prints, with the seconds since the start, and its status.
+proofs() {
     rt ci | while IFS= read -r line || [ -n "$line" ]; do
         case $line in
             '== '* | 'rt: '*' proved' | 'rt: '*' NOT PROVED'* | 'rt: '*': trying '*) line+=" ($SECONDS s)" ;;
@@ -189,8 +202,10 @@ toolchain() {
 # ends: the table and the counts.
 ends() {
     if [ -s "$work/said" ]; then
-        printf '\n%-24s %10s\n' crate 'proved at'
-        sed -nE 's/^rt: (\w+) proved \(([0-9]+) s\)$/\1 \2/p' "$work/said" | awk '{ printf "%-24s %10d\n", $1, $2 }'
+        printf '\n%-24s %10s %10s\n' crate 'proved at' processor
+        sed -nE 's/^rt: (\w+) proved \(([0-9]+) s\)$/\1 \2/p' "$work/said" | awk '
+            is_spent { spent[$1] = $2; next }
+            { printf "%-24s %10d %10d\n", $1, $2, spent[$1] }' is_spent=1 "$work/crates" is_spent=0 -
     fi
     printf '\n%-24s %10s %10s\n' part seconds processor
     awk -F'\t' '

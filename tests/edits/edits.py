@@ -4,10 +4,10 @@ It is run at the top of the repository. An edit is a file tests/edits/CRATE/MIST
 gate is to try it each time. It has the form of `rt ci`: a line `file: src/a.rt`, and then pairs of lines `old: TEXT` and `new: TEXT`, of
 which each old text stands exactly once in that file.
 
-Several edits of a crate are tried in one round: one check of a copy of the crate, of exactly the edited functions (`rattle check --only`).
-No two edits of a round change one function, and no edited function calls another one, directly or over others. An edit that isn't
-within the body of one function (of a constant, a type, a trait, the head of an impl) or is of a trait's method, which is called unseen,
-has a round of its own.
+Edits of different functions of a crate are tried in one round: one check of a copy of the crate, of exactly the edited functions (`rattle
+check --only`) and of what they call. What a round doesn't refuse is tried again alone, as a function may only wait there for another one
+that was edited. An edit that isn't within the body of one function (of a constant, a type, a trait, the head of an impl), or is of a
+`const fn`, of a function in a cycle of calls or of a trait's own method, has a round of its own.
 
 An edit is refused where its function isn't proved, and a goal at its own lines, or an error in its own proof files, says so. It isn't
 enough that it calls what isn't proved, that a proof file names what the edit took away, that the edit doesn't compile or can't be read, or
@@ -32,6 +32,8 @@ import tempfile
 PARTS = ('src', 'specs', 'proofs')
 # What may stand above a body, as `rt fmt` lays it out: a head, clauses, and the brace that opens the body at its own line or at the head's end.
 HEAD = re.compile(r'^([ \t]*)(?:pub(?:\([a-z ]+\))?\s+)?(?:(?:unsafe|const|extern "C")\s+)*fn\s+(\w+)', re.M)
+# A `const fn` and a function in a cycle of calls, by their heads and what stands right above them: another proof may rest on their bodies.
+SEEN = re.compile(r'\bconst\b|^[ \t]*#\[cycle\(', re.M)
 BLOCK = re.compile(r'^(?:pub(?:\([a-z ]+\))?\s+)?(?:unsafe\s+)?(impl|trait)\b([^{;]*)\{', re.M)
 # A name, and what stands before it: nothing, the dot of a method, or the type or module that it is in.
 CALL = re.compile(r'(\.\s*|\b\w+(?:::<[^<>]*>)?::)?\b([a-z_]\w*)')
@@ -47,7 +49,7 @@ UNPROVED = ('not proved', 'no proof')
 WAITS = re.compile(r'which (?:is|are) not proved')
 
 Edit = collections.namedtuple('Edit', 'name pairs fault')
-Function = collections.namedtuple('Function', 'name short impl begin body end lines is_unseen calls')
+Function = collections.namedtuple('Function', 'name short impl begin body end lines is_unseen is_alone calls')
 Planted = collections.namedtuple('Planted', 'texts functions function')
 Ran = collections.namedtuple('Ran', 'status lines')
 
@@ -87,14 +89,14 @@ def blanked(text):
 
 
 def owner(blocks, at):
-    """How rattle names the impl that this place is in, and whether it is one of a trait."""
+    """How rattle names the impl or trait that this place is in, whether its functions are methods of a trait, and whether it is the trait."""
     for begin, end, kind, head in blocks:
         if begin <= at < end:
             for _ in range(4):
                 head = re.sub(r'<[^<>]*>', '', head)
             parts = [re.sub(r'\W.*', '', it.strip(' &\n').split('::')[-1]) for it in head.partition(' where ')[0].split(' for ')]
-            return ''.join(reversed(parts)), kind == 'trait' or len(parts) > 1
-    return '', False
+            return ''.join(reversed(parts)), kind == 'trait' or len(parts) > 1, kind == 'trait'
+    return '', False, False
 
 
 @functools.lru_cache(maxsize=None)
@@ -114,11 +116,12 @@ def functions(file, text):
         opens = own.search(seen, head.end(), closes.end()) or begins.search(seen, head.end(), closes.end())
         if seen[opens.end() - 1:opens.end()] == ';' or ';' in opens[0]:
             continue
-        impl, is_unseen = owner(blocks, head.start()) if head[1] else ('', False)
+        impl, is_unseen, is_of_trait = owner(blocks, head.start()) if head[1] else ('', False, False)
         name = '::'.join([impl, head[2]] if impl else [*module, head[2]])
         lines = file, seen.count('\n', 0, head.start()) + 1, seen.count('\n', 0, closes.end()) + 1
+        is_alone = is_of_trait or bool(SEEN.search(seen, seen.rfind('\n\n', 0, head.start()) + 1, head.end()))
         calls = frozenset(CALL.findall(seen, opens.start(), closes.end()))
-        found.append(Function(name, head[2], impl, head.start(), opens.end(), closes.end(), lines, is_unseen, calls))
+        found.append(Function(name, head[2], impl, head.start(), opens.end(), closes.end(), lines, is_unseen, is_alone, calls))
     return found
 
 
@@ -300,19 +303,10 @@ class Crate:
             found, left = found | more, more
         return found
 
-    @functools.lru_cache(maxsize=None)
-    def called(self, edit):
-        """What the edited function calls, before the edit and after it."""
-        planted = self.planted(edit)
-        after = [it for file, text in planted.texts.items() for it in functions(file, text) if it.name == planted.function.name]
-        return self.reached([planted.function, *after])
-
     def fits(self, edit, group):
         """Whether the edit can be tried in one round with these."""
-        function, others = self.planted(edit).function, [self.planted(it).function for it in group]
-        if any(it is None or it.is_unseen for it in [function, *others]) or function in others:
-            return False
-        if self.called(edit) & {*others} or any(function in self.called(it) for it in group):
+        functions = [self.planted(it).function for it in [*group, edit]]
+        if any(it is None or it.is_alone for it in functions) or len({*functions}) < len(functions):
             return False
         try:
             return bool(self.planted(*group, edit))
@@ -355,15 +349,23 @@ class Crate:
 
     def tried(self, group):
         """What came of each edit of a round, in words that begin with `refused` where it was."""
+        words = self.tried_at_once(group)
+        left = [it for it in group if not words[it].startswith('refused')]
+        if len(group) > 1:
+            # (where one edit spoils the check for all, as one that doesn't compile, it is in one half)
+            half = len(group) // 2
+            for part in [[it] for it in left] if len(left) < len(group) else (group[:half], group[half:]):
+                words.update(self.tried(part))
+        return words
+
+    def tried_at_once(self, group):
+        """What one check says of each edit of a round."""
         other = self.untouched(group)
         if other is None:
             return {it: 'no verdict: each function is edited or calls one that is, so none is left to be proved' for it in group}
         said = self.check(group, other)
         if said.is_stale:
             raise Stop(f'{self.name}: a library below is out of date: {said.is_stale}')
-        if said.why and len(group) > 1:
-            # (one edit of the round spoils it for all)
-            return {edit: word for it in group for edit, word in self.tried([it]).items()}
         if said.why:
             return {it: said.why for it in group}
         if not said.is_proved(other):
