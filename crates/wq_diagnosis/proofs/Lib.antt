@@ -1,1 +1,4 @@
+mod Forbidding
+mod Found
 pub mod Lines
+pub mod ReadTexts

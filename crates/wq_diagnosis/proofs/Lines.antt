@@ -5,7 +5,7 @@ use Rattle.std.proofs.lemmas.Bool.{leb-true}
 use Rattle.std.proofs.lemmas.List.Elements.{All-append, All-cons, All-nil}
 use Rattle.wq_findings.specs.Shown.{shown}
 use Rattle.wq_diagnosis.specs.Diagnosis.{shown_lines, head, IsDiagnosis, IsOnLine, IsPlain}
-use Rattle.wq_diagnosis.specs.Unlawful.{IsUnlawfulText, unlawful_head}
+use Rattle.wq_diagnosis.specs.Reasons.{IsUnlawfulText, unlawful_head}
 
 -- ---- what is shown is plain
 
@@ -44,10 +44,9 @@ diagnosis_of file word what code line place more text on_line lines = record {
 
 -- lines that begin with that one are said of a step that isn't lawful
 pub unlawful_of : (file what : List ℕ) (n : ℕ) (place : List ℕ) (more : List (List ℕ)) (text : List ℕ)
-    → text ≡ shown_lines (unlawful_head file place what n ∷ more) → IsUnlawfulText file n text
+    → text ≡ shown_lines (unlawful_head file place what n ∷ more) → IsUnlawfulText file what n text
 unlawful_of file what n place more text lines = record {
   place = place;
-  what = what;
   more = more;
   lines = lines;
   plain = subst IsPlain (sym lines) (plain-lines (unlawful_head file place what n ∷ more));

@@ -1,19 +1,22 @@
 //! Diagnoses: what standard error says of a text that is refused, in addition to the refusal; of a run with a step that isn't lawful;
 //! and of a file that can't be read or written.
 //!
-//! What the layer above relies on: a diagnosis begins with the file and the line of the refusal, has the number of the refusal on its
-//! first line, and is printable ASCII and line feeds, whatever the text holds; and the reason why a step isn't lawful holds in the
-//! state. wq_findings decides which word is meant, and what was most likely meant; wq_voice says when which is said. The form is that
-//! of "Diagnoses" in docs/FORMAT.md. Each call takes time in the length of the texts and, where a name is unknown, in the names of
-//! the declaration times the length of one.
+//! What the layer above relies on: a diagnosis begins with the file and the line of the refusal, has the number of the
+//! refusal on its first line, and is printable ASCII and line feeds, whatever the text holds; and of the first step
+//! that isn't lawful it says a reason that forbids such a step, and holds in the state that the steps before it leave.
+//! wq_findings decides which word is meant, and what was most likely meant; wq_voice says when which is said. The form
+//! is that of "Diagnoses" in docs/FORMAT.md. Each call takes time in the length of the texts and, where a name is
+//! unknown, in the names of the declaration times the length of one.
 #![tactic(auto)]
 
 mod diagnosis;
 mod failed;
 mod further;
 mod layout;
+mod reasons;
 mod replayed;
 mod unlawful;
+mod words;
 
 pub use diagnosis::{
     Source, TOO_MANY, of_lack, of_no_item, of_refused_certificate, of_refused_declaration,
@@ -22,5 +25,6 @@ pub use diagnosis::{
 pub use failed::of_failed;
 pub use layout::{column, lines_of, push_excerpt, put_line, put_lines};
 pub use replayed::of_unlawful;
-pub use unlawful::{Unlawful, reason_of};
+pub use unlawful::Unlawful;
+pub use words::{item_words, workqueue_of, workqueue_words};
 pub use wq_findings::CertificateKind;

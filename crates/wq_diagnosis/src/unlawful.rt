@@ -1,9 +1,15 @@
 //! Why a step of a run isn't lawful.
 //!
-//! The rules are those of "Steps" in docs/FORMAT.md, as `wq_core` has them. A call takes the time of a few questions to the machine.
+//! The rules are those of "Steps" in docs/FORMAT.md, as `wq_core` has them. A reason rules out its step: whatever is
+//! declared and whatever the state, the step isn't lawful where the reason holds. A call takes the time of a few
+//! questions to the machine.
 
-ghost use Rattle.std.specs.Prelude.{IfSome};
-ghost use Rattle.wq_diagnosis.specs.Unlawful.{ReasonHolds, item_of, workqueue_of};
+ghost use Rattle.std.specs.Prelude.{◌≡◌, IfNone, IfSome, length};
+ghost use Rattle.wq_core.specs.Held.{IsMachine};
+ghost use Rattle.wq_core.specs.Rules.{Lawful, over_of, wait_of};
+ghost use Rattle.wq_core.specs.Runs.{IsHelp};
+ghost use Rattle.wq_core.specs.declared.step.Step.TheVariants.{Queue, Cancel, Start, Finish};
+ghost use Rattle.wq_diagnosis.specs.Unlawful.{Forbids, named_item, named_workqueue};
 
 use std::alloc::Allocator;
 use wq_core::{Core, Step, Waiting};
@@ -23,7 +29,7 @@ pub enum Unlawful {
     Runs(ItemId),
     /// Nothing is pending on the workqueue.
     NothingPending,
-    /// The first pending entry of the workqueue is of this item.
+    /// The first pending entry of the workqueue is of this item, which doesn't run.
     First(ItemId),
     /// Nothing runs on the workqueue.
     NothingRuns,
@@ -41,7 +47,8 @@ pub enum Unlawful {
 
 /// Why the item may not be queued.
 fn queue_reason<A: Allocator>(core: &Core<A>, item: ItemId) -> Option<Unlawful>
-    ensures { IfSome result (ReasonHolds core.now.wiring core.now.state 0 item) }
+    ensures some { IfSome result (λ why. Forbids core.now.wiring core.now.state why (Queue item)) }
+    ensures none { IfNone result (Lawful core.now.wiring core.now.state (Queue item)) }
 {
     if item.get() as usize >= core.items() {
         return Some(Unlawful::NoItem);
@@ -54,7 +61,8 @@ fn queue_reason<A: Allocator>(core: &Core<A>, item: ItemId) -> Option<Unlawful>
 
 /// Why the item may not be cancelled.
 fn cancel_reason<A: Allocator>(core: &Core<A>, item: ItemId) -> Option<Unlawful>
-    ensures { IfSome result (ReasonHolds core.now.wiring core.now.state 0 item) }
+    ensures some { IfSome result (λ why. Forbids core.now.wiring core.now.state why (Cancel item)) }
+    ensures none { IfNone result (Lawful core.now.wiring core.now.state (Cancel item)) }
 {
     if core.is_pending(item) {
         None
@@ -65,7 +73,9 @@ fn cancel_reason<A: Allocator>(core: &Core<A>, item: ItemId) -> Option<Unlawful>
 
 /// Why the workqueue may not start the item.
 fn start_reason<A: Allocator>(core: &Core<A>, q: LaneId, item: ItemId) -> Option<Unlawful>
-    ensures { IfSome result (ReasonHolds core.now.wiring core.now.state q item) }
+    requires { core.now.wiring.helpers ≡ 0 }
+    ensures some { IfSome result (λ why. Forbids core.now.wiring core.now.state why (Start q item)) }
+    ensures none { IfNone result (Lawful core.now.wiring core.now.state (Start q item)) }
 {
     if let Some(running) = core.running_on(q) {
         return Some(Unlawful::Runs(running.entry.item));
@@ -87,7 +97,8 @@ fn wait_reason<A: Allocator>(
     whole: bool,
     target: ItemId,
 ) -> Option<Unlawful>
-    ensures { IfSome result (ReasonHolds core.now.wiring core.now.state q target) }
+    ensures some { IfSome result (λ why. Forbids core.now.wiring core.now.state why (wait_of whole q target)) }
+    ensures none { IfNone result (Lawful core.now.wiring core.now.state (wait_of whole q target)) }
 {
     let Some(running) = core.running_on(q) else {
         return Some(Unlawful::NothingRuns);
@@ -95,9 +106,6 @@ fn wait_reason<A: Allocator>(
     let item = running.entry.item;
     if let Some(flush) = running.waiting {
         return Some(Unlawful::Waits(item, flush));
-    }
-    if item.get() as usize >= core.items() {
-        return None;
     }
     if !core.declares(item, whole, target) {
         return Some(Unlawful::Undeclared(item, whole));
@@ -115,7 +123,8 @@ fn over_reason<A: Allocator>(
     whole: bool,
     target: ItemId,
 ) -> Option<Unlawful>
-    ensures { IfSome result (ReasonHolds core.now.wiring core.now.state q target) }
+    ensures some { IfSome result (λ why. Forbids core.now.wiring core.now.state why (over_of whole q target)) }
+    ensures none { IfNone result (Lawful core.now.wiring core.now.state (over_of whole q target)) }
 {
     let Some(running) = core.running_on(q) else {
         return Some(Unlawful::NothingRuns);
@@ -127,16 +136,14 @@ fn over_reason<A: Allocator>(
     if flush.whole != whole || flush.target != target {
         return Some(Unlawful::Waits(item, flush));
     }
-    if target.get() as usize >= core.items() {
-        return None;
-    }
     core.holder(whole, target, flush.mark)?;
     Some(Unlawful::Unfinished(whole))
 }
 
 /// Why the workqueue may not finish the item.
 fn finish_reason<A: Allocator>(core: &Core<A>, q: LaneId, item: ItemId) -> Option<Unlawful>
-    ensures { IfSome result (ReasonHolds core.now.wiring core.now.state q item) }
+    ensures some { IfSome result (λ why. Forbids core.now.wiring core.now.state why (Finish q item)) }
+    ensures none { IfNone result (Lawful core.now.wiring core.now.state (Finish q item)) }
 {
     let Some(running) = core.running_on(q) else {
         return Some(Unlawful::NothingRuns);
@@ -148,10 +155,45 @@ fn finish_reason<A: Allocator>(core: &Core<A>, q: LaneId, item: ItemId) -> Optio
     Some(Unlawful::Waits(item, flush))
 }
 
-/// What keeps the step from being lawful; nothing where it is. Of several reasons it is the first one in the order of the rules.
-/// Of a helper's step nothing is said: no text of a run holds one.
-pub fn reason_of<A: Allocator>(core: &Core<A>, step: Step) -> Option<Unlawful>
-    ensures { IfSome result (ReasonHolds core.now.wiring core.now.state (workqueue_of step) (item_of step)) }
+/// The workqueue that a step names; 0 where it names none.
+pub(crate) fn named_workqueue(step: Step) -> LaneId
+    ensures { result ≡ named_workqueue step }
+{
+    match step {
+        Step::Queue(_) | Step::Cancel(_) => LaneId::new(0),
+        Step::Start(q, _)
+        | Step::Wait(q, _)
+        | Step::Over(q, _)
+        | Step::WaitAll(q, _)
+        | Step::OverAll(q, _)
+        | Step::Finish(q, _)
+        | Step::Help(q, _, _) => q,
+    }
+}
+
+/// The item that a step names.
+pub(crate) fn named_item(step: Step) -> ItemId
+    ensures { result ≡ named_item step }
+{
+    match step {
+        Step::Queue(item)
+        | Step::Cancel(item)
+        | Step::Start(_, item)
+        | Step::Wait(_, item)
+        | Step::Over(_, item)
+        | Step::WaitAll(_, item)
+        | Step::OverAll(_, item)
+        | Step::Finish(_, item) => item,
+        Step::Help(_, _, deed) => deed.item(),
+    }
+}
+
+/// What keeps the step from being lawful, on a machine without helpers; nothing where it is. Of several reasons it is
+/// the first one in the order of the rules. Of a helper's step nothing is said: no text of a run holds one.
+pub(crate) fn reason_of<A: Allocator>(core: &Core<A>, step: Step) -> Option<Unlawful>
+    requires { core.now.wiring.helpers ≡ 0 }
+    ensures some { IfSome result (λ why. Forbids core.now.wiring core.now.state why step) }
+    ensures none { IfNone result ((¬ IsHelp step) → Lawful core.now.wiring core.now.state step) }
 {
     match step {
         Step::Queue(item) => queue_reason(core, item),

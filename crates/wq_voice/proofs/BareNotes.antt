@@ -55,17 +55,6 @@ pub notes-some : (first second text : List ℕ) (items : List (List ℕ)) (said 
 notes-some first second text [] said some is = absurd (omega (arith, some))
 notes-some first second text (item ∷ items) said some is = is
 
--- ---- texts
-
--- a text that is read is within its limits
-pub limits-read : (names : List (List ℕ)) (p : Partition) (text : List ℕ) (ws : Workqueues) → workqueues_of_text names p text ≡ Ok ws
-    → limit_fault max_certificate max_certificate_line text ≡ None
-limits-read names p text ws is = go (limit_fault max_certificate max_certificate_line text) (lanes_reading names p (cert_lines (lines_of text))) is where
-  go : (fault : Option TextError) (rest : Result Workqueues CertError) → unless_too_long fault rest ≡ Ok ws → fault ≡ None
-  go None rest e = refl
-  go (Some TextTooLong) rest e = cc
-  go (Some (LineTooLong line)) rest e = cc
-
 -- ---- a text without the line of such a workqueue
 
 abbrev HasNone : List LineView → Type 0

@@ -16,7 +16,7 @@ use Rattle.wq_commands.specs.Answer.{declared_waits}
 use Rattle.wq_commands.specs.Declaration.{Declared, declaration}
 use Rattle.wq_voice.specs.Reasons.{AddsSaid, AreSaid, can_hang, told}
 use Rattle.wq_voice.specs.Waits.{words_of}
-use Rattle.wq_voice.specs.Words.{workqueue_of}
+use Rattle.wq_diagnosis.specs.Words.{workqueue_of}
 use Rattle.wq_voice.specs.declared.waits.Wording.TheVariants.{OfGroups, OnWorkqueues}
 
 -- ---- circular waits

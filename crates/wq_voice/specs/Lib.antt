@@ -1,4 +1,4 @@
-pub mod Words
+pub use Rattle.wq_diagnosis.specs.Words
 pub mod Note
 pub mod Waits
 pub mod Reasons

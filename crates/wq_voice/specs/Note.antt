@@ -9,7 +9,7 @@ use Rattle.wq_names.specs.Names.{names_of}
 use Rattle.wq_commands.specs.Declaration.{Declared, declaration}
 use Rattle.wq_diagnosis.specs.Diagnosis.{shown_lines}
 use Rattle.wq_diagnosis.specs.Refused.{NotesNoItem}
-use Rattle.wq_voice.specs.Words.{workqueue_of, workqueue_words}
+use Rattle.wq_diagnosis.specs.Words.{workqueue_of, workqueue_words}
 
 -- these, with a comma between each two
 abbrev pub listed : List (List ℕ) → List ℕ

@@ -1,5 +1,5 @@
 -- What is said beside the answer of a command.
-use Rattle.std.specs.Prelude.{◌≡◌, ℕ, List, [], ◌++◌, Option, Some, None, IfSome, MatchResult, codes, unwrap_or}
+use Rattle.std.specs.Prelude.{◌≡◌, ℕ, List, [], ◌++◌, Option, Some, None, MatchResult, codes, unwrap_or}
 use Rattle.wq_meter.specs.Shell.{Given}
 use Rattle.wq_checker.specs.declared.answer.No.{No}
 use Rattle.wq_checker.specs.declared.answer.No.TheVariants as no
@@ -11,7 +11,7 @@ use Rattle.wq_commands.specs.declared.why.Which.TheVariants.{Declaration, Certif
 use Rattle.wq_commands.specs.declared.why.Why.{Why}
 use Rattle.wq_commands.specs.declared.why.Why.TheVariants.{No as Lacks, NotLawful, Refused}
 use Rattle.wq_diagnosis.specs.Diagnosis.{IsDiagnosis}
-use Rattle.wq_diagnosis.specs.Unlawful.{IsUnlawfulText}
+use Rattle.wq_diagnosis.specs.Reasons.{SaysStepOf}
 use Rattle.wq_diagnosis.specs.Refused.{Diagnoses, NotesNoItem, SaysIfDeclared, SaysNo}
 use Rattle.wq_voice.specs.Note.{NotesBare, SaysIfBoth}
 use Rattle.wq_voice.specs.Components.{GivesOwnReasons, GivesReasonsOfTexts}
@@ -52,7 +52,8 @@ SaysWhy first second third texts (Some (Refused Certificate code line)) said =
 SaysWhy first second third texts (Some (Refused Run code line)) said =
     SaysIfDeclared texts.first (Diagnoses third (Some (record { code = code; line = line }))) said
 SaysWhy first second third texts (Some (Lacks reason)) said = SaysLackingOf first second texts.first texts.second reason said
-SaysWhy first second third texts (Some (NotLawful step)) said = IfSome said (IsUnlawfulText third step)
+SaysWhy first second third texts (Some (NotLawful step)) said =
+    SaysStepOf third texts.first texts.second texts.third step said
 
 -- what is said beside `safe` of the texts of a declaration and an assignment: which items are on workqueues without a rescuer
 abbrev pub NotesSafe : List ℕ → List ℕ → Given → Option (List ℕ) → Type 0

@@ -5,7 +5,7 @@ use Rattle.wq_core.specs.Workqueues.{Workqueues}
 use Rattle.wq_deadlock.specs.Judging.{is_on_bare}
 use Rattle.wq_hang.specs.declared.hop.Hop.{Hop}
 use Rattle.wq_commands.specs.Declaration.{Declared}
-use Rattle.wq_voice.specs.Words.{item_words, workqueue_of, workqueue_words}
+use Rattle.wq_diagnosis.specs.Words.{item_words, workqueue_of, workqueue_words}
 use Rattle.wq_voice.specs.declared.waits.Wording.{Wording}
 use Rattle.wq_voice.specs.declared.waits.Wording.TheVariants.{OfGroups, OnWorkqueues}
 

@@ -5,9 +5,9 @@
 ghost use Rattle.std.specs.Prelude.{◌≡◌, ◌++◌, IfOk};
 ghost use Rattle.wq_voice.specs.Waits.{group_behind_words, group_to_all_words, group_to_behind_words, group_to_next_words, group_to_words, group_wait_words};
 
-use crate::words::item_words;
 use std::alloc::{AllocError, Allocator};
 use wq_commands::Declaration;
+use wq_diagnosis::item_words;
 use wq_hang::Hop;
 use wq_lines::put;
 

@@ -20,7 +20,6 @@ mod safe;
 mod subject;
 mod voice;
 mod waits;
-mod words;
 
 pub use block::said_at;
 pub use flush_lines::FlushLines;
@@ -30,5 +29,4 @@ pub use safe::safe_assigned;
 pub use subject::Subject;
 pub use voice::{Beside, Diagnosing};
 pub use waits::Wording;
-pub use words::{item_words, workqueue_words};
-pub use wq_diagnosis::CertificateKind;
+pub use wq_diagnosis::{CertificateKind, item_words, workqueue_words};

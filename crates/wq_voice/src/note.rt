@@ -7,12 +7,11 @@ ghost use Rattle.std.specs.Prelude.{◌≡◌, ◌++◌, ◌<◌, IfOk, OnOk, co
 ghost use Rattle.std.specs.List.{All};
 ghost use Rattle.wq_voice.specs.Note.{bare_items, bare_note, listed, placed_item, NotesItems};
 
-use crate::words::{workqueue_of, workqueue_words};
 use std::alloc::{AllocError, Allocator};
 use wq_commands::Declaration;
 use wq_core::Workqueues;
 use wq_deadlock::is_on_bare;
-use wq_diagnosis::{Source, of_no_item, put_line};
+use wq_diagnosis::{Source, of_no_item, put_line, workqueue_of, workqueue_words};
 use wq_items::ItemId;
 use wq_lines::put;
 

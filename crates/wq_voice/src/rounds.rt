@@ -13,10 +13,10 @@ ghost use Rattle.wq_voice.specs.Waits.{words_of};
 
 use crate::reason::CAN_HANG;
 use crate::subject::{Subject, put_walk};
-use crate::words::workqueue_of;
 use std::alloc::{AllocError, Allocator};
 use wq_commands::Declaration;
 use wq_core::Workqueues;
+use wq_diagnosis::workqueue_of;
 use wq_graph::WaitArc;
 use wq_groups::LaneId;
 use wq_hang::Rounds;

@@ -11,12 +11,11 @@ ghost use Rattle.wq_voice.specs.Waits.{words_of};
 use crate::block::{Spot, plain_head, said_at};
 use crate::flush_lines::FlushLines;
 use crate::waits::{Wording, bare_words, words_of};
-use crate::words::workqueue_of;
 use std::alloc::{AllocError, Allocator};
 use wq_commands::Declaration;
 use wq_core::Workqueues;
 use wq_deadlock::is_on_bare;
-use wq_diagnosis::Source;
+use wq_diagnosis::{Source, workqueue_of};
 use wq_hang::Hop;
 use wq_lines::put;
 

@@ -58,6 +58,7 @@ pub struct Diagnosing<'a> {
 impl<'a> Diagnosing<'a> {
     /// For a command whose one text is a declaration, from the file of this name.
     pub fn one(seed: u64, declaration: &'a str, beside: Beside) -> Diagnosing<'a>
+        ensures seed { result.seed ≡ seed }
         ensures declaration { result.declaration.now ≡ declaration.entry.now }
         ensures beside { result.beside ≡ beside }
     {
@@ -79,6 +80,7 @@ impl<'a> Diagnosing<'a> {
         certificate: &'a str,
         beside: Beside,
     ) -> Diagnosing<'a>
+        ensures seed { result.seed ≡ seed }
         ensures declaration { result.declaration.now ≡ declaration.entry.now }
         ensures certificate { result.certificate.now ≡ certificate.entry.now }
         ensures beside { result.beside ≡ beside }

@@ -6,11 +6,11 @@ ghost use Rattle.std.specs.Prelude.{◌≡◌, ◌++◌, ◌<◌, [], IfOk, code
 ghost use Rattle.wq_voice.specs.Waits.{bare_words, to_all_words, to_bare_words, to_behind_words, to_next_words, to_words, wait_words, words_of};
 
 use crate::groups::group_wait_words;
-use crate::words::{item_words, workqueue_of, workqueue_words};
 use std::alloc::{AllocError, Allocator};
 use wq_commands::Declaration;
 use wq_core::Workqueues;
 use wq_deadlock::is_on_bare;
+use wq_diagnosis::{item_words, workqueue_of, workqueue_words};
 use wq_hang::Hop;
 use wq_items::{ItemId, Target};
 use wq_lines::put;

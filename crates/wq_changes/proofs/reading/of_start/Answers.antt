@@ -2,7 +2,7 @@ use Rattle.std.proofs.Common.{◌≡◌, ℕ, List, map, ap, subst, ◌∙◌}
 use Rattle.std.specs.Prelude.{IfOk}
 use Rattle.wq_names.specs.Names.{names_of}
 use Rattle.wq_commands.specs.Declaration.{Declared}
-use Rattle.wq_voice.proofs.BareNotes.{limits-read}
+use Rattle.wq_diagnosis.proofs.ReadTexts.{limits-read}
 use Rattle.wq_changes.specs.Few.{TellsFew}
 use Rattle.wq_changes.proofs.reading.of_start.Goals as goal
 

@@ -5,7 +5,7 @@ use Rattle.wq_commands.specs.Declaration.{Declared}
 use Rattle.wq_voice.specs.Components.{GivesReasons}
 use Rattle.wq_voice.specs.Waits.{words_of}
 use Rattle.wq_voice.specs.declared.waits.Wording.TheVariants.{OnWorkqueues}
-use Rattle.wq_voice.proofs.BareNotes.{limits-read}
+use Rattle.wq_diagnosis.proofs.ReadTexts.{limits-read}
 use Rattle.wq_voice.proofs.components.of_assigned.Goals as goal
 
 pub returns : goal.returns

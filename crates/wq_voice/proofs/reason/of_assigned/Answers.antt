@@ -6,7 +6,7 @@ use Rattle.wq_commands.specs.Declaration.{Declared}
 use Rattle.wq_voice.specs.Reasons.{can_hang, GivesReason}
 use Rattle.wq_voice.specs.Waits.{words_of}
 use Rattle.wq_voice.specs.declared.waits.Wording.TheVariants.{OnWorkqueues}
-use Rattle.wq_voice.proofs.BareNotes.{limits-read}
+use Rattle.wq_diagnosis.proofs.ReadTexts.{limits-read}
 use Rattle.wq_voice.proofs.reason.of_assigned.Goals as goal
 
 pub returns : goal.returns

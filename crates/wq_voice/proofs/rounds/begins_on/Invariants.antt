@@ -2,7 +2,7 @@ use Rattle.std.proofs.Common.{◌≡◌, drop}
 use Rattle.std.specs.Prelude.{◌==◌}
 use Rattle.std.specs.List.{list_any}
 use Rattle.wq_graph.specs.declared.arc.WaitArc.{WaitArc}
-use Rattle.wq_voice.specs.Words.{workqueue_of}
+use Rattle.wq_diagnosis.specs.Words.{workqueue_of}
 use Rattle.wq_voice.proofs.rounds.begins_on.Given as goal
 
 -- none so far

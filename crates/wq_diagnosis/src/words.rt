@@ -4,7 +4,7 @@
 
 ghost use Rattle.std.specs.Prelude.{◌≡◌, ◌++◌, ◌<◌, [], IfOk, OnOk, codes, length, map, slice_index_or};
 ghost use Rattle.wq_cert.specs.PlanText.{name_of};
-ghost use Rattle.wq_voice.specs.Words.{item_words, name_words, workqueue_of, workqueue_words};
+ghost use Rattle.wq_diagnosis.specs.Words.{item_words, name_words, workqueue_of, workqueue_words};
 
 use std::alloc::{AllocError, Allocator};
 use wq_commands::Declaration;
@@ -15,7 +15,10 @@ use wq_lines::put;
 use wq_names::name_at;
 
 /// Adds the name of a workqueue behind its number, if it has a name.
-fn put_name<A: Allocator + Copy>(out: &mut Vec<u8, A>, name: &[u8]) -> Result<(), AllocError>
+pub(crate) fn put_name<A: Allocator + Copy>(
+    out: &mut Vec<u8, A>,
+    name: &[u8],
+) -> Result<(), AllocError>
     ensures { OnOk result (out.new.items ≡ out.old.items ++ name_words name.now) }
 {
     if name.is_empty() {
@@ -43,7 +46,7 @@ pub fn workqueue_words<A: Allocator + Copy>(
 }
 
 /// The workqueue of an item.
-pub(crate) fn workqueue_of<A: Allocator + Copy>(
+pub fn workqueue_of<A: Allocator + Copy>(
     declared: &Declaration<'_, A>,
     workqueues: &Workqueues<A>,
     item: ItemId,
