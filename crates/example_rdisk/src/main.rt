@@ -104,9 +104,7 @@ fn put_destroyed<N: Naming, R: Wait + Print>(
     seat: &mut Seat<N, Global>,
     rdisk: &Rdisk,
 ) -> Result<()> {
-    let send_wq = runtime
-        .lane_of(rdisk.send)
-        .context("an item is missing")?;
+    let send_wq = runtime.lane_of(rdisk.send).context("an item is missing")?;
     if let Err(error) = runtime.queue_work(rt, seat, send_wq, rdisk.send) {
         println!(rt; "queue_work after destroy: {} {error}", error.code())?;
     }
