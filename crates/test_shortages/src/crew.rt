@@ -24,11 +24,12 @@ fn is_answered<N: Naming, R: Wait, A: Allocator + Copy>(
     runtime: &WqRuntime<N, A>,
     table: &ItemTable<'_, A>,
     seat: &mut Seat<N, A>,
-    (q, helper): (u16, u8),
+    context: (u16, u8),
     wanted: Result<Rescued, CallError>,
 ) -> bool
     requires { items N.wiring ≡ length table.now.waits }
 {
+    let (q, helper) = context;
     let Ok(mut body) = ScriptBody::new(ample, table) else {
         return false;
     };
