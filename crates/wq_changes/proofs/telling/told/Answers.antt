@@ -1,7 +1,7 @@
-use Rattle.std.proofs.Common.{◌≡◌, ℕ, List, [], ◌∷◌, sym, subst, ◌∙◌}
+use Rattle.std.proofs.Common.{ℕ, List, [], ◌∷◌, sym, subst, ◌∙◌}
 use Rattle.std.specs.Prelude.{IfOk}
 use Rattle.std.proofs.lemmas.Result.{IfOk-weaker}
-use Rattle.wq_diagnosis.specs.Diagnosis.{IsPlain, shown_lines}
+use Rattle.wq_diagnosis.specs.Diagnosis.{IsPlain}
 use Rattle.wq_diagnosis.proofs.Lines.{plain-lines}
 use Rattle.wq_voice.specs.Reasons.{plain_head}
 use Rattle.wq_changes.specs.Told.{IsOneLine}
