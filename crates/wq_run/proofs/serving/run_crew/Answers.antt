@@ -21,6 +21,8 @@ returns-clause-called g c =
     let yes : IsTrue c.are_answered.result = search rules in
     let read : c.as_slice.result.now ≡ ran.results.items = search rules in
     have_made w (shared_by_two (length c.args.table.now.names)) ran.callers.items ran.results.items seats
-    (subst (λ lists. HaveCalled (λ before now answer seat. CountsCalls w before answer (no_counts w) seat × (now ≡ before))
+    (subst (λ lists. HaveCalled (λ before now answer seat. CountsCalls w before answer (no_counts w) seat
+    × (now ≡ before))
     lists ran.callers.items ran.results.items seats) c.in_ok-bodies.ensures.callers c.in-Ok.ensures.called)
-    (subst (λ (results : List (Result (Unit {0}) CallError)). All (λ r. IsTrue (is_ok r)) results) read (c.are_answered.ensures yes))
+    (subst (λ (results : List (Result (Unit {0}) CallError)). All (λ r. IsTrue (is_ok r)) results) read
+    (c.are_answered.ensures yes))
