@@ -95,7 +95,8 @@ pub record HasStopped (may : ℕ → Result (Unit {0}) BodyFault → List ℕ �
   pub last : (new ≡ between) ⊎ ((item : ℕ) × (answer : Result (Unit {0}) BodyFault) × may item answer between new)
 
 -- such executions, and then one more run of a body, which wasn't finished
-pub record HasLeftOne (may : ℕ → Result (Unit {0}) BodyFault → List ℕ → List ℕ → Type 0) (old new : List ℕ) : Type 0 where
+pub record HasLeftOne (may : ℕ → Result (Unit {0}) BodyFault → List ℕ → List ℕ → Type 0)
+    (old new : List ℕ) : Type 0 where
   pub executions : List Execution
   pub between : List ℕ
   pub executed : AreExecuted may old executions between
@@ -133,9 +134,11 @@ RefusesServe w q c seat e = call_code e ≢ 64 → (call_code e ≡ 60) × HasCo
 abbrev pub RefusesHelper : Wiring → ℕ → ℕ → List ℕ → CallError → Type 0
 RefusesHelper w q h seat e = call_code e ≢ 64 → (call_code e ≡ 60) × IsHelper w q h × (seat_rows ≤ sum seat)
 
--- context c of lane q was refused (64), where it executed by this body and turned these counts into those: when it was to start an
--- entry, which something that the lock may protect refuses, since the context runs one already or isn't there; or when it was to
--- finish what its body had run last. A context that is there comes to this only where another caller drives it, too
-abbrev pub WasDrivenIn : Wiring → ℕ → ℕ → ℕ → (ℕ → Result (Unit {0}) BodyFault → List ℕ → List ℕ → Type 0) → List ℕ → List ℕ
+-- context c of lane q was refused (64), where it executed by this body and turned these counts into those: when it was
+-- to start an entry, which something that the lock may protect refuses, since the context runs one already or isn't
+-- there; or when it was to finish what its body had run last. A context that is there comes to this only where another
+-- caller drives it, too
+abbrev pub WasDrivenIn : Wiring → ℕ → ℕ → ℕ → (ℕ → Result (Unit {0}) BodyFault → List ℕ → List ℕ → Type 0) → List ℕ
+    → List ℕ
     → Type 0
 WasDrivenIn w rows q c may old new = WasWrongToStartIn w rows q c ⊎ HasLeftOne may old new

@@ -122,14 +122,16 @@ pub(crate) fn run_threads<
 >(rt: &R, runtime: &WqRuntime<N, A>, jobs: Unstarted<N, A, B, C>) -> (Board<N, A, B, C>, bool)
     ensures served { IsTrue result.1 → AreDone
         (λ job end. (end.context ≡ job.context)
-        × Executes (B.may N.wiring job.body) (no_counts N.wiring) end.seat end.rescued) jobs.board.contexts.waiting.items
+        × Executes (B.may N.wiring job.body) (no_counts N.wiring) end.seat end.rescued)
+        jobs.board.contexts.waiting.items
         result.0.contexts.ends.items }
     ensures called { IsTrue result.1 → AreDone
         (λ job end. C.did N.wiring job.caller end.caller end.result (no_counts N.wiring) end.seat)
         jobs.board.callers.waiting.items result.0.callers.ends.items }
     ensures contexts_back { IsTrue result.1 → vec_len result.0.contexts.ends ≡ vec_len jobs.board.contexts.waiting }
     ensures callers_back { IsTrue result.1 → vec_len result.0.callers.ends ≡ vec_len jobs.board.callers.waiting }
-    ensures lost { result.1 ≡ false → IsOneLost (vec_len jobs.board.contexts.waiting) (vec_len jobs.board.callers.waiting)
+    ensures lost { result.1 ≡ false → IsOneLost (vec_len jobs.board.contexts.waiting)
+        (vec_len jobs.board.callers.waiting)
         (vec_len result.0.contexts.waiting + vec_len result.0.contexts.ends)
         (vec_len result.0.callers.waiting + vec_len result.0.callers.ends) }
 {
@@ -144,8 +146,10 @@ pub(crate) fn run_threads<
             ensures called { IsTrue result.1 → AreDone
                 (λ job end. C.did N.wiring job.caller end.caller end.result (no_counts N.wiring) end.seat)
                 jobs.board.callers.waiting.items result.0.callers.ends.items }
-            ensures contexts_back { IsTrue result.1 → vec_len result.0.contexts.ends ≡ vec_len jobs.board.contexts.waiting }
-            ensures callers_back { IsTrue result.1 → vec_len result.0.callers.ends ≡ vec_len jobs.board.callers.waiting }
+            ensures contexts_back { IsTrue result.1
+                → vec_len result.0.contexts.ends ≡ vec_len jobs.board.contexts.waiting }
+            ensures callers_back { IsTrue result.1
+                → vec_len result.0.callers.ends ≡ vec_len jobs.board.callers.waiting }
             ensures lost { result.1 ≡ false → IsOneLost
                 (vec_len jobs.board.contexts.waiting) (vec_len jobs.board.callers.waiting)
                 (vec_len result.0.contexts.waiting + vec_len result.0.contexts.ends)

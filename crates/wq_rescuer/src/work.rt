@@ -117,7 +117,8 @@ impl<'a, N: Naming, A: Allocator> Work<'a, N, A> {
         ensures refused { IfErr result (λ e. RefusesWaitIn N.wiring self.old.seat.now self.old.context.lane self.old.context.helper e × RefusedWaitIn N.wiring self.old.seat.now self.new.seat.now self.old.context.lane self.old.context.helper false target e) }
         ensures waiter { HasContext N.wiring self.old.context.lane self.old.context.helper → SeatHasRoom self.old.seat.now → HasWaiter N.wiring self.old.context.lane false target result }
         ensures took { Waits N.wiring N.rows self.old.seat.now
-            (context_of self.old.context.lane self.old.context.helper) (flush_of false target) result self.new.seat.now }
+            (context_of self.old.context.lane self.old.context.helper)
+            (flush_of false target) result self.new.seat.now }
         ensures finished { SameFinished self.old.seat.now self.new.seat.now }
         ensures same_seat { self.new.seat.ghost_name ≡ self.old.seat.ghost_name }
         ensures context { self.new.context ≡ self.old.context }

@@ -62,9 +62,11 @@ returns-in_err-finish_in-clause-cause g c = λ there.
     let answer = c.execute-answer.result in
     let counts = c.execute-answer.new.seat in
     has_cause _ c.from_residual-in_err-finish_in.result
-    (inr (left_one (g.B.Body.may g.N.Naming.wiring c.args.body.now) c.args.seat.now c.loop.seat counts c.finish_in.new.seat
+    (inr (left_one (g.B.Body.may g.N.Naming.wiring c.args.body.now) c.args.seat.now c.loop.seat counts
+    c.finish_in.new.seat
     before.finished before.faults item answer c.loop.invariant.5
-    (c.loop.invariant.6 item answer c.loop.seat counts c.execute-answer.ensures.may) c.in_err-finish_in.ensures.refused.1))
+    (c.loop.invariant.6 item answer c.loop.seat counts c.execute-answer.ensures.may)
+    c.in_err-finish_in.ensures.refused.1))
 
 pub returns-in_err-finish_in-clause-stopped : goal.returns-in_err-finish_in-clause-stopped
 returns-in_err-finish_in-clause-stopped g c =

@@ -35,7 +35,8 @@ gather-requires-clause-in_order g c =
     let yes : IsTrue c.run_threads-board.result.1 = search rules in
     done_part (λ job end. (end.context ≡ job.context)
     × Executes (g.B.Body.may w job.body) (no_counts w) end.seat end.rescued)
-    (λ job. job.context) (λ end. end.context) (λ job end done. done.0) c.make_jobs-jobs.result.0.board.contexts.waiting.items
+    (λ job. job.context) (λ end. end.context)
+    (λ job end done. done.0) c.make_jobs-jobs.result.0.board.contexts.waiting.items
     c.run_threads-board.result.0.contexts.ends.items (c.run_threads-board.ensures.served yes)
     ∙ c.make_jobs-jobs.ensures.contexts
 

@@ -1,5 +1,7 @@
-use Rattle.std.proofs.Common.{rules, ◌≡◌, arith, drop, length, subst}
-use Rattle.std.specs.Prelude.{IsTrue}
+use Rattle.std.proofs.Common.{rules, ◌≡◌, List, Result, arith, drop, length, subst}
+use Rattle.std.specs.Prelude.{IsTrue, is_ok}
+use Rattle.std.specs.List.{All}
+use Rattle.wq_history.specs.declared.fault.CallError.{CallError}
 use Rattle.wq_rescuer.specs.Executing.{no_counts}
 use Rattle.wq_rescuer.specs.Contexts.{contexts_of}
 use Rattle.wq_rescuer.specs.Serving.{HaveCalled}
@@ -17,7 +19,10 @@ returns-clause-called g c =
     let ran = c.in-Ok.ran in
     let seats = drop (length (contexts_of w)) ran.seats.items in
     let yes : IsTrue c.are_answered.result = search rules in
+    let read : c.as_slice.result.now ≡ ran.results.items = search rules in
     have_made w (shared_by_two (length c.args.table.now.names)) ran.callers.items ran.results.items seats
-    (subst (λ lists. HaveCalled (λ before now answer seat. CountsCalls w before answer (no_counts w) seat × (now ≡ before))
+    (subst (λ lists. HaveCalled (λ before now answer seat. CountsCalls w before answer (no_counts w) seat
+    × (now ≡ before))
     lists ran.callers.items ran.results.items seats) c.in_ok-bodies.ensures.callers c.in-Ok.ensures.called)
-    (c.are_answered.ensures yes)
+    (subst (λ (results : List (Result (Unit {0}) CallError)). All (λ r. IsTrue (is_ok r)) results) read
+    (c.are_answered.ensures yes))
