@@ -100,10 +100,10 @@ pub fn eight() -> u32
 }
 
 /// No edit changes it.
-pub fn none() -> bool
-    ensures { result ≡ false }
+pub fn nine() -> u32
+    ensures { result ≡ 9 }
 {
-    false
+    9
 }
 END
 cat >crates/high/proofs/eight/Answers.antt <<'END'
