@@ -15,7 +15,7 @@ import tempfile
 
 ROOT = pathlib.Path(__file__).resolve().parents[2]
 # What is older than this commit was written without a limit.
-SINCE = "b3eabd476af0cec6350cd1f5507e8f6142cc16cc"
+SINCE = "cb00b9322d9ccc4d8fb430f7e627ec04d060ce22"
 MOST = 120
 PARTS = ("src", "specs", "proofs")
 
