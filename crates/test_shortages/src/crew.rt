@@ -30,6 +30,7 @@ fn is_answered<N: Naming, R: Wait, A: Allocator + Copy>(
     requires { items N.wiring ≡ length table.now.waits }
 {
     let (q, helper) = context;
+    let _items = table.len();
     let Ok(mut body) = ScriptBody::new(ample, table) else {
         return false;
     };
