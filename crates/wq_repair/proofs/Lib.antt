@@ -37,5 +37,5 @@ pub mod RepairedBy
 pub mod Widened
 pub mod Tried
 pub mod TrialReady
-pub mod Bits
+pub mod NumberSets
 pub mod Nearby

@@ -5,7 +5,7 @@ use Rattle.wq_items.specs.Chain.{IsChain, last_of}
 use Rattle.wq_repair.specs.Vertices.{LeadsOn, LeadsTo}
 use Rattle.wq_repair.specs.Near.{Holds, HoldsAt, GainsAt, AreLedTo, AreLeading, AreNear, LeadEitherWay}
 use Rattle.wq_repair.proofs.Chains.{LeadsTo-one, LeadsTo-more}
-use Rattle.wq_repair.proofs.Bits.{Holds-none}
+use Rattle.wq_repair.proofs.NumberSets.{Holds-none}
 
 LeadsTo-first : (R : ℕ → ℕ → Type 0) (p q z : ℕ) → R p q → LeadsTo R q z → LeadsTo R p z
 LeadsTo-first R p q z step leads = record { others = q ∷ leads.others; chain = (step, leads.chain); step = leads.step }
