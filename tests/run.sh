@@ -28,8 +28,9 @@
 # EXAMPLE_RDISK name others, as in `WQPLAN=/tmp/wqplan bash tests/run.sh cli model`. The gate doesn't heed them.
 #
 # What the toolchain says of a crate has the seconds since the start beside it. At the end come when each crate was proved and
-# its processor seconds, with those of its tests and of its build, and the seconds and the processor seconds of each script. The last line counts what the toolchain counts, crates and edits,
-# and each script as one. The status is that of the first that failed. It is 2 where a PART is unknown.
+# its processor seconds, with those of its tests and of its build, and the seconds and the processor seconds of each script.
+# The last line counts what the toolchain counts, crates and edits, and each script as one. The status is that of the first
+# that failed. It is 2 where a PART is unknown.
 set -uo pipefail
 
 # The scripts: part, name, and the files of tests/ that are run in turn, each with its words. The name of a program stands for
