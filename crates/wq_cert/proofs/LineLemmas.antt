@@ -7,7 +7,7 @@ use Rattle.std.proofs.lemmas.List.Elements.{All-filter}
 use Rattle.std.proofs.lemmas.List.FromFn.{get_or-map-range_with_len}
 use Rattle.std.proofs.lemmas.Grind.{flat_map-append}
 use Rattle.wq_buckets.specs.Places.{buckets_of}
-use Rattle.wq_lines.specs.LineText.{spaced, line_text}
+use Rattle.wq_text.specs.LineText.{spaced, line_text}
 use Rattle.wq_items.specs.Table.{items_at}
 use Rattle.wq_items.proofs.Lists.{range_with_len-below}
 use Rattle.wq_cert.specs.PlanText.{name_of, workqueue_line}

@@ -15,7 +15,7 @@ use Rattle.std.specs.Prelude.{IsTrue, codes, decimal, filter, flat_map}
 use Rattle.wq_items.specs.Names.{is_name}
 use Rattle.wq_core.specs.declared.step.Step.{Step}
 use Rattle.wq_core.specs.declared.step.Step.TheVariants.{Queue, Cancel, Start, Wait, Over, WaitAll, OverAll, Finish, Help}
-use Rattle.wq_lines.specs.LineText.{spaced, line_text}
+use Rattle.wq_text.specs.LineText.{spaced, line_text}
 use Rattle.wq_items.specs.Table.{items_at}
 use Rattle.wq_cert.specs.PlanText.{name_of, plan_line, wq_line, chain_line, arc_line, plan_text}
 use Rattle.wq_cert.specs.CircleText.{circle_line, circle_text}

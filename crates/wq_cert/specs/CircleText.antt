@@ -2,7 +2,7 @@
 use Rattle.std.specs.Prelude.{ℕ, List, [], ◌∷◌, ◌++◌, length, map, flat_map, codes, decimal, Option}
 use Rattle.std.specs.Option.{option_map_or}
 use Rattle.wq_core.specs.declared.step.Step.{Step}
-use Rattle.wq_lines.specs.LineText.{line_text}
+use Rattle.wq_text.specs.LineText.{line_text}
 use Rattle.wq_cert.specs.PlanText.{arc_line}
 use Rattle.wq_cert.specs.RunText.{run_lines}
 

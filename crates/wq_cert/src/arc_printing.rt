@@ -4,12 +4,12 @@
 //! is printed.
 
 ghost use Rattle.std.specs.Prelude.{◌≡◌, ◌<◌, ◌++◌, ℕ, length, OnErr, OnOk};
-ghost use Rattle.wq_lines.specs.LineText.{IsBegun, line_text};
+ghost use Rattle.wq_text.specs.LineText.{IsBegun, line_text};
 ghost use Rattle.wq_cert.specs.PlanText.{arc_line};
 
 use std::alloc::{AllocError, Allocator};
 use wq_items::{ItemId, ItemTable};
-use wq_lines::{put, put_end, put_word};
+use wq_text::{put, put_end, put_word};
 
 /// Adds `arc NAME TARGET`.
 ///

@@ -6,7 +6,7 @@ ghost use Rattle.std.specs.Prelude.{◌≡◌, ◌<◌, ◌++◌, ◌^◌, ℕ, 
 ghost use Rattle.std.specs.List.{All};
 ghost use Rattle.wq_core.specs.declared.step.Step.{Step};
 ghost use Rattle.wq_core.specs.Runs.{HasNoHelp};
-ghost use Rattle.wq_lines.specs.LineText.{line_text};
+ghost use Rattle.wq_text.specs.LineText.{line_text};
 ghost use Rattle.wq_cert.specs.CircleText.{circle_line, circle_text};
 ghost use Rattle.wq_cert.specs.RunText.{step_item};
 
@@ -15,7 +15,7 @@ use crate::run_printing::put_run;
 use std::alloc::{AllocError, Allocator};
 use wq_core::Step;
 use wq_items::{ItemId, ItemTable};
-use wq_lines::{put, put_end, put_number};
+use wq_text::{put, put_end, put_number};
 
 /// Adds `circle N`.
 fn put_circle_line<A: Allocator + Copy>(

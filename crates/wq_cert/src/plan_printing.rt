@@ -5,7 +5,7 @@
 
 ghost use Rattle.std.specs.Prelude.{◌≡◌, ◌<◌, ◌+◌, ◌++◌, ◌^◌, ℕ, length, OnOk, IfOk};
 ghost use Rattle.std.specs.List.{All};
-ghost use Rattle.wq_lines.specs.LineText.{line_text};
+ghost use Rattle.wq_text.specs.LineText.{line_text};
 ghost use Rattle.wq_groups.specs.Assignment.{item_lanes};
 ghost use Rattle.wq_cert.specs.PlanText.{plan_line, workqueue_line, chain_line, plan_text};
 
@@ -14,7 +14,7 @@ use std::alloc::{AllocError, Allocator};
 use wq_buckets::Buckets;
 use wq_groups::{Assignment, Groups};
 use wq_items::{ItemId, ItemTable};
-use wq_lines::{put, put_end, put_number, put_word};
+use wq_text::{put, put_end, put_number, put_word};
 
 /// Adds `plan K`.
 fn put_plan_line<A: Allocator + Copy>(out: &mut Vec<u8, A>, lanes: u16) -> Result<(), AllocError>

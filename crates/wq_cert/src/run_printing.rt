@@ -7,7 +7,7 @@ ghost use Rattle.std.specs.Prelude.{◌≡◌, ◌<◌, ◌++◌, ◌∷◌, [],
 ghost use Rattle.std.specs.List.{All};
 ghost use Rattle.wq_core.specs.declared.step.Step.{Step};
 ghost use Rattle.wq_core.specs.Runs.{HasNoHelp, IsHelp};
-ghost use Rattle.wq_lines.specs.LineText.{line_text};
+ghost use Rattle.wq_text.specs.LineText.{line_text};
 ghost use Rattle.wq_cert.specs.PlanText.{name_of};
 ghost use Rattle.wq_cert.specs.RunText.{step_item, run_line, step_line, run_lines, run_text};
 
@@ -15,7 +15,7 @@ use std::alloc::{AllocError, Allocator};
 use wq_core::Step;
 use wq_groups::LaneId;
 use wq_items::{ItemId, ItemTable};
-use wq_lines::{put, put_end, put_number, put_word};
+use wq_text::{put, put_end, put_number, put_word};
 
 /// Adds `run M`.
 fn put_run_line<A: Allocator + Copy>(out: &mut Vec<u8, A>, steps: &[Step]) -> Result<(), AllocError>

@@ -9,7 +9,7 @@ use std::alloc::{AllocError, Allocator};
 use wq_commands::Declaration;
 use wq_core::Workqueues;
 use wq_diagnosis::{Source, put_line};
-use wq_lines::put;
+use wq_text::put;
 use wq_repair_command::assignment_text;
 use wq_voice::{CAN_HANG, FlushLines, Subject, Wording, of_subject};
 

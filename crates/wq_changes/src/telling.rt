@@ -19,7 +19,7 @@ use wq_commands::Declaration;
 use wq_core::Workqueues;
 use wq_diagnosis::{Source, put_line};
 use wq_findings::put_place;
-use wq_lines::put;
+use wq_text::put;
 use wq_voice::{FlushLines, Subject, Wording, of_subject};
 
 /// Of how many changes it is said why, at most, if there are so many items. Each takes a search for a shortest run.

@@ -9,7 +9,7 @@ use std::alloc::{AllocError, Allocator};
 use wq_commands::{Stop, read_declaration};
 use wq_diagnosis::{Source, put_line};
 use wq_items::ItemTable;
-use wq_lines::put;
+use wq_text::put;
 
 /// The first of these names that is that of no item.
 fn first_unknown<'a, A: Allocator + Copy>(

@@ -15,7 +15,7 @@ use wq_commands::Declaration;
 use wq_core::Workqueues;
 use wq_groups::{GroupId, LaneId};
 use wq_items::ItemId;
-use wq_lines::put;
+use wq_text::put;
 use wq_voice::{item_words, workqueue_words};
 
 /// The first item of a group.

@@ -1,6 +1,6 @@
 -- Lines of a components text, as they grow word by word.
 use Rattle.std.proofs.Common.{◌≡◌, ℕ, List, [], ◌∷◌, ◌++◌, sym, ap, ◌∙◌, append_assoc, append-nil}
-use Rattle.wq_lines.specs.LineText.{spaced, line_text}
+use Rattle.wq_text.specs.LineText.{spaced, line_text}
 
 -- a line of two words, which is written word by word
 line_text-two : (out w a : List ℕ) → ((out ++ w) ++ spaced a) ++ (10 ∷ []) ≡ out ++ line_text (w ∷ a ∷ [])

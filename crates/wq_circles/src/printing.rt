@@ -4,14 +4,14 @@
 
 ghost use Rattle.std.specs.Prelude.{◌≡◌, ◌<◌, ◌++◌, ◌^◌, length, map, flat_map, IfOk, OnOk};
 ghost use Rattle.std.specs.List.{All};
-ghost use Rattle.wq_lines.specs.LineText.{line_text};
+ghost use Rattle.wq_text.specs.LineText.{line_text};
 ghost use Rattle.wq_circles.specs.ComponentsText.{components_line, component_line, component_lines, components_text, bare_line, bare_lines, circles_text, AreBetween};
 
 use std::alloc::{AllocError, Allocator};
 use wq_cert::put_arc_line;
 use wq_graph::WaitArc;
 use wq_items::ItemTable;
-use wq_lines::{put, put_end, put_number};
+use wq_text::{put, put_end, put_number};
 
 /// Adds `component M`.
 fn put_component_line<A: Allocator + Copy>(

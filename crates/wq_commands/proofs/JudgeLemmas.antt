@@ -18,7 +18,7 @@ use Rattle.wq_deadlock.proofs.BareLanes.{IsWiring-workqueues, IsKnot-first, IsRu
 use Rattle.wq_deadlock.proofs.OnlyRun.{same_run_of}
 use Rattle.wq_deadlock.proofs.Renumbered.{not_safe-by}
 use Rattle.wq_cert.specs.declared.fault.CertError.{CertError}
-use Rattle.wq_lines.specs.LineText.{line_text}
+use Rattle.wq_text.specs.LineText.{line_text}
 use Rattle.wq_cert.specs.Ranges.{AreWorkqueuesOf}
 use Rattle.wq_cert.specs.RunText.{run_text}
 use Rattle.wq_cert.specs.Texts.{workqueues_of_text, run_of, cert_refusal}

@@ -1,7 +1,7 @@
 -- Lines of words, as they grow word by word.
 use Rattle.std.proofs.Common.{◌≡◌, ℕ, List, [], ◌∷◌, ◌++◌, sym, ap, ◌∙◌, append_assoc, append-nil}
 use Rattle.std.specs.Prelude.{flat_map}
-use Rattle.wq_lines.specs.LineText.{spaced, line_text}
+use Rattle.wq_text.specs.LineText.{spaced, line_text}
 
 -- two words after others
 pub spaced-two : (out a b : List ℕ) → (out ++ spaced a) ++ spaced b ≡ out ++ flat_map spaced (a ∷ b ∷ [])

@@ -12,7 +12,7 @@ use Rattle.wq_plan.specs.Plan.{IsPlan, chain_of}
 use Rattle.wq_deadlock.specs.CircleRun.{IsCircleRun}
 use Rattle.wq_commands.specs.declared.end.End.{End}
 use Rattle.wq_commands.specs.declared.end.End.TheVariants.{Good, Bad, Refused}
-use Rattle.wq_lines.specs.LineText.{line_text}
+use Rattle.wq_text.specs.LineText.{line_text}
 use Rattle.wq_cert.specs.PlanText.{plan_text}
 use Rattle.wq_cert.specs.CircleText.{circle_text}
 use Rattle.wq_commands.specs.Declaration.{Declared, declaration}

@@ -1,6 +1,6 @@
 -- The answer to a declaration and a certificate: whether the certificate shows what it says.
 use Rattle.std.specs.Prelude.{◌≡◌, ◌<◌, ℕ, List, [], ◌∷◌, length, codes, decimal, Result, Ok, Err, MatchResult}
-use Rattle.wq_lines.specs.LineText.{line_text}
+use Rattle.wq_text.specs.LineText.{line_text}
 use Rattle.wq_cert.specs.PlanText.{name_of}
 use Rattle.wq_cert.specs.Certificate.{Certificate}
 use Rattle.wq_cert.specs.Texts.{answer_of, cert_refusal}

@@ -5,7 +5,7 @@ use Rattle.wq_core.specs.declared.step.Step.{Step}
 use Rattle.wq_core.specs.Workqueues.{Workqueues, wiring_of}
 use Rattle.wq_core.specs.Deadlock.{IsSafe}
 use Rattle.wq_deadlock.specs.Judging.{IsHang}
-use Rattle.wq_lines.specs.LineText.{line_text}
+use Rattle.wq_text.specs.LineText.{line_text}
 use Rattle.wq_cert.specs.RunText.{run_text}
 use Rattle.wq_cert.specs.Texts.{workqueues_of_text, cert_refusal}
 use Rattle.wq_commands.specs.declared.end.End.{End}

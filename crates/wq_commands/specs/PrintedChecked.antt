@@ -2,7 +2,7 @@
 use Rattle.std.specs.Prelude.{◌≡◌, ℕ, List, length, Result, Ok, Err}
 use Rattle.wq_text.specs.Refusal.{Refusal}
 use Rattle.wq_cert.specs.Certificate.{PlanCertificate, CircleCertificate, OfPlan, OfCircle}
-use Rattle.wq_lines.specs.LineText.{line_text}
+use Rattle.wq_text.specs.LineText.{line_text}
 use Rattle.wq_cert.specs.Texts.{answer_of, assignment_of_text}
 use Rattle.wq_checker.specs.declared.answer.Yes.TheVariants as yes
 use Rattle.wq_commands.specs.declared.end.End.{End}

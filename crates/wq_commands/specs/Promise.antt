@@ -1,7 +1,7 @@
 -- What an answer promises, in terms of the bytes that are printed.
 use Rattle.std.specs.Prelude.{◌≡◌, ℕ, ◌+◌, ◌-◌, ◌<◌, List, ◌∷◌, ◌++◌, length, map, flat_map, slice_get, slice_index, Some, MatchOption}
 use Rattle.std.specs.List.{All}
-use Rattle.wq_lines.specs.LineText.{line_text}
+use Rattle.wq_text.specs.LineText.{line_text}
 use Rattle.wq_items.specs.Table.{ItemWaits}
 use Rattle.wq_groups.specs.Assignment.{Assignment, IsAssignment, item_lanes}
 use Rattle.wq_groups.specs.Declaration.{Declaration}

@@ -2,7 +2,7 @@
 use Rattle.std.specs.Prelude.{◌≡◌, ℕ, List, [], ◌∷◌, codes, decimal, MatchResult}
 use Rattle.wq_core.specs.declared.step.Step.{Step}
 use Rattle.wq_core.specs.Workqueues.{Workqueues, wiring_of}
-use Rattle.wq_lines.specs.LineText.{line_text}
+use Rattle.wq_text.specs.LineText.{line_text}
 use Rattle.wq_cert.specs.Texts.{workqueues_of_text, run_of, cert_refusal}
 use Rattle.wq_checker.specs.declared.run.RunEnd.{RunEnd}
 use Rattle.wq_checker.specs.declared.run.RunEnd.TheVariants.{NotLawful, Deadlock, Stuck, Free}

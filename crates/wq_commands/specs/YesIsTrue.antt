@@ -4,7 +4,7 @@ use Rattle.wq_groups.specs.Assignment.{Assignment, IsAssignment}
 use Rattle.wq_core.specs.Wiring.{wiring}
 use Rattle.wq_core.specs.Deadlock.{Deadlocks, IsLeast}
 use Rattle.wq_cert.specs.Certificate.{PlanCertificate, CircleCertificate, OfPlan, OfCircle}
-use Rattle.wq_lines.specs.LineText.{line_text}
+use Rattle.wq_text.specs.LineText.{line_text}
 use Rattle.wq_cert.specs.Texts.{answer_of}
 use Rattle.wq_checker.specs.declared.answer.Yes.TheVariants as yes
 use Rattle.wq_checker.specs.Chains.{IsChainAlong, IsCircleAlong}

@@ -4,7 +4,7 @@
 
 ghost use Rattle.std.specs.Prelude.{◌≡◌, ◌<◌, ◌++◌, ◌∷◌, [], IfOk, IfErr, OnOk, length, codes, decimal, flat_map};
 ghost use Rattle.wq_groups.specs.Declaration.{declaration_of};
-ghost use Rattle.wq_lines.specs.LineText.{spaced, line_text};
+ghost use Rattle.wq_text.specs.LineText.{spaced, line_text};
 ghost use Rattle.wq_cert.specs.Certificate.{certificate};
 ghost use Rattle.wq_checker.specs.Answers.{IsAsked};
 ghost use Rattle.wq_checker.specs.declared.answer.No.TheVariants.{NotFalling};
@@ -19,7 +19,7 @@ use wq_cert::{CertAnswer, CertError, read_answer};
 use wq_checker::{No, Yes, check_answer};
 use wq_groups::Groups;
 use wq_items::{ItemId, ItemTable};
-use wq_lines::{put, put_end, put_number, put_word};
+use wq_text::{put, put_end, put_number, put_word};
 
 /// `yes K`.
 fn yes_text<A: Allocator + Copy>(alloc: A, number: u32) -> Result<Vec<u8, A>, AllocError>

@@ -21,7 +21,7 @@ use wq_core::{Step, Workqueues};
 use wq_deadlock::{Judged, judge as judge_workqueues};
 use wq_groups::Groups;
 use wq_items::ItemTable;
-use wq_lines::{put, put_end};
+use wq_text::{put, put_end};
 
 /// `safe`.
 ///

@@ -18,7 +18,7 @@ ghost use Rattle.wq_graph.specs.declared.arc.WaitArc.{WaitArc};
 ghost use Rattle.wq_graph.specs.Graph.{group_graph, lane_graph};
 ghost use Rattle.wq_levels.specs.Walks.{IsWalkedCircle};
 ghost use Rattle.wq_plan.specs.Plan.{IsPlan};
-ghost use Rattle.wq_lines.specs.LineText.{line_text};
+ghost use Rattle.wq_text.specs.LineText.{line_text};
 ghost use Rattle.wq_checker.specs.declared.run.RunEnd.TheVariants.{Deadlock};
 ghost use Rattle.wq_cert.specs.Lines.{cert_lines};
 ghost use Rattle.wq_cert.specs.Reading.{is_bare_line};

@@ -7,7 +7,7 @@ ghost use Rattle.wq_commands.specs.Answer.{refusal_text, PrintsRefusal};
 
 use crate::end::End;
 use std::alloc::{AllocError, Allocator};
-use wq_lines::{put, put_end, put_number, put_word};
+use wq_text::{put, put_end, put_number, put_word};
 
 /// `refused CODE line N`.
 pub(crate) fn refusal_text<A: Allocator + Copy>(

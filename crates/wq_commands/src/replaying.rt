@@ -3,7 +3,7 @@
 //! It takes the time and the memory of reading the three texts and of making the steps.
 
 ghost use Rattle.std.specs.Prelude.{◌≡◌, ◌∷◌, [], ◌<◌, IfOk, length, codes, decimal};
-ghost use Rattle.wq_lines.specs.LineText.{line_text};
+ghost use Rattle.wq_text.specs.LineText.{line_text};
 ghost use Rattle.wq_commands.specs.Replaying.{replay_words, replay_end, AnswersReplay, ReplaysAssigned, ReplaysDeclared, ReplaysRun};
 ghost use Rattle.wq_commands.specs.Why.{unlawful, SaysSteps, SaysRunUnder, SaysRun, SaysReplayed};
 
@@ -16,7 +16,7 @@ use wq_checker::{RunEnd, check_run_on};
 use wq_core::{Step, Workqueues};
 use wq_groups::Groups;
 use wq_items::ItemTable;
-use wq_lines::{put, put_end, put_number};
+use wq_text::{put, put_end, put_number};
 
 /// `not lawful N`.
 fn unlawful_text<A: Allocator + Copy>(alloc: A, number: u32) -> Result<Vec<u8, A>, AllocError>

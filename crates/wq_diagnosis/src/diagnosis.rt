@@ -18,8 +18,7 @@ use wq_findings::{
     CertificateKind, Finding, Found, Mark, Refused, What, has_words, in_answer, in_certificate,
     in_declaration, line_at, put_place,
 };
-use wq_lines::put;
-use wq_text::{Line, Text};
+use wq_text::{Line, Text, put};
 
 /// The number of the refusal of a plan that has too many workqueues to run.
 pub const TOO_MANY: u32 = 69;

@@ -7,7 +7,7 @@ ghost use Rattle.wq_diagnosis.specs.Diagnosis.{shown_lines};
 
 use crate::layout::put_line;
 use std::alloc::{AllocError, Allocator};
-use wq_lines::put;
+use wq_text::put;
 
 /// The line without its end, as it is before each byte is shown.
 fn failed_line<A: Allocator + Copy>(

@@ -16,8 +16,8 @@ use wq_commands::Declaration;
 use wq_core::{Step, Waiting, Workqueues};
 use wq_groups::LaneId;
 use wq_items::ItemId;
-use wq_lines::put;
 use wq_names::name_at;
+use wq_text::put;
 
 /// The name of the workqueue of an item; no byte where it has none, or where there is no such item.
 fn workqueue_name<'a, A: Allocator + Copy>(

@@ -23,9 +23,8 @@ use wq_cert::{CertError, read_run, read_workqueues};
 use wq_commands::{Declaration, Stop, read_declaration};
 use wq_core::{Core, Step, Workqueues};
 use wq_findings::{Excerpt, Hint, Mark, Marks, put_place};
-use wq_lines::put;
 use wq_names::workqueue_names;
-use wq_text::{Line, Text};
+use wq_text::{Line, Text, put};
 
 /// The first step that isn't lawful: its number, counted from 1, the step, and why it isn't.
 #[derive(Clone, Copy)]

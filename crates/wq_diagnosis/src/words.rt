@@ -11,8 +11,8 @@ use wq_commands::Declaration;
 use wq_core::Workqueues;
 use wq_groups::LaneId;
 use wq_items::{ItemId, ItemTable};
-use wq_lines::put;
 use wq_names::name_at;
+use wq_text::put;
 
 /// Adds the name of a workqueue behind its number, if it has a name.
 pub(crate) fn put_name<A: Allocator + Copy>(

@@ -2,7 +2,7 @@
 -- red in which a shortest run waits that ends stuck. There may be several such runs: that is the one freedom of an answer.
 use Rattle.std.specs.Prelude.{◌≡◌, ◌⊎◌, ◌==◌, ◌&&◌, not, cond, if◌then◌else◌, Bool, false, true, ℕ, List, [], ◌++◌, length, codes, decimal, MatchResult}
 use Rattle.std.specs.List.{list_any}
-use Rattle.wq_lines.specs.LineText.{spaced}
+use Rattle.wq_text.specs.LineText.{spaced}
 use Rattle.wq_items.specs.Chain.{HasCircle}
 use Rattle.wq_items.specs.Table.{flush_count}
 use Rattle.wq_groups.specs.Declaration.{Declaration, GroupWaits}

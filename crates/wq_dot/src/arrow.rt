@@ -14,7 +14,7 @@ use crate::tooltip::put_tooltip;
 use std::alloc::{AllocError, Allocator};
 use wq_graph::WaitArc;
 use wq_items::{ItemId, ItemTable, Target};
-use wq_lines::put;
+use wq_text::put;
 
 /// Whether a flush is of a whole workqueue.
 fn is_whole<A: Allocator + Copy>(table: &ItemTable<'_, A>, flush: WaitArc) -> bool

@@ -19,7 +19,7 @@ use wq_buckets::Buckets;
 use wq_graph::group_arcs_by_place;
 use wq_groups::{Assignment, Groups};
 use wq_items::ItemTable;
-use wq_lines::put;
+use wq_text::put;
 use wq_names::name_at;
 
 /// Whether a workqueue has no rescuer: those past the end of the list have one.

@@ -8,7 +8,7 @@ ghost use Rattle.wq_dot.specs.Drawing.{ended, group_lines, member_line, group_bo
 
 use std::alloc::{AllocError, Allocator};
 use wq_items::{ItemId, ItemTable};
-use wq_lines::put;
+use wq_text::put;
 
 /// Adds the line of a group of one item.
 fn put_single<A: Allocator + Copy>(

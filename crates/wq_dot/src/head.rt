@@ -6,7 +6,7 @@ ghost use Rattle.std.specs.Prelude.{◌≡◌, ◌++◌, flat_map, OnOk};
 ghost use Rattle.wq_dot.specs.Drawing.{ended, head_lines};
 
 use std::alloc::{AllocError, Allocator};
-use wq_lines::put;
+use wq_text::put;
 
 /// Adds the head, with this title.
 pub(crate) fn put_head<A: Allocator + Copy>(

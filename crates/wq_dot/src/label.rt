@@ -7,7 +7,7 @@ ghost use Rattle.wq_dot.specs.Labels.{before_name, is_plain, label_of, label_tex
 
 use crate::tooltip::put_all_escaped;
 use std::alloc::{AllocError, Allocator};
-use wq_lines::{put, put_number};
+use wq_text::{put, put_number};
 
 /// Adds the number of a workqueue.
 pub(crate) fn put_numbered<A: Allocator + Copy>(

@@ -6,7 +6,7 @@ ghost use Rattle.std.specs.Prelude.{◌≡◌, ◌==◌, ◌++◌, [], codes, co
 ghost use Rattle.wq_dot.specs.Dotting.{awaited, bold_text, circles_title, counted, dashed_legend, leading_text, legend_end, plan_title, red_legend, red_text, shortest_legend, shortest_text, some_bare};
 
 use std::alloc::{AllocError, Allocator};
-use wq_lines::{put, put_number, put_word};
+use wq_text::{put, put_number, put_word};
 
 /// The end of a word that stands for so many things.
 fn plural_end(number: u32) -> &'static [u8]

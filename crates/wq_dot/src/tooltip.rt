@@ -6,7 +6,7 @@ ghost use Rattle.std.specs.Prelude.{◌≡◌, ◌++◌, OnOk, flat_map};
 ghost use Rattle.wq_dot.specs.Tooltips.{escaped, tooltip_of, tooltip_text};
 
 use std::alloc::{AllocError, Allocator};
-use wq_lines::put;
+use wq_text::put;
 
 /// Adds a byte, with an escape if Graphviz would read it otherwise.
 fn put_escaped<A: Allocator + Copy>(out: &mut Vec<u8, A>, byte: u8) -> Result<(), AllocError>

@@ -11,7 +11,7 @@ use crate::label::{put_label, put_numbered};
 use std::alloc::{AllocError, Allocator};
 use wq_groups::{GroupId, Groups};
 use wq_items::ItemTable;
-use wq_lines::{put, put_number};
+use wq_text::{put, put_number};
 
 /// The frame of a workqueue: dashed if it has no rescuer.
 fn frame_text(bare: bool) -> &'static [u8]

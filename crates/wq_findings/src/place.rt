@@ -3,7 +3,7 @@
 //! It takes time and memory in the number of digits.
 
 ghost use Rattle.std.specs.Prelude.{◌≡◌, ◌++◌, ◌∷◌, OnErr, OnOk, decimal};
-ghost use Rattle.wq_lines.specs.LineText.{IsBegun};
+ghost use Rattle.wq_text.specs.LineText.{IsBegun};
 ghost use Rattle.wq_findings.specs.Shown.{place_text};
 
 use std::alloc::{AllocError, Allocator};

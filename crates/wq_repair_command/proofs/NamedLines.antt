@@ -13,7 +13,7 @@ use Rattle.wq_text.proofs.LimitLaws.{IsShort}
 use Rattle.wq_text.proofs.LineLemmas.{length-line_bytes-le}
 use Rattle.wq_text.proofs.PieceLemmas.{NoFeed, pieces-feed}
 use Rattle.wq_text.proofs.WordLemmas.{words_from-filled}
-use Rattle.wq_lines.specs.LineText.{spaced}
+use Rattle.wq_text.specs.LineText.{spaced}
 use Rattle.wq_cert.specs.Lines.{bytes_of, holds_word, cert_line, cert_lines}
 use Rattle.wq_cert.specs.Spelled.{words_of_lines}
 use Rattle.wq_cert.proofs.ListLemmas.{AllByRecursion-append, AllByRecursion-weaker}

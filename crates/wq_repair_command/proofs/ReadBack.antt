@@ -9,7 +9,7 @@ use Rattle.wq_items.specs.Building.{and_then}
 use Rattle.wq_groups.specs.Partition.{Partition, IsPartition}
 use Rattle.wq_groups.specs.Assignment.{IsAssignment, group_lane, item_lanes}
 use Rattle.wq_core.specs.Workqueues.{Workqueues}
-use Rattle.wq_lines.specs.LineText.{spaced}
+use Rattle.wq_text.specs.LineText.{spaced}
 use Rattle.wq_cert.specs.declared.fault.CertError.{CertError}
 use Rattle.wq_cert.specs.Forms.{begins_with}
 use Rattle.wq_cert.specs.Lines.{CertLine, cert_lines}

@@ -5,7 +5,7 @@ use Rattle.wq_items.specs.Table.{items_at}
 use Rattle.wq_groups.specs.Assignment.{item_lanes}
 use Rattle.wq_groups.specs.Partition.{Partition}
 use Rattle.wq_core.specs.Workqueues.{Workqueues}
-use Rattle.wq_lines.specs.LineText.{spaced}
+use Rattle.wq_text.specs.LineText.{spaced}
 use Rattle.wq_cert.specs.PlanText.{name_of}
 
 -- the first word of the line of a workqueue: it has no rescuer, or it has one

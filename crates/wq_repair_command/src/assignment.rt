@@ -6,7 +6,7 @@
 ghost use Rattle.std.specs.Prelude.{◌≡◌, ◌<◌, ◌++◌, length, map, flat_map, IfOk, OnOk};
 ghost use Rattle.std.specs.List.{All};
 ghost use Rattle.wq_groups.specs.Assignment.{item_lanes};
-ghost use Rattle.wq_lines.specs.LineText.{spaced};
+ghost use Rattle.wq_text.specs.LineText.{spaced};
 ghost use Rattle.wq_cert.specs.PlanText.{name_of};
 ghost use Rattle.wq_repair_command.specs.AssignmentText.{keyword, name_comment, named_line, assignment_text};
 
@@ -15,7 +15,7 @@ use wq_buckets::Buckets;
 use wq_core::Workqueues;
 use wq_groups::{Assignment, Groups, LaneId};
 use wq_items::{ItemId, ItemTable};
-use wq_lines::{put, put_end, put_number, put_word};
+use wq_text::{put, put_end, put_number, put_word};
 use wq_names::name_at;
 
 /// The workqueue of each item's group, in turn.

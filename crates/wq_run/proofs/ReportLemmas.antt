@@ -4,7 +4,7 @@ use Rattle.std.specs.Prelude.{codes, decimal}
 use Rattle.std.specs.List.{range_with_len}
 use Rattle.std.proofs.lemmas.List.FromFn.{fill_by_all, get_or-map-range_with_len, length-map-range_with_len}
 use Rattle.wq_groups.specs.Assignment.{Assignment, item_lane}
-use Rattle.wq_lines.specs.LineText.{spaced, line_text}
+use Rattle.wq_text.specs.LineText.{spaced, line_text}
 use Rattle.wq_cert.specs.PlanText.{name_of}
 use Rattle.wq_cert.proofs.LineLemmas.{plan_text-parts}
 use Rattle.wq_counts.specs.declared.kind.Kind.{Kind}

@@ -4,7 +4,7 @@
 //! their names.
 
 ghost use Rattle.std.specs.Prelude.{◌≡◌, ◌++◌, ◌<◌, ℕ, length, true, OnOk, IfOk, decimal, flat_map};
-ghost use Rattle.wq_lines.specs.LineText.{spaced, line_text};
+ghost use Rattle.wq_text.specs.LineText.{spaced, line_text};
 ghost use Rattle.wq_counts.specs.declared.kind.Kind.{Kind};
 ghost use Rattle.wq_counts.specs.Counting.{made};
 ghost use Rattle.wq_run.specs.Report.{workqueues_line, kind_count_words, item_line, faults_line, report_text};
@@ -14,7 +14,7 @@ use wq_api::{Closed, Naming};
 use wq_counts::Counts;
 use wq_groups::{Assignment, Groups};
 use wq_items::{ItemId, ItemTable};
-use wq_lines::{put, put_count, put_end, put_number, put_word};
+use wq_text::{put, put_count, put_end, put_number, put_word};
 use wq_rescuer::{Body, Caller, Ran};
 
 /// Adds `workqueues K`.

@@ -1,7 +1,9 @@
+pub mod Begun
 pub mod CommentLemmas
 pub mod CutLemmas
 pub mod LimitLaws
 pub mod LineLemmas
+pub mod LineTextLemmas
 pub mod LongLines
 pub mod NumberLemmas
 pub mod PieceLaws

@@ -5,3 +5,4 @@ pub mod Runs
 pub mod Numbers
 pub mod Refusal
 pub mod Limits
+pub mod LineText

@@ -12,7 +12,7 @@ use std::alloc::{AllocError, Allocator};
 use wq_diagnosis::{column, lines_of, push_excerpt, put_line, put_lines};
 use wq_findings::{Hint, Mark, put_place, workqueue_at};
 use wq_groups::LaneId;
-use wq_lines::put;
+use wq_text::put;
 
 /// A first line without the number of an answer.
 pub(crate) fn plain_head<A: Allocator + Copy>(

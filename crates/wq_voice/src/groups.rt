@@ -9,7 +9,7 @@ use std::alloc::{AllocError, Allocator};
 use wq_commands::Declaration;
 use wq_diagnosis::item_words;
 use wq_hang::Hop;
-use wq_lines::put;
+use wq_text::put;
 
 /// For a whole workqueue, on which an item waits.
 fn group_to_all_words<A: Allocator + Copy>(

@@ -12,7 +12,7 @@ use std::alloc::{AllocError, Allocator};
 use wq_checker::No;
 use wq_commands::{Declaration, Stop, read_declaration};
 use wq_diagnosis::{Source, of_lack};
-use wq_lines::put;
+use wq_text::put;
 
 /// A text, and behind it another one, where there is one.
 fn followed<A: Allocator + Copy>(

@@ -13,7 +13,7 @@ use wq_core::Workqueues;
 use wq_deadlock::is_on_bare;
 use wq_diagnosis::{Source, of_no_item, put_line, workqueue_of, workqueue_words};
 use wq_items::ItemId;
-use wq_lines::put;
+use wq_text::put;
 
 /// The items on workqueues without a rescuer.
 pub(crate) fn bare_items<A: Allocator + Copy>(

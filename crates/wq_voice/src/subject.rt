@@ -17,7 +17,7 @@ use wq_core::Workqueues;
 use wq_deadlock::is_on_bare;
 use wq_diagnosis::{Source, workqueue_of};
 use wq_hang::Hop;
-use wq_lines::put;
+use wq_text::put;
 
 /// Workqueues of the groups of a declaration, and the texts that say so.
 #[derive(Clone, Copy)]

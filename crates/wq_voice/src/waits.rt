@@ -13,7 +13,7 @@ use wq_deadlock::is_on_bare;
 use wq_diagnosis::{item_words, workqueue_of, workqueue_words};
 use wq_hang::Hop;
 use wq_items::{ItemId, Target};
-use wq_lines::put;
+use wq_text::put;
 
 /// Whose workqueues are spoken of.
 #[derive(Clone, Copy, Debug, PartialEq, Eq)]

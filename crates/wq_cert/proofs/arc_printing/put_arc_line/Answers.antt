@@ -3,9 +3,9 @@ use Rattle.std.specs.Prelude.{codes}
 use Rattle.std.proofs.lemmas.Option.{get_or_from_slice_get}
 use Rattle.std.proofs.lemmas.Result.{on_ok_weaker, on_err_weaker}
 use Rattle.wq_items.proofs.WaitLemmas.{OnErr-always}
-use Rattle.wq_lines.specs.LineText.{IsBegun, line_text, spaced}
-use Rattle.wq_lines.proofs.Begun.{IsBegun-first, IsBegun-second}
-use Rattle.wq_lines.proofs.LineTextLemmas.{line_text-three}
+use Rattle.wq_text.specs.LineText.{IsBegun, line_text, spaced}
+use Rattle.wq_text.proofs.Begun.{IsBegun-first, IsBegun-second}
+use Rattle.wq_text.proofs.LineTextLemmas.{line_text-three}
 use Rattle.wq_cert.specs.PlanText.{name_of, arc_line}
 use Rattle.wq_cert.proofs.arc_printing.put_arc_line.Goals as goal
 

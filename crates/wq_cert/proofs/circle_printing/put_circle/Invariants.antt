@@ -1,5 +1,5 @@
 use Rattle.std.proofs.Common.{◌≡◌, ◌++◌, take}
-use Rattle.wq_lines.specs.LineText.{line_text}
+use Rattle.wq_text.specs.LineText.{line_text}
 use Rattle.wq_cert.specs.PlanText.{arc_line}
 use Rattle.wq_cert.specs.CircleText.{circle_line}
 use Rattle.wq_cert.proofs.LineLemmas.{lines}

@@ -3,7 +3,7 @@ use Rattle.std.specs.List.{All, range_with_len}
 use Rattle.std.proofs.lemmas.List.FromFn.{length-map-range_with_len}
 use Rattle.wq_buckets.specs.Places.{places_of}
 use Rattle.wq_items.proofs.TableLemmas.{range_with_len-push}
-use Rattle.wq_lines.specs.LineText.{line_text}
+use Rattle.wq_text.specs.LineText.{line_text}
 use Rattle.wq_cert.specs.PlanText.{plan_line, wq_line, workqueue_line}
 use Rattle.wq_cert.proofs.LineLemmas.{lines, lines-push, items_at-bucket, items_at-below}
 use Rattle.wq_cert.proofs.plan_printing.print_plan.Goals as goal

@@ -1,6 +1,6 @@
 use Rattle.std.proofs.Common.{◌≡◌, ◌++◌, take}
 use Rattle.std.specs.List.{range_with_len}
-use Rattle.wq_lines.specs.LineText.{line_text}
+use Rattle.wq_text.specs.LineText.{line_text}
 use Rattle.wq_cert.specs.PlanText.{plan_line, wq_line, chain_line, arc_line}
 use Rattle.wq_cert.proofs.LineLemmas.{lines}
 use Rattle.wq_cert.proofs.plan_printing.print_plan.Given as goal

@@ -3,7 +3,7 @@ use Rattle.std.specs.Prelude.{decimal}
 use Rattle.std.proofs.lemmas.List.{get_or_default}
 use Rattle.std.proofs.lemmas.Option.{get_or_from_slice_get}
 use Rattle.std.proofs.lemmas.Result.{on_ok_weaker}
-use Rattle.wq_lines.specs.LineText.{spaced}
+use Rattle.wq_text.specs.LineText.{spaced}
 use Rattle.wq_cert.specs.PlanText.{name_of}
 use Rattle.wq_cert.proofs.LineLemmas.{wq_front-none, wq_front-next, wq_front-all}
 use Rattle.wq_cert.proofs.plan_printing.put_wq_line.Goals as goal

@@ -1,5 +1,5 @@
 use Rattle.std.proofs.Common.{◌≡◌, ◌++◌, take}
-use Rattle.wq_lines.specs.LineText.{line_text}
+use Rattle.wq_text.specs.LineText.{line_text}
 use Rattle.wq_cert.specs.RunText.{run_line, step_line}
 use Rattle.wq_cert.proofs.LineLemmas.{lines}
 use Rattle.wq_cert.proofs.run_printing.put_run.Given as goal

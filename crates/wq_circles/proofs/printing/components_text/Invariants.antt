@@ -1,5 +1,5 @@
 use Rattle.std.proofs.Common.{◌≡◌, ◌++◌, length, map, flat_map, take}
-use Rattle.wq_lines.specs.LineText.{line_text}
+use Rattle.wq_text.specs.LineText.{line_text}
 use Rattle.wq_circles.specs.ComponentsText.{components_line, component_lines}
 use Rattle.wq_circles.proofs.printing.components_text.Given as goal
 

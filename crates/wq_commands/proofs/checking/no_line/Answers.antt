@@ -1,6 +1,6 @@
 use Rattle.std.proofs.Common.{◌≡◌, ◌++◌, ◌∷◌, [], List, ℕ, ap, ◌∙◌}
 use Rattle.std.specs.Prelude.{codes, decimal, flat_map}
-use Rattle.wq_lines.specs.LineText.{spaced}
+use Rattle.wq_text.specs.LineText.{spaced}
 use Rattle.wq_checker.specs.Codes.{no_code}
 use Rattle.wq_commands.specs.Checking.{no_details}
 use Rattle.wq_commands.proofs.LineLemmas.{line_text-words}

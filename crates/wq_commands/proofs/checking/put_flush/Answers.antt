@@ -1,6 +1,6 @@
 use Rattle.std.proofs.Common.{◌≡◌, ◌++◌, [], List, ℕ, sym, ap, ◌∙◌}
 use Rattle.std.proofs.lemmas.Option.{get_or_from_slice_get}
-use Rattle.wq_lines.specs.LineText.{spaced}
+use Rattle.wq_text.specs.LineText.{spaced}
 use Rattle.wq_cert.specs.PlanText.{name_of}
 use Rattle.wq_commands.proofs.LineLemmas.{spaced-two}
 use Rattle.wq_commands.proofs.checking.put_flush.Goals as goal

@@ -1,6 +1,6 @@
 use Rattle.std.proofs.Common.{◌++◌, List, ℕ, sym, ap, ◌∙◌, append-nil}
 use Rattle.std.specs.Prelude.{decimal}
-use Rattle.wq_lines.specs.LineText.{spaced}
+use Rattle.wq_text.specs.LineText.{spaced}
 use Rattle.wq_commands.proofs.checking.put_place.Goals as goal
 
 pub returns : goal.returns

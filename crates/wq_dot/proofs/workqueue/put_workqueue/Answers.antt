@@ -3,7 +3,7 @@ use Rattle.std.specs.Prelude.{codes, decimal, flat_map}
 use Rattle.std.specs.List.{All}
 use Rattle.std.proofs.lemmas.List.{get_or_default}
 use Rattle.std.proofs.lemmas.Result.{on_ok_weaker}
-use Rattle.wq_lines.specs.LineText.{spaced}
+use Rattle.wq_text.specs.LineText.{spaced}
 use Rattle.wq_items.specs.Table.{items_at}
 use Rattle.wq_dot.specs.Drawing.{ended, frame_line, group_lines}
 use Rattle.wq_dot.proofs.Lines.{text_of, text_of-next, text_of-all, box_closed}

@@ -1,7 +1,7 @@
 use Rattle.std.proofs.Common.{◌∷◌, ℕ, decimal}
 use Rattle.wq_items.proofs.WaitLemmas.{OnErr-always}
-use Rattle.wq_lines.specs.LineText.{IsBegun}
-use Rattle.wq_lines.proofs.Begun.{IsBegun-at}
+use Rattle.wq_text.specs.LineText.{IsBegun}
+use Rattle.wq_text.proofs.Begun.{IsBegun-at}
 use Rattle.wq_findings.specs.Shown.{place_text}
 use Rattle.wq_findings.proofs.place.put_place.Goals as goal
 

@@ -1,7 +1,7 @@
 use Rattle.std.proofs.Common.{◌≡◌, ◌++◌, ◌∷◌, [], ℕ, List, map, ap, ◌∙◌}
 use Rattle.std.specs.Prelude.{decimal, flat_map}
 use Rattle.std.proofs.lemmas.Result.{on_ok_weaker}
-use Rattle.wq_lines.specs.LineText.{spaced}
+use Rattle.wq_text.specs.LineText.{spaced}
 use Rattle.wq_cert.specs.PlanText.{name_of}
 use Rattle.wq_repair_command.specs.AssignmentText.{keyword, name_comment}
 use Rattle.wq_repair_command.proofs.Lines.{line-parts}

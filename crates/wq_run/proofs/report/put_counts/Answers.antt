@@ -1,7 +1,7 @@
 use Rattle.std.proofs.Common.{◌≡◌, ◌++◌, ℕ, List, ap, ◌∙◌}
 use Rattle.std.specs.Prelude.{codes, decimal, true}
 use Rattle.std.proofs.lemmas.Result.{on_ok_weaker}
-use Rattle.wq_lines.specs.LineText.{spaced}
+use Rattle.wq_text.specs.LineText.{spaced}
 use Rattle.wq_counts.specs.declared.kind.Kind.TheVariants.{Queue, Cancel, Finish}
 use Rattle.wq_counts.specs.Counting.{made}
 use Rattle.wq_run.proofs.ReportLemmas.{six_words}

@@ -3,7 +3,7 @@ use Rattle.std.specs.Prelude.{codes, decimal, flat_map, true}
 use Rattle.std.proofs.lemmas.Option.{get_or_from_slice_get}
 use Rattle.std.proofs.lemmas.Result.{on_ok_weaker}
 use Rattle.wq_groups.specs.Assignment.{group_lane, item_lane}
-use Rattle.wq_lines.specs.LineText.{spaced}
+use Rattle.wq_text.specs.LineText.{spaced}
 use Rattle.wq_cert.specs.PlanText.{name_of}
 use Rattle.wq_counts.specs.declared.kind.Kind.{Kind}
 use Rattle.wq_counts.specs.Counting.{made}

@@ -2,7 +2,7 @@ use Rattle.std.proofs.Common.{◌≡◌, ◌++◌}
 use Rattle.std.specs.Prelude.{true}
 use Rattle.std.specs.List.{range_with_len}
 use Rattle.wq_counts.specs.Counting.{made}
-use Rattle.wq_lines.specs.LineText.{line_text}
+use Rattle.wq_text.specs.LineText.{line_text}
 use Rattle.wq_cert.proofs.LineLemmas.{lines}
 use Rattle.wq_run.specs.Report.{workqueues_line, item_line}
 use Rattle.wq_run.proofs.report.report_text.Given as goal

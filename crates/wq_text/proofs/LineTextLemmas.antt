@@ -1,6 +1,6 @@
 -- Lines as they grow word by word.
 use Rattle.std.proofs.Common.{◌≡◌, ℕ, List, [], ◌∷◌, ◌++◌, sym, ap, ◌∙◌, append_assoc, append-nil}
-use Rattle.wq_lines.specs.LineText.{spaced, line_text}
+use Rattle.wq_text.specs.LineText.{spaced, line_text}
 
 -- a line of three words
 pub line_text-three : (out w a b : List ℕ) → (((out ++ w) ++ spaced a) ++ spaced b) ++ (10 ∷ []) ≡ out ++ line_text (w ∷ a ∷ b ∷ [])

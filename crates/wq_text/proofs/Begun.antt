@@ -4,7 +4,7 @@ use Rattle.std.specs.Prelude.{flat_map}
 use Rattle.std.proofs.lemmas.Grind.{flat_map-append}
 use Rattle.std.proofs.lemmas.List.{take-append-le, take_min, take-append-drop}
 use Rattle.std.proofs.Math.Seq.{take-append-add}
-use Rattle.wq_lines.specs.LineText.{IsBegun}
+use Rattle.wq_text.specs.LineText.{IsBegun}
 
 -- a part of the first text was added
 pub IsBegun-first : (first second old new : List ℕ) → IsBegun first old new → IsBegun (first ++ second) old new

@@ -5,7 +5,7 @@
 //! may have been added.
 
 ghost use Rattle.std.specs.Prelude.{◌≡◌, ◌++◌, ◌∷◌, [], OnErr, OnOk, decimal};
-ghost use Rattle.wq_lines.specs.LineText.{IsBegun, spaced};
+ghost use Rattle.wq_text.specs.LineText.{IsBegun, spaced};
 
 use itoa::Buffer;
 use std::alloc::{AllocError, Allocator};
