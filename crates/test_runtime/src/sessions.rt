@@ -10,7 +10,7 @@ mod book;
 mod crew;
 mod deed;
 mod doer;
-mod judging;
+mod judged_rows;
 mod lane_asks;
 mod lines;
 mod meeting;

@@ -56,7 +56,7 @@ use Rattle.wq_commands.specs.Promise.{LeadThrough, LeadRound, KeepsDeclared, Kee
 use Rattle.wq_commands.specs.Shown.{ShowsPlan, ShowsCircle, ShowsDeclared, ShowsAnswer}
 use Rattle.wq_meter.specs.Meter.{Meter}
 use Rattle.wq_commands.specs.CheckInput.{ChecksInput, KeepsYesOfInput}
-use Rattle.wq_commands.specs.Run.{AnswersInput, KeepsPromiseOfInput, ShowsAnswerOfInput}
+use Rattle.wq_commands.specs.PlanInput.{AnswersInput, KeepsPromiseOfInput, ShowsAnswerOfInput}
 use Rattle.wq_commands.specs.PromiseRead.{IsReadAsGoodPlan, IsReadAsGoodCircle}
 use Rattle.wq_commands.specs.YesIsTrue.{IsTrueOfPlan, IsTrueOfCircle, YesIsTrue}
 use Rattle.wq_commands.proofs.TextLength.{length-circled}

@@ -21,7 +21,7 @@ pub mod Deadlocking
 pub mod DeadlockInput
 pub mod Declaration
 pub mod End
-pub mod Run
+pub mod PlanInput
 pub mod Stop
 pub mod Why
 pub mod Numbers

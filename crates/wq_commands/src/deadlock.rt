@@ -12,7 +12,7 @@ ghost use Rattle.wq_meter.specs.Input.{AfterGiven, HasFailed, HasGiven};
 ghost use Rattle.wq_commands.specs.declared.end.End.{End};
 
 use crate::end::End;
-use crate::judging::judge;
+use crate::deadlocking::judge;
 use crate::limits::TWO_TEXTS;
 use crate::outcome::end_of;
 use crate::why::{Answered, Outcome};

@@ -5,7 +5,7 @@
 ghost use Rattle.std.specs.Prelude.{◌≡◌, ◌≢◌, ◌≤◌, ◌+◌, ℕ, List, Err, IfOk};
 ghost use Rattle.wq_commands.specs.Declaration.{max_declaration};
 ghost use Rattle.wq_meter.specs.Meter.{count_after, LosesPrefix, WritesPrefix, WritesWhole};
-ghost use Rattle.wq_commands.specs.Run.{AnswersInput, KeepsPromiseOfInput, ShowsAnswerOfInput};
+ghost use Rattle.wq_commands.specs.PlanInput.{AnswersInput, KeepsPromiseOfInput, ShowsAnswerOfInput};
 ghost use Rattle.wq_commands.specs.declared.end.End.{End};
 
 use crate::answer::answer_text;

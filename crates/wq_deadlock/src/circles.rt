@@ -10,7 +10,7 @@ ghost use Rattle.wq_groups.specs.Declaration.{declaration_of};
 ghost use Rattle.wq_core.specs.Wiring.{own_lanes};
 ghost use Rattle.wq_deadlock.specs.Verdict.{IsGroupsRun};
 
-use crate::judging::verdict;
+use crate::deciding::verdict;
 use crate::outcome::Verdict;
 use std::alloc::{AllocError, Allocator};
 use wq_core::Step;

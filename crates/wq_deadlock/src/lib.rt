@@ -10,9 +10,9 @@
 
 mod bare;
 mod circles;
+mod deciding;
 mod hanging;
 mod judged;
-mod judging;
 pub mod laws;
 mod outcome;
 mod playing;
@@ -23,8 +23,8 @@ mod workqueues;
 
 pub use bare::{bare_waits, is_on_bare};
 pub use circles::{circle_run, own_lanes};
+pub use deciding::verdict;
 pub use judged::Judged;
-pub use judging::verdict;
 pub use outcome::Verdict;
 pub use safety::is_safe;
 pub use workqueues::{judge, rescued_graph};

@@ -6,7 +6,7 @@ ghost use Rattle.wq_core.specs.Wiring.{wiring, with_helpers};
 
 use crate::sessions::book::keep_book;
 use crate::sessions::crew::PlottedCrew;
-use crate::sessions::judging::judge;
+use crate::sessions::judged_rows::judge;
 use crate::sessions::ran::Account;
 use crate::sessions::scripted::Script;
 use crate::sessions::session::keep_session;

@@ -1,7 +1,7 @@
 use Rattle.std.proofs.lemmas.Result.{IfOk-weaker}
 use Rattle.std.proofs.Common.{List, ℕ}
 use Rattle.wq_meter.specs.Meter.{WritesWhole}
-use Rattle.wq_commands.specs.Run.{AnswersInput, KeepsPromiseOfInput, ShowsAnswerOfInput}
+use Rattle.wq_commands.specs.PlanInput.{AnswersInput, KeepsPromiseOfInput, ShowsAnswerOfInput}
 use Rattle.wq_commands.proofs.PromiseLemmas.{KeepsPromiseOfInput-answered, ShowsAnswerOfInput-answered}
 use Rattle.wq_commands.proofs.CommandLemmas.{Plans-kept, ended_with, stopped_by, only_first}
 use Rattle.wq_commands.proofs.plan.plan_cmd.Goals as goal

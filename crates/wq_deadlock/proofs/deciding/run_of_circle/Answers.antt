@@ -3,7 +3,7 @@ use Rattle.wq_groups.specs.Declaration.{declaration_of}
 use Rattle.wq_groups.proofs.Declarations.{IsDeclaration-of}
 use Rattle.wq_deadlock.proofs.CircleRuns.{IsRun-flushing_items}
 use Rattle.wq_deadlock.proofs.Verdicts.{length-flushing_items}
-use Rattle.wq_deadlock.proofs.judging.run_of_circle.Goals as goal
+use Rattle.wq_deadlock.proofs.deciding.run_of_circle.Goals as goal
 
 pub make_all-requires-clause-run : goal.make_all-requires-clause-run
 make_all-requires-clause-run g c =

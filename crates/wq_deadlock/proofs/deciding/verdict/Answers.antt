@@ -7,7 +7,7 @@ use Rattle.wq_graph.specs.Graph.{arcs_from, lane_graph}
 use Rattle.wq_levels.specs.Walks.{IsWalkedCircle}
 use Rattle.wq_core.proofs.Results.{OnErr-holds}
 use Rattle.wq_deadlock.proofs.Verdicts.{IsSafeByRanks-ranks, IsDeadlock-walked}
-use Rattle.wq_deadlock.proofs.judging.verdict.Goals as goal
+use Rattle.wq_deadlock.proofs.deciding.verdict.Goals as goal
 
 pub returns-in-Ranks-clause-verdict : goal.returns-in-Ranks-clause-verdict
 returns-in-Ranks-clause-verdict g c =

@@ -7,7 +7,7 @@ use Rattle.wq_commands.specs.Declaration.{declaration}
 use Rattle.wq_commands.specs.declared.why.Which.TheVariants.{Declaration, Certificate}
 use Rattle.wq_commands.specs.Why.{refused_for, SaysFault}
 use Rattle.wq_commands.proofs.CheckLemmas.{MatchResult-ok}
-use Rattle.wq_commands.proofs.judging.judge.Goals as goal
+use Rattle.wq_commands.proofs.deadlocking.judge.Goals as goal
 
 pub returns-in-Ok-clause-answer : goal.returns-in-Ok-clause-answer
 returns-in-Ok-clause-answer g c =

@@ -4,7 +4,7 @@ use Rattle.wq_cert.specs.Ranges.{IsAssignmentOf}
 use Rattle.wq_commands.specs.Declaration.{Declared}
 use Rattle.wq_commands.proofs.AnswerLemmas.{IsSound}
 use Rattle.wq_commands.proofs.NamedSteps.{step_item-hang, length-hang}
-use Rattle.wq_commands.proofs.judging.deadlock_text.Goals as goal
+use Rattle.wq_commands.proofs.deadlocking.deadlock_text.Goals as goal
 
 pub run_text-requires-clause-few : goal.run_text-requires-clause-few
 run_text-requires-clause-few g c =

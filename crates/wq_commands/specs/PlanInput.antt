@@ -1,4 +1,4 @@
--- A run of `plan`: a text is taken from a reader, and answered.
+-- What `plan` reads: a text is taken from a reader, and answered.
 use Rattle.std.specs.Prelude.{ℕ, List, Option}
 use Rattle.wq_commands.specs.declared.end.End.{End}
 use Rattle.wq_commands.specs.Answer.{Answers}

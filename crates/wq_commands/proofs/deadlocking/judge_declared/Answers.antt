@@ -1,6 +1,6 @@
 use Rattle.std.proofs.Common.{sym}
 use Rattle.wq_cert.proofs.LanesRead.{AreWorkqueuesOf-workqueues_of_text}
-use Rattle.wq_commands.proofs.judging.judge_declared.Goals as goal
+use Rattle.wq_commands.proofs.deadlocking.judge_declared.Goals as goal
 
 pub judge_assigned-answer-requires-clause-assigned : goal.judge_assigned-answer-requires-clause-assigned
 judge_assigned-answer-requires-clause-assigned g c =
