@@ -9,8 +9,8 @@ use std::alloc::{AllocError, Allocator};
 use wq_commands::Declaration;
 use wq_core::Workqueues;
 use wq_diagnosis::{Source, put_line};
-use wq_text::put;
 use wq_repair_command::assignment_text;
+use wq_text::put;
 use wq_voice::{CAN_HANG, FlushLines, Subject, Wording, of_subject};
 
 /// That too few items may move.

@@ -11,8 +11,8 @@ ghost use Rattle.wq_commands.specs.DeadlockInput.{JudgesInput};
 ghost use Rattle.wq_meter.specs.Input.{AfterGiven, HasFailed, HasGiven};
 ghost use Rattle.wq_commands.specs.declared.end.End.{End};
 
-use crate::end::End;
 use crate::deadlocking::judge;
+use crate::end::End;
 use crate::limits::TWO_TEXTS;
 use crate::outcome::end_of;
 use crate::why::{Answered, Outcome};

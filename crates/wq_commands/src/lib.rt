@@ -32,7 +32,7 @@ pub use end::End;
 pub use limits::{ONE_TEXT, THREE_TEXTS, TWO_TEXTS};
 pub use outcome::end_of;
 pub use plan::{PlanCommand, plan_cmd};
-pub use refusal::refuse;
+pub use refusal::{TOO_MANY_LANES, refuse};
 pub use replay::{ReplayCommand, replay_cmd};
 pub use why::{Answered, Outcome, Which, Why};
 pub use wq_meter::{

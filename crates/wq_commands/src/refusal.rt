@@ -9,6 +9,9 @@ use crate::end::End;
 use std::alloc::{AllocError, Allocator};
 use wq_text::{put, put_end, put_number, put_word};
 
+/// The number of the refusal of a plan that has too many workqueues to run.
+pub const TOO_MANY_LANES: u32 = 69;
+
 /// `refused CODE line N`.
 pub(crate) fn refusal_text<A: Allocator + Copy>(
     alloc: A,

@@ -321,7 +321,7 @@ impl<A: Allocator> Core<A> {
 
     /// Whether what a wait with this mark is for isn't done: an unfinished entry of the item has a lower number, or any unfinished
     /// entry of its whole lane.
-    pub(crate) fn is_held_back(&self, whole: bool, target: ItemId, mark: u32) -> bool
+    pub fn is_held_back(&self, whole: bool, target: ItemId, mark: u32) -> bool
         requires { target < items self.now.wiring }
         ensures { IsTrue result ↔ IsHeldBack self.now.wiring self.now.state whole target mark }
     {

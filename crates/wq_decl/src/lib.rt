@@ -18,5 +18,5 @@ pub use directive::Directive;
 pub use fault::DeclError;
 pub use keyword::{Keyword, cut_keyword};
 pub use ordered_lines::OrderedLines;
-pub use reading::is_name;
+pub use reading::{MAX_NAME, is_name};
 pub use view::{DeclView, Directives};

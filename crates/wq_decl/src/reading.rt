@@ -13,6 +13,9 @@ use crate::fault::DeclError;
 use crate::keyword::{Keyword, cut_keyword};
 use wq_text::{Line, Words};
 
+/// How many bytes a name may have.
+pub const MAX_NAME: usize = 63;
+
 /// Each byte that a name may have stands at its own place, and a comma at every other place.
 static NAME_BYTES: [u8; 256] = *b"\
     ,,,,,,,,,,,,,,,,,,,,,,,,,,,,,,,,\
@@ -47,7 +50,7 @@ fn are_name_bytes(word: &[u8]) -> bool
 pub fn is_name(word: &[u8]) -> bool
     ensures { result ≡ is_name word.now }
 {
-    !word.is_empty() && word.len() <= 63 && are_name_bytes(word)
+    !word.is_empty() && word.len() <= MAX_NAME && are_name_bytes(word)
 }
 
 /// Whether each word is a name.

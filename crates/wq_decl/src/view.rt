@@ -68,22 +68,8 @@ impl<'a> DeclView<'a> {
         })
     }
 
-    /// The directives of a text of which is known that no line has a fault, and whether some line is an `ordered` line:
-    /// nothing is looked at again.
-    pub fn of_faultless(text: Text<'a>, orders: bool) -> DeclView<'a>
-        requires faultless { first_fault (lines_of text) ≡ None }
-        requires orders { orders ≡ has_ordered (directives (lines_of text)) }
-        ensures { result ≡ directives (lines_of text.entry) }
-    {
-        let ordered = OrderedLines::of(text.lines());
-        DeclView {
-            text,
-            orders,
-            ordered,
-        }
-    }
-
-    /// The same, where the `ordered` lines were found already, and nothing before or after them is to be looked at for them again.
+    /// The view of a text known to have no faulty line, given whether some line is an `ordered` line, and its `ordered` lines, which
+    /// were found already: nothing is looked at again.
     pub fn of_ordered(text: Text<'a>, orders: bool, ordered: OrderedLines<'a>) -> DeclView<'a>
         requires faultless { first_fault (lines_of text) ≡ None }
         requires orders { orders ≡ has_ordered (directives (lines_of text)) }

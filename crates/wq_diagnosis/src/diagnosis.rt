@@ -13,15 +13,12 @@ use crate::further::push_further;
 use crate::layout::{column, lines_of, push_excerpt, put_line, put_lines};
 use std::alloc::{AllocError, Allocator};
 use wq_checker::No;
-use wq_commands::{Declaration, Stop, read_declaration};
+use wq_commands::{Declaration, Stop, TOO_MANY_LANES, read_declaration};
 use wq_findings::{
     CertificateKind, Finding, Found, Mark, Refused, What, has_words, in_answer, in_certificate,
     in_declaration, line_at, put_place,
 };
 use wq_text::{Line, Text, put};
-
-/// The number of the refusal of a plan that has too many workqueues to run.
-pub const TOO_MANY: u32 = 69;
 
 /// A text of a command, and the file that it comes from.
 #[derive(Clone, Copy, Debug, PartialEq, Eq)]
@@ -329,7 +326,7 @@ pub fn of_too_many<A: Allocator + Copy>(
         alloc,
         declaration.file,
         None,
-        Refusal::new(TOO_MANY, 0),
+        Refusal::new(TOO_MANY_LANES, 0),
         Finding::whole(what),
     )
 }

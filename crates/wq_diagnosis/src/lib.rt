@@ -19,8 +19,7 @@ mod unlawful;
 mod words;
 
 pub use diagnosis::{
-    Source, TOO_MANY, of_lack, of_no_item, of_refused_certificate, of_refused_declaration,
-    of_too_many,
+    Source, of_lack, of_no_item, of_refused_certificate, of_refused_declaration, of_too_many,
 };
 pub use failed::of_failed;
 pub use layout::{column, lines_of, push_excerpt, put_line, put_lines};

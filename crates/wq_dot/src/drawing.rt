@@ -19,8 +19,8 @@ use wq_buckets::Buckets;
 use wq_graph::group_arcs_by_place;
 use wq_groups::{Assignment, Groups};
 use wq_items::ItemTable;
-use wq_text::put;
 use wq_names::name_at;
+use wq_text::put;
 
 /// Whether a workqueue has no rescuer: those past the end of the list have one.
 fn is_bare(bare: &[bool], number: u16) -> bool

@@ -12,11 +12,8 @@ use crate::token::{Mark, Token, bytes_at, first_mark, line_at, stands_before};
 use crate::what::What;
 use std::alloc::{AllocError, Allocator};
 use wq_commands::MAX_DECLARATION_LINE;
-use wq_decl::Keyword;
+use wq_decl::{Keyword, MAX_NAME, is_name};
 use wq_text::{Line, Text};
-
-/// How many bytes a name may have.
-const MAX_NAME: usize = 63;
 
 /// What is wrong in a declaration that is refused with this number for this line.
 ///
@@ -179,16 +176,6 @@ fn extra_word<'a>(line: &Line<'a>) -> Finding<'a> {
         Hint::Said(hint)
     };
     Finding::at_word(line, at, What::Said(what), hint)
-}
-
-/// Whether a byte may be in a name.
-fn is_name_byte(byte: u8) -> bool {
-    byte.is_ascii_alphanumeric() || matches!(byte, b'_' | b'-' | b'.')
-}
-
-/// Whether bytes are a name.
-pub(crate) fn is_name(bytes: &[u8]) -> bool {
-    !bytes.is_empty() && bytes.len() <= MAX_NAME && bytes.iter().all(|byte| is_name_byte(*byte))
 }
 
 /// Why a word isn't a name.

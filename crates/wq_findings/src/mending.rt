@@ -3,13 +3,13 @@
 //! A line is mended as the hint says, or else taken out. Where nobody can say whether a line that is taken out declares an item,
 //! nothing that depends on the items is told from then on. It takes time in the length of the text, and memory for another one.
 
-use crate::declaration::{is_name, not_above};
+use crate::declaration::not_above;
 use crate::guess::{Guess, begins_comment, encoding_hint, guess_at, text_with};
 use crate::hint::Hint;
 use crate::names::{LineNames, declared_on};
 use crate::token::{Mark, first_word, line_at, word_at};
 use std::alloc::{AllocError, Allocator};
-use wq_decl::Keyword;
+use wq_decl::{Keyword, is_name};
 use wq_text::{Line, Text};
 
 /// What becomes of the lines of a text.

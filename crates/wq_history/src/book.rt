@@ -28,7 +28,7 @@ use crate::ask_counts::AskCounts;
 use crate::asking::{Ask, Asked, LaneAsk, LaneAsked, LaneTold, Subject, Told};
 use crate::call::{Call, Flush, Reply};
 use crate::fault::BookError;
-use crate::waits::{event_of, is_awaited, is_busy, is_held_back};
+use crate::waits::{event_of, is_awaited, is_busy};
 use std::alloc::Allocator;
 use std::marker::Model;
 use wq_core::{Context, Core, Entry, HelpStep, Running, Step, Waiting};
@@ -251,7 +251,8 @@ impl<A: Allocator> Book<A> {
         requires { IsWaiting self.now q helper flush.now }
         ensures { IsTrue result ↔ IsHeldBack self.now.wiring (state self.now) flush.now.whole flush.now.target flush.now.mark }
     {
-        is_held_back(&self.core, flush.whole, flush.target, flush.mark)
+        self.core
+            .is_held_back(flush.whole, flush.target, flush.mark)
     }
 
     /// What a context runs; nothing where there is no such lane or no such context.

@@ -6,7 +6,6 @@
 ghost use Rattle.std.specs.Prelude.{◌≡◌, ◌<◌, ◌↔◌, IsTrue, true, false};
 ghost use Rattle.wq_core.specs.Wiring.{items, lane_of};
 ghost use Rattle.wq_core.specs.State.{lane_at, IsBusy};
-ghost use Rattle.wq_core.specs.Rules.{IsHeldBack};
 ghost use Rattle.wq_history.specs.Events.{event_in};
 ghost use Rattle.wq_history.specs.History.{SaysUnfinished, SaysBusy};
 
@@ -59,23 +58,5 @@ pub(crate) fn is_awaited<A: Allocator>(core: &Core<A>, whole: bool, target: Item
         is_busy(core, core.lane_of(target))
     } else {
         core.has_unfinished(target)
-    }
-}
-
-/// Whether a wait with this mark isn't over: an unfinished entry of the item has a lower number, or any unfinished entry on its
-/// lane.
-pub(crate) fn is_held_back<A: Allocator>(
-    core: &Core<A>,
-    whole: bool,
-    target: ItemId,
-    mark: u32,
-) -> bool
-    requires { target < items core.now.wiring }
-    ensures { IsTrue result ↔ IsHeldBack core.now.wiring core.now.state whole target mark }
-{
-    if whole {
-        core.lane_unfinished_below(core.lane_of(target), mark)
-    } else {
-        core.unfinished_below(target, mark)
     }
 }

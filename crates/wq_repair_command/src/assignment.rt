@@ -15,8 +15,8 @@ use wq_buckets::Buckets;
 use wq_core::Workqueues;
 use wq_groups::{Assignment, Groups, LaneId};
 use wq_items::{ItemId, ItemTable};
-use wq_text::{put, put_end, put_number, put_word};
 use wq_names::name_at;
+use wq_text::{put, put_end, put_number, put_word};
 
 /// The workqueue of each item's group, in turn.
 fn item_lanes<A: Allocator + Copy>(

@@ -14,8 +14,8 @@ use wq_api::{Closed, Naming};
 use wq_counts::Counts;
 use wq_groups::{Assignment, Groups};
 use wq_items::{ItemId, ItemTable};
-use wq_text::{put, put_count, put_end, put_number, put_word};
 use wq_rescuer::{Body, Caller, Ran};
+use wq_text::{put, put_count, put_end, put_number, put_word};
 
 /// Adds `workqueues K`.
 fn put_workqueues_line<A: Allocator + Copy>(

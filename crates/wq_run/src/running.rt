@@ -25,14 +25,13 @@ use std::sync::Wait;
 use std::sync::ledger::Blank;
 use std::thread::Threads;
 use wq_api::{Naming, NewError, WqRuntime};
-use wq_commands::{Answered, End, Stop, Which, Why, read_declaration, refuse, text_of_circle};
+use wq_commands::{
+    Answered, End, Stop, TOO_MANY_LANES, Which, Why, read_declaration, refuse, text_of_circle,
+};
 use wq_graph::WaitArc;
 use wq_groups::{Assignment, Groups};
 use wq_items::ItemTable;
 use wq_plan::{Answer, solve};
-
-/// The number of the refusal of a plan that has too many workqueues to run.
-const TOO_MANY: u32 = 69;
 
 /// How many rows a history needs where each item is queued, flushed by a caller and executed once.
 fn rows_for<A: Allocator + Copy>(table: &ItemTable<'_, A>) -> u32
@@ -162,7 +161,7 @@ fn explained<A: Allocator + Copy>(end: End, text: Vec<u8, A>) -> Answered<A>
             text,
             why: Some(Why::Refused {
                 which: Which::Declaration,
-                code: TOO_MANY,
+                code: TOO_MANY_LANES,
                 line: 0,
             }),
         },

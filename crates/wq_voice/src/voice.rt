@@ -13,9 +13,9 @@ use crate::lacking::of_answered_no;
 use crate::reason::{of_circle, of_run};
 use crate::safe::of_safe;
 use std::alloc::{AllocError, Allocator};
-use wq_commands::{End, Outcome, Texts, Voice, Which, Why};
+use wq_commands::{End, Outcome, TOO_MANY_LANES, Texts, Voice, Which, Why};
 use wq_diagnosis::{
-    CertificateKind, Source, TOO_MANY, of_no_item, of_refused_certificate, of_refused_declaration,
+    CertificateKind, Source, of_no_item, of_refused_certificate, of_refused_declaration,
     of_too_many, of_unlawful,
 };
 
@@ -106,7 +106,7 @@ fn of_first<A: Allocator + Copy>(
 ) -> Result<Vec<u8, A>, AllocError>
     ensures { IfOk result (λ said. IsDiagnosis declaration.entry.file.now (codes "refused") code line said.items) }
 {
-    if code == TOO_MANY && line == 0 {
+    if code == TOO_MANY_LANES && line == 0 {
         return of_too_many(alloc, declaration);
     }
     of_refused_declaration(alloc, seed, declaration, code, line)
