@@ -64,25 +64,6 @@ fn put_chain_line<A: Allocator + Copy>(
     put_end(out)
 }
 
-/// The workqueue of each item's group, in turn.
-fn item_lanes<A: Allocator + Copy>(
-    alloc: A,
-    items: u16,
-    groups: &Groups<A>,
-    assignment: &Assignment<A>,
-) -> Result<Vec<u16, A>, AllocError>
-    requires items { length groups.now.group_of ≡ items }
-    requires groups { length assignment.now.lane_of_group ≡ groups.now.groups }
-    ensures { IfOk result (λ lane. lane.items ≡ item_lanes assignment.now groups.now.group_of) }
-{
-    let mut lane = Vec::new(alloc);
-    for i in 0..items {
-        let group = groups.of(ItemId::new(i));
-        lane.push(assignment.lane(group).get())?;
-    }
-    Ok(lane)
-}
-
 /// The text of a plan: the number of workqueues, the items of each, and the arcs of a waiting chain.
 ///
 /// The groups are those of the table's items, and each has a workqueue. The chain has fewer than 4,294,967,295 arcs, each from an
@@ -101,10 +82,8 @@ pub fn plan_text<A: Allocator + Copy>(
     ensures { IfOk result (λ text. text.items
         ≡ plan_text table.now.names assignment.now.lanes (item_lanes assignment.now groups.now.group_of) chain.now) }
 {
-    // What holds of all groups.
-    let _groups = groups.len();
     let lanes = assignment.lanes();
-    let lane = item_lanes(alloc, table.len(), groups, assignment)?;
+    let lane = assignment.item_lanes(alloc, groups)?;
     print_plan(alloc, table, lanes, &lane, chain)
 }
 

@@ -8,7 +8,7 @@ pub mod CheckLemmas
 pub mod InputLemmas
 pub mod CommandLemmas
 pub mod JudgeLemmas
-mod SameRescuers
+pub mod SameRescuers
 pub mod AllRescued
 mod PlansJudged
 mod HangLemmas

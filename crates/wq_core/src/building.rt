@@ -5,35 +5,11 @@
 
 ghost use Rattle.std.specs.Prelude.{◌≡◌, ◌<◌, ◌≤◌, length, map, replicate, IfOk, OnErr, false};
 ghost use Rattle.std.specs.List.{All, range_with_len};
-ghost use Rattle.wq_groups.specs.Partition.{IsPartition};
-ghost use Rattle.wq_groups.specs.Assignment.{item_lanes};
 ghost use Rattle.wq_core.specs.Building.{counted_shape, shape_of};
 
 use crate::lane::LaneShape;
 use std::alloc::{AllocError, Allocator};
-use wq_groups::{Assignment, GroupId, Groups, LaneId};
-use wq_items::ItemId;
-
-/// The lane of each of this many items.
-pub(crate) fn item_lanes<A: Allocator + Copy>(
-    alloc: A,
-    items: u16,
-    groups: &Groups<A>,
-    assignment: &Assignment<A>,
-) -> Result<Vec<LaneId, A>, AllocError>
-    requires items { length groups.now.group_of ≡ items }
-    requires assigned { length assignment.now.lane_of_group ≡ groups.now.groups }
-    ensures lanes { IfOk result (λ lanes. lanes.items ≡ item_lanes assignment.now groups.now.group_of) }
-    ensures partition { IsPartition groups.now }
-    ensures memory { OnErr result (0 < items) }
-{
-    let _groups = groups.len();
-    let mut lanes = Vec::with_capacity(alloc, usize::from(items))?;
-    for i in 0..items {
-        lanes.push(assignment.lane(groups.of(ItemId::new(i))))?;
-    }
-    Ok(lanes)
-}
+use wq_groups::{Assignment, GroupId, Groups};
 
 /// The shapes of this many lanes that hold no item.
 fn empty_shapes<A: Allocator + Copy>(alloc: A, lanes: u16) -> Result<Vec<LaneShape, A>, AllocError>
@@ -53,7 +29,7 @@ fn empty_shapes<A: Allocator + Copy>(alloc: A, lanes: u16) -> Result<Vec<LaneSha
 fn count_items<A: Allocator + Copy>(
     alloc: A,
     lanes: u16,
-    lane_of_item: &[LaneId],
+    lane_of_item: &[u16],
 ) -> Result<Vec<LaneShape, A>, AllocError>
     requires few { length lane_of_item.now ≤ 4096 }
     requires within { All (λ l. l < lanes) lane_of_item.now }
@@ -62,7 +38,7 @@ fn count_items<A: Allocator + Copy>(
 {
     let mut shapes = empty_shapes(alloc, lanes)?;
     for lane in lane_of_item {
-        shapes[usize::from(lane.get())].items += 1;
+        shapes[usize::from(*lane)].items += 1;
     }
     Ok(shapes)
 }
@@ -70,7 +46,7 @@ fn count_items<A: Allocator + Copy>(
 /// The shape of each lane, in turn. A lane that holds a group of two or more items is ordered.
 pub(crate) fn lane_shapes<A: Allocator + Copy>(
     alloc: A,
-    lane_of_item: &[LaneId],
+    lane_of_item: &[u16],
     groups: &Groups<A>,
     assignment: &Assignment<A>,
 ) -> Result<Vec<LaneShape, A>, AllocError>

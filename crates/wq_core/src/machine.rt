@@ -19,7 +19,7 @@ ghost use Rattle.wq_core.specs.Rules.{IsHeldBack, step_in, wait_deed, over_deed}
 ghost use Rattle.wq_core.specs.Held.{IsMachine, IsNumberOf, IsDone, IsRefusal, AreDone, machine_after, HasPendingBelow, RunsBelow, IsRising};
 ghost use Rattle.wq_core.specs.Building.{first_machine, first_machine_on, first_machine_with};
 
-use crate::building::{item_lanes, lane_shapes};
+use crate::building::lane_shapes;
 use crate::entry::{Entry, Running};
 use crate::lane::Lane;
 use crate::lanes::Lanes;
@@ -36,7 +36,7 @@ use wq_items::{ItemId, ItemTable, Target};
 #[derive(Drop)]
 pub struct Core<A: Allocator> {
     targets: Targets<A>,
-    lane_of_item: Vec<LaneId, A>,
+    lane_of_item: Vec<u16, A>,
     bare: Vec<bool, A>,
     helpers: u8,
     pending: PendingNumbers<A>,
@@ -127,7 +127,7 @@ impl<A: Allocator + Copy> Core<A> {
         ensures memory { OnErr result (0 < assignment.now.lanes) }
     {
         let _lanes = assignment.lanes();
-        let lane_of_item = item_lanes(alloc, table.len(), groups, assignment)?;
+        let lane_of_item = assignment.item_lanes(alloc, groups)?;
         let targets = Targets::new(alloc, table)?;
         let pending = PendingNumbers::new(alloc, table.len())?;
         let shapes = lane_shapes(alloc, lane_of_item.as_slice(), groups, assignment)?;
@@ -265,7 +265,7 @@ impl<A: Allocator> Core<A> {
         ensures lane { result ≡ lane_of self.now.wiring item }
         ensures within { result < self.now.wiring.lanes }
     {
-        self.lane_of_item[usize::from(item.get())]
+        LaneId::new(self.lane_of_item[usize::from(item.get())])
     }
 
     /// The pending entry of an item, where there is one.

@@ -9,7 +9,6 @@ ghost use Rattle.wq_dot.specs.Drawing.{drawing_text};
 
 use crate::arrow::put_flush;
 use crate::comments::comment_at;
-use crate::group_lanes::lanes_of_groups;
 use crate::head::put_head;
 use crate::look::FlushLook;
 use crate::shared::shared_names;
@@ -55,7 +54,7 @@ pub fn drawing_text<A: Allocator + Copy>(
         (map (λ n. n.now) called.now) title.now looks.now (map (λ c. c.now) comments.now)) }
 {
     let workqueues = assignment.lanes();
-    let lanes = lanes_of_groups(alloc, assignment, groups.len())?;
+    let lanes = assignment.lanes_of_groups(alloc)?;
     let by_workqueue = Buckets::new(alloc, &lanes, workqueues)?;
     let flushes = group_arcs_by_place(alloc, table, groups)?;
     let shared = shared_names(alloc, called)?;

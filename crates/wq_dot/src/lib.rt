@@ -16,7 +16,6 @@ mod dotting;
 mod drawing;
 mod flushes;
 mod group;
-mod group_lanes;
 mod head;
 mod label;
 pub mod laws;

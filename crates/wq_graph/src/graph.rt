@@ -10,7 +10,7 @@ ghost use Rattle.wq_groups.specs.Declaration.{declaration_of};
 ghost use Rattle.wq_graph.specs.Graph.{IsGraph, arcs_at, graph_of, group_graph, lane_graph, without};
 
 use crate::arc::WaitArc;
-use crate::building::{groups_of_items, item_lanes, sorted_arcs};
+use crate::building::sorted_arcs;
 use crate::leaving_out::kept_arcs;
 use std::alloc::{AllocError, Allocator};
 use std::marker::Model;
@@ -71,8 +71,7 @@ impl<A: Allocator + Copy> WaitGraph<A> {
         ensures graph { IfOk result (λ g. g ≡ group_graph (declaration_of table.now groups.now)) }
         ensures memory { IfErr result (λ _. 0 < groups.now.groups) }
     {
-        let vertex_of = groups_of_items(alloc, table.len(), groups)?;
-        Self::of_vertices(alloc, table, vertex_of.as_slice(), groups.len())
+        Self::of_vertices(alloc, table, groups.numbers(), groups.len())
     }
 
     /// The wait graph of the lanes of an assignment. The groups are those of this table, and the assignment has a lane for each
@@ -91,7 +90,7 @@ impl<A: Allocator + Copy> WaitGraph<A> {
         ensures memory { IfErr result (λ _. 0 < assignment.now.lanes) }
     {
         let lanes = assignment.lanes();
-        let vertex_of = item_lanes(alloc, table.len(), groups, assignment)?;
+        let vertex_of = assignment.item_lanes(alloc, groups)?;
         Self::of_vertices(alloc, table, vertex_of.as_slice(), lanes)
     }
 

@@ -1,15 +1,18 @@
 //! Which workqueue serves each group.
 //!
 //! An assignment is what a driver's author decides: one `alloc_workqueue` with WQ_MEM_RECLAIM for each lane, and one lane
-//! for each group (Documentation/core-api/workqueue.rst, "Guidelines"). Making one takes time in the number of groups;
-//! each other call takes constant time.
+//! for each group (Documentation/core-api/workqueue.rst, "Guidelines"). Making one takes time in the number of groups,
+//! and a list of lanes time and memory in its length; each other call takes constant time.
 
-ghost use Rattle.std.specs.Prelude.{◌≡◌, ◌<◌, ◌≤◌, ◌↔◌, length, slice_get, Some, IsSome, IsTrue, IfSome};
+ghost use Rattle.std.specs.Prelude.{◌≡◌, ◌<◌, ◌≤◌, ◌↔◌, length, slice_get, Some, IsSome, IsTrue, IfSome, IfOk, OnErr};
 ghost use Rattle.std.specs.List.{All};
+ghost use Rattle.wq_groups.specs.Assignment.{item_lanes};
+ghost use Rattle.wq_groups.specs.Partition.{IsPartition};
 
 use crate::group_id::GroupId;
+use crate::groups::Groups;
 use crate::lane_id::LaneId;
-use std::alloc::Allocator;
+use std::alloc::{AllocError, Allocator};
 use std::marker::Model;
 
 /// How many lanes an assignment may have: as many as a declaration may have items, since no plan needs more. A runtime takes fewer.
@@ -78,5 +81,38 @@ impl<A: Allocator> Assignment<A> {
         ensures { slice_get self.now.lane_of_group group ≡ Some result }
     {
         self.of_group[usize::from(group.get())]
+    }
+}
+
+impl<A: Allocator + Copy> Assignment<A> {
+    /// The number of each group's lane, in turn.
+    ///
+    /// The only error is out of memory (20), which can't occur where there is no group.
+    pub fn lanes_of_groups(&self, alloc: A) -> Result<Vec<u16, A>, AllocError>
+        ensures lanes { IfOk result (λ lanes. lanes.items ≡ self.now.lane_of_group) }
+        ensures memory { OnErr result (0 < length self.now.lane_of_group) }
+    {
+        let mut lanes = Vec::with_capacity(alloc, self.of_group.len())?;
+        for lane in &self.of_group {
+            lanes.push(lane.get())?;
+        }
+        Ok(lanes)
+    }
+
+    /// The number of each item's lane, in turn: that of its group. Each of the groups has a lane.
+    ///
+    /// The only error is out of memory (20), which can't occur where there is no item.
+    pub fn item_lanes(&self, alloc: A, groups: &Groups<A>) -> Result<Vec<u16, A>, AllocError>
+        requires { length self.now.lane_of_group ≡ groups.now.groups }
+        ensures lanes { IfOk result (λ lanes. lanes.items ≡ item_lanes self.now groups.now.group_of) }
+        ensures memory { OnErr result (0 < length groups.now.group_of) }
+        ensures partition { IsPartition groups.now }
+    {
+        let numbers = groups.numbers();
+        let mut lanes = Vec::with_capacity(alloc, numbers.len())?;
+        for number in numbers {
+            lanes.push(self.lane(GroupId::new(*number)).get())?;
+        }
+        Ok(lanes)
     }
 }

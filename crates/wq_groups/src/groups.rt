@@ -87,6 +87,14 @@ impl<A: Allocator + Copy> Groups<A> {
         self.members.len() as u16
     }
 
+    /// The number of each item's group, in turn.
+    pub fn numbers(&self) -> &[u16]
+        ensures numbers { result.now ≡ self.now.group_of }
+        ensures partition { IsPartition self.now }
+    {
+        self.group_of.as_slice()
+    }
+
     /// The group of an item below the number of items.
     pub fn of(&self, item: ItemId) -> GroupId
         requires { item < length self.now.group_of }

@@ -112,21 +112,6 @@ fn move_heads<A: Allocator + Copy>(
     Ok(())
 }
 
-/// The lanes of all groups.
-fn lanes_of_groups<A: Allocator + Copy>(
-    alloc: A,
-    assignment: &Assignment<A>,
-) -> Result<Vec<u16, A>, AllocError>
-    requires { length assignment.now.lane_of_group ≤ 4096 }
-    ensures { IfOk result (λ lanes. lanes.items ≡ assignment.now.lane_of_group) }
-{
-    let mut lanes = Vec::with_capacity(alloc, assignment.groups())?;
-    for group in 0..assignment.groups() as u16 {
-        lanes.push(assignment.lane(GroupId::new(group)).get())?;
-    }
-    Ok(lanes)
-}
-
 /// These numbers as heights.
 fn as_heights<A: Allocator + Copy>(alloc: A, ranks: &[u16]) -> Result<Vec<u64, A>, AllocError>
     ensures heights { IfOk result (λ heights. heights.items ≡ ranks.now) }
@@ -158,7 +143,7 @@ impl<A: Allocator + Copy> Joined<A> {
     {
         let _vertices = graph.vertices();
         let lanes = assignment.lanes();
-        let vertex_of = lanes_of_groups(alloc, assignment)?;
+        let vertex_of = assignment.lanes_of_groups(alloc)?;
         let heads = heads_of_vertices(alloc, graph, &vertex_of, lanes)?;
         let heights = as_heights(alloc, ranks)?;
         Ok(Joined {

@@ -25,7 +25,7 @@ use Rattle.wq_repair_command.specs.ReadBack.{with_each}
 use Rattle.wq_repair_command.specs.Repairing.{PrintsTooFew}
 use Rattle.wq_repair_command.proofs.Judged.{same-bare}
 use Rattle.wq_repair_command.proofs.ReadBack.{workqueues_of_text-printed}
-use Rattle.wq_repair_command.proofs.SameRescuers.{same-deadlock, same-run_of}
+use Rattle.wq_commands.proofs.SameRescuers.{same-deadlock, same-run_of}
 use Rattle.wq_repair_command.proofs.Shown.{shown-names_of}
 
 -- tests that say the same keep the same

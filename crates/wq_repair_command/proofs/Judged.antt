@@ -30,7 +30,7 @@ use Rattle.wq_repair_command.specs.Movers.{movers}
 use Rattle.wq_repair_command.specs.ReadBack.{with_each}
 use Rattle.wq_repair_command.specs.Repairing.{PrintsWorkqueues, RepairsIf, RepairsAssigned, RepairsDeclared, Repairs}
 use Rattle.wq_repair_command.proofs.ReadBack.{workqueues_of_text-printed}
-use Rattle.wq_repair_command.proofs.SameRescuers.{same-safe}
+use Rattle.wq_commands.proofs.SameRescuers.{same-safe}
 use Rattle.wq_repair_command.proofs.Shown.{shown-names_of}
 
 -- ---- workqueues, each of which is said to have a rescuer or none

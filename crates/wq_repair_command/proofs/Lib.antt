@@ -7,7 +7,6 @@ pub mod TextSize
 pub mod ReadNames
 pub mod ReadBack
 pub mod Shown
-pub mod SameRescuers
 pub mod Judged
 pub mod Again
 pub mod OneEnd

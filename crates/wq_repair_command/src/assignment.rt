@@ -5,7 +5,6 @@
 
 ghost use Rattle.std.specs.Prelude.{◌≡◌, ◌<◌, ◌++◌, length, map, flat_map, IfOk, OnOk};
 ghost use Rattle.std.specs.List.{All};
-ghost use Rattle.wq_groups.specs.Assignment.{item_lanes};
 ghost use Rattle.wq_text.specs.LineText.{spaced};
 ghost use Rattle.wq_cert.specs.PlanText.{name_of};
 ghost use Rattle.wq_repair_command.specs.AssignmentText.{keyword, name_comment, named_line, assignment_text};
@@ -13,29 +12,10 @@ ghost use Rattle.wq_repair_command.specs.AssignmentText.{keyword, name_comment, 
 use std::alloc::{AllocError, Allocator};
 use wq_buckets::Buckets;
 use wq_core::Workqueues;
-use wq_groups::{Assignment, Groups, LaneId};
+use wq_groups::{Groups, LaneId};
 use wq_items::{ItemId, ItemTable};
 use wq_names::name_at;
 use wq_text::{put, put_end, put_number, put_word};
-
-/// The workqueue of each item's group, in turn.
-fn item_lanes<A: Allocator + Copy>(
-    alloc: A,
-    items: u16,
-    groups: &Groups<A>,
-    assignment: &Assignment<A>,
-) -> Result<Vec<u16, A>, AllocError>
-    requires items { length groups.now.group_of ≡ items }
-    requires groups { length assignment.now.lane_of_group ≡ groups.now.groups }
-    ensures { IfOk result (λ lane. lane.items ≡ item_lanes assignment.now groups.now.group_of) }
-{
-    let mut lane = Vec::new(alloc);
-    for i in 0..items {
-        let group = groups.of(ItemId::new(i));
-        lane.push(assignment.lane(group).get())?;
-    }
-    Ok(lane)
-}
 
 /// The first word of the line of a workqueue.
 fn keyword(is_bare: bool) -> &'static [u8]
@@ -108,12 +88,11 @@ pub fn assignment_text<A: Allocator + Copy>(
     ensures { IfOk result (λ text. text.items
         ≡ assignment_text table.now.names groups.now workqueues.now (map (λ n. n.now) names.now)) }
 {
-    // What holds of every table and of all groups.
+    // What holds of every table.
     let _items = table.len();
-    let _groups = groups.len();
     let assignment = workqueues.assignment();
     let lanes = assignment.lanes();
-    let lane = item_lanes(alloc, table.len(), groups, assignment)?;
+    let lane = assignment.item_lanes(alloc, groups)?;
     let items = Buckets::new(alloc, &lane, lanes)?;
     let mut out = Vec::new(alloc);
     for q in 0..lanes {

@@ -25,7 +25,10 @@ put_workqueue-requires-clause-own g c =
     let groups = c.args.groups.now.groups in
     let number = c.loop-number.number in
     let made = subst (λ n. c.in_ok-by_workqueue.by_workqueue ≡ buckets_of c.deref.result.now n) c.lanes-workqueues.ensures.lanes c.in_ok-by_workqueue.ensures.buckets in
-    let own = groups_on-bucket a c.deref.result.now c.in_ok-by_workqueue.by_workqueue number c.places-own.result.now (c.deref.ensures.value ∙ c.in_ok-lanes.ensures) made (omega (arith, c.loop-number-test.true, c.lanes-workqueues.ensures.lanes)) c.places-own.ensures in
+    let own =
+    groups_on-bucket a c.deref.result.now c.in_ok-by_workqueue.by_workqueue number c.places-own.result.now
+    (c.deref.ensures.value ∙ c.in_ok-lanes.ensures.lanes) made
+    (omega (arith, c.loop-number-test.true, c.lanes-workqueues.ensures.lanes)) c.places-own.ensures in
     subst (λ (is : List ℕ). All (λ i. i < groups) is) (sym own) (groups_on-below a groups number c.requires.assigned)
 
 pub loop-number-preserved : goal.loop-number-preserved
@@ -36,7 +39,10 @@ loop-number-preserved g c =
     let number = c.loop-number.number in
     let out = c.put_head.new.out.items in
     let made = subst (λ n. c.in_ok-by_workqueue.by_workqueue ≡ buckets_of c.deref.result.now n) c.lanes-workqueues.ensures.lanes c.in_ok-by_workqueue.ensures.buckets in
-    let own = groups_on-bucket a c.deref.result.now c.in_ok-by_workqueue.by_workqueue number c.places-own.result.now (c.deref.ensures.value ∙ c.in_ok-lanes.ensures) made (omega (arith, c.loop-number-test.true, c.lanes-workqueues.ensures.lanes)) c.places-own.ensures in
+    let own =
+    groups_on-bucket a c.deref.result.now c.in_ok-by_workqueue.by_workqueue number c.places-own.result.now
+    (c.deref.ensures.value ∙ c.in_ok-lanes.ensures.lanes) made
+    (omega (arith, c.loop-number-test.true, c.lanes-workqueues.ensures.lanes)) c.places-own.ensures in
     let called = map (λ v. v.now) c.args.called.now in
     let name = slice_index_or called number [] in
     let lines = workqueue_box_lines names group_of (record { assignment = a; bare = c.args.bare.now }) called in

@@ -17,8 +17,12 @@ new-requires-clause-keys g c =
     let p = c.args.groups.now in
     let a = c.assignment-assignment.result.now in
     let each : length a.lane_of_group ≡ p.groups = ap (λ (x : Assignment). length x.lane_of_group) c.assignment-assignment.ensures ∙ c.requires.assigned in
-    let within = item_lanes-within p.group_of p.groups a c.len-groups.ensures.partition.within (record { one_each = each; within = c.lanes-lanes.ensures.within }) in
-    subst (λ (ls : List ℕ). All (λ l. l < c.lanes-lanes.result) ls) (sym (c.deref.ensures.value ∙ c.in_ok-lane.ensures)) (subst (λ n. All (λ l. l < n) (item_lanes a p.group_of)) (sym c.lanes-lanes.ensures.lanes) within)
+    let within =
+    item_lanes-within p.group_of p.groups a c.in_ok-lane.ensures.partition.within
+    (record { one_each = each; within = c.lanes-lanes.ensures.within }) in
+    subst (λ (ls : List ℕ). All (λ l. l < c.lanes-lanes.result) ls)
+    (sym (c.deref.ensures.value ∙ c.in_ok-lane.ensures.lanes))
+    (subst (λ n. All (λ l. l < n) (item_lanes a p.group_of)) (sym c.lanes-lanes.ensures.lanes) within)
 
 pub places-requires : goal.places-requires
 places-requires g c =
@@ -30,7 +34,9 @@ put_line-requires g c =
     let n = length c.args.table.now.names in
     let lane = c.deref.result.now in
     let long : length lane ≡ n =
-    ap length (c.deref.ensures.value ∙ c.in_ok-lane.ensures) ∙ length-map c.args.groups.now.group_of (group_lane c.assignment-assignment.result.now) ∙ c.requires.grouped in
+    ap length (c.deref.ensures.value ∙ c.in_ok-lane.ensures.lanes)
+    ∙ length-map c.args.groups.now.group_of (group_lane c.assignment-assignment.result.now)
+    ∙ c.requires.grouped in
     let own = items_at-bucket lane c.in_ok-items.items c.lanes-lanes.result c.loop-q.q c.places.result.now c.in_ok-items.ensures.buckets c.loop-q-test.true c.places.ensures in
     subst (λ (is : List ℕ). All (λ i. i < n) is) (sym own) (items_at-below lane c.loop-q.q n long)
 
@@ -44,7 +50,8 @@ loop-q-preserved g c =
     let lane = c.deref.result.now in
     let q = c.loop-q.q in
     let lanes_are : lane ≡ item_lanes a group_of =
-    c.deref.ensures.value ∙ c.in_ok-lane.ensures ∙ ap (λ (x : Assignment). item_lanes x group_of) c.assignment-assignment.ensures in
+    c.deref.ensures.value ∙ c.in_ok-lane.ensures.lanes
+    ∙ ap (λ (x : Assignment). item_lanes x group_of) c.assignment-assignment.ensures in
     let own : c.places.result.now ≡ items_at (item_lanes a group_of) q =
     items_at-bucket lane c.in_ok-items.items c.lanes-lanes.result q c.places.result.now c.in_ok-items.ensures.buckets c.loop-q-test.true c.places.ensures
     ∙ ap (λ (l : List ℕ). items_at l q) lanes_are in

@@ -15,7 +15,7 @@ pub returns-in_err-lane_of_item-clause-memory : goal.returns-in_err-lane_of_item
 returns-in_err-lane_of_item-clause-memory g c =
     let groups = c.args.groups.now in
     let a = c.args.assignment.now in
-    let some : 0 < length groups.group_of = omega (arith, c.in_err-lane_of_item.ensures.memory, c.len.ensures.len, c.requires.grouped) in
+    let some : 0 < length groups.group_of = c.in_err-lane_of_item.ensures.memory in
     OnErr-holds c.from_residual.result (lanes-some groups.group_of groups.groups a c.in_err-lane_of_item.ensures.partition.within (record { one_each = c.requires.assigned; within = c.lanes-lanes.ensures.within }) some)
 
 pub returns-in_err-targets-clause-memory : goal.returns-in_err-targets-clause-memory
@@ -29,7 +29,8 @@ pub returns-in_err-pending-clause-memory : goal.returns-in_err-pending-clause-me
 returns-in_err-pending-clause-memory g c =
     let groups = c.args.groups.now in
     let a = c.args.assignment.now in
-    let some : 0 < length groups.group_of = omega (arith, c.in_err-pending.ensures.memory, c.len-2.ensures.len, c.requires.grouped) in
+    let some : 0 < length groups.group_of =
+    omega (arith, c.in_err-pending.ensures.memory, c.len.ensures.len, c.requires.grouped) in
     OnErr-holds c.from_residual-in_err-pending.result (lanes-some groups.group_of groups.groups a c.in_ok-lane_of_item.ensures.partition.within (record { one_each = c.requires.assigned; within = c.lanes-lanes.ensures.within }) some)
 
 pub lane_shapes-requires-clause-within : goal.lane_shapes-requires-clause-within
@@ -57,8 +58,11 @@ invariant_of-result g c =
     let assignment : IsAssignment d.groups a = record { one_each = c.requires.assigned; within = c.lanes-lanes.ensures.within } in
     let shaped = c.in_ok-shapes.ensures.shapes ∙ ap (λ (l : List ℕ). map (shape_of a groups l) (range_with_len 0 a.lanes)) c.as_slice.ensures.value in
     let idle = c.in_ok-lanes.ensures.lanes ∙ ap (map (idle_of_shape c.args.helpers)) c.as_slice-2.ensures.value in
-    IsHeld-first d a c.in_ok-targets.targets c.in_ok-lane_of_item.lane_of_item.items c.args.bare.items c.args.helpers c.in_ok-shapes.shapes.items c.in_ok-lanes.lanes c.in_ok-targets.ensures.targets c.in_ok-lane_of_item.ensures.lanes shaped idle c.in_ok-pending.pending c.len-2.result declaration assignment
-    (omega (arith, c.lanes-lanes.ensures.lanes, c.lanes-lanes.ensures.few)) c.requires.few c.in_ok-pending.ensures.numbers (omega (arith, c.len-2.ensures.len, c.in_ok-targets.ensures.table.one_list_each))
+    IsHeld-first d a c.in_ok-targets.targets c.in_ok-lane_of_item.lane_of_item.items c.args.bare.items c.args.helpers
+    c.in_ok-shapes.shapes.items c.in_ok-lanes.lanes c.in_ok-targets.ensures.targets
+    c.in_ok-lane_of_item.ensures.lanes shaped idle c.in_ok-pending.pending c.len.result declaration assignment
+    (omega (arith, c.lanes-lanes.ensures.lanes, c.lanes-lanes.ensures.few)) c.requires.few
+    c.in_ok-pending.ensures.numbers (omega (arith, c.len.ensures.len, c.in_ok-targets.ensures.table.one_list_each))
 
 pub returns-clause-machine : goal.returns-clause-machine
 returns-clause-machine g c =

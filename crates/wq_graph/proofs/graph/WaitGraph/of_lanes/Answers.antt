@@ -8,5 +8,5 @@ of_vertices-requires-clause-within g c =
     let a = c.args.assignment.now in
     let within = item_lanes-within c.args.groups.now.group_of c.args.groups.now.groups a c.in_ok-vertex_of.ensures.partition.within (record { one_each = c.requires.assigned; within = c.lanes-lanes.ensures.within }) in
     subst (λ (n : ℕ). All (λ q. q < n) c.as_slice.result.now) (sym c.lanes-lanes.ensures.lanes) (
-    subst (All (λ q. q < a.lanes)) (sym (c.as_slice.ensures.value ∙ c.in_ok-vertex_of.ensures.vertices)) within
+    subst (All (λ q. q < a.lanes)) (sym (c.as_slice.ensures.value ∙ c.in_ok-vertex_of.ensures.lanes)) within
     )
