@@ -87,8 +87,8 @@ impl Disk {
         }
     }
 
-    /// Ends the requests that the server has answered, which are all that it received. True where the connection turns out to be
-    /// lost.
+    /// Ends the requests that the server has answered, which are all that it
+    /// received. True where the connection turns out to be lost.
     pub(crate) fn end_requests(&mut self) -> bool {
         for stage in self.stages.iter_mut() {
             if *stage == RequestStage::Sent {

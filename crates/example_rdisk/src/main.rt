@@ -1,8 +1,9 @@
 //! `example_rdisk`: the driver of docs/GUIDE.md, run by its plan. It is an example, and never installed.
 //!
-//! `rdisk`, `disk` and `writer` are the driver: its work functions and the bodies that run them, its disk, and its callers. Here its
-//! declaration is planned and a runtime made under the plan; a rescuer for each workqueue and two callers run, and the runtime is
-//! closed. It prints what doesn't depend on the order in which the threads ran. docs/RUNTIME.md explains it.
+//! `rdisk`, `disk` and `writer` are the driver: its work functions and the bodies that run them,
+//! its disk, and its callers. Here its declaration is planned and a runtime made under the plan;
+//! a rescuer for each workqueue and two callers run, and the runtime is closed. It prints what
+//! doesn't depend on the order in which the threads ran. docs/RUNTIME.md explains it.
 #![tactic(auto)]
 
 mod disk;
@@ -113,7 +114,8 @@ fn put_destroyed<N: Naming, R: Wait + Print>(
     Ok(())
 }
 
-/// Prints what came of the calls and of the requests, and the answers after `destroy`. The seat for these is added to the others.
+/// Prints what came of the calls and of the requests, and the answers after
+/// `destroy`. The seat for these is added to the others.
 fn put_ran<N: Naming, R: Wait + Print + AllocGlobal>(
     rt: &R,
     runtime: &WqRuntime<N, Global>,

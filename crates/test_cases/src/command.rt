@@ -1,5 +1,5 @@
-//! The commands that take no threads, what a case of them is, and their cases, each command's in a file of its own. A run takes the
-//! time of the command.
+//! The commands that take no threads, what a case of them is, and their cases, each command's in a file of its own. A
+//! run takes the time of the command.
 
 mod checks;
 mod circles;
@@ -107,8 +107,8 @@ impl Case {
     }
 }
 
-/// The cases: one of each kind of answer, at least. Each is to be answered so over any devices, and with any heap that is large
-/// enough.
+/// The cases: one of each kind of answer, at least. Each is to be answered so over
+/// any devices, and with any heap that is large enough.
 pub fn cases() -> [&'static [Case]; 8] {
     [
         PLANS, CHECKS, DEADLOCKS, HANGS, REPAIRS, REPLAYS, CIRCLES, DRAWINGS,

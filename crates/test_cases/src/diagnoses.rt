@@ -1,7 +1,7 @@
 //! Cases of what is said of texts that are refused, and of certificates to which `check` says no.
 //!
-//! Each was written by hand from "Diagnoses" in docs/FORMAT.md; tests/cli/diagnoses has many more. A call takes the time of reading
-//! the texts and of seeking the fault in them.
+//! Each was written by hand from "Diagnoses" in docs/FORMAT.md; tests/cli/diagnoses has many more. A call takes the
+//! time of reading the texts and of seeking the fault in them.
 
 use crate::command::SEED;
 use crate::declarations::{PLAN_OF_TWO, TWO};

@@ -1,8 +1,8 @@
 //! A heap that refuses one request for memory, or that request and all after it.
 //!
-//! It tells requests by their numbers alone. So a run in which a request is refused has to make the same requests up to that one as
-//! a run in which none is. Its count is atomic, so that threads may share it. A request takes the time that it takes of the heap
-//! behind it.
+//! It tells requests by their numbers alone. So a run in which a request is refused has to make the same requests up to
+//! that one as a run in which none is. Its count is atomic, so that threads may share it. A request takes the time that
+//! it takes of the heap behind it.
 
 use std::alloc::{AllocError, Allocator};
 use std::sync::atomic::{AtomicU64, Ordering};

@@ -1,7 +1,8 @@
 //! Books: an ask of another book, and what a book says of its rows and its lanes.
 //!
-//! What each call answers in which state, and the judgement of a history, are tested in tests/runtime/book. The rules are those of
-//! "Books" in docs/RUNTIME.md, from which each row was worked out by hand. The tests take time in the number of calls.
+//! What each call answers in which state, and the judgement of a history, are tested
+//! in tests/runtime/book. The rules are those of "Books" in docs/RUNTIME.md, from
+//! which each row was worked out by hand. The tests take time in the number of calls.
 
 use crate::declared::{core_in, helped_core_in};
 use linked_list_allocator::LocalHeap;
@@ -216,7 +217,8 @@ fn share_a_lane(rt: &impl Abort, book: &mut Book<Global>) {
     assert!(rt; book.packed() == SHARED.as_slice());
 }
 
-/// The book of a declaration and of the lane of each group, with a helper for an unordered lane, and with room for 9 rows.
+/// The book of a declaration and of the lane of each group, with a helper for an
+/// unordered lane, and with room for 9 rows.
 fn helped_book(alloc: Global, text: &str, lane_of_group: &[u16]) -> Result<Book<Global>, Fail> {
     let core = helped_core_in(alloc, alloc, text, 1, lane_of_group, 1)??;
     Ok(Book::new(alloc, core, 9)?)

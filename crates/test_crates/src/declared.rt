@@ -41,8 +41,8 @@ pub(crate) fn assigned<A: Allocator + Copy>(
     Ok(Assignment::new(lanes, of_group))
 }
 
-/// The machine, on a heap, of a declaration and the lane of each group, which are on another heap; with this many helpers for each
-/// unordered lane.
+/// The machine, on a heap, of a declaration and the lane of each group, which are on another heap; with this many
+/// helpers for each unordered lane.
 pub(crate) fn helped_core_in<A: Allocator + Copy>(
     parts: A,
     heap: A,

@@ -1,5 +1,5 @@
-//! Readers that never end, and how much is read and written at most. What the commands do with devices that give little or fail is tried
-//! by `test_shortages`.
+//! Readers that never end, and how much is read and written at most. What the commands do with devices that give little
+//! or fail is tried by `test_shortages`.
 //!
 //! It takes time in the number of calls of the devices.
 

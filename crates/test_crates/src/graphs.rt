@@ -1,7 +1,7 @@
 //! Wait graphs and their ranks, which answers show only in part.
 //!
-//! The arcs and the circles are those of "Items and groups" and "Circle texts" in docs/FORMAT.md. The tests take time in the
-//! lengths of the texts.
+//! The arcs and the circles are those of "Items and groups" and "Circle texts" in
+//! docs/FORMAT.md. The tests take time in the lengths of the texts.
 
 ghost use Rattle.std.specs.Prelude.{◌≡◌, length};
 
@@ -144,7 +144,8 @@ fn graphs_have_ranks_or_a_circle(rt: HostRuntime) -> Result<(), Fail> {
     Ok(())
 }
 
-/// A declaration, a safe assignment of it, as its number of lanes and the lane of each group, and the ranks of the lanes.
+/// A declaration, a safe assignment of it, as its number of lanes and the lane of
+/// each group, and the ranks of the lanes.
 const SAFE: &[(&str, u16, &[u16], &[u16])] = &[
     ("", 0, &[], &[]),
     (

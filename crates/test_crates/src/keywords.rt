@@ -1,6 +1,7 @@
 //! Words that are keywords, and words that only look like one.
 //!
-//! Expected is what docs/FORMAT.md, "Directives", says: a first word is compared byte by byte. A call takes constant time.
+//! Expected is what docs/FORMAT.md, "Directives", says: a first word is compared
+//! byte by byte. A call takes constant time.
 
 use std::process::Abort;
 use std::test::Fail;

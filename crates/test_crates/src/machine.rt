@@ -1,8 +1,8 @@
 //! The machine: what it says of steps, of the work that is left and of its lanes.
 //!
-//! The rules are those of "The machine" in docs/DEFINITIONS.md, from which each number and each refusal was worked out by hand. Which
-//! steps are lawful and which numbers they give is tested in tests/cli/rows and tests/runtime/book, too. The tests take time in the
-//! number of steps.
+//! The rules are those of "The machine" in docs/DEFINITIONS.md, from which each number and each refusal was worked out
+//! by hand. Which steps are lawful and which numbers they give is tested in tests/cli/rows and tests/runtime/book, too.
+//! The tests take time in the number of steps.
 
 use crate::declared::{core_in, helped_core_in};
 use std::alloc::{Allocator, Global};
@@ -42,8 +42,8 @@ const PAIR: &str = "item a\nitem b\nflush a b\n";
 
 const PAIR_LANES: &[u16] = &[1, 0];
 
-/// A step of the pair, the number that it gives, if it is lawful, and the work that is left after it; and then the lowest lane that
-/// can move, and the steps that lanes 0 and 1 make as declared.
+/// A step of the pair, the number that it gives, if it is lawful, and the work that is left after it; and then the
+/// lowest lane that can move, and the steps that lanes 0 and 1 make as declared.
 type Played = (
     Made,
     Option<u32>,
@@ -86,7 +86,8 @@ const PLAYED: &[Played] = &[
     (Finish(1, 0), Some(2), 0, None, None, None),
 ];
 
-/// The number that a step would give, and the work that would be left after it; or, where it gives none, the work that is left now.
+/// The number that a step would give, and the work that would be left after it; or,
+/// where it gives none, the work that is left now.
 fn looked_ahead(core: &Core<Global>, step: &Step) -> (Option<u32>, u64) {
     let left = core.work_left();
     match core.peek(step) {
@@ -224,8 +225,8 @@ fn helped(deed: HelpStep) -> Step {
     Step::Help(LaneId::new(0), 1, deed)
 }
 
-/// Has the lane's helper start the second item, which is queued again; so its rescuer can start only the first. At the end the
-/// rescuer runs the second item, after the helper.
+/// Has the lane's helper start the second item, which is queued again; so its rescuer can start only the first. At the
+/// end the rescuer runs the second item, after the helper.
 pub(crate) fn help<A: Allocator>(rt: &impl Abort, core: &mut Core<A>) {
     let b = ItemId::new(1);
     let steps = [

@@ -1,5 +1,5 @@
-//! The plan of the largest declaration, compared with one that is found by rounds: each round gives each item a workqueue above
-//! those of all that it flushes, until a round changes nothing.
+//! The plan of the largest declaration, compared with one that is found by rounds: each round gives each item a
+//! workqueue above those of all that it flushes, until a round changes nothing.
 //!
 //! It takes time in the number of flushes times the length of the longest chain.
 

@@ -1,8 +1,10 @@
-//! `test_runtime`: makes the calls of a book or of a runtime that a text asks for, has rescuers, bodies and callers do what a text or
-//! the declaration says, judges the rows of a history, or runs a load on a runtime in many threads, and prints what came of it.
+//! `test_runtime`: makes the calls of a book or of a runtime that a text asks for, has
+//! rescuers, bodies and callers do what a text or the declaration says, judges the rows
+//! of a history, or runs a load on a runtime in many threads, and prints what came of it.
 //!
 //! It is a program of the tests and of the measurements (bench/README.md), and never installed. What it
-//! reads and prints is in tests/FORMATS.md; no contract says so. It takes the time of what is asked, and that of printing it.
+//! reads and prints is in tests/FORMATS.md; no contract says so. It takes the time
+//! of what is asked, and that of printing it.
 #![tactic(auto)]
 
 mod loads;
@@ -35,8 +37,8 @@ struct Order<'a> {
     path: Option<&'a str>,
 }
 
-/// The task of a subcommand in these files, with the words after them and this many helpers, of which a book has 8 at most. A
-/// history that is judged has as many rows as it has.
+/// The task of a subcommand in these files, with the words after them and this many helpers, of which a book has 8 at
+/// most. A history that is judged has as many rows as it has.
 fn order_of<'a>(
     command: &str,
     declaration: &'a str,
@@ -92,8 +94,8 @@ fn perform<R: Files + Print + AllocGlobal + Threads + Wait + Clock + Sync>(
     print_answer(rt, &out, status)
 }
 
-/// Does what `book`, `check`, `calls`, `crew`, `report` or `script` asks for by the words after it. Returns the status, or none where
-/// the words have none of their forms.
+/// Does what `book`, `check`, `calls`, `crew`, `report` or `script` asks for by the words after it. Returns the status,
+/// or none where the words have none of their forms.
 fn session<R: Files + Print + Eprint + AllocGlobal + Threads + Wait + Clock + Sync>(
     rt: &R,
     command: &str,
@@ -146,7 +148,8 @@ fn run_load<R: Files + Print + AllocGlobal + Threads + Wait + Clock + Sync>(
     print_answer(rt, &out, status)
 }
 
-/// Does what `stress` or `bench` asks for by the words after it. Returns the status, or none where the words don't have their form.
+/// Does what `stress` or `bench` asks for by the words after it. Returns the status,
+/// or none where the words don't have their form.
 fn loaded<R: Files + Print + Eprint + AllocGlobal + Threads + Wait + Clock + Sync>(
     rt: &R,
     command: &str,
@@ -168,8 +171,8 @@ fn loaded<R: Files + Print + Eprint + AllocGlobal + Threads + Wait + Clock + Syn
     }
 }
 
-/// Does what the words of the command line ask for, of which the first is the program's name. Returns the status, or none where they
-/// have no form of any subcommand.
+/// Does what the words of the command line ask for, of which the first is the program's name. Returns the status, or
+/// none where they have no form of any subcommand.
 fn dispatch<R: Files + Print + Eprint + AllocGlobal + Threads + Wait + Clock + Sync>(
     rt: &R,
     words: &[String],

@@ -1,6 +1,7 @@
 //! The calls of a caller in one thread: a seat, and the calls that are made with it.
 //!
-//! What each call answers was worked out by hand from "Runtimes" in docs/RUNTIME.md. They take time in the rows of the history.
+//! What each call answers was worked out by hand from "Runtimes" in docs/RUNTIME.md.
+//! They take time in the rows of the history.
 
 use crate::closing::closes;
 use crate::trial::TrialEnd;
@@ -55,7 +56,8 @@ fn is_counted<N: Naming, A: Allocator>(closed: &Closed<N, A>) -> bool {
     closed.agree && numbers == (2, 2, 0, 8) && closed.book.packed() == HISTORY.as_slice()
 }
 
-/// Closes a runtime without a seat, which must be refused, and then with the seat. Gives whether all is as it should be.
+/// Closes a runtime without a seat, which must be refused, and then with the seat.
+/// Gives whether all is as it should be.
 fn close_twice<N: Naming, A: Allocator + Copy>(
     alloc: A,
     runtime: WqRuntime<N, A>,
@@ -75,8 +77,8 @@ fn close_twice<N: Naming, A: Allocator + Copy>(
     }
 }
 
-/// Makes a seat of a runtime, makes the calls with it, and closes the runtime. Where there is no memory for the seat, the runtime
-/// is closed without one.
+/// Makes a seat of a runtime, makes the calls with it, and closes the runtime. Where there is no memory for the seat,
+/// the runtime is closed without one.
 pub(crate) fn sit<N: Naming, R: Wait, A: Allocator + Copy>(
     rt: &R,
     ample: A,

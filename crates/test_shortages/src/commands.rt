@@ -8,8 +8,8 @@ use std::sync::Wait;
 use std::thread::Threads;
 use test_cases::{Case, cases, run_cases};
 
-/// Tries a command with each request for memory refused, and over devices that move little, or fail. Gives whether all runs ended as
-/// they should.
+/// Tries a command with each request for memory refused, and over devices that move
+/// little, or fail. Gives whether all runs ended as they should.
 pub(crate) fn put_asked<R: Print + AllocGlobal + Threads + Wait + Sync>(
     rt: &R,
     name: &str,

@@ -1,5 +1,5 @@
-//! Rescuers and callers in threads: `run_all` of a runtime, its bodies and its callers; and then `rescue` and `help`, for which nothing
-//! is left.
+//! Rescuers and callers in threads: `run_all` of a runtime, its bodies and its
+//! callers; and then `rescue` and `help`, for which nothing is left.
 //!
 //! It takes the time that the threads take.
 
@@ -70,8 +70,8 @@ fn is_done<N: Naming, R: Wait, A: Allocator + Copy>(
     true
 }
 
-/// Runs all on a runtime of two lanes, and closes it. Where there is no memory for it, both bodies and both callers are handed
-/// back, and the runtime is closed with the seats that were made.
+/// Runs all on a runtime of two lanes, and closes it. Where there is no memory for it, both bodies and both callers are
+/// handed back, and the runtime is closed with the seats that were made.
 pub(crate) fn serve<
     N: Naming + Send + Sync,
     R: Threads + Wait + Sync,

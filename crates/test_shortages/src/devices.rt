@@ -1,4 +1,5 @@
-//! Readers, a writer and a teller that count their calls, and give or take little, or fail; and what came of a command over them.
+//! Readers, a writer and a teller that count their calls, and give or take little,
+//! or fail; and what came of a command over them.
 //!
 //! A call takes the time of the command.
 

@@ -1,5 +1,5 @@
-//! Commands over devices that move a byte a call, or a few, and with each call of a device failing in turn. It takes the time of all
-//! runs.
+//! Commands over devices that move a byte a call, or a few, and with each call of a
+//! device failing in turn. It takes the time of all runs.
 
 use crate::asked::Wanted;
 use crate::devices::{
@@ -73,7 +73,8 @@ fn failed(successes: u32) -> Counts {
     (before.saturating_add(1), before, 1)
 }
 
-/// What is counted of the reader of a text that is read to its end, one byte a call. A command asks only for texts that it has.
+/// What is counted of the reader of a text that is read to its end, one byte a call.
+/// A command asks only for texts that it has.
 fn read_one_by_one(asked: &Wanted<'_, '_>, at: usize) -> Counts {
     if at >= asked.order.texts() {
         return UNASKED;
@@ -93,7 +94,8 @@ fn is_one_by_one(ran: &DeviceRun, asked: &Wanted<'_, '_>) -> bool {
         && ran.tells == each(asked.said)
 }
 
-/// What is counted of the reader of a text, where the one of the text at `at` failed: it isn't asked, if it comes later.
+/// What is counted of the reader of a text, where the one of the text at `at`
+/// failed: it isn't asked, if it comes later.
 fn read_before(asked: &Wanted<'_, '_>, text: usize, at: usize, successes: u32) -> Counts {
     if text < at {
         at_once(asked.text(text))
@@ -307,8 +309,8 @@ fn tried<R: Threads + Wait + Sync>(rt: &R, alloc: Global, asked: &Wanted<'_, '_>
     tallies
 }
 
-/// How many calls there are of all readers, of the writer and of the teller, where each moves one byte. Nothing where the command
-/// isn't answered so, or asks for more.
+/// How many calls there are of all readers, of the writer and of the teller, where each moves one byte. Nothing where
+/// the command isn't answered so, or asks for more.
 fn calls<R: Threads + Wait + Sync>(
     rt: &R,
     alloc: Global,
@@ -324,9 +326,10 @@ fn calls<R: Threads + Wait + Sync>(
     Some((reads, ran.writes.0, ran.tells.0))
 }
 
-/// Tries a command over devices that move little, or fail, and prints a line: how many calls there are of all readers, of the writer
-/// and of the teller, where each moves one byte; and how many runs ended as they should over devices that move a few bytes a call, and
-/// with one read, one write and one tell that fails. Gives whether all runs ended as they should.
+/// Tries a command over devices that move little, or fail, and prints a line: how many calls
+/// there are of all readers, of the writer and of the teller, where each moves one byte; and
+/// how many runs ended as they should over devices that move a few bytes a call, and with
+/// one read, one write and one tell that fails. Gives whether all runs ended as they should.
 pub(crate) fn put_failing<R: Print + AllocGlobal + Threads + Wait + Sync>(
     rt: &R,
     name: &str,

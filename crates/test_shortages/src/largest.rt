@@ -1,5 +1,5 @@
-//! Each command on the largest declaration of examples/. What it answers and says with enough memory is what it should, and
-//! the answer is the certificate of the commands after it. It takes the time of all runs.
+//! Each command on the largest declaration of examples/. What it answers and says with enough memory is what it should,
+//! and the answer is the certificate of the commands after it. It takes the time of all runs.
 
 use crate::asked::{AnyCommand, Wanted};
 use crate::devices::answered;
@@ -9,7 +9,8 @@ use std::sync::Wait;
 use std::thread::Threads;
 use test_cases::{LARGEST, LARGEST_LANES, LARGEST_ON_ONE, PlainCommand};
 
-/// Tries a command on these texts: the largest declaration, and two more. Gives its answer, if all runs ended as they should.
+/// Tries a command on these texts: the largest declaration, and two more. Gives its
+/// answer, if all runs ended as they should.
 fn put_largest<'t, R: Print + AllocGlobal + Threads + Wait + Sync>(
     rt: &R,
     order: AnyCommand,

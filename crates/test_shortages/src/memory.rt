@@ -1,4 +1,5 @@
-//! Commands with a heap that refuses one request for memory, or that one and all after it. It takes the time of all runs.
+//! Commands with a heap that refuses one request for memory, or that one and all
+//! after it. It takes the time of all runs.
 
 use crate::asked::Wanted;
 use crate::devices::{DeviceRun, Devices, WHOLE, run_over};
@@ -35,8 +36,8 @@ fn outcome<R: Threads + Wait + Sync>(
     judged(&ran, &asked)
 }
 
-/// Tries a command with each request refused in turn, alone and with all after it, and prints a line. Gives whether all runs ended
-/// as they should.
+/// Tries a command with each request refused in turn, alone and with all after it,
+/// and prints a line. Gives whether all runs ended as they should.
 pub(crate) fn put_memory<R: Print + AllocGlobal + Threads + Wait + Sync>(
     rt: &R,
     name: &str,

@@ -38,8 +38,8 @@ impl RefusalTally {
 /// More requests than any run has.
 const MOST: u64 = 1_000_000;
 
-/// Runs something with the first request refused, with the second, and so on, until none is. The error is the number of the request
-/// with which it ends as it should not.
+/// Runs something with the first request refused, with the second, and so on, until none is. The error is the number of
+/// the request with which it ends as it should not.
 fn refuse_each<F: Fn(&RefusingHeap<Global>) -> TrialEnd>(
     alloc: Global,
     refusing: Refusing,
@@ -66,10 +66,10 @@ fn refuse_each<F: Fn(&RefusingHeap<Global>) -> TrialEnd>(
     Err(MOST)
 }
 
-/// Prints a line: how many requests for memory there are; how many of the runs in which one of them was refused ended with out of
-/// memory, how many were answered and said nothing of it, though there was something to be said, and how many were answered in full;
-/// and the same of the runs in which all after it were refused, too. Or it prints the request with which a run ended as it should
-/// not. Gives whether all runs ended as they should.
+/// Prints a line: how many requests for memory there are; how many of the runs in which one of them was refused ended
+/// with out of memory, how many were answered and said nothing of it, though there was something to be said, and how
+/// many were answered in full; and the same of the runs in which all after it were refused, too. Or it prints the
+/// request with which a run ended as it should not. Gives whether all runs ended as they should.
 fn put_tallies<R: Print>(
     rt: &R,
     what: &str,
@@ -101,8 +101,8 @@ fn put_tallies<R: Print>(
     }
 }
 
-/// Runs something with each of its requests for memory refused in turn, alone and with all after it, and prints a line. What it
-/// takes of another heap isn't refused. Gives whether all runs ended as they should.
+/// Runs something with each of its requests for memory refused in turn, alone and with all after it, and prints a line.
+/// What it takes of another heap isn't refused. Gives whether all runs ended as they should.
 pub(crate) fn put_trial<R: Print + AllocGlobal, F: Fn(&RefusingHeap<Global>) -> TrialEnd>(
     rt: &R,
     what: &str,

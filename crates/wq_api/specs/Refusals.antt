@@ -2,11 +2,12 @@
 use Rattle.std.specs.Prelude.{◌≢◌, ℕ, ◌<◌, ◌≤◌, ◌⊎◌, List, sum}
 use Rattle.wq_core.specs.Wiring.{Wiring, items, lane_of, HasContext}
 use Rattle.wq_history.specs.declared.fault.CallError.{CallError}
-use Rattle.wq_history.specs.declared.fault.CallError.TheVariants.{HistoryFull, Closed, Undeclared, TooManyWaits, WrongLane, NoItem}
+use Rattle.wq_history.specs.declared.fault.CallError.TheVariants.{HistoryFull, Closed, Undeclared, TooManyWaits}
+use Rattle.wq_history.specs.declared.fault.CallError.TheVariants.{WrongLane, NoItem}
 use Rattle.wq_held.specs.Locked.{IsOnLane, seat_rows, SeatHasRoom}
 
--- `queue_work` of item i on lane q, through a seat with these counts: no such item; it belongs to another lane; the seat
--- is full (60); the runtime is closed; too few rows are free (60)
+-- `queue_work` of item i on lane q, through a seat with these counts: no such item; it belongs to another lane; the
+-- seat is full (60); the runtime is closed; too few rows are free (60)
 abbrev pub RefusesQueueWork : Wiring → List ℕ → ℕ → ℕ → CallError → Type 0
 RefusesQueueWork w counts q i NoItem = items w ≤ i
 RefusesQueueWork w counts q i WrongLane = (i < items w) × (lane_of w i ≢ q)
@@ -20,8 +21,8 @@ RefusesCancelWork w i NoItem = items w ≤ i
 RefusesCancelWork w i HistoryFull = i < items w
 RefusesCancelWork w i _ = ⊥
 
--- `wait_for` or `wait_all_for` on lane q, through a seat with these counts: no such lane, or it can't make this step; the
--- seat is full; what the lane runs declares no such flush, or has made as many waits as it declares
+-- `wait_for` or `wait_all_for` on lane q, through a seat with these counts: no such lane, or it can't make this step;
+-- the seat is full; what the lane runs declares no such flush, or has made as many waits as it declares
 abbrev pub RefusesWaitFor : Wiring → List ℕ → ℕ → CallError → Type 0
 RefusesWaitFor w counts q WrongLane = (w.lanes ≤ q) ⊎ SeatHasRoom counts
 RefusesWaitFor w counts q HistoryFull = (q < w.lanes) × (seat_rows ≤ sum counts)

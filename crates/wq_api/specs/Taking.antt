@@ -85,8 +85,8 @@ GivesItem P (Err e) = P (Err e)
 
 -- ---- calls that wait: two calls
 
--- after an ask about this, of which the row is this: it doesn't wait, and nothing more is called or counted; or it waits,
--- and is told with the mark that is its own
+-- after an ask about this, of which the row is this: it doesn't wait, and nothing more is called or counted; or it
+-- waits, and is told with the mark that is its own
 abbrev pub IsTold : Wiring → ℕ → List ℕ → Subject → Row → List ℕ → Type 0
 IsTold w rows counts x asked left = ((asked.yes ≡ false) × (left ≡ counts))
     ⊎ ((asked.yes ≡ true) × ((told : Row) × Took w rows counts (Told x asked.number) (Ok (Wrote told)) left))
@@ -111,7 +111,8 @@ FlushesSo w rows counts x (Err e) left = Flushes w rows counts x (Err e) left
 -- a cancellation of item i that waits: an ask and a cancellation in one call, and then the end of the ask
 abbrev pub CancelsSync : Wiring → ℕ → List ℕ → ℕ → Result Bool CallError → List ℕ → Type 0
 CancelsSync w rows counts i (Ok said) left = (asked : Row) × (taken : Row) × (between : List ℕ) × (taken.yes ≡ said)
-    × ComesTo w rows counts (CancelSync i) (Ok (WroteTwo asked taken)) between × IsTold w rows between (OfItem i) asked left
+    × ComesTo w rows counts (CancelSync i) (Ok (WroteTwo asked taken)) between
+    × IsTold w rows between (OfItem i) asked left
 CancelsSync w rows counts i (Err e) left = ComesTo w rows counts (CancelSync i) (Err e) left
     ⊎ ((asked : Row) × (taken : Row) × (between : List ℕ)
     × ComesTo w rows counts (CancelSync i) (Ok (WroteTwo asked taken)) between

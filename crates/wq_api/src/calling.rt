@@ -1,15 +1,16 @@
 //! How a runtime is called: what the caller can know is refused at once, and all else is answered under the lock.
 //!
-//! The methods of `runtime`, `serving` and `closing` are made of these. What is asked under the lock is a call, a value. So
-//! the clause `took` of a method says which call it makes, and of a method that waits, which two. Apart from what it waits
-//! for, a call takes the time of the book's answer.
+//! The methods of `runtime`, `serving` and `closing` are made of these. What is asked under the lock is a call, a
+//! value. So the clause `took` of a method says which call it makes, and of a method that waits, which two. Apart from
+//! what it waits for, a call takes the time of the book's answer.
 
 ghost use Rattle.std.specs.Prelude.{◌↔◌, ◌≡◌, IsTrue, Result, IfErr, OnOk};
 ghost use Rattle.wq_history.specs.declared.call.Call.TheVariants.{CancelSync, Start, Finish};
 ghost use Rattle.wq_history.specs.History.{IsThere};
 ghost use Rattle.wq_held.specs.Calls.{IsNamed, missing, needs_room, IsBarred, IsAdmitted, IsSettled};
 ghost use Rattle.wq_api.specs.Locking.{uncounted_call};
-ghost use Rattle.wq_api.specs.Taking.{WritesOne, IsAnswered, Took, ComesTo, GivesRow, GivesTwo, GivesYes, GivesDone, GivesItem, IsTold, IsNotTold, Flushes, CancelsSync, Waits};
+ghost use Rattle.wq_api.specs.Taking.{WritesOne, IsAnswered, Took, ComesTo, GivesRow, GivesTwo, GivesYes, GivesDone};
+ghost use Rattle.wq_api.specs.Taking.{GivesItem, IsTold, IsNotTold, Flushes, CancelsSync, Waits};
 
 use crate::layout::Layout;
 use crate::runtime::WqRuntime;
@@ -94,8 +95,8 @@ fn needs_room(call: &Call) -> bool
 }
 
 impl<N: Naming, A: Allocator> WqRuntime<N, A> {
-    /// Whether its caller may make a call: the error is that what it names isn't there (64, 66), or else that the seat is
-    /// full (60). It doesn't take the lock.
+    /// Whether its caller may make a call: the error is that what it names isn't there (64, 66), or else that the seat
+    /// is full (60). It doesn't take the lock.
     fn admit(&self, seat: &Seat<N, A>, call: &Call) -> Result<(), CallError>
         ensures admitted { OnOk result (IsAdmitted N.wiring seat.now call.now) }
         ensures barred { IfErr result (λ e. IsBarred N.wiring seat.now call.now e) }

@@ -1,10 +1,11 @@
 //! The condition variables of a runtime, on which those who sleep wait to be woken.
 //!
-//! Each group of sleepers has one of its own; but there are at most 256 for those who wait for items. Where there are more items, some
-//! share one. Then who waits for one of these is also woken by an entry of another that ends, looks, and sleeps again.
+//! Each group of sleepers has one of its own; but there are at most 256 for those who
+//! wait for items. Where there are more items, some share one. Then who waits for one
+//! of these is also woken by an entry of another that ends, looks, and sleeps again.
 //!
-//! `new` takes time and memory in the number of workqueues, 32 bytes for each, and of items, 16 bytes for each of up to 256. Where
-//! nobody sleeps, a wake-up takes a few instructions, and no call of the kernel.
+//! `new` takes time and memory in the number of workqueues, 32 bytes for each, and of items, 16 bytes for each of up to
+//! 256. Where nobody sleeps, a wake-up takes a few instructions, and no call of the kernel.
 
 ghost use Rattle.std.specs.Prelude.{◌≡◌, ◌<◌, ◌%◌, ◌⊎◌, min, vec_len, IfOk, OnErr};
 ghost use Rattle.wq_api.specs.Locking.{max_item_condvars, HasCondvar};
@@ -65,7 +66,8 @@ fn for_items<A: Allocator>(alloc: A, count: u16) -> Result<Vec<Condvar, A>, Allo
 }
 
 impl<A: Allocator + Copy> Condvars<A> {
-    /// Those for this many workqueues and items. The only error is out of memory (20), which can't occur where there are neither.
+    /// Those for this many workqueues and items. The only error is out of memory
+    /// (20), which can't occur where there are neither.
     pub(crate) fn new(alloc: A, lanes: u16, items: u16) -> Result<Self, AllocError>
         ensures lanes { IfOk result (λ r. vec_len r.lanes ≡ lanes) }
         ensures items { IfOk result (λ r. vec_len r.items ≡ min items max_item_condvars) }

@@ -1,7 +1,7 @@
 //! What never changes of a runtime: the workqueue of each item, and how many helpers each workqueue has.
 //!
-//! It stands beside the lock. So whoever only asks for it doesn't take the lock, and can change nothing. It takes 2 bytes
-//! for each item and one for each workqueue; `new` takes time in their numbers, and all else constant time.
+//! It stands beside the lock. So whoever only asks for it doesn't take the lock, and can change nothing. It takes 2
+//! bytes for each item and one for each workqueue; `new` takes time in their numbers, and all else constant time.
 
 ghost use Rattle.std.specs.Prelude.{◌≡◌, ◌<◌, ◌≤◌, ◌↔◌, ◌⊎◌, length, map, IsTrue, IfOk, OnErr, IfSome, IfNone};
 ghost use Rattle.std.specs.List.{range_with_len};
@@ -50,8 +50,8 @@ fn lanes_of_items<N: Naming, A: Allocator>(
     Ok(lanes)
 }
 
-/// How many helpers each of this many workqueues has. The only error is out of memory, which can't occur where there are
-/// none.
+/// How many helpers each of this many workqueues has. The only error is out of
+/// memory, which can't occur where there are none.
 fn helpers_of_lanes<N: Naming, A: Allocator>(
     alloc: A,
     held: &Held<N, A>,
@@ -68,8 +68,8 @@ fn helpers_of_lanes<N: Naming, A: Allocator>(
 }
 
 impl<N: Naming, A: Allocator + Copy> Layout<N, A> {
-    /// That of a runtime with this many items and workqueues. The only error is out of memory (20), which can't occur where
-    /// there are neither.
+    /// That of a runtime with this many items and workqueues. The only error is out
+    /// of memory (20), which can't occur where there are neither.
     pub(crate) fn new(
         alloc: A,
         held: &Held<N, A>,

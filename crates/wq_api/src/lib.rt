@@ -1,10 +1,10 @@
-//! The runtime: what `queue_work`, `flush_work`, `flush_workqueue`, `cancel_work_sync` and `destroy_workqueue` do, for many threads
-//! over one book, with exact counts of what each thread did. The code calls a workqueue a lane.
+//! The runtime: what `queue_work`, `flush_work`, `flush_workqueue`, `cancel_work_sync` and `destroy_workqueue` do, for
+//! many threads over one book, with exact counts of what each thread did. The code calls a workqueue a lane.
 //!
-//! What the layer above relies on: a runtime is made only from an assignment that is safe. Each method says which calls of a book it
-//! makes. Each call counts, in its caller's seat, the rows that it wrote, except for starts. Each call that may wait for another
-//! thread sleeps without the lock. Here the lock is taken, callers sleep, and are woken. What the lock protects, and what a call
-//! does to it, is `wq_held`.
+//! What the layer above relies on: a runtime is made only from an assignment that is safe. Each method says which calls
+//! of a book it makes. Each call counts, in its caller's seat, the rows that it wrote, except for starts. Each call
+//! that may wait for another thread sleeps without the lock. Here the lock is taken, callers sleep, and are woken. What
+//! the lock protects, and what a call does to it, is `wq_held`.
 #![tactic(auto)]
 
 mod calling;

@@ -1,9 +1,9 @@
 //! The lock of a runtime, and those who sleep until what it protects has changed.
 //!
-//! Nothing else in this crate takes the lock. `call` takes it, hands over the call, and wakes whom the answer names; where
-//! the call is too early, its caller sleeps among those whom it names. `Lock` knows of what it protects that it takes
-//! turns, and of a call that it can be copied. So it hands over just the call that it was handed. No caller sleeps with
-//! the lock held.
+//! Nothing else in this crate takes the lock. `call` takes it, hands over the call, and wakes whom
+//! the answer names; where the call is too early, its caller sleeps among those whom it names.
+//! `Lock` knows of what it protects that it takes turns, and of a call that it can be copied. So
+//! it hands over just the call that it was handed. No caller sleeps with the lock held.
 
 ghost use Rattle.std.specs.Prelude.{◌≡◌, ℕ, min, vec_len, Result, Ok, Err, IfOk, IfErr};
 ghost use Rattle.wq_history.specs.declared.sleepers.Wake.{Wake};
@@ -110,8 +110,8 @@ impl<H: Watched, A: Allocator> Lock<H, A> {
         unreachable!()
     }
 
-    /// Ends what the lock protects, with what is the caller's own. Where it can't end, what is the caller's own comes back
-    /// as it was, and the lock with the same condition variables.
+    /// Ends what the lock protects, with what is the caller's own. Where it can't end, what is the caller's own comes
+    /// back as it was, and the lock with the same condition variables.
     pub(crate) fn end<S, T, E>(self, own: S) -> Result<T, (Self, S, E)>
     where
         H: Ends<S, T, E>,

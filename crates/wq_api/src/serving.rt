@@ -1,10 +1,10 @@
 //! Serving a workqueue: the calls of its rescuer and of its helpers.
 //!
-//! A context of a workqueue is its rescuer or one of its helpers. It starts the next entry that it can, runs the body, which may
-//! wait for items and workqueues, and finishes the entry (`rescuer_thread`, `worker_thread` and `process_one_work` in
-//! kernel/workqueue.c). No two contexts run an item at the same time. The body runs between these calls, without the lock. A
-//! helper's call is the rescuer's with the number of the helper after the workqueue; both are one call by context. Apart from what
-//! it waits for, a call takes the time of the book's events.
+//! A context of a workqueue is its rescuer or one of its helpers. It starts the next entry that it can, runs the body,
+//! which may wait for items and workqueues, and finishes the entry (`rescuer_thread`, `worker_thread` and
+//! `process_one_work` in kernel/workqueue.c). No two contexts run an item at the same time. The body runs between these
+//! calls, without the lock. A helper's call is the rescuer's with the number of the helper after the workqueue; both
+//! are one call by context. Apart from what it waits for, a call takes the time of the book's events.
 
 ghost use Rattle.std.specs.Prelude.{◌≡◌, ◌<◌, true, false, IfOk, IfErr, OnOk, OnErr, IfSome};
 ghost use Rattle.wq_core.specs.Wiring.{items, HasContext};
@@ -14,7 +14,8 @@ ghost use Rattle.wq_history.specs.declared.fault.CallError.TheVariants.{WrongLan
 ghost use Rattle.wq_history.specs.declared.call.Call.TheVariants.{Start, Finish};
 ghost use Rattle.wq_held.specs.Locked.{IsOnLane, SeatHasRoom};
 ghost use Rattle.wq_api.specs.Refusals.{RefusesWaitFor, RefusesWaitIn};
-ghost use Rattle.wq_api.specs.WaitingCalls.{IsHelper, waited_for, RefusedWaitFor, RefusedWaitIn, RefusesHelpWaitFor, RefusedHelpWaitFor, HasWaiter};
+ghost use Rattle.wq_api.specs.WaitingCalls.{IsHelper, waited_for, RefusedWaitFor, RefusedWaitIn, RefusesHelpWaitFor};
+ghost use Rattle.wq_api.specs.WaitingCalls.{RefusedHelpWaitFor, HasWaiter};
 ghost use Rattle.wq_api.specs.Locking.{WasWrongToStartIn};
 ghost use Rattle.wq_api.specs.Taking.{context_of, flush_of, IsAnswered, Took, GivesDone, GivesItem, Waits};
 
@@ -30,11 +31,12 @@ use wq_items::ItemId;
 impl<N: Naming, A: Allocator> WqRuntime<N, A> {
     // ---- by context
 
-    /// Starts the next entry that a context can start, for whoever serves it, and gives its item: the first pending one of its
-    /// workqueue whose item no context runs. It waits while there is none, unless nothing is pending on the workqueue and the runtime
-    /// is closed. Then it gives nothing.
+    /// Starts the next entry that a context can start, for whoever serves it, and gives its item: the first pending one
+    /// of its workqueue whose item no context runs. It waits while there is none, unless nothing is pending on the
+    /// workqueue and the runtime is closed. Then it gives nothing.
     ///
-    /// The only error is `WrongLane` (64), where there is no such context or it runs an entry. After an error nothing is changed.
+    /// The only error is `WrongLane` (64), where there is no such context or it runs
+    /// an entry. After an error nothing is changed.
     pub fn next_in<R: Wait>(
         &self,
         rt: &R,
@@ -42,20 +44,22 @@ impl<N: Naming, A: Allocator> WqRuntime<N, A> {
         helper: u8,
     ) -> Result<Option<ItemId>, CallError>
         ensures took { GivesItem (λ answer. IsAnswered N.wiring N.rows (Start (context_of q helper)) answer) result }
-        ensures started { IfOk result (λ next. HasContext N.wiring q helper × IfSome next (λ item. IsOnLane N.wiring q item)) }
+        ensures started { IfOk result (λ next. HasContext N.wiring q helper
+            × IfSome next (λ item. IsOnLane N.wiring q item)) }
         ensures refused { IfErr result (λ e. e ≡ WrongLane) }
         ensures cause { OnErr result (WasWrongToStartIn N.wiring N.rows q helper) }
     {
         self.start(rt, Context { lane: q, helper })
     }
 
-    /// Makes what a context runs wait for an item (`flush_work` in a work function), until none of its entries that were queued
-    /// before the call is unfinished: true where one was when the wait began.
+    /// Makes what a context runs wait for an item (`flush_work` in a work function), until none of its entries that
+    /// were queued before the call is unfinished: true where one was when the wait began.
     ///
-    /// The error is the first of these that holds: `WrongLane` (64), where there is no such context; `HistoryFull` (60), where
-    /// the seat is full; `WrongLane` (64), where the context runs nothing or waits; `Undeclared` (62), where what it runs
-    /// declares no flush of this item alone; `TooManyWaits` (63). Then nothing is changed or counted. Once it waits, the only error
-    /// could be `WrongLane`, where another caller drove this context on; then the wait stays counted.
+    /// The error is the first of these that holds: `WrongLane` (64), where there is no such context;
+    /// `HistoryFull` (60), where the seat is full; `WrongLane` (64), where the context runs nothing
+    /// or waits; `Undeclared` (62), where what it runs declares no flush of this item alone;
+    /// `TooManyWaits` (63). Then nothing is changed or counted. Once it waits, the only error could
+    /// be `WrongLane`, where another caller drove this context on; then the wait stays counted.
     pub fn wait_for_in<R: Wait>(
         &self,
         rt: &R,
@@ -65,9 +69,14 @@ impl<N: Naming, A: Allocator> WqRuntime<N, A> {
         target: ItemId,
     ) -> Result<bool, CallError>
         ensures took { Waits N.wiring N.rows seat.old (context_of q helper) (flush_of false target) result seat.new }
-        ensures counted { IfOk result (λ unfinished. HasContext N.wiring q helper × (target < items N.wiring) × SeatHasRoom seat.old × (seat.new ≡ waited_for seat.old false target unfinished)) }
-        ensures refused { IfErr result (λ e. RefusesWaitIn N.wiring seat.old q helper e × RefusedWaitIn N.wiring seat.old seat.new q helper false target e) }
-        ensures waiter { HasContext N.wiring q helper → SeatHasRoom seat.old → HasWaiter N.wiring q false target result }
+        ensures counted { IfOk result (λ unfinished. HasContext N.wiring q helper
+            × (target < items N.wiring)
+            × SeatHasRoom seat.old
+            × (seat.new ≡ waited_for seat.old false target unfinished)) }
+        ensures refused { IfErr result (λ e. RefusesWaitIn N.wiring seat.old q helper e
+            × RefusedWaitIn N.wiring seat.old seat.new q helper false target e) }
+        ensures waiter { HasContext N.wiring q helper → SeatHasRoom seat.old
+            → HasWaiter N.wiring q false target result }
     {
         let flush = Flush {
             target,
@@ -76,13 +85,15 @@ impl<N: Naming, A: Allocator> WqRuntime<N, A> {
         self.wait(rt, seat, &Context { lane: q, helper }, &flush)
     }
 
-    /// Makes what a context runs wait for the whole workqueue of an item (`flush_workqueue` in a work function), until none of
-    /// the entries that were queued on it before the call is unfinished: true where one was when the wait began.
+    /// Makes what a context runs wait for the whole workqueue of an item
+    /// (`flush_workqueue` in a work function), until none of the entries that were queued
+    /// on it before the call is unfinished: true where one was when the wait began.
     ///
-    /// The error is the first of these that holds: `WrongLane` (64), where there is no such context; `HistoryFull` (60), where the
-    /// seat is full; `WrongLane` (64), where the context runs nothing or waits; `Undeclared` (62), where what it runs declares no
-    /// flush of the whole workqueue of this very item; `TooManyWaits` (63). Then nothing is changed or counted. Once it waits, the
-    /// only error could be `WrongLane`, where another caller drove this context on; then the wait stays counted.
+    /// The error is the first of these that holds: `WrongLane` (64), where there is no such context; `HistoryFull`
+    /// (60), where the seat is full; `WrongLane` (64), where the context runs nothing or waits; `Undeclared` (62),
+    /// where what it runs declares no flush of the whole workqueue of this very item; `TooManyWaits` (63). Then nothing
+    /// is changed or counted. Once it waits, the only error could be `WrongLane`, where another caller drove this
+    /// context on; then the wait stays counted.
     pub fn wait_all_for_in<R: Wait>(
         &self,
         rt: &R,
@@ -92,8 +103,12 @@ impl<N: Naming, A: Allocator> WqRuntime<N, A> {
         target: ItemId,
     ) -> Result<bool, CallError>
         ensures took { Waits N.wiring N.rows seat.old (context_of q helper) (flush_of true target) result seat.new }
-        ensures counted { IfOk result (λ unfinished. HasContext N.wiring q helper × (target < items N.wiring) × SeatHasRoom seat.old × (seat.new ≡ waited_for seat.old true target unfinished)) }
-        ensures refused { IfErr result (λ e. RefusesWaitIn N.wiring seat.old q helper e × RefusedWaitIn N.wiring seat.old seat.new q helper true target e) }
+        ensures counted { IfOk result (λ unfinished. HasContext N.wiring q helper
+            × (target < items N.wiring)
+            × SeatHasRoom seat.old
+            × (seat.new ≡ waited_for seat.old true target unfinished)) }
+        ensures refused { IfErr result (λ e. RefusesWaitIn N.wiring seat.old q helper e
+            × RefusedWaitIn N.wiring seat.old seat.new q helper true target e) }
         ensures waiter { HasContext N.wiring q helper → SeatHasRoom seat.old → HasWaiter N.wiring q true target result }
     {
         let flush = Flush {
@@ -105,8 +120,8 @@ impl<N: Naming, A: Allocator> WqRuntime<N, A> {
 
     /// Finishes what a context runs, an entry of this item.
     ///
-    /// The only error is `WrongLane` (64): there is no such context, it runs nothing or an entry of another item, or it waits.
-    /// After an error nothing is changed or counted.
+    /// The only error is `WrongLane` (64): there is no such context, it runs nothing or an entry of another item, or it
+    /// waits. After an error nothing is changed or counted.
     pub fn finish_in<R: Wait>(
         &self,
         rt: &R,
@@ -115,8 +130,11 @@ impl<N: Naming, A: Allocator> WqRuntime<N, A> {
         helper: u8,
         item: ItemId,
     ) -> Result<(), CallError>
-        ensures took { GivesDone (λ answer. Took N.wiring N.rows seat.old (Finish (context_of q helper) item) answer seat.new) result }
-        ensures counted { OnOk result (HasContext N.wiring q helper × IsOnLane N.wiring q item × (seat.new ≡ raised seat.old item FinishKind true)) }
+        ensures took { GivesDone (λ answer.
+            Took N.wiring N.rows seat.old (Finish (context_of q helper) item) answer seat.new) result }
+        ensures counted { OnOk result (HasContext N.wiring q helper
+            × IsOnLane N.wiring q item
+            × (seat.new ≡ raised seat.old item FinishKind true)) }
         ensures refused { IfErr result (λ e. (e ≡ WrongLane) × (seat.new ≡ seat.old)) }
     {
         self.finish(rt, seat, Context { lane: q, helper }, item)
@@ -124,11 +142,12 @@ impl<N: Naming, A: Allocator> WqRuntime<N, A> {
 
     // ---- the rescuer
 
-    /// Starts the next entry of a workqueue, for whoever serves it as its rescuer, and gives its item: the first pending one whose
-    /// item no helper runs. It waits while there is none, unless nothing is pending and the runtime is closed. Then it gives nothing.
+    /// Starts the next entry of a workqueue, for whoever serves it as its rescuer, and gives its item: the first
+    /// pending one whose item no helper runs. It waits while there is none, unless nothing is pending and the runtime
+    /// is closed. Then it gives nothing.
     ///
-    /// The only error is `WrongLane` (64), where there is no such workqueue or its rescuer runs an entry. After an error nothing is
-    /// changed.
+    /// The only error is `WrongLane` (64), where there is no such workqueue or its
+    /// rescuer runs an entry. After an error nothing is changed.
     pub fn next<R: Wait>(&self, rt: &R, q: LaneId) -> Result<Option<ItemId>, CallError>
         ensures took { GivesItem (λ answer. IsAnswered N.wiring N.rows (Start (context_of q 0)) answer) result }
         ensures started { IfOk result (λ next. (q < N.wiring.lanes) × IfSome next (λ item. IsOnLane N.wiring q item)) }
@@ -138,12 +157,13 @@ impl<N: Naming, A: Allocator> WqRuntime<N, A> {
         self.next_in(rt, q, 0)
     }
 
-    /// Makes what the rescuer of a workqueue runs wait for an item (`flush_work` in a work function), until none of its entries that
-    /// were queued before the call is unfinished: true where one was when the wait began.
+    /// Makes what the rescuer of a workqueue runs wait for an item (`flush_work` in a work function), until none of its
+    /// entries that were queued before the call is unfinished: true where one was when the wait began.
     ///
-    /// The error is the first of these that holds: `WrongLane` (64), where there is no such workqueue; `HistoryFull` (60), where
-    /// the seat is full; `WrongLane` (64), where the rescuer runs nothing or waits; `Undeclared` (62), where what it runs
-    /// declares no flush of this item alone; `TooManyWaits` (63). Then nothing is changed or counted. Once it waits, the only error
+    /// The error is the first of these that holds: `WrongLane` (64), where there is no such
+    /// workqueue; `HistoryFull` (60), where the seat is full; `WrongLane` (64), where the rescuer
+    /// runs nothing or waits; `Undeclared` (62), where what it runs declares no flush of this item
+    /// alone; `TooManyWaits` (63). Then nothing is changed or counted. Once it waits, the only error
     /// could be `WrongLane`, where another caller drove this rescuer on; then the wait stays counted.
     pub fn wait_for<R: Wait>(
         &self,
@@ -153,20 +173,26 @@ impl<N: Naming, A: Allocator> WqRuntime<N, A> {
         target: ItemId,
     ) -> Result<bool, CallError>
         ensures took { Waits N.wiring N.rows seat.old (context_of q 0) (flush_of false target) result seat.new }
-        ensures counted { IfOk result (λ unfinished. (q < N.wiring.lanes) × (target < items N.wiring) × SeatHasRoom seat.old × (seat.new ≡ waited_for seat.old false target unfinished)) }
-        ensures refused { IfErr result (λ e. RefusesWaitFor N.wiring seat.old q e × RefusedWaitFor N.wiring seat.old seat.new q false target e) }
+        ensures counted { IfOk result (λ unfinished. (q < N.wiring.lanes)
+            × (target < items N.wiring)
+            × SeatHasRoom seat.old
+            × (seat.new ≡ waited_for seat.old false target unfinished)) }
+        ensures refused { IfErr result (λ e. RefusesWaitFor N.wiring seat.old q e
+            × RefusedWaitFor N.wiring seat.old seat.new q false target e) }
         ensures waiter { q < N.wiring.lanes → SeatHasRoom seat.old → HasWaiter N.wiring q false target result }
     {
         self.wait_for_in(rt, seat, q, 0, target)
     }
 
-    /// Makes what the rescuer of a workqueue runs wait for the whole workqueue of an item (`flush_workqueue` in a work function),
-    /// until none of the entries that were queued on it before the call is unfinished: true where one was when the wait began.
+    /// Makes what the rescuer of a workqueue runs wait for the whole workqueue of an item
+    /// (`flush_workqueue` in a work function), until none of the entries that were queued
+    /// on it before the call is unfinished: true where one was when the wait began.
     ///
-    /// The error is the first of these that holds: `WrongLane` (64), where there is no workqueue `q`; `HistoryFull` (60), where the
-    /// seat is full; `WrongLane` (64), where the rescuer of `q` runs nothing or waits; `Undeclared` (62), where what it runs declares
-    /// no flush of the whole workqueue of this very item; `TooManyWaits` (63). Then nothing is changed or counted. Once it waits, the
-    /// only error could be `WrongLane`, where another caller drove this rescuer on; then the wait stays counted.
+    /// The error is the first of these that holds: `WrongLane` (64), where there is no workqueue `q`; `HistoryFull`
+    /// (60), where the seat is full; `WrongLane` (64), where the rescuer of `q` runs nothing or waits; `Undeclared`
+    /// (62), where what it runs declares no flush of the whole workqueue of this very item; `TooManyWaits` (63). Then
+    /// nothing is changed or counted. Once it waits, the only error could be `WrongLane`, where another caller drove
+    /// this rescuer on; then the wait stays counted.
     pub fn wait_all_for<R: Wait>(
         &self,
         rt: &R,
@@ -175,8 +201,12 @@ impl<N: Naming, A: Allocator> WqRuntime<N, A> {
         target: ItemId,
     ) -> Result<bool, CallError>
         ensures took { Waits N.wiring N.rows seat.old (context_of q 0) (flush_of true target) result seat.new }
-        ensures counted { IfOk result (λ unfinished. (q < N.wiring.lanes) × (target < items N.wiring) × SeatHasRoom seat.old × (seat.new ≡ waited_for seat.old true target unfinished)) }
-        ensures refused { IfErr result (λ e. RefusesWaitFor N.wiring seat.old q e × RefusedWaitFor N.wiring seat.old seat.new q true target e) }
+        ensures counted { IfOk result (λ unfinished. (q < N.wiring.lanes)
+            × (target < items N.wiring)
+            × SeatHasRoom seat.old
+            × (seat.new ≡ waited_for seat.old true target unfinished)) }
+        ensures refused { IfErr result (λ e. RefusesWaitFor N.wiring seat.old q e
+            × RefusedWaitFor N.wiring seat.old seat.new q true target e) }
         ensures waiter { q < N.wiring.lanes → SeatHasRoom seat.old → HasWaiter N.wiring q true target result }
     {
         self.wait_all_for_in(rt, seat, q, 0, target)
@@ -184,8 +214,8 @@ impl<N: Naming, A: Allocator> WqRuntime<N, A> {
 
     /// Finishes what the rescuer of a workqueue runs, an entry of this item.
     ///
-    /// The only error is `WrongLane` (64): there is no such workqueue, its rescuer runs nothing or an entry of another item, or it
-    /// waits. After an error nothing is changed or counted.
+    /// The only error is `WrongLane` (64): there is no such workqueue, its rescuer runs nothing or an entry of another
+    /// item, or it waits. After an error nothing is changed or counted.
     pub fn finish_work<R: Wait>(
         &self,
         rt: &R,
@@ -193,7 +223,8 @@ impl<N: Naming, A: Allocator> WqRuntime<N, A> {
         q: LaneId,
         item: ItemId,
     ) -> Result<(), CallError>
-        ensures took { GivesDone (λ answer. Took N.wiring N.rows seat.old (Finish (context_of q 0) item) answer seat.new) result }
+        ensures took { GivesDone (λ answer.
+            Took N.wiring N.rows seat.old (Finish (context_of q 0) item) answer seat.new) result }
         ensures counted { OnOk result (IsOnLane N.wiring q item × (seat.new ≡ raised seat.old item FinishKind true)) }
         ensures refused { IfErr result (λ e. (e ≡ WrongLane) × (seat.new ≡ seat.old)) }
     {
@@ -202,11 +233,11 @@ impl<N: Naming, A: Allocator> WqRuntime<N, A> {
 
     // ---- helpers
 
-    /// Starts the next entry that a helper of a workqueue can start, and gives its item, as `next` does for the rescuer: the first
-    /// pending one whose item neither the rescuer nor another helper runs.
+    /// Starts the next entry that a helper of a workqueue can start, and gives its item, as `next` does for the
+    /// rescuer: the first pending one whose item neither the rescuer nor another helper runs.
     ///
-    /// The only error is `WrongLane` (64), where the workqueue has no helper `h`, or that helper runs an entry. After an error nothing
-    /// is changed.
+    /// The only error is `WrongLane` (64), where the workqueue has no helper `h`, or
+    /// that helper runs an entry. After an error nothing is changed.
     pub fn help_next<R: Wait>(&self, rt: &R, q: LaneId, h: u8) -> Result<Option<ItemId>, CallError>
         ensures took { 0 < h → GivesItem (λ answer. IsAnswered N.wiring N.rows (Start (context_of q h)) answer) result }
         ensures started { IfOk result (λ next. IsHelper N.wiring q h × IfSome next (λ item. IsOnLane N.wiring q item)) }
@@ -221,10 +252,11 @@ impl<N: Naming, A: Allocator> WqRuntime<N, A> {
 
     /// Makes what a helper of a workqueue runs wait for an item, as `wait_for` does for the rescuer.
     ///
-    /// The error is the first of these that holds: `WrongLane` (64), where the workqueue has no helper `h`; `HistoryFull` (60), where
-    /// the seat is full; `WrongLane` (64), where the helper runs nothing or waits; `Undeclared` (62), where what it runs
-    /// declares no flush of this item alone; `TooManyWaits` (63). Then nothing is changed or counted. Once it waits, the only error
-    /// could be `WrongLane`, where another caller drove this helper on; then the wait stays counted.
+    /// The error is the first of these that holds: `WrongLane` (64), where the workqueue has no helper `h`;
+    /// `HistoryFull` (60), where the seat is full; `WrongLane` (64), where the helper runs nothing or waits;
+    /// `Undeclared` (62), where what it runs declares no flush of this item alone; `TooManyWaits` (63). Then nothing is
+    /// changed or counted. Once it waits, the only error could be `WrongLane`, where another caller drove this helper
+    /// on; then the wait stays counted.
     pub fn help_wait_for<R: Wait>(
         &self,
         rt: &R,
@@ -234,8 +266,12 @@ impl<N: Naming, A: Allocator> WqRuntime<N, A> {
         target: ItemId,
     ) -> Result<bool, CallError>
         ensures took { 0 < h → Waits N.wiring N.rows seat.old (context_of q h) (flush_of false target) result seat.new }
-        ensures counted { IfOk result (λ unfinished. IsHelper N.wiring q h × (target < items N.wiring) × SeatHasRoom seat.old × (seat.new ≡ waited_for seat.old false target unfinished)) }
-        ensures refused { IfErr result (λ e. RefusesHelpWaitFor N.wiring seat.old q h e × RefusedHelpWaitFor N.wiring seat.old seat.new q h false target e) }
+        ensures counted { IfOk result (λ unfinished. IsHelper N.wiring q h
+            × (target < items N.wiring)
+            × SeatHasRoom seat.old
+            × (seat.new ≡ waited_for seat.old false target unfinished)) }
+        ensures refused { IfErr result (λ e. RefusesHelpWaitFor N.wiring seat.old q h e
+            × RefusedHelpWaitFor N.wiring seat.old seat.new q h false target e) }
         ensures waiter { IsHelper N.wiring q h → SeatHasRoom seat.old → HasWaiter N.wiring q false target result }
     {
         if h == 0 {
@@ -244,12 +280,14 @@ impl<N: Naming, A: Allocator> WqRuntime<N, A> {
         self.wait_for_in(rt, seat, q, h, target)
     }
 
-    /// Makes what a helper of a workqueue runs wait for the whole workqueue of an item, as `wait_all_for` does for the rescuer.
+    /// Makes what a helper of a workqueue runs wait for the whole workqueue of an
+    /// item, as `wait_all_for` does for the rescuer.
     ///
-    /// The error is the first of these that holds: `WrongLane` (64), where the workqueue has no helper `h`; `HistoryFull` (60), where
-    /// the seat is full; `WrongLane` (64), where the helper runs nothing or waits; `Undeclared` (62), where what it runs declares no
-    /// flush of the whole workqueue of this very item; `TooManyWaits` (63). Then nothing is changed or counted. Once it waits, the
-    /// only error could be `WrongLane`, where another caller drove this helper on; then the wait stays counted.
+    /// The error is the first of these that holds: `WrongLane` (64), where the workqueue has no helper `h`;
+    /// `HistoryFull` (60), where the seat is full; `WrongLane` (64), where the helper runs nothing or waits;
+    /// `Undeclared` (62), where what it runs declares no flush of the whole workqueue of this very item; `TooManyWaits`
+    /// (63). Then nothing is changed or counted. Once it waits, the only error could be `WrongLane`, where another
+    /// caller drove this helper on; then the wait stays counted.
     pub fn help_wait_all_for<R: Wait>(
         &self,
         rt: &R,
@@ -259,8 +297,12 @@ impl<N: Naming, A: Allocator> WqRuntime<N, A> {
         target: ItemId,
     ) -> Result<bool, CallError>
         ensures took { 0 < h → Waits N.wiring N.rows seat.old (context_of q h) (flush_of true target) result seat.new }
-        ensures counted { IfOk result (λ unfinished. IsHelper N.wiring q h × (target < items N.wiring) × SeatHasRoom seat.old × (seat.new ≡ waited_for seat.old true target unfinished)) }
-        ensures refused { IfErr result (λ e. RefusesHelpWaitFor N.wiring seat.old q h e × RefusedHelpWaitFor N.wiring seat.old seat.new q h true target e) }
+        ensures counted { IfOk result (λ unfinished. IsHelper N.wiring q h
+            × (target < items N.wiring)
+            × SeatHasRoom seat.old
+            × (seat.new ≡ waited_for seat.old true target unfinished)) }
+        ensures refused { IfErr result (λ e. RefusesHelpWaitFor N.wiring seat.old q h e
+            × RefusedHelpWaitFor N.wiring seat.old seat.new q h true target e) }
         ensures waiter { IsHelper N.wiring q h → SeatHasRoom seat.old → HasWaiter N.wiring q true target result }
     {
         if h == 0 {
@@ -271,8 +313,8 @@ impl<N: Naming, A: Allocator> WqRuntime<N, A> {
 
     /// Finishes what a helper of a workqueue runs, an entry of this item.
     ///
-    /// The only error is `WrongLane` (64): the workqueue has no helper `h`, that helper runs nothing or an entry of another item, or it
-    /// waits. After an error nothing is changed or counted.
+    /// The only error is `WrongLane` (64): the workqueue has no helper `h`, that helper runs nothing or an entry of
+    /// another item, or it waits. After an error nothing is changed or counted.
     pub fn help_finish_work<R: Wait>(
         &self,
         rt: &R,
@@ -283,7 +325,9 @@ impl<N: Naming, A: Allocator> WqRuntime<N, A> {
     ) -> Result<(), CallError>
         ensures took { 0 < h →
             GivesDone (λ answer. Took N.wiring N.rows seat.old (Finish (context_of q h) item) answer seat.new) result }
-        ensures counted { OnOk result (IsHelper N.wiring q h × IsOnLane N.wiring q item × (seat.new ≡ raised seat.old item FinishKind true)) }
+        ensures counted { OnOk result (IsHelper N.wiring q h
+            × IsOnLane N.wiring q item
+            × (seat.new ≡ raised seat.old item FinishKind true)) }
         ensures refused { IfErr result (λ e. (e ≡ WrongLane) × (seat.new ≡ seat.old)) }
     {
         if h == 0 {

@@ -1,5 +1,5 @@
-//! What the lock of a runtime protects takes turns: for the calls that a seat counts, for those that none counts, and for
-//! whoever is to have a seat. And it is closed at the end.
+//! What the lock of a runtime protects takes turns: for the calls that a seat counts, for those that none counts, and
+//! for whoever is to have a seat. And it is closed at the end.
 
 ghost use Rattle.std.specs.Prelude.{◌≡◌};
 ghost use Rattle.wq_held.specs.Calls.{IsUncounted};
@@ -30,7 +30,8 @@ impl<N: Naming, A: Allocator> Turns<Seat<N, A>, Call, Result<Reply, CallError>> 
     ghost use Rattle.wq_held.specs.Locked.{Holds};
     ghost use Rattle.wq_held.specs.Calls.{TakesTurn};
 
-    ghost takes = { λ old counts call turn new left. Holds N.wiring N.rows old.book × TakesTurn old counts call turn new left };
+    ghost takes = { λ old counts call turn new left. Holds N.wiring N.rows old.book
+        × TakesTurn old counts call turn new left };
 
     fn take(&mut self, own: &mut Seat<N, A>, call: Call) -> Turn<Result<Reply, CallError>> {
         self.turn(own, call)

@@ -1,7 +1,8 @@
 //! Places by their keys: for each key its places in a list, in rising order.
 //!
-//! What the layers above rely on: the buckets are `buckets_of` the list, one for each key. They know nothing of declarations.
-//! Making them takes time and memory in the length of the list and the number of keys, and nothing is compared.
+//! What the layers above rely on: the buckets are `buckets_of` the list, one for
+//! each key. They know nothing of declarations. Making them takes time and memory in
+//! the length of the list and the number of keys, and nothing is compared.
 #![tactic(auto)]
 
 mod buckets;

@@ -24,5 +24,7 @@ pub data Certificate : Type 0 where
 
 -- the certificate that the code holds
 abbrev pub certificate : {A : Type 0} → CertAnswer A → Certificate
-certificate (answer.Plan assignment length arcs) = OfPlan (record { assignment = assignment; length = length; arcs = arcs.items })
-certificate (answer.Circle arcs steps) = OfCircle (record { arcs = arcs.items; steps = option_map (λ s. s.items) steps })
+certificate (answer.Plan assignment length arcs) =
+    OfPlan (record { assignment = assignment; length = length; arcs = arcs.items })
+certificate (answer.Circle arcs steps) =
+    OfCircle (record { arcs = arcs.items; steps = option_map (λ s. s.items) steps })

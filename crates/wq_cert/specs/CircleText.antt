@@ -12,7 +12,8 @@ circle_line arcs = codes "circle" ∷ decimal (length arcs) ∷ []
 
 -- the lines of a circle text, as words: `circle`, an `arc` line for each arc, and those of the run, if there is one
 abbrev pub circle_lines : List (List ℕ) → List (ℕ × ℕ) → Option (List Step) → List (List (List ℕ))
-circle_lines names arcs steps = circle_line arcs ∷ (map (arc_line names) arcs ++ option_map_or (run_lines names) steps [])
+circle_lines names arcs steps =
+    circle_line arcs ∷ (map (arc_line names) arcs ++ option_map_or (run_lines names) steps [])
 
 -- the circle text
 abbrev pub circle_text : List (List ℕ) → List (ℕ × ℕ) → Option (List Step) → List ℕ

@@ -21,10 +21,13 @@ first_lines n text = take n (line_texts text)
 abbrev pub NoLineIsAtFault : {V : Type 0} → Result V CertError → Type 0
 NoLineIsAtFault r = IfErr r (λ fault. line_of fault ≡ 0)
 
--- the fault of a text is that of the first line at fault: the text has that line; any text within the limits that begins
--- with the lines up to it has the same fault, whatever comes after them; and in a text of fewer of these lines no line
--- is at fault
-pub record IsOfTheFirstLine {V : Type 0} (read : List ℕ → Result V CertError) (text : List ℕ) (fault : CertError) : Type 0 where
+-- the fault of a text is that of the first line at fault: the text has that line; any
+-- text within the limits that begins with the lines up to it has the same fault,
+-- whatever comes after them; and in a text of fewer of these lines no line is at fault
+pub record IsOfTheFirstLine {V : Type 0} (read : List ℕ → Result V CertError) (text : List ℕ) (fault : CertError)
+    : Type 0 where
   pub stands : line_of fault ≤ length (line_texts text)
-  pub settled : (other : List ℕ) → KeepsLimits other → first_lines (line_of fault) other ≡ first_lines (line_of fault) text → read other ≡ Err fault
-  pub none_before : (front : List ℕ) (n : ℕ) → KeepsLimits front → n < line_of fault → line_texts front ≡ first_lines n text → NoLineIsAtFault (read front)
+  pub settled : (other : List ℕ) → KeepsLimits other
+      → first_lines (line_of fault) other ≡ first_lines (line_of fault) text → read other ≡ Err fault
+  pub none_before : (front : List ℕ) (n : ℕ) → KeepsLimits front → n < line_of fault
+      → line_texts front ≡ first_lines n text → NoLineIsAtFault (read front)

@@ -1,6 +1,7 @@
 -- Forms: what the words of one line say, if they have the form that is asked for. A byte that no line may hold is in
 -- no keyword, number or name, so a line with such a byte before its comment has no form.
-use Rattle.std.specs.Prelude.{ℕ, ◌^◌, ◌&&◌, nat_lt, if◌then◌else◌, Bool, false, List, [], ◌∷◌, Option, Some, None, option_map, option_and_then, bytes_eq, codes, decimal}
+use Rattle.std.specs.Prelude.{ℕ, ◌^◌, ◌&&◌, nat_lt, if◌then◌else◌, Bool, false, List, [], ◌∷◌, Option, Some, None}
+use Rattle.std.specs.Prelude.{option_map, option_and_then, bytes_eq, codes, decimal}
 use Rattle.std.specs.Option.{option_zip}
 use Rattle.std.specs.Str.Parse.{digits_value}
 use Rattle.wq_items.specs.Table.{item_named}
@@ -16,7 +17,8 @@ number_of word =
 -- the items with these names, if each is declared
 abbrev pub items_of : List (List ℕ) → List (List ℕ) → Option (List ℕ)
 items_of names [] = Some []
-items_of names (word ∷ words) = option_map (λ (p : ℕ × List ℕ). p.0 ∷ p.1) (option_zip (item_named names word) (items_of names words))
+items_of names (word ∷ words) =
+    option_map (λ (p : ℕ × List ℕ). p.0 ∷ p.1) (option_zip (item_named names word) (items_of names words))
 
 -- whether the first word is this one
 abbrev pub begins_with : List ℕ → List (List ℕ) → Bool
@@ -34,14 +36,16 @@ count_form keyword (word ∷ number ∷ more ∷ words) = None
 abbrev pub wq_form : List (List ℕ) → List (List ℕ) → Option (ℕ × List ℕ)
 wq_form names [] = None
 wq_form names (word ∷ []) = None
-wq_form names (word ∷ number ∷ items) = if bytes_eq word (codes "wq") then option_zip (number_of number) (items_of names items) else None
+wq_form names (word ∷ number ∷ items) =
+    if bytes_eq word (codes "wq") then option_zip (number_of number) (items_of names items) else None
 
 -- `arc NAME TARGET`: the item and the target
 abbrev pub arc_form : List (List ℕ) → List (List ℕ) → Option (ℕ × ℕ)
 arc_form names [] = None
 arc_form names (word ∷ []) = None
 arc_form names (word ∷ item ∷ []) = None
-arc_form names (word ∷ item ∷ target ∷ []) = if bytes_eq word (codes "arc") then option_zip (item_named names item) (item_named names target) else None
+arc_form names (word ∷ item ∷ target ∷ []) =
+    if bytes_eq word (codes "arc") then option_zip (item_named names item) (item_named names target) else None
 arc_form names (word ∷ item ∷ target ∷ more ∷ words) = None
 
 -- `queue NAME` or `cancel NAME`: the step

@@ -1,4 +1,5 @@
--- Growth: how far a text is read without a fault before memory is requested, and so where a reader may answer that it ran out.
+-- Growth: how far a text is read without a fault before memory is requested, and so
+-- where a reader may answer that it ran out.
 use Rattle.std.specs.Prelude.{◌≡◌, ℕ, ◌<◌, ◌≤◌, if◌then◌else◌, List, [], ◌∷◌, length, take, Result, Ok, codes}
 use Rattle.wq_cert.specs.declared.fault.CertError.{CertError}
 use Rattle.wq_cert.specs.FirstFaults.{NoLineIsAtFault}
@@ -6,7 +7,8 @@ use Rattle.wq_cert.specs.Forms.{begins_with}
 use Rattle.wq_cert.specs.Lines.{CertLine}
 
 -- the first n lines are there, and none of them is at fault
-pub record BeginsWell {V : Type 0} (read : List CertLine → Result V CertError) (n : ℕ) (lines : List CertLine) : Type 0 where
+pub record BeginsWell {V : Type 0} (read : List CertLine → Result V CertError) (n : ℕ) (lines : List CertLine)
+    : Type 0 where
   pub stand : n ≤ length lines
   pub no_fault : NoLineIsAtFault (read (take n lines))
 

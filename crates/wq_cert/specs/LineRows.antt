@@ -1,6 +1,7 @@
--- Rows of faults, said without a reader: which row of "Refusals of certificates" in docs/FORMAT.md is the first that a line
--- breaks where a `plan`, `chain`, `circle`, `arc` or `run` line, or that of a step, is expected.
-use Rattle.std.specs.Prelude.{◌≡◌, ℕ, ◌-◌, ◌^◌, ◌<◌, ◌≤◌, List, [], ◌∷◌, ◌++◌, ◌⊎◌, length, map, codes, decimal, Option, Some, None, IfSome, IsSomeAnd}
+-- Rows of faults, said without a reader: which row of "Refusals of certificates" in docs/FORMAT.md is the first that a
+-- line breaks where a `plan`, `chain`, `circle`, `arc` or `run` line, or that of a step, is expected.
+use Rattle.std.specs.Prelude.{◌≡◌, ℕ, ◌-◌, ◌^◌, ◌<◌, ◌≤◌, List, [], ◌∷◌, ◌++◌, ◌⊎◌, length, map, codes, decimal, Option}
+use Rattle.std.specs.Prelude.{Some, None, IfSome, IsSomeAnd}
 use Rattle.std.specs.List.{All}
 use Rattle.wq_groups.specs.Partition.{Partition}
 use Rattle.wq_groups.specs.Assignment.{max_lanes}
@@ -53,7 +54,8 @@ step_lane (Finish q i) = Some q
 step_lane (Help q h deed) = Some q
 step_lane _ = None
 
--- the words are those of a step of a declared item, whose workqueue, if it names one, is a number; no helper makes the step
+-- the words are those of a step of a declared item, whose workqueue, if it names
+-- one, is a number; no helper makes the step
 pub record SpellsStep (names words : List (List ℕ)) (step : Step) : Type 0 where
   pub words_are : words ≡ step_line names step
   pub known : step_item step < length names
@@ -75,7 +77,8 @@ abbrev pub IsOutOfRange : List (List ℕ) → LineForm → List (List ℕ) → T
 IsOutOfRange names PlanLine words = (k : ℕ) × SpellsCount (codes "plan") words k × (max_count < k)
 IsOutOfRange names ChainLine words = (n : ℕ) × SpellsCount (codes "chain") words n × (max_count < n)
 IsOutOfRange names CircleLine words = (n : ℕ) × SpellsCount (codes "circle") words n × ((n ≡ 0) ⊎ (max_count < n))
-IsOutOfRange names StepLine words = (step : Step) × SpellsStep names words step × IsSomeAnd (step_lane step) (λ q. max_lanes ≤ q)
+IsOutOfRange names StepLine words =
+    (step : Step) × SpellsStep names words step × IsSomeAnd (step_lane step) (λ q. max_lanes ≤ q)
 IsOutOfRange names _ words = ⊥
 
 -- the row of this fault is the first that the line breaks, where one of this form is expected
@@ -99,11 +102,17 @@ pub record AreFirstArcs (items count : ℕ) (arcs : List (ℕ × ℕ)) : Type 0 
 abbrev pub StandsInPlan : List (List ℕ) → Partition → List (List (List ℕ)) → LineForm → Type 0
 StandsInPlan names p before PlanLine = before ≡ []
 StandsInPlan names p before ChainLine =
-    (workqueues : List (List ℕ)) × AreWorkqueues (length names) p.group_of workqueues × (before ≡ plan_line (length workqueues) ∷ workqueue_lines names workqueues)
+    (workqueues : List (List ℕ)) × AreWorkqueues (length names) p.group_of workqueues
+    × (before ≡ plan_line (length workqueues) ∷ workqueue_lines names workqueues)
 StandsInPlan names p before CircleLine = ⊥
 StandsInPlan names p before ArcLine =
-    (workqueues : List (List ℕ)) × (n : ℕ) × (arcs : List (ℕ × ℕ)) × AreWorkqueues (length names) p.group_of workqueues × (n ≤ max_count) × AreFirstArcs (length names) (n - 1) arcs
-    × (before ≡ plan_line (length workqueues) ∷ (workqueue_lines names workqueues ++ (count_line n ∷ map (arc_line names) arcs)))
+    (workqueues : List (List ℕ)) × (n : ℕ) × (arcs : List (ℕ × ℕ))
+    × AreWorkqueues (length names) p.group_of workqueues
+    × (n ≤ max_count)
+    × AreFirstArcs (length names) (n - 1) arcs
+    × (before
+    ≡ plan_line (length workqueues)
+    ∷ (workqueue_lines names workqueues ++ (count_line n ∷ map (arc_line names) arcs)))
 StandsInPlan names p before RunLine = ⊥
 StandsInPlan names p before StepLine = ⊥
 
@@ -115,7 +124,10 @@ StandsInRun names before CircleLine = ⊥
 StandsInRun names before ArcLine = ⊥
 StandsInRun names before RunLine = before ≡ []
 StandsInRun names before StepLine =
-    (m : ℕ) × (steps : List Step) × (m < 2 ^ 32) × (length steps < m) × All (IsStepOf (length names)) steps × (before ≡ count_words (codes "run") m ∷ map (step_line names) steps)
+    (m : ℕ) × (steps : List Step) × (m < 2 ^ 32)
+    × (length steps < m)
+    × All (IsStepOf (length names)) steps
+    × (before ≡ count_words (codes "run") m ∷ map (step_line names) steps)
 
 -- these lines are `circle N`, all its arcs, and these lines of a run
 pub record IsBehindArcs (names : List (List ℕ)) (before run : List (List (List ℕ))) : Type 0 where
@@ -131,6 +143,10 @@ StandsInCircle names before PlanLine = ⊥
 StandsInCircle names before ChainLine = ⊥
 StandsInCircle names before CircleLine = before ≡ []
 StandsInCircle names before ArcLine =
-    (n : ℕ) × (arcs : List (ℕ × ℕ)) × (n ≤ max_count) × AreFirstArcs (length names) n arcs × (before ≡ count_words (codes "circle") n ∷ map (arc_line names) arcs)
-StandsInCircle names before RunLine = (run : List (List (List ℕ))) × IsBehindArcs names before run × StandsInRun names run RunLine
-StandsInCircle names before StepLine = (run : List (List (List ℕ))) × IsBehindArcs names before run × StandsInRun names run StepLine
+    (n : ℕ) × (arcs : List (ℕ × ℕ)) × (n ≤ max_count)
+    × AreFirstArcs (length names) n arcs
+    × (before ≡ count_words (codes "circle") n ∷ map (arc_line names) arcs)
+StandsInCircle names before RunLine =
+    (run : List (List (List ℕ))) × IsBehindArcs names before run × StandsInRun names run RunLine
+StandsInCircle names before StepLine =
+    (run : List (List (List ℕ))) × IsBehindArcs names before run × StandsInRun names run StepLine

@@ -1,5 +1,6 @@
 -- Noted: what is noted about the workqueues that have been read so far.
-use Rattle.std.specs.Prelude.{◌≡◌, ℕ, ◌≤◌, ◌==◌, not, Bool, false, List, [], ◌∷◌, ◌++◌, length, map, Option, Some, None, Ok}
+use Rattle.std.specs.Prelude.{◌≡◌, ℕ, ◌≤◌, ◌==◌, not, Bool, false, List, [], ◌∷◌, ◌++◌, length, map, Option, Some, None}
+use Rattle.std.specs.Prelude.{Ok}
 use Rattle.std.specs.List.{concat, range_with_len}
 use Rattle.wq_groups.specs.Partition.{Partition}
 use Rattle.wq_groups.specs.Assignment.{max_lanes}
@@ -18,7 +19,8 @@ lanes_with p workqueues = map (workqueue_with p.group_of workqueues) (range_with
 
 -- what is noted after these workqueues: how many there are, at most 4,096; for each item whether it is on one; and for
 -- each group the workqueue that holds a member of it
-pub record AreNoted (p : Partition) (workqueues : List (List ℕ)) (count : ℕ) (stood : List Bool) (lanes : List (Option ℕ)) : Type 0 where
+pub record AreNoted (p : Partition) (workqueues : List (List ℕ)) (count : ℕ) (stood : List Bool)
+    (lanes : List (Option ℕ)) : Type 0 where
   pub number : count ≡ length workqueues
   pub few : count ≤ max_lanes
   pub items : stood ≡ marks (length p.group_of) (concat workqueues)
@@ -30,13 +32,15 @@ is_other None lane = false
 is_other (Some other) lane = not (other == lane)
 
 -- the next workqueue is read from this line, and this is noted with it
-pub record IsNextNoted (names : List (List ℕ)) (p : Partition) (workqueues : List (List ℕ)) (line : CertLine) (count : ℕ) (stood : List Bool) (lanes : List (Option ℕ)) : Type 0 where
+pub record IsNextNoted (names : List (List ℕ)) (p : Partition) (workqueues : List (List ℕ)) (line : CertLine)
+    (count : ℕ) (stood : List Bool) (lanes : List (Option ℕ)) : Type 0 where
   pub items : List ℕ
   pub read : wq_reading names p.group_of workqueues line ≡ Ok items
   pub noted : AreNoted p (workqueues ++ (items ∷ [])) count stood lanes
 
 -- n workqueues are read from these lines up to `rest`, and this is noted about them
-pub record AreRead (names : List (List ℕ)) (p : Partition) (n : ℕ) (lines : List CertLine) (count : ℕ) (stood : List Bool) (lanes : List (Option ℕ)) (rest : List CertLine) : Type 0 where
+pub record AreRead (names : List (List ℕ)) (p : Partition) (n : ℕ) (lines : List CertLine) (count : ℕ)
+    (stood : List Bool) (lanes : List (Option ℕ)) (rest : List CertLine) : Type 0 where
   pub workqueues : List (List ℕ)
   pub noted : AreNoted p workqueues count stood lanes
   pub read : next_workqueues names p.group_of n [] lines ≡ Ok (workqueues, rest)
@@ -51,7 +55,8 @@ first_number [] = None
 first_number (line ∷ lines) = Some line.no
 
 -- all workqueues are read from these lines, and this is noted about them; `after` is the number of the line after them
-pub record AreAllRead (names : List (List ℕ)) (p : Partition) (lines : List CertLine) (count : ℕ) (stood : List Bool) (lanes : List (Option ℕ)) (after : Option ℕ) : Type 0 where
+pub record AreAllRead (names : List (List ℕ)) (p : Partition) (lines : List CertLine) (count : ℕ) (stood : List Bool)
+    (lanes : List (Option ℕ)) (after : Option ℕ) : Type 0 where
   pub workqueues : List (List ℕ)
   pub rest : List CertLine
   pub noted : AreNoted p workqueues count stood lanes

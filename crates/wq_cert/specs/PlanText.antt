@@ -1,6 +1,7 @@
--- Plan texts: the workqueues with their items, and a waiting chain. A chain is given as the list of its arcs, each a pair
--- of an item and the target that it flushes.
-use Rattle.std.specs.Prelude.{ℕ, ◌+◌, ◌==◌, List, [], ◌∷◌, ◌++◌, length, map, flat_map, slice_index_or, codes, decimal, if◌then◌else◌}
+-- Plan texts: the workqueues with their items, and a waiting chain. A chain is given as the list of its arcs, each a
+-- pair of an item and the target that it flushes.
+use Rattle.std.specs.Prelude.{ℕ, ◌+◌, ◌==◌, List, [], ◌∷◌, ◌++◌, length, map, flat_map, slice_index_or, codes, decimal}
+use Rattle.std.specs.Prelude.{if◌then◌else◌}
 use Rattle.std.specs.List.{range_with_len}
 use Rattle.wq_items.specs.Table.{items_at}
 use Rattle.wq_text.specs.LineText.{line_text}
@@ -29,10 +30,13 @@ chain_line lanes arcs = codes "chain" ∷ decimal (if lanes == 0 then 0 else len
 abbrev pub arc_line : List (List ℕ) → ℕ × ℕ → List (List ℕ)
 arc_line names arc = codes "arc" ∷ name_of names arc.0 ∷ name_of names arc.1 ∷ []
 
--- the lines of a plan text, as words: `plan`, a `wq` line for each workqueue, `chain`, an `arc` line for each arc of the chain
+-- the lines of a plan text, as words: `plan`, a `wq` line for each workqueue,
+-- `chain`, an `arc` line for each arc of the chain
 abbrev pub plan_lines : List (List ℕ) → ℕ → List ℕ → List (ℕ × ℕ) → List (List (List ℕ))
 plan_lines names lanes lane_of_item arcs =
-    plan_line lanes ∷ (map (wq_line names lane_of_item) (range_with_len 0 lanes) ++ (chain_line lanes arcs ∷ map (arc_line names) arcs))
+    plan_line lanes
+    ∷ (map (wq_line names lane_of_item) (range_with_len 0 lanes)
+    ++ (chain_line lanes arcs ∷ map (arc_line names) arcs))
 
 -- the plan text
 abbrev pub plan_text : List (List ℕ) → ℕ → List ℕ → List (ℕ × ℕ) → List ℕ

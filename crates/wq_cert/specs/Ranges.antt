@@ -33,8 +33,8 @@ pub record IsRunOf (items : ℕ) (steps : List Step) : Type 0 where
   pub known : All (IsStepOf items) steps
   pub few : length steps < max_number
 
--- what the text of a plan says about this many items and groups: an assignment to at most 4,096 workqueues, a chain of at most
--- 4,096 groups, and one arc fewer, or none if there is no group
+-- what the text of a plan says about this many items and groups: an assignment to at most 4,096 workqueues, a chain of
+-- at most 4,096 groups, and one arc fewer, or none if there is no group
 pub record IsPlanOf (items groups : ℕ) (c : PlanCertificate) : Type 0 where
   pub assignment : IsAssignmentOf groups c.assignment
   pub few : c.length ≤ max_count

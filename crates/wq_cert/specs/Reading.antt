@@ -1,7 +1,10 @@
 -- Reading: what the lines of a certificate say, or the first fault. Within a line it is the first row of "Refusals of
--- certificates" in docs/FORMAT.md that applies: the form (40), the numbers (43), items that are there twice (41), groups that
--- are split (42). An item that is on no workqueue is a fault at no line (41), judged after the last `wq` line.
-use Rattle.std.specs.Prelude.{ℕ, zero, suc, ◌-◌, ◌==◌, ◌||◌, not, nat_le, nat_lt, if◌then◌else◌, Bool, true, false, List, [], ◌∷◌, ◌++◌, length, map, slice_index, unwrap_or, Option, Some, None, Result, Ok, Err, ok_or, bytes_eq, codes}
+-- certificates" in docs/FORMAT.md that applies: the form (40), the numbers (43),
+-- items that are there twice (41), groups that are split (42). An item that is on no
+-- workqueue is a fault at no line (41), judged after the last `wq` line.
+use Rattle.std.specs.Prelude.{ℕ, zero, suc, ◌-◌, ◌==◌, ◌||◌, not, nat_le, nat_lt, if◌then◌else◌, Bool, true, false}
+use Rattle.std.specs.Prelude.{List, [], ◌∷◌, ◌++◌, length, map, slice_index, unwrap_or, Option, Some, None, Result, Ok}
+use Rattle.std.specs.Prelude.{Err, ok_or, bytes_eq, codes}
 use Rattle.std.specs.List.{list_any, list_all, concat, position, range_with_len}
 use Rattle.wq_items.specs.Building.{and_then}
 use Rattle.wq_groups.specs.Partition.{Partition}
@@ -33,7 +36,8 @@ next_line read (line ∷ lines) = and_then (λ v. Ok (v, lines)) (read line)
 -- this many lines, each read in this way
 abbrev pub next_lines : {V : Type 0} → (CertLine → Result V CertError) → ℕ → List CertLine → Read (List V)
 next_lines read zero lines = Ok ([], lines)
-next_lines read (suc n) lines = and_read (λ v rest. and_read (λ vs after. Ok (v ∷ vs, after)) (next_lines read n rest)) (next_line read lines)
+next_lines read (suc n) lines =
+    and_read (λ v rest. and_read (λ vs after. Ok (v ∷ vs, after)) (next_lines read n rest)) (next_line read lines)
 
 -- a value that no line follows
 abbrev pub at_end : {V : Type 0} → V → List CertLine → Result V CertError
@@ -69,7 +73,8 @@ names_far_lane _ = false
 
 -- the step that the line with this number says, if it says one and names no workqueue above 4,095
 abbrev pub step_in_range : ℕ → Option Step → Result Step CertError
-step_in_range n step = and_then (λ found. if names_far_lane found then Err (NumberOutOfRange n) else Ok found) (ok_or step (BadCertLine n))
+step_in_range n step =
+    and_then (λ found. if names_far_lane found then Err (NumberOutOfRange n) else Ok found) (ok_or step (BadCertLine n))
 
 -- a step
 abbrev pub step_reading : List (List ℕ) → CertLine → Result Step CertError
@@ -97,31 +102,38 @@ splits_group group_of before items = list_any (λ i. holds_member group_of befor
 -- `wq Q NAME..`, where Q is the place of the workqueue, below 4,096: the items
 abbrev pub wq_items : List (List ℕ) → ℕ → CertLine → Result (List ℕ) CertError
 wq_items names place line =
-    and_then (λ (p : ℕ × List ℕ). if not (p.0 == place) || nat_le max_lanes place then Err (NumberOutOfRange line.no) else Ok p.1)
+    and_then (λ (p : ℕ × List ℕ). if not (p.0 == place) || nat_le max_lanes place then Err (NumberOutOfRange line.no)
+    else Ok p.1)
     (ok_or (wq_form names line.words) (BadCertLine line.no))
 
 -- the items on line n, where these are on the lines before it: none of them is there twice or in a group that is there
 abbrev pub fresh_items : List ℕ → List ℕ → ℕ → List ℕ → Result (List ℕ) CertError
 fresh_items group_of before n items =
-    if has_stood before items then Err (NotAllItems n) else (if splits_group group_of before items then Err (GroupSplit n) else Ok items)
+    if has_stood before items then Err (NotAllItems n)
+    else (if splits_group group_of before items then Err (GroupSplit n) else Ok items)
 
--- the items on the next workqueue, where these are those on the workqueues before it. The form of a line is judged first,
--- then its number, which is that of its place and below 4,096, then items that are there again, then groups that are split
+-- the items on the next workqueue, where these are those on the workqueues before
+-- it. The form of a line is judged first, then its number, which is that of its
+-- place and below 4,096, then items that are there again, then groups that are split
 abbrev pub wq_reading : List (List ℕ) → List ℕ → List (List ℕ) → CertLine → Result (List ℕ) CertError
-wq_reading names group_of workqueues line = and_then (λ items. fresh_items group_of (concat workqueues) line.no items) (wq_items names (length workqueues) line)
+wq_reading names group_of workqueues line =
+    and_then (λ items. fresh_items group_of (concat workqueues) line.no items) (wq_items names (length workqueues) line)
 
 -- this many workqueues after these
 abbrev pub next_workqueues : List (List ℕ) → List ℕ → ℕ → List (List ℕ) → List CertLine → Read (List (List ℕ))
 next_workqueues names group_of zero workqueues lines = Ok (workqueues, lines)
 next_workqueues names group_of (suc n) workqueues lines =
-    and_read (λ items rest. next_workqueues names group_of n (workqueues ++ (items ∷ [])) rest) (next_line (wq_reading names group_of workqueues) lines)
+    and_read (λ items rest.
+    next_workqueues names group_of n (workqueues ++ (items ∷ [])) rest)
+    (next_line (wq_reading names group_of workqueues) lines)
 
 -- all workqueues after these: they end before the first line with another first word
 abbrev pub all_workqueues : List (List ℕ) → List ℕ → List (List ℕ) → List CertLine → Read (List (List ℕ))
 all_workqueues names group_of workqueues [] = Ok (workqueues, [])
 all_workqueues names group_of workqueues (line ∷ lines) =
     if begins_with (codes "wq") line.words
-    then and_then (λ items. all_workqueues names group_of (workqueues ++ (items ∷ [])) lines) (wq_reading names group_of workqueues line)
+    then and_then (λ items.
+    all_workqueues names group_of (workqueues ++ (items ∷ [])) lines) (wq_reading names group_of workqueues line)
     else Ok (workqueues, line ∷ lines)
 
 -- each of this many items is on a workqueue
@@ -138,24 +150,32 @@ workqueue_of_group group_of workqueues g = unwrap_or (workqueue_with group_of wo
 
 -- the workqueues as an assignment
 abbrev pub assignment_of : Partition → List (List ℕ) → Assignment
-assignment_of p workqueues = record { lanes = length workqueues; lane_of_group = map (workqueue_of_group p.group_of workqueues) (range_with_len 0 p.groups) }
+assignment_of p workqueues =
+    record {
+      lanes = length workqueues;
+      lane_of_group = map (workqueue_of_group p.group_of workqueues) (range_with_len 0 p.groups);
+    }
 
 -- the assignment, if each item is on a workqueue; one that is on none is a fault at no line
 abbrev pub whole_assignment : Partition → List (List ℕ) → Result Assignment CertError
-whole_assignment p workqueues = if hold_all (length p.group_of) workqueues then Ok (assignment_of p workqueues) else Err (NotAllItems 0)
+whole_assignment p workqueues =
+    if hold_all (length p.group_of) workqueues then Ok (assignment_of p workqueues) else Err (NotAllItems 0)
 
 -- ---- texts
 
 -- `chain N`, and N - 1 arcs, or none if N is 0: N and the arcs
 abbrev pub chain_reading : List (List ℕ) → List CertLine → Result (ℕ × List (ℕ × ℕ)) CertError
 chain_reading names lines =
-    and_read (λ n behind_chain. and_read (λ arcs rest. at_end (n, arcs) rest) (next_lines (arc_reading names) (n - 1) behind_chain))
+    and_read (λ n behind_chain.
+    and_read (λ arcs rest. at_end (n, arcs) rest) (next_lines (arc_reading names) (n - 1) behind_chain))
     (next_line (count_reading (codes "chain")) lines)
 
 -- this many workqueues as an assignment
 abbrev pub counted_assignment : List (List ℕ) → Partition → ℕ → List CertLine → Read Assignment
 counted_assignment names p lanes lines =
-    and_read (λ workqueues rest. and_then (λ assignment. Ok (assignment, rest)) (whole_assignment p workqueues)) (next_workqueues names p.group_of lanes [] lines)
+    and_read (λ workqueues rest.
+    and_then (λ assignment. Ok (assignment, rest)) (whole_assignment p workqueues))
+    (next_workqueues names p.group_of lanes [] lines)
 
 -- `plan K`, K workqueues, and a chain
 abbrev pub plan_reading : List (List ℕ) → Partition → List CertLine → Result PlanCertificate CertError
@@ -182,7 +202,8 @@ run_after names (line ∷ lines) = and_then (λ steps. Ok (Some steps)) (run_rea
 
 -- `circle N`, where N isn't 0
 abbrev pub circle_count_reading : CertLine → Result ℕ CertError
-circle_count_reading line = and_then (λ n. if n == 0 then Err (NumberOutOfRange line.no) else Ok n) (count_reading (codes "circle") line)
+circle_count_reading line =
+    and_then (λ n. if n == 0 then Err (NumberOutOfRange line.no) else Ok n) (count_reading (codes "circle") line)
 
 -- `circle N`, N arcs, and perhaps a run
 abbrev pub circle_reading : List (List ℕ) → List CertLine → Result CircleCertificate CertError
@@ -196,7 +217,8 @@ circle_reading names lines =
 abbrev pub answer_reading : List (List ℕ) → Partition → List CertLine → Result Certificate CertError
 answer_reading names p [] = Err (BadCertLine 0)
 answer_reading names p (line ∷ lines) =
-    if begins_with (codes "circle") line.words then and_then (λ circle. Ok (OfCircle circle)) (circle_reading names (line ∷ lines))
+    if begins_with (codes "circle") line.words
+    then and_then (λ circle. Ok (OfCircle circle)) (circle_reading names (line ∷ lines))
     else and_then (λ plan. Ok (OfPlan plan)) (plan_reading names p (line ∷ lines))
 
 -- an assignment by only `wq` lines
@@ -236,9 +258,11 @@ as_wq line = record line { words = with_wq true line.words }
 abbrev pub is_bare_line : CertLine → Bool
 is_bare_line line = begins_with (codes "norescuer") line.words
 
--- workqueues: a whole plan text if the first word is `plan`. Else `wq` and `norescuer` lines, which are read alike, as if each were
--- a `wq` line; the workqueues of `norescuer` lines have no rescuer
+-- workqueues: a whole plan text if the first word is `plan`. Else `wq` and `norescuer` lines, which are read alike, as
+-- if each were a `wq` line; the workqueues of `norescuer` lines have no rescuer
 abbrev pub lanes_reading : List (List ℕ) → Partition → List CertLine → Result Workqueues CertError
 lanes_reading names p lines =
-    if begins_plan lines then and_then (λ (plan : PlanCertificate). Ok (all_rescued plan.assignment)) (plan_reading names p lines)
-    else and_then (λ (a : Assignment). Ok (record { assignment = a; bare = map is_bare_line lines })) (workqueues_reading names p (map as_wq lines))
+    if begins_plan lines
+    then and_then (λ (plan : PlanCertificate). Ok (all_rescued plan.assignment)) (plan_reading names p lines)
+    else and_then (λ (a : Assignment). Ok (record { assignment = a; bare = map is_bare_line lines }))
+    (workqueues_reading names p (map as_wq lines))

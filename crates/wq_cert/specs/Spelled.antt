@@ -1,5 +1,6 @@
 -- Spelled: which lines are read, said without a reader: their words are those of the forms, one after the other.
-use Rattle.std.specs.Prelude.{◌≡◌, ◌≢◌, ℕ, ◌-◌, ◌^◌, ◌<◌, ◌≤◌, List, [], ◌∷◌, ◌++◌, ◌⊎◌, length, map, filter, slice_index_or, Contains, AllPairs, codes, decimal, Option, Some, None}
+use Rattle.std.specs.Prelude.{◌≡◌, ◌≢◌, ℕ, ◌-◌, ◌^◌, ◌<◌, ◌≤◌, List, [], ◌∷◌, ◌++◌, ◌⊎◌, length, map, filter}
+use Rattle.std.specs.Prelude.{slice_index_or, Contains, AllPairs, codes, decimal, Option, Some, None}
 use Rattle.std.specs.List.{All, concat, enumerate_from}
 use Rattle.wq_text.specs.Lines.{LineView, lines_of}
 use Rattle.wq_text.specs.Words.{words_of}
@@ -27,9 +28,11 @@ IsOnWorkqueue workqueues q i = Contains (slice_index_or workqueues q []) i
 
 -- two items of the same group are on the same workqueue
 abbrev pub GroupsAreWhole : List ℕ → List (List ℕ) → Type 0
-GroupsAreWhole group_of qs = (q r i j : ℕ) → IsOnWorkqueue qs q i → IsOnWorkqueue qs r j → ShareGroup group_of i j → q ≡ r
+GroupsAreWhole group_of qs =
+    (q r i j : ℕ) → IsOnWorkqueue qs q i → IsOnWorkqueue qs r j → ShareGroup group_of i j → q ≡ r
 
--- at most 4,096 workqueues with this many items, each item on one of them and only once, and each group on one workqueue
+-- at most 4,096 workqueues with this many items, each item on one of them and only
+-- once, and each group on one workqueue
 pub record AreWorkqueues (items : ℕ) (group_of : List ℕ) (workqueues : List (List ℕ)) : Type 0 where
   pub few : length workqueues ≤ max_lanes
   pub known : All (λ i. i < items) (concat workqueues)
@@ -44,7 +47,8 @@ workqueue_lines names workqueues = map (workqueue_line names) (enumerate_from 0 
 -- ---- lines
 
 -- an assignment by only `wq` lines
-pub record SpellsWorkqueues (names : List (List ℕ)) (p : Partition) (lines : List (List (List ℕ))) (a : Assignment) : Type 0 where
+pub record SpellsWorkqueues (names : List (List ℕ)) (p : Partition) (lines : List (List (List ℕ))) (a : Assignment)
+    : Type 0 where
   pub workqueues : List (List ℕ)
   pub words : lines ≡ workqueue_lines names workqueues
   pub are : AreWorkqueues (length names) p.group_of workqueues
@@ -55,9 +59,12 @@ abbrev pub count_line : ℕ → List (List ℕ)
 count_line n = codes "chain" ∷ decimal n ∷ []
 
 -- a plan: `plan K`, the workqueues, `chain N`, and the arcs
-pub record SpellsPlan (names : List (List ℕ)) (p : Partition) (lines : List (List (List ℕ))) (c : PlanCertificate) : Type 0 where
+pub record SpellsPlan (names : List (List ℕ)) (p : Partition) (lines : List (List (List ℕ))) (c : PlanCertificate)
+    : Type 0 where
   pub workqueues : List (List ℕ)
-  pub words : lines ≡ plan_line (length workqueues) ∷ (workqueue_lines names workqueues ++ (count_line c.length ∷ map (arc_line names) c.arcs))
+  pub words : lines
+      ≡ plan_line (length workqueues)
+      ∷ (workqueue_lines names workqueues ++ (count_line c.length ∷ map (arc_line names) c.arcs))
   pub are : AreWorkqueues (length names) p.group_of workqueues
   pub assignment : c.assignment ≡ assignment_of p workqueues
   pub few : c.length ≤ max_count
@@ -91,7 +98,8 @@ SpellsCertificate names p lines (OfCircle c) = SpellsCircle names lines c
 
 -- an assignment: only `wq` lines, or a plan
 abbrev pub SpellsAssignment : List (List ℕ) → Partition → List (List (List ℕ)) → Assignment → Type 0
-SpellsAssignment names p lines a = SpellsWorkqueues names p lines a ⊎ ((c : PlanCertificate) × SpellsPlan names p lines c × (c.assignment ≡ a))
+SpellsAssignment names p lines a =
+    SpellsWorkqueues names p lines a ⊎ ((c : PlanCertificate) × SpellsPlan names p lines c × (c.assignment ≡ a))
 
 -- ---- texts
 

@@ -10,7 +10,8 @@ use Rattle.wq_groups.specs.Assignment.{Assignment}
 use Rattle.wq_core.specs.Workqueues.{Workqueues}
 use Rattle.wq_core.specs.declared.step.Step.{Step}
 use Rattle.wq_cert.specs.declared.fault.CertError.{CertError}
-use Rattle.wq_cert.specs.declared.fault.CertError.TheVariants.{BadCertLine, NotAllItems, GroupSplit, NumberOutOfRange, OutOfMemory}
+use Rattle.wq_cert.specs.declared.fault.CertError.TheVariants.{BadCertLine, NotAllItems, GroupSplit, NumberOutOfRange}
+use Rattle.wq_cert.specs.declared.fault.CertError.TheVariants.{OutOfMemory}
 use Rattle.wq_cert.specs.Certificate.{Certificate}
 use Rattle.wq_cert.specs.Lines.{CertLine, cert_lines}
 use Rattle.wq_cert.specs.Reading.{answer_reading, assignment_reading, lanes_reading, run_reading}
@@ -31,7 +32,8 @@ unless_too_long (Some (LineTooLong line)) rest = Err (BadCertLine line)
 
 -- the limits are judged before all else, even for lines without words
 abbrev pub text_reading : {V : Type 0} → (List CertLine → Result V CertError) → List ℕ → Result V CertError
-text_reading read text = unless_too_long (limit_fault max_certificate max_certificate_line text) (read (cert_lines (lines_of text)))
+text_reading read text =
+    unless_too_long (limit_fault max_certificate max_certificate_line text) (read (cert_lines (lines_of text)))
 
 -- what the text of an answer says, for items with these names in these groups
 abbrev pub answer_of : List (List ℕ) → Partition → List ℕ → Result Certificate CertError

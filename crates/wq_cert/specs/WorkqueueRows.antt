@@ -1,10 +1,12 @@
--- Rows of faults, said without a reader: which row of "Refusals of certificates" in docs/FORMAT.md is the first that the
--- line of a workqueue breaks, where these workqueues are on the lines before it.
-use Rattle.std.specs.Prelude.{◌≡◌, ◌≢◌, ℕ, ◌^◌, ◌<◌, ◌≤◌, Bool, false, List, [], ◌∷◌, ◌++◌, ◌⊎◌, length, Contains, AllPairs, codes}
+-- Rows of faults, said without a reader: which row of "Refusals of certificates" in docs/FORMAT.md is the first that
+-- the line of a workqueue breaks, where these workqueues are on the lines before it.
+use Rattle.std.specs.Prelude.{◌≡◌, ◌≢◌, ℕ, ◌^◌, ◌<◌, ◌≤◌, Bool, false, List, [], ◌∷◌, ◌++◌, ◌⊎◌, length, Contains}
+use Rattle.std.specs.Prelude.{AllPairs, codes}
 use Rattle.std.specs.List.{All, concat}
 use Rattle.wq_groups.specs.Assignment.{max_lanes}
 use Rattle.wq_cert.specs.declared.fault.CertError.{CertError}
-use Rattle.wq_cert.specs.declared.fault.CertError.TheVariants.{BadCertLine, NotAllItems, GroupSplit, NumberOutOfRange, OutOfMemory}
+use Rattle.wq_cert.specs.declared.fault.CertError.TheVariants.{BadCertLine, NotAllItems, GroupSplit, NumberOutOfRange}
+use Rattle.wq_cert.specs.declared.fault.CertError.TheVariants.{OutOfMemory}
 use Rattle.wq_cert.specs.Forms.{begins_with}
 use Rattle.wq_cert.specs.Lines.{CertLine}
 use Rattle.wq_cert.specs.PlanText.{workqueue_line}
@@ -24,7 +26,8 @@ pub record SpellsWorkqueue (names words : List (List ℕ)) (workqueue : ℕ × L
   pub known : All (λ i. i < length names) workqueue.1
 
 -- the same, where the number is that of the next workqueue, and in range
-pub record SpellsNextWorkqueue (names words : List (List ℕ)) (workqueues : List (List ℕ)) (items : List ℕ) : Type 0 where
+pub record SpellsNextWorkqueue (names words : List (List ℕ)) (workqueues : List (List ℕ)) (items : List ℕ)
+    : Type 0 where
   pub says : SpellsWorkqueue names words (length workqueues, items)
   pub room : length workqueues < max_lanes
 
@@ -38,13 +41,21 @@ SplitNoGroup group_of workqueues items = GroupsAreWhole group_of (workqueues ++ 
 
 -- the row of this fault is the first that the line after these workqueues breaks
 abbrev pub BreaksWorkqueueRow : List (List ℕ) → List ℕ → List (List ℕ) → CertLine → CertError → Type 0
-BreaksWorkqueueRow names group_of workqueues line (BadCertLine n) = (n ≡ line.no) × ((workqueue : ℕ × List ℕ) → ¬ SpellsWorkqueue names line.words workqueue)
+BreaksWorkqueueRow names group_of workqueues line (BadCertLine n) =
+    (n ≡ line.no) × ((workqueue : ℕ × List ℕ) → ¬ SpellsWorkqueue names line.words workqueue)
 BreaksWorkqueueRow names group_of workqueues line (NumberOutOfRange n) =
-    (n ≡ line.no) × (workqueue : ℕ × List ℕ) × SpellsWorkqueue names line.words workqueue × ((workqueue.0 ≢ length workqueues) ⊎ (max_lanes ≤ length workqueues))
+    (n ≡ line.no)
+    × (workqueue : ℕ × List ℕ) × SpellsWorkqueue names line.words workqueue
+    × ((workqueue.0 ≢ length workqueues) ⊎ (max_lanes ≤ length workqueues))
 BreaksWorkqueueRow names group_of workqueues line (NotAllItems n) =
-    (n ≡ line.no) × (items : List ℕ) × SpellsNextWorkqueue names line.words workqueues items × (¬ StandOnce workqueues items)
+    (n ≡ line.no)
+    × (items : List ℕ) × SpellsNextWorkqueue names line.words workqueues items
+    × (¬ StandOnce workqueues items)
 BreaksWorkqueueRow names group_of workqueues line (GroupSplit n) =
-    (n ≡ line.no) × (items : List ℕ) × SpellsNextWorkqueue names line.words workqueues items × StandOnce workqueues items × (¬ SplitNoGroup group_of workqueues items)
+    (n ≡ line.no)
+    × (items : List ℕ) × SpellsNextWorkqueue names line.words workqueues items
+    × StandOnce workqueues items
+    × (¬ SplitNoGroup group_of workqueues items)
 BreaksWorkqueueRow names group_of workqueues line OutOfMemory = ⊥
 
 -- ---- after the workqueues

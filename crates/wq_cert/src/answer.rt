@@ -16,7 +16,8 @@ pub enum CertAnswer<A: Allocator> {
         assignment: Assignment<A>,
         /// How many groups the chain has, at most 4,096.
         length: u32,
-        /// The arcs of the chain, each as an item and a target of it: one fewer than groups; none where there is no group.
+        /// The arcs of the chain, each as an item and a target of it: one fewer than
+        /// groups; none where there is no group.
         arcs: Vec<(ItemId, ItemId), A>,
     },
     /// A circle in which groups wait.

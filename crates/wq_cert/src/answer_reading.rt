@@ -1,7 +1,7 @@
 //! Reading answers: the text of a plan or of a circle. Its first word tells which.
 //!
-//! The texts are those of "Certificates" in docs/FORMAT.md. Reading takes time in the length of the text and the number of items.
-//! It takes memory in the number of items, arcs and steps, and in the length of the longest line.
+//! The texts are those of "Certificates" in docs/FORMAT.md. Reading takes time in the length of the text and the number
+//! of items. It takes memory in the number of items, arcs and steps, and in the length of the longest line.
 
 ghost use Rattle.std.specs.Prelude.{◌≡◌, length, map, Ok, Err, None, IfOk, IfErr};
 ghost use Rattle.wq_text.specs.Limits.{limit_fault};
@@ -33,9 +33,12 @@ pub(crate) fn read_plan<A: Allocator + Copy>(
     mut lines: CertLines<'_>,
 ) -> Result<(Assignment<A>, u32, Vec<(ItemId, ItemId), A>), CertError>
     requires { length groups.now.group_of ≡ length table.now.names }
-    ensures plan { IfOk result (λ plan. plan_reading table.now.names groups.now (map cert_line lines.entry) ≡ Ok (record { assignment = plan.0; length = plan.1; arcs = plan.2.items })) }
-    ensures fault { IfErr result (λ e. IsCertFaultOf e (plan_reading table.now.names groups.now (map cert_line lines.entry))) }
-    ensures memory { result ≡ Err OutOfMemory → BeginsWell (plan_reading table.now.names groups.now) 1 (map cert_line lines.entry) }
+    ensures plan { IfOk result (λ plan. plan_reading table.now.names groups.now (map cert_line lines.entry)
+        ≡ Ok (record { assignment = plan.0; length = plan.1; arcs = plan.2.items })) }
+    ensures fault { IfErr result (λ e.
+        IsCertFaultOf e (plan_reading table.now.names groups.now (map cert_line lines.entry))) }
+    ensures memory { result ≡ Err OutOfMemory
+        → BeginsWell (plan_reading table.now.names groups.now) 1 (map cert_line lines.entry) }
 {
     let Some(first) = lines.next() else {
         return Err(CertError::BadCertLine { line: 0 });
@@ -54,9 +57,13 @@ fn read_answer_lines<A: Allocator + Copy>(
     view: &CertView<'_>,
 ) -> Result<CertAnswer<A>, CertError>
     requires { length groups.now.group_of ≡ length table.now.names }
-    ensures answer { IfOk result (λ c. answer_reading table.now.names groups.now (map cert_line view.now) ≡ Ok (certificate c)) }
-    ensures fault { IfErr result (λ e. IsCertFaultOf e (answer_reading table.now.names groups.now (map cert_line view.now))) }
-    ensures memory { result ≡ Err OutOfMemory → BeginsWell (answer_reading table.now.names groups.now) (lines_before_memory (map cert_line view.now)) (map cert_line view.now) }
+    ensures answer { IfOk result (λ c. answer_reading table.now.names groups.now (map cert_line view.now)
+        ≡ Ok (certificate c)) }
+    ensures fault { IfErr result (λ e.
+        IsCertFaultOf e (answer_reading table.now.names groups.now (map cert_line view.now))) }
+    ensures memory { result ≡ Err OutOfMemory
+        → BeginsWell (answer_reading table.now.names groups.now) (lines_before_memory (map cert_line view.now))
+        (map cert_line view.now) }
 {
     let Some(first) = view.lines().next() else {
         return Err(CertError::BadCertLine { line: 0 });
@@ -76,10 +83,10 @@ fn read_answer_lines<A: Allocator + Copy>(
 
 /// Reads the text of an answer, for the items of a table in these groups. Whether it is true isn't judged.
 ///
-/// The error is the first fault. `BadCertLine` (40) comes before all else where the text or a line is too long. Then it is that
-/// of the first line that has one: `BadCertLine` (40), `NumberOutOfRange` (43), `NotAllItems` (41) or `GroupSplit` (42), in this
-/// order in a line. The line is 0 where the text ends too early (40) or an item is on no workqueue (41). Or the error is
-/// `OutOfMemory` (20), where a growth was refused in a text within the limits.
+/// The error is the first fault. `BadCertLine` (40) comes before all else where the text or a line is too long. Then it
+/// is that of the first line that has one: `BadCertLine` (40), `NumberOutOfRange` (43), `NotAllItems` (41) or
+/// `GroupSplit` (42), in this order in a line. The line is 0 where the text ends too early (40) or an item is on no
+/// workqueue (41). Or the error is `OutOfMemory` (20), where a growth was refused in a text within the limits.
 pub fn read_answer<A: Allocator + Copy>(
     alloc: A,
     text: &[u8],
@@ -92,7 +99,8 @@ pub fn read_answer<A: Allocator + Copy>(
     // The limits are judged without memory, and so are `plan K`, or `circle N` and the first arc.
     ensures memory { result ≡ Err OutOfMemory → limit_fault max_certificate max_certificate_line text.now ≡ None }
     ensures first_lines { result ≡ Err OutOfMemory
-        → BeginsWell (answer_reading table.now.names groups.now) (lines_before_memory (cert_lines (lines_of text.now))) (cert_lines (lines_of text.now)) }
+        → BeginsWell (answer_reading table.now.names groups.now) (lines_before_memory (cert_lines (lines_of text.now)))
+        (cert_lines (lines_of text.now)) }
 {
     let view = open(text)?;
     read_answer_lines(alloc, table, groups, &view)

@@ -1,7 +1,7 @@
 //! Printing arcs, in plan texts and in circle texts.
 //!
-//! The format is that of "Plan texts" and "Circle texts" in docs/FORMAT.md. Printing takes time and memory in the length of what
-//! is printed.
+//! The format is that of "Plan texts" and "Circle texts" in docs/FORMAT.md. Printing
+//! takes time and memory in the length of what is printed.
 
 ghost use Rattle.std.specs.Prelude.{◌≡◌, ◌<◌, ◌++◌, ℕ, length, OnErr, OnOk};
 ghost use Rattle.wq_text.specs.LineText.{IsBegun, line_text};

@@ -1,7 +1,7 @@
 //! Reading arcs: those of a chain after a plan, and those of a circle with the run after them.
 //!
-//! The texts are those of "Certificates" in docs/FORMAT.md. Reading takes time in the length of the lines, and memory in the
-//! number of the arcs and steps that are there.
+//! The texts are those of "Certificates" in docs/FORMAT.md. Reading takes time in the length of the lines, and memory
+//! in the number of the arcs and steps that are there.
 
 ghost use Rattle.std.specs.Prelude.{◌≡◌, Ok, Err, IfOk, IfErr, map, option_map};
 ghost use Rattle.wq_cert.specs.Growth.{ReadsOne, BeginsWell};
@@ -25,8 +25,10 @@ fn read_arcs<A: Allocator + Copy>(
     count: u32,
     lines: &mut CertLines<'_>,
 ) -> Result<Vec<(ItemId, ItemId), A>, CertError>
-    ensures arcs { IfOk result (λ arcs. next_lines (arc_reading table.now.names) count (map cert_line lines.old) ≡ Ok (arcs.items, map cert_line lines.new)) }
-    ensures fault { IfErr result (λ e. IsCertFaultOf e (next_lines (arc_reading table.now.names) count (map cert_line lines.old))) }
+    ensures arcs { IfOk result (λ arcs. next_lines (arc_reading table.now.names) count (map cert_line lines.old)
+        ≡ Ok (arcs.items, map cert_line lines.new)) }
+    ensures fault { IfErr result (λ e.
+        IsCertFaultOf e (next_lines (arc_reading table.now.names) count (map cert_line lines.old))) }
     ensures memory { result ≡ Err OutOfMemory → ReadsOne (arc_reading table.now.names) count (map cert_line lines.old) }
 {
     let mut arcs = Vec::new(alloc);
@@ -46,7 +48,8 @@ pub(crate) fn read_chain<A: Allocator + Copy>(
     table: &ItemTable<'_, A>,
     mut lines: CertLines<'_>,
 ) -> Result<(u32, Vec<(ItemId, ItemId), A>), CertError>
-    ensures chain { IfOk result (λ chain. chain_reading table.now.names (map cert_line lines.entry) ≡ Ok (chain.0, chain.1.items)) }
+    ensures chain { IfOk result (λ chain. chain_reading table.now.names (map cert_line lines.entry)
+        ≡ Ok (chain.0, chain.1.items)) }
     ensures fault { IfErr result (λ e. IsCertFaultOf e (chain_reading table.now.names (map cert_line lines.entry))) }
 {
     let Some(first) = lines.next() else {
@@ -66,9 +69,11 @@ pub(crate) fn read_circle<A: Allocator + Copy>(
     table: &ItemTable<'_, A>,
     mut lines: CertLines<'_>,
 ) -> Result<(Vec<(ItemId, ItemId), A>, Option<Vec<Step, A>>), CertError>
-    ensures circle { IfOk result (λ circle. circle_reading table.now.names (map cert_line lines.entry) ≡ Ok (record { arcs = circle.0.items; steps = option_map (λ s. s.items) circle.1 })) }
+    ensures circle { IfOk result (λ circle. circle_reading table.now.names (map cert_line lines.entry)
+        ≡ Ok (record { arcs = circle.0.items; steps = option_map (λ s. s.items) circle.1 })) }
     ensures fault { IfErr result (λ e. IsCertFaultOf e (circle_reading table.now.names (map cert_line lines.entry))) }
-    ensures memory { result ≡ Err OutOfMemory → BeginsWell (circle_reading table.now.names) 2 (map cert_line lines.entry) }
+    ensures memory { result ≡ Err OutOfMemory
+        → BeginsWell (circle_reading table.now.names) 2 (map cert_line lines.entry) }
 {
     let Some(first) = lines.next() else {
         return Err(CertError::BadCertLine { line: 0 });

@@ -1,7 +1,7 @@
 //! Reading assignments: a whole plan text, or the lines of workqueues alone.
 //!
-//! The texts are those of "Certificates" in docs/FORMAT.md. Reading takes time in the length of the text and the number of items.
-//! It takes memory in the number of items and arcs, and in the length of the longest line.
+//! The texts are those of "Certificates" in docs/FORMAT.md. Reading takes time in the length of the text and the number
+//! of items. It takes memory in the number of items and arcs, and in the length of the longest line.
 
 ghost use Rattle.std.specs.Prelude.{◌≡◌, true, length, map, Ok, Err, None, IfOk, IfErr};
 ghost use Rattle.wq_text.specs.Limits.{limit_fault};
@@ -40,8 +40,10 @@ fn read_assignment_lines<A: Allocator + Copy>(
     view: &CertView<'_>,
 ) -> Result<Assignment<A>, CertError>
     requires { length groups.now.group_of ≡ length table.now.names }
-    ensures assignment { IfOk result (λ a. assignment_reading table.now.names groups.now (map cert_line view.now) ≡ Ok a) }
-    ensures fault { IfErr result (λ e. IsCertFaultOf e (assignment_reading table.now.names groups.now (map cert_line view.now))) }
+    ensures assignment { IfOk result (λ a. assignment_reading table.now.names groups.now (map cert_line view.now)
+        ≡ Ok a) }
+    ensures fault { IfErr result (λ e.
+        IsCertFaultOf e (assignment_reading table.now.names groups.now (map cert_line view.now))) }
     ensures memory { result ≡ Err OutOfMemory → begins_plan (map cert_line view.now) ≡ true
         → BeginsWell (assignment_reading table.now.names groups.now) 1 (map cert_line view.now) }
 {
@@ -53,8 +55,8 @@ fn read_assignment_lines<A: Allocator + Copy>(
     }
 }
 
-/// Reads the assignment in a text, for the items of a table in these groups. The text is a whole plan text, of whose chain only
-/// the form is judged, or the lines of workqueues alone.
+/// Reads the assignment in a text, for the items of a table in these groups. The text is a whole plan text, of whose
+/// chain only the form is judged, or the lines of workqueues alone.
 ///
 /// The errors are those of `read_answer`.
 pub fn read_assignment<A: Allocator + Copy>(

@@ -37,7 +37,8 @@ fn put_circle<A: Allocator + Copy>(
     arcs: &[(ItemId, ItemId)],
 ) -> Result<(), AllocError>
     requires few { length arcs.now < 2 ^ 32 }
-    requires items { All (λ (arc : ℕ × ℕ). (arc.0 < length table.now.names) × (arc.1 < length table.now.names)) arcs.now }
+    requires items { All (λ (arc : ℕ × ℕ). (arc.0 < length table.now.names)
+        × (arc.1 < length table.now.names)) arcs.now }
     ensures { OnOk result (out.new.items ≡ out.old.items ++ circle_text table.now.names arcs.now None) }
 {
     put_circle_line(out, arcs)?;
@@ -47,11 +48,11 @@ fn put_circle<A: Allocator + Copy>(
     Ok(())
 }
 
-/// The text of a circle: the number of its arcs, then the arcs, each as an item and its target, and then the text of a run, where
-/// there is one.
+/// The text of a circle: the number of its arcs, then the arcs, each as an item and
+/// its target, and then the text of a run, where there is one.
 ///
-/// There are fewer than 4,294,967,296 arcs, each from an item of the table to one of it, and fewer than 4,294,967,296 steps, each
-/// of an item of the table and none of a helper. The only error is out of memory (20).
+/// There are fewer than 4,294,967,296 arcs, each from an item of the table to one of it, and fewer than 4,294,967,296
+/// steps, each of an item of the table and none of a helper. The only error is out of memory (20).
 pub fn circle_text<A: Allocator + Copy>(
     alloc: A,
     table: &ItemTable<'_, A>,
@@ -59,7 +60,8 @@ pub fn circle_text<A: Allocator + Copy>(
     steps: Option<&[Step]>,
 ) -> Result<Vec<u8, A>, AllocError>
     requires few { length arcs.now < 2 ^ 32 }
-    requires items { All (λ (arc : ℕ × ℕ). (arc.0 < length table.now.names) × (arc.1 < length table.now.names)) arcs.now }
+    requires items { All (λ (arc : ℕ × ℕ). (arc.0 < length table.now.names)
+        × (arc.1 < length table.now.names)) arcs.now }
     requires few_steps { IfSome steps (λ run. length run.now < 2 ^ 32) }
     requires step_items { IfSome steps (λ run. All (λ (step : Step). step_item step < length table.now.names) run.now) }
     requires no_help { IfSome steps (λ run. HasNoHelp run.now) }

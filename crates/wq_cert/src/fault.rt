@@ -9,12 +9,12 @@ ghost use Rattle.wq_cert.specs.declared.fault.CertError.TheVariants.{OutOfMemory
 use std::alloc::{AllocError, AllocFailed};
 use thiserror::Error;
 
-/// The first fault of a certificate, or out of memory. The rows of "Refusals of certificates" in docs/FORMAT.md say which fault
-/// of a line is the first.
+/// The first fault of a certificate, or out of memory. The rows of "Refusals of certificates" in docs/FORMAT.md say
+/// which fault of a line is the first.
 #[derive(Clone, Copy, Debug, PartialEq, Eq, Error)]
 pub enum CertError {
-    /// The line isn't of the form that comes next, or is too long (40). It is line 0 where the text is too long or ends too
-    /// early.
+    /// The line isn't of the form that comes next, or is too long (40). It is line 0
+    /// where the text is too long or ends too early.
     #[error("line {line}: not what a certificate has here")]
     BadCertLine { line: u32 },
     /// An item is on a workqueue already (41). It is line 0 where an item is on none.

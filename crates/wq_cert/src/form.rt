@@ -1,8 +1,8 @@
 //! What the words of one line say, where they have the form that is asked for.
 //!
-//! The forms are those of "Certificates" and "Run texts" in docs/FORMAT.md. No keyword, number or name has a byte that no line
-//! may hold, so a line with such a byte before its comment has no form. Each function takes time in the length of the words.
-//! `items_of` and `wq_form` take memory in the number of items.
+//! The forms are those of "Certificates" and "Run texts" in docs/FORMAT.md. No keyword, number or name has a byte that
+//! no line may hold, so a line with such a byte before its comment has no form. Each function takes time in the length
+//! of the words. `items_of` and `wq_form` take memory in the number of items.
 
 ghost use Rattle.std.specs.Prelude.{◌≡◌, IfOk, option_map, bytes_eq, codes};
 ghost use Rattle.wq_cert.specs.Forms.{number_of, items_of, begins_with, count_form, wq_form, arc_form};
@@ -78,14 +78,16 @@ fn is_wq(word: &[u8], bare: bool) -> bool
     word == b"wq".as_slice() || bare && word == b"norescuer".as_slice()
 }
 
-/// `wq Q NAME..`: the number and the items. `norescuer` may be in place of `wq` if this is asked for. The only error is out of memory.
+/// `wq Q NAME..`: the number and the items. `norescuer` may be in place of `wq` if
+/// this is asked for. The only error is out of memory.
 pub(crate) fn wq_form<A: Allocator + Copy>(
     alloc: A,
     table: &ItemTable<'_, A>,
     mut words: Words<'_>,
     bare: bool,
 ) -> Result<Option<(u32, Vec<ItemId, A>)>, AllocError>
-    ensures { IfOk result (λ workqueue. option_map (λ q. (q.0, q.1.items)) workqueue ≡ wq_form table.now.names (with_wq bare (bytes_of words.entry))) }
+    ensures { IfOk result (λ workqueue. option_map (λ q. (q.0, q.1.items)) workqueue
+        ≡ wq_form table.now.names (with_wq bare (bytes_of words.entry))) }
 {
     let Some(word) = words.next() else {
         return Ok(None);

@@ -1,7 +1,7 @@
 //! Reading workqueues of which some may have no rescuer: a whole plan text, or `wq` and `norescuer` lines.
 //!
-//! The texts are those of "Certificates" in docs/FORMAT.md. A `norescuer` line is read as a `wq` line, and says that its workqueue has
-//! no rescuer. Reading takes the time and the memory of reading an assignment.
+//! The texts are those of "Certificates" in docs/FORMAT.md. A `norescuer` line is read as a `wq` line, and says that
+//! its workqueue has no rescuer. Reading takes the time and the memory of reading an assignment.
 
 ghost use Rattle.std.specs.Prelude.{◌≡◌, true, length, map, Ok, Err, None, IfOk, IfErr};
 ghost use Rattle.wq_text.specs.Limits.{limit_fault};
@@ -44,7 +44,8 @@ fn read_lanes<A: Allocator + Copy>(
 ) -> Result<Workqueues<A>, CertError>
     requires { length groups.now.group_of ≡ length table.now.names }
     ensures workqueues { IfOk result (λ ws. lanes_reading table.now.names groups.now (map cert_line view.now) ≡ Ok ws) }
-    ensures fault { IfErr result (λ e. IsCertFaultOf e (lanes_reading table.now.names groups.now (map cert_line view.now))) }
+    ensures fault { IfErr result (λ e.
+        IsCertFaultOf e (lanes_reading table.now.names groups.now (map cert_line view.now))) }
     ensures memory { result ≡ Err OutOfMemory → begins_plan (map cert_line view.now) ≡ true
         → BeginsWell (lanes_reading table.now.names groups.now) 1 (map cert_line view.now) }
 {
@@ -58,8 +59,9 @@ fn read_lanes<A: Allocator + Copy>(
     }
 }
 
-/// Reads the workqueues in the text of an assignment, for the items of a table in these groups. The text is a whole plan text, of
-/// whose chain only the form is judged, or lines of workqueues alone, with a rescuer (`wq`) or without (`norescuer`).
+/// Reads the workqueues in the text of an assignment, for the items of a table in these
+/// groups. The text is a whole plan text, of whose chain only the form is judged, or
+/// lines of workqueues alone, with a rescuer (`wq`) or without (`norescuer`).
 ///
 /// The errors are those of `read_answer`.
 pub fn read_workqueues<A: Allocator + Copy>(

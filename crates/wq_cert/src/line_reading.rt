@@ -1,7 +1,7 @@
 //! One line of a certificate: what it says, or its first fault.
 //!
-//! The lines are those of "Certificates" and "Run texts" in docs/FORMAT.md. Each function takes time in the length of the
-//! line, and no memory.
+//! The lines are those of "Certificates" and "Run texts" in docs/FORMAT.md. Each
+//! function takes time in the length of the line, and no memory.
 
 ghost use Rattle.std.specs.Prelude.{◌≡◌, nat_lt, if◌then◌else◌, Ok, Err, ok_or, codes};
 ghost use Rattle.wq_cert.specs.declared.fault.CertError.TheVariants.{BadCertLine, NumberOutOfRange};
@@ -87,7 +87,8 @@ fn near_lane(line: u32, lane: u32) -> Result<LaneId, CertError>
     Ok(LaneId::new(lane as u16))
 }
 
-/// The step `start`, `wait`, `over`, `waitwq`, `overwq` or `finish` of a workqueue and an item, by the word on this line.
+/// The step `start`, `wait`, `over`, `waitwq`, `overwq` or `finish` of a workqueue
+/// and an item, by the word on this line.
 fn read_lane_step(line: u32, word: &[u8], lane: u32, item: ItemId) -> Result<Step, CertError>
     ensures { result ≡ step_in_range line (lane_step word.now lane item) }
 {

@@ -1,10 +1,11 @@
 //! The workqueues that were read so far: which items are on one, and which workqueue serves each group.
 //!
-//! The rules are those of "Certificates" in docs/FORMAT.md. Reading a workqueue takes time in the length of its line, and memory
-//! in the number of names on it until they are noted. Starting with no workqueue, and making the assignment, takes time and
-//! memory in the number of items.
+//! The rules are those of "Certificates" in docs/FORMAT.md. Reading a workqueue takes time in the length of its line,
+//! and memory in the number of names on it until they are noted. Starting with no workqueue, and making the assignment,
+//! takes time and memory in the number of items.
 
-ghost use Rattle.std.specs.Prelude.{◌≡◌, ◌<◌, ℕ, ◌∷◌, ◌++◌, [], true, false, not, List, length, map, Ok, Err, IfOk, IfErr, Option, Some, None, MatchOption, unwrap_or};
+ghost use Rattle.std.specs.Prelude.{◌≡◌, ◌<◌, ℕ, ◌∷◌, ◌++◌, [], true, false, not, List, length, map, Ok, Err, IfOk};
+ghost use Rattle.std.specs.Prelude.{IfErr, Option, Some, None, MatchOption, unwrap_or};
 ghost use Rattle.std.specs.List.{All, concat, list_all};
 ghost use Rattle.wq_groups.specs.Partition.{IsPartition};
 ghost use Rattle.wq_cert.specs.Lines.{cert_line};
@@ -30,8 +31,8 @@ pub(crate) struct NotedWorkqueues<A: Allocator> {
     lane_of_group: Vec<Option<LaneId>, A>,
 }
 
-/// The items on the next workqueue, from the form and the number of its line, where this many workqueues are before it. The line may be
-/// a `norescuer` line if this is asked for.
+/// The items on the next workqueue, from the form and the number of its line, where this many workqueues are before it.
+/// The line may be a `norescuer` line if this is asked for.
 fn read_items<A: Allocator + Copy>(
     alloc: A,
     table: &ItemTable<'_, A>,
@@ -55,7 +56,8 @@ fn read_items<A: Allocator + Copy>(
 fn mark<A: Allocator>(mut stood: Vec<bool, A>, items: &[ItemId]) -> Option<Vec<bool, A>>
     requires { All (λ i. i < length stood.items) items.now }
     ensures { (n : ℕ) (before : List ℕ) → stood.items ≡ marks n before
-        → MatchOption result (has_stood before items.now ≡ true) (λ v. (has_stood before items.now ≡ false) × (v.items ≡ marks n (before ++ items.now))) }
+        → MatchOption result (has_stood before items.now ≡ true) (λ v. (has_stood before items.now ≡ false)
+        × (v.items ≡ marks n (before ++ items.now))) }
 {
     for item in items {
         let i = usize::from(item.get());
@@ -87,9 +89,11 @@ fn settle<A: Allocator + Copy>(
 ) -> Option<Vec<Option<LaneId>, A>>
     requires items { All (λ i. i < length groups.now.group_of) items.now }
     requires groups { length lane_of_group.items ≡ groups.now.groups }
-    ensures { (workqueues : List (List ℕ)) → lane ≡ length workqueues → lane_of_group.items ≡ lanes_with groups.now workqueues
+    ensures { (workqueues : List (List ℕ)) → lane ≡ length workqueues
+        → lane_of_group.items ≡ lanes_with groups.now workqueues
         → MatchOption result (splits_group groups.now.group_of (concat workqueues) items.now ≡ true)
-        (λ v. (splits_group groups.now.group_of (concat workqueues) items.now ≡ false) × (v.items ≡ lanes_with groups.now (workqueues ++ (items.now ∷ [])))) }
+        (λ v. (splits_group groups.now.group_of (concat workqueues) items.now ≡ false)
+        × (v.items ≡ lanes_with groups.now (workqueues ++ (items.now ∷ [])))) }
 {
     for item in items {
         let group = usize::from(groups.of(*item).get());
@@ -140,13 +144,16 @@ impl<A: Allocator + Copy> NotedWorkqueues<A> {
 
     /// Adds a workqueue with these items, from a line of this number.
     fn with(self, line: u32, groups: &Groups<A>, items: &[ItemId]) -> Result<Self, CertError>
-        requires noted { (workqueues : List (List ℕ)) × AreNoted groups.now workqueues self.count self.stood.items self.lane_of_group.items }
+        requires noted { (workqueues : List (List ℕ))
+            × AreNoted groups.now workqueues self.count self.stood.items self.lane_of_group.items }
         requires room { self.count < 4096 }
         requires items { All (λ i. i < length groups.now.group_of) items.now }
-        ensures workqueues { (workqueues : List (List ℕ)) → AreNoted groups.now workqueues self.count self.stood.items self.lane_of_group.items
+        ensures workqueues { (workqueues : List (List ℕ))
+            → AreNoted groups.now workqueues self.count self.stood.items self.lane_of_group.items
             → IfOk result (λ q. (fresh_items groups.now.group_of (concat workqueues) line items.now ≡ Ok items.now)
             × AreNoted groups.now (workqueues ++ (items.now ∷ [])) q.count q.stood.items q.lane_of_group.items) }
-        ensures fault { (workqueues : List (List ℕ)) → AreNoted groups.now workqueues self.count self.stood.items self.lane_of_group.items
+        ensures fault { (workqueues : List (List ℕ))
+            → AreNoted groups.now workqueues self.count self.stood.items self.lane_of_group.items
             → IfErr result (λ e. fresh_items groups.now.group_of (concat workqueues) line items.now ≡ Err e) }
     {
         let NotedWorkqueues {
@@ -178,11 +185,17 @@ impl<A: Allocator + Copy> NotedWorkqueues<A> {
         bare: bool,
     ) -> Result<Self, CertError>
         requires grouped { length groups.now.group_of ≡ length table.now.names }
-        requires noted { (workqueues : List (List ℕ)) × AreNoted groups.now workqueues self.count self.stood.items self.lane_of_group.items }
-        ensures workqueues { (workqueues : List (List ℕ)) → AreNoted groups.now workqueues self.count self.stood.items self.lane_of_group.items
-            → IfOk result (λ q. IsNextNoted table.now.names groups.now workqueues (said_line bare line.now) q.count q.stood.items q.lane_of_group.items) }
-        ensures fault { (workqueues : List (List ℕ)) → AreNoted groups.now workqueues self.count self.stood.items self.lane_of_group.items
-            → IfErr result (λ e. IsCertFaultOf e (wq_reading table.now.names groups.now.group_of workqueues (said_line bare line.now))) }
+        requires noted { (workqueues : List (List ℕ))
+            × AreNoted groups.now workqueues self.count self.stood.items self.lane_of_group.items }
+        ensures workqueues { (workqueues : List (List ℕ))
+            → AreNoted groups.now workqueues self.count self.stood.items self.lane_of_group.items
+            → IfOk result (λ q.
+            IsNextNoted table.now.names groups.now workqueues
+            (said_line bare line.now) q.count q.stood.items q.lane_of_group.items) }
+        ensures fault { (workqueues : List (List ℕ))
+            → AreNoted groups.now workqueues self.count self.stood.items self.lane_of_group.items
+            → IfErr result (λ e.
+            IsCertFaultOf e (wq_reading table.now.names groups.now.group_of workqueues (said_line bare line.now))) }
     {
         let items = read_items(alloc, table, self.count, line, bare)?;
         self.with(line.no(), groups, items.as_slice())
@@ -197,21 +210,30 @@ impl<A: Allocator + Copy> NotedWorkqueues<A> {
         line: &Line<'_>,
     ) -> Result<Self, CertError>
         requires grouped { length groups.now.group_of ≡ length table.now.names }
-        requires noted { (workqueues : List (List ℕ)) × AreNoted groups.now workqueues self.count self.stood.items self.lane_of_group.items }
-        ensures workqueues { (workqueues : List (List ℕ)) → AreNoted groups.now workqueues self.count self.stood.items self.lane_of_group.items
-            → IfOk result (λ q. IsNextNoted table.now.names groups.now workqueues (cert_line line.now) q.count q.stood.items q.lane_of_group.items) }
-        ensures fault { (workqueues : List (List ℕ)) → AreNoted groups.now workqueues self.count self.stood.items self.lane_of_group.items
-            → IfErr result (λ e. IsCertFaultOf e (wq_reading table.now.names groups.now.group_of workqueues (cert_line line.now))) }
+        requires noted { (workqueues : List (List ℕ))
+            × AreNoted groups.now workqueues self.count self.stood.items self.lane_of_group.items }
+        ensures workqueues { (workqueues : List (List ℕ))
+            → AreNoted groups.now workqueues self.count self.stood.items self.lane_of_group.items
+            → IfOk result (λ q.
+            IsNextNoted table.now.names groups.now workqueues
+            (cert_line line.now) q.count q.stood.items q.lane_of_group.items) }
+        ensures fault { (workqueues : List (List ℕ))
+            → AreNoted groups.now workqueues self.count self.stood.items self.lane_of_group.items
+            → IfErr result (λ e.
+            IsCertFaultOf e (wq_reading table.now.names groups.now.group_of workqueues (cert_line line.now))) }
     {
         self.read_line(alloc, table, groups, line, false)
     }
 
     /// The assignment to these workqueues, if each item is on one.
     pub(crate) fn assignment(self, alloc: A, groups: &Groups<A>) -> Result<Assignment<A>, CertError>
-        requires { (workqueues : List (List ℕ)) × AreNoted groups.now workqueues self.count self.stood.items self.lane_of_group.items }
-        ensures assignment { (workqueues : List (List ℕ)) → AreNoted groups.now workqueues self.count self.stood.items self.lane_of_group.items
+        requires { (workqueues : List (List ℕ))
+            × AreNoted groups.now workqueues self.count self.stood.items self.lane_of_group.items }
+        ensures assignment { (workqueues : List (List ℕ))
+            → AreNoted groups.now workqueues self.count self.stood.items self.lane_of_group.items
             → IfOk result (λ a. whole_assignment groups.now workqueues ≡ Ok a) }
-        ensures fault { (workqueues : List (List ℕ)) → AreNoted groups.now workqueues self.count self.stood.items self.lane_of_group.items
+        ensures fault { (workqueues : List (List ℕ))
+            → AreNoted groups.now workqueues self.count self.stood.items self.lane_of_group.items
             → IfErr result (λ e. IsCertFaultOf e (whole_assignment groups.now workqueues)) }
     {
         let _groups = groups.len();

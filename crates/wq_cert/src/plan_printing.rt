@@ -1,7 +1,7 @@
 //! Plan texts: the workqueues with their items, and a longest waiting chain.
 //!
-//! The format is that of "Plan texts" in docs/FORMAT.md. Printing takes time and memory in the number of items and the length of
-//! the text.
+//! The format is that of "Plan texts" in docs/FORMAT.md. Printing takes time and
+//! memory in the number of items and the length of the text.
 
 ghost use Rattle.std.specs.Prelude.{◌≡◌, ◌<◌, ◌+◌, ◌++◌, ◌^◌, ℕ, length, OnOk, IfOk};
 ghost use Rattle.std.specs.List.{All};
@@ -66,8 +66,8 @@ fn put_chain_line<A: Allocator + Copy>(
 
 /// The text of a plan: the number of workqueues, the items of each, and the arcs of a waiting chain.
 ///
-/// The groups are those of the table's items, and each has a workqueue. The chain has fewer than 4,294,967,295 arcs, each from an
-/// item of the table to one of it. The only error is out of memory (20).
+/// The groups are those of the table's items, and each has a workqueue. The chain has fewer than 4,294,967,295 arcs,
+/// each from an item of the table to one of it. The only error is out of memory (20).
 pub fn plan_text<A: Allocator + Copy>(
     alloc: A,
     table: &ItemTable<'_, A>,
@@ -78,7 +78,8 @@ pub fn plan_text<A: Allocator + Copy>(
     requires grouped { length groups.now.group_of ≡ length table.now.names }
     requires assigned { length assignment.now.lane_of_group ≡ groups.now.groups }
     requires few { length chain.now + 1 < 2 ^ 32 }
-    requires items { All (λ (arc : ℕ × ℕ). (arc.0 < length table.now.names) × (arc.1 < length table.now.names)) chain.now }
+    requires items { All (λ (arc : ℕ × ℕ). (arc.0 < length table.now.names)
+        × (arc.1 < length table.now.names)) chain.now }
     ensures { IfOk result (λ text. text.items
         ≡ plan_text table.now.names assignment.now.lanes (item_lanes assignment.now groups.now.group_of) chain.now) }
 {
@@ -98,7 +99,8 @@ fn print_plan<A: Allocator + Copy>(
     requires one_each { length lane.now ≡ length table.now.names }
     requires within { All (λ q. q < lanes) lane.now }
     requires few { length chain.now + 1 < 2 ^ 32 }
-    requires items { All (λ (arc : ℕ × ℕ). (arc.0 < length table.now.names) × (arc.1 < length table.now.names)) chain.now }
+    requires items { All (λ (arc : ℕ × ℕ). (arc.0 < length table.now.names)
+        × (arc.1 < length table.now.names)) chain.now }
     ensures { IfOk result (λ text. text.items ≡ plan_text table.now.names lanes lane.now chain.now) }
 {
     // What holds of every table.

@@ -1,7 +1,7 @@
 //! Run texts: the steps of a run, one on each line.
 //!
-//! The format is that of "Run texts" in docs/FORMAT.md. No step is a helper's. Printing takes time and memory in the length of the
-//! text.
+//! The format is that of "Run texts" in docs/FORMAT.md. No step is a helper's.
+//! Printing takes time and memory in the length of the text.
 
 ghost use Rattle.std.specs.Prelude.{◌≡◌, ◌<◌, ◌++◌, ◌∷◌, [], ◌^◌, ℕ, length, flat_map, decimal, OnOk, IfOk};
 ghost use Rattle.std.specs.List.{All};
@@ -35,7 +35,8 @@ fn put_item_step<A: Allocator + Copy>(
     item: ItemId,
 ) -> Result<(), AllocError>
     requires { item < length table.now.names }
-    ensures { OnOk result (out.new.items ≡ out.old.items ++ line_text (keyword.now ∷ name_of table.now.names item ∷ [])) }
+    ensures { OnOk result (out.new.items
+        ≡ out.old.items ++ line_text (keyword.now ∷ name_of table.now.names item ∷ [])) }
 {
     put(out, keyword)?;
     put_word(out, table.name(item))?;
@@ -103,8 +104,8 @@ pub(crate) fn put_run<A: Allocator + Copy>(
 
 /// The text of a run: the number of steps, and then the steps.
 ///
-/// There are fewer than 4,294,967,296 steps, each of an item of the table and none of a helper. The only error is out of memory
-/// (20).
+/// There are fewer than 4,294,967,296 steps, each of an item of the table and none
+/// of a helper. The only error is out of memory (20).
 pub fn run_text<A: Allocator + Copy>(
     alloc: A,
     table: &ItemTable<'_, A>,

@@ -1,7 +1,7 @@
 //! Reading runs: how many steps there are, and each of them on a line of its own.
 //!
-//! The text is that of "Run texts" and "Certificates" in docs/FORMAT.md. Reading takes time in the length of the text, and memory
-//! in the number of steps that are there, whatever number the text says.
+//! The text is that of "Run texts" and "Certificates" in docs/FORMAT.md. Reading takes time in the length of the text,
+//! and memory in the number of steps that are there, whatever number the text says.
 
 ghost use Rattle.std.specs.Prelude.{◌≡◌, ◌∷◌, Ok, Err, None, IfOk, IfErr, map, option_map};
 ghost use Rattle.wq_text.specs.Limits.{limit_fault};
@@ -28,9 +28,12 @@ fn read_steps<A: Allocator + Copy>(
     count: u32,
     lines: &mut CertLines<'_>,
 ) -> Result<Vec<Step, A>, CertError>
-    ensures steps { IfOk result (λ steps. next_lines (step_reading table.now.names) count (map cert_line lines.old) ≡ Ok (steps.items, map cert_line lines.new)) }
-    ensures fault { IfErr result (λ e. IsCertFaultOf e (next_lines (step_reading table.now.names) count (map cert_line lines.old))) }
-    ensures memory { result ≡ Err OutOfMemory → ReadsOne (step_reading table.now.names) count (map cert_line lines.old) }
+    ensures steps { IfOk result (λ steps. next_lines (step_reading table.now.names) count (map cert_line lines.old)
+        ≡ Ok (steps.items, map cert_line lines.new)) }
+    ensures fault { IfErr result (λ e.
+        IsCertFaultOf e (next_lines (step_reading table.now.names) count (map cert_line lines.old))) }
+    ensures memory { result ≡ Err OutOfMemory
+        → ReadsOne (step_reading table.now.names) count (map cert_line lines.old) }
 {
     let mut steps = Vec::new(alloc);
     for i in 0..count {
@@ -50,9 +53,12 @@ fn read_run_from<A: Allocator + Copy>(
     first: &Line<'_>,
     mut lines: CertLines<'_>,
 ) -> Result<Vec<Step, A>, CertError>
-    ensures steps { IfOk result (λ steps. run_reading table.now.names (cert_line first.now ∷ map cert_line lines.entry) ≡ Ok steps.items) }
-    ensures fault { IfErr result (λ e. IsCertFaultOf e (run_reading table.now.names (cert_line first.now ∷ map cert_line lines.entry))) }
-    ensures memory { result ≡ Err OutOfMemory → BeginsWell (run_reading table.now.names) 2 (cert_line first.now ∷ map cert_line lines.entry) }
+    ensures steps { IfOk result (λ steps. run_reading table.now.names (cert_line first.now ∷ map cert_line lines.entry)
+        ≡ Ok steps.items) }
+    ensures fault { IfErr result (λ e.
+        IsCertFaultOf e (run_reading table.now.names (cert_line first.now ∷ map cert_line lines.entry))) }
+    ensures memory { result ≡ Err OutOfMemory
+        → BeginsWell (run_reading table.now.names) 2 (cert_line first.now ∷ map cert_line lines.entry) }
 {
     let count = read_any_count(first)?;
     let steps = read_steps(alloc, table, count, &mut lines)?;
@@ -68,7 +74,8 @@ pub(crate) fn read_run_after<A: Allocator + Copy>(
     table: &ItemTable<'_, A>,
     mut lines: CertLines<'_>,
 ) -> Result<Option<Vec<Step, A>>, CertError>
-    ensures steps { IfOk result (λ steps. run_after table.now.names (map cert_line lines.entry) ≡ Ok (option_map (λ s. s.items) steps)) }
+    ensures steps { IfOk result (λ steps. run_after table.now.names (map cert_line lines.entry)
+        ≡ Ok (option_map (λ s. s.items) steps)) }
     ensures fault { IfErr result (λ e. IsCertFaultOf e (run_after table.now.names (map cert_line lines.entry))) }
 {
     let Some(first) = lines.next() else {
@@ -96,9 +103,10 @@ fn read_run_lines<A: Allocator + Copy>(
 
 /// Reads the steps in the text of a run, for the items of a table. Whether they are lawful isn't judged.
 ///
-/// The error is the first fault: `BadCertLine` (40), where the text or a line is too long, or in the first line that isn't of the
-/// form that comes next, with line 0 where the text ends too early; or `NumberOutOfRange` (43), in a line of that form whose
-/// workqueue is above 4,095. Or it is `OutOfMemory` (20), where a growth was refused in a text within the limits.
+/// The error is the first fault: `BadCertLine` (40), where the text or a line is too long, or
+/// in the first line that isn't of the form that comes next, with line 0 where the text ends
+/// too early; or `NumberOutOfRange` (43), in a line of that form whose workqueue is above
+/// 4,095. Or it is `OutOfMemory` (20), where a growth was refused in a text within the limits.
 pub fn read_run<A: Allocator + Copy>(
     alloc: A,
     text: &[u8],
@@ -108,7 +116,8 @@ pub fn read_run<A: Allocator + Copy>(
     ensures fault { IfErr result (λ e. IsCertFaultOf e (run_of table.now.names text.now)) }
     // The limits are judged without memory, and so are `run M` and the first step.
     ensures memory { result ≡ Err OutOfMemory → limit_fault max_certificate max_certificate_line text.now ≡ None }
-    ensures first_step { result ≡ Err OutOfMemory → BeginsWell (run_reading table.now.names) 2 (cert_lines (lines_of text.now)) }
+    ensures first_step { result ≡ Err OutOfMemory
+        → BeginsWell (run_reading table.now.names) 2 (cert_lines (lines_of text.now)) }
 {
     let view = open(text)?;
     read_run_lines(alloc, table, view.lines())

@@ -1,8 +1,8 @@
 //! The lines of a text that hold a word.
 //!
-//! All other lines are skipped, by "Certificates" in docs/FORMAT.md. Passing through the lines looks at each byte of the text a
-//! fixed number of times, and takes no memory. The lines above the first one that holds a word are passed through once, however
-//! often the view is asked for its lines.
+//! All other lines are skipped, by "Certificates" in docs/FORMAT.md. Passing through the lines looks at each byte of
+//! the text a fixed number of times, and takes no memory. The lines above the first one that holds a word are passed
+//! through once, however often the view is asked for its lines.
 
 ghost use Rattle.std.specs.Prelude.{◌≡◌};
 ghost use Rattle.std.specs.Iterator.{YieldsFirst, item_count};
@@ -12,8 +12,8 @@ ghost use Rattle.wq_cert.specs.Lines.{holds_word, filled};
 use std::marker::Model;
 use wq_text::{Line, Lines, Text};
 
-/// A text as those of its lines that hold a word. Lines with nothing but blanks and a comment are skipped. Contracts see the list
-/// of these lines.
+/// A text as those of its lines that hold a word. Lines with nothing but blanks and
+/// a comment are skipped. Contracts see the list of these lines.
 #[derive(Drop)]
 pub struct CertView<'c> {
     /// The lines of the text, from the first one on that holds a word.
@@ -66,7 +66,8 @@ impl<'c> Model for CertLines<'c> {
     ghost view = { λ l. filled l.lines };
 }
 
-/// Whether a line holds a word. Empty lines and comments, of which a text may have millions, are told by their first byte.
+/// Whether a line holds a word. Empty lines and comments, of which a text may have
+/// millions, are told by their first byte.
 fn holds_word(line: &Line<'_>) -> bool
     ensures { result ≡ holds_word line.now }
 {

@@ -1,7 +1,7 @@
 //! Reading the lines of workqueues: a given number of them, or all up to the first line with another first word.
 //!
-//! The texts are those of "Certificates" in docs/FORMAT.md. Reading takes time in the length of the lines and the number of
-//! items, and memory in the number of items and in the length of the longest line.
+//! The texts are those of "Certificates" in docs/FORMAT.md. Reading takes time in the length of the lines and the
+//! number of items, and memory in the number of items and in the length of the longest line.
 
 ghost use Rattle.std.specs.Prelude.{◌≡◌, [], length, map, Ok, IfOk, IfErr};
 ghost use Rattle.wq_cert.specs.Lines.{cert_line};
@@ -26,8 +26,11 @@ fn read_next_workqueues<A: Allocator + Copy>(
     lines: &mut CertLines<'_>,
 ) -> Result<NotedWorkqueues<A>, CertError>
     requires { length groups.now.group_of ≡ length table.now.names }
-    ensures workqueues { IfOk result (λ q. AreRead table.now.names groups.now count (map cert_line lines.old) q.count q.stood.items q.lane_of_group.items (map cert_line lines.new)) }
-    ensures fault { IfErr result (λ e. IsCertFaultOf e (next_workqueues table.now.names groups.now.group_of count [] (map cert_line lines.old))) }
+    ensures workqueues { IfOk result (λ q.
+        AreRead table.now.names groups.now count (map cert_line lines.old) q.count q.stood.items q.lane_of_group.items
+        (map cert_line lines.new)) }
+    ensures fault { IfErr result (λ e.
+        IsCertFaultOf e (next_workqueues table.now.names groups.now.group_of count [] (map cert_line lines.old))) }
 {
     let mut workqueues = NotedWorkqueues::none(alloc, groups, table.len())?;
     for i in 0..count {
@@ -48,15 +51,17 @@ pub(crate) fn read_counted<A: Allocator + Copy>(
     lines: &mut CertLines<'_>,
 ) -> Result<Assignment<A>, CertError>
     requires { length groups.now.group_of ≡ length table.now.names }
-    ensures assignment { IfOk result (λ a. counted_assignment table.now.names groups.now count (map cert_line lines.old) ≡ Ok (a, map cert_line lines.new)) }
-    ensures fault { IfErr result (λ e. IsCertFaultOf e (counted_assignment table.now.names groups.now count (map cert_line lines.old))) }
+    ensures assignment { IfOk result (λ a. counted_assignment table.now.names groups.now count (map cert_line lines.old)
+        ≡ Ok (a, map cert_line lines.new)) }
+    ensures fault { IfErr result (λ e.
+        IsCertFaultOf e (counted_assignment table.now.names groups.now count (map cert_line lines.old))) }
 {
     let workqueues = read_next_workqueues(alloc, table, groups, count, lines)?;
     workqueues.assignment(alloc, groups)
 }
 
-/// Reads the workqueues on these lines, up to the first line with another first word, and the number of that line. `norescuer` lines are
-/// read as `wq` lines if this is asked for.
+/// Reads the workqueues on these lines, up to the first line with another first word, and the number of that line.
+/// `norescuer` lines are read as `wq` lines if this is asked for.
 fn read_all_workqueues<A: Allocator + Copy>(
     alloc: A,
     table: &ItemTable<'_, A>,
@@ -65,8 +70,12 @@ fn read_all_workqueues<A: Allocator + Copy>(
     bare: bool,
 ) -> Result<(NotedWorkqueues<A>, Option<u32>), CertError>
     requires { length groups.now.group_of ≡ length table.now.names }
-    ensures workqueues { IfOk result (λ r. AreAllRead table.now.names groups.now (map (λ line. said_line bare line) lines.entry) r.0.count r.0.stood.items r.0.lane_of_group.items r.1) }
-    ensures fault { IfErr result (λ e. IsCertFaultOf e (all_workqueues table.now.names groups.now.group_of [] (map (λ line. said_line bare line) lines.entry))) }
+    ensures workqueues { IfOk result (λ r.
+        AreAllRead table.now.names groups.now
+        (map (λ line. said_line bare line) lines.entry) r.0.count r.0.stood.items r.0.lane_of_group.items r.1) }
+    ensures fault { IfErr result (λ e.
+        IsCertFaultOf e
+        (all_workqueues table.now.names groups.now.group_of [] (map (λ line. said_line bare line) lines.entry))) }
 {
     let mut workqueues = NotedWorkqueues::none(alloc, groups, table.len())?;
     for line in lines {
@@ -78,7 +87,8 @@ fn read_all_workqueues<A: Allocator + Copy>(
     Ok((workqueues, None))
 }
 
-/// Reads the assignment on these lines. Each must be the line of a workqueue: a `wq` line, or a `norescuer` line if this is asked for.
+/// Reads the assignment on these lines. Each must be the line of a workqueue: a `wq`
+/// line, or a `norescuer` line if this is asked for.
 fn read_lines<A: Allocator + Copy>(
     alloc: A,
     table: &ItemTable<'_, A>,
@@ -87,8 +97,12 @@ fn read_lines<A: Allocator + Copy>(
     bare: bool,
 ) -> Result<Assignment<A>, CertError>
     requires { length groups.now.group_of ≡ length table.now.names }
-    ensures assignment { IfOk result (λ a. workqueues_reading table.now.names groups.now (map (λ line. said_line bare line) lines.entry) ≡ Ok a) }
-    ensures fault { IfErr result (λ e. IsCertFaultOf e (workqueues_reading table.now.names groups.now (map (λ line. said_line bare line) lines.entry))) }
+    ensures assignment { IfOk result (λ a.
+        workqueues_reading table.now.names groups.now (map (λ line. said_line bare line) lines.entry)
+        ≡ Ok a) }
+    ensures fault { IfErr result (λ e.
+        IsCertFaultOf e
+        (workqueues_reading table.now.names groups.now (map (λ line. said_line bare line) lines.entry))) }
 {
     let (workqueues, after) = read_all_workqueues(alloc, table, groups, lines, bare)?;
     let assignment = workqueues.assignment(alloc, groups)?;
@@ -106,8 +120,10 @@ pub(crate) fn read_workqueue_lines<A: Allocator + Copy>(
     lines: CertLines<'_>,
 ) -> Result<Assignment<A>, CertError>
     requires { length groups.now.group_of ≡ length table.now.names }
-    ensures assignment { IfOk result (λ a. workqueues_reading table.now.names groups.now (map cert_line lines.entry) ≡ Ok a) }
-    ensures fault { IfErr result (λ e. IsCertFaultOf e (workqueues_reading table.now.names groups.now (map cert_line lines.entry))) }
+    ensures assignment { IfOk result (λ a. workqueues_reading table.now.names groups.now (map cert_line lines.entry)
+        ≡ Ok a) }
+    ensures fault { IfErr result (λ e.
+        IsCertFaultOf e (workqueues_reading table.now.names groups.now (map cert_line lines.entry))) }
 {
     read_lines(alloc, table, groups, lines, false)
 }
@@ -120,8 +136,11 @@ pub(crate) fn read_lane_lines<A: Allocator + Copy>(
     lines: CertLines<'_>,
 ) -> Result<Assignment<A>, CertError>
     requires { length groups.now.group_of ≡ length table.now.names }
-    ensures assignment { IfOk result (λ a. workqueues_reading table.now.names groups.now (map as_wq (map cert_line lines.entry)) ≡ Ok a) }
-    ensures fault { IfErr result (λ e. IsCertFaultOf e (workqueues_reading table.now.names groups.now (map as_wq (map cert_line lines.entry)))) }
+    ensures assignment { IfOk result (λ a.
+        workqueues_reading table.now.names groups.now (map as_wq (map cert_line lines.entry))
+        ≡ Ok a) }
+    ensures fault { IfErr result (λ e.
+        IsCertFaultOf e (workqueues_reading table.now.names groups.now (map as_wq (map cert_line lines.entry)))) }
 {
     read_lines(alloc, table, groups, lines, true)
 }

@@ -1,5 +1,6 @@
 -- Answers of the checker: what a certificate shows, or the first reason why it shows nothing.
-use Rattle.std.specs.Prelude.{◌≡◌, ◌≢◌, ℕ, ◌⊎◌, ◌-◌, ◌<◌, ◌≤◌, List, length, Option, Some, None, IsSome, Result, Ok, Err}
+use Rattle.std.specs.Prelude.{◌≡◌, ◌≢◌, ℕ, ◌⊎◌, ◌-◌, ◌<◌, ◌≤◌, List, length, Option, Some, None, IsSome, Result, Ok}
+use Rattle.std.specs.Prelude.{Err}
 use Rattle.std.specs.List.{All}
 use Rattle.wq_groups.specs.Declaration.{Declaration}
 use Rattle.wq_groups.specs.Assignment.{IsAssignment}
@@ -12,7 +13,8 @@ use Rattle.wq_cert.specs.Reading.{max_count}
 use Rattle.wq_checker.specs.declared.answer.Yes.{Yes}
 use Rattle.wq_checker.specs.declared.answer.Yes.TheVariants as yes
 use Rattle.wq_checker.specs.declared.answer.No.{No}
-use Rattle.wq_checker.specs.declared.answer.No.TheVariants.{NotFalling, LengthDiffers, ChainBroken, CircleBroken, RunBroken}
+use Rattle.wq_checker.specs.declared.answer.No.TheVariants.{NotFalling, LengthDiffers, ChainBroken, CircleBroken}
+use Rattle.wq_checker.specs.declared.answer.No.TheVariants.{RunBroken}
 use Rattle.wq_checker.specs.Chains.{AllJoin, IsFirstBreak, before_in_chain, before_in_circle}
 use Rattle.wq_checker.specs.Falling.{AllFall, IsFirstNotFalling}
 
@@ -39,7 +41,8 @@ AnswersPlan d c (Ok (yes.Plan number)) = IsGoodPlan d c × (number ≡ c.assignm
 AnswersPlan d c (Ok (yes.Circle length)) = ⊥
 AnswersPlan d c (Err (NotFalling item target)) = IsFirstNotFalling d c.assignment item target
 AnswersPlan d c (Err LengthDiffers) = AllFall d c.assignment × (c.length ≢ c.assignment.lanes)
-AnswersPlan d c (Err (ChainBroken at)) = AllFall d c.assignment × (c.length ≡ c.assignment.lanes) × IsChainBrokenAt d c at
+AnswersPlan d c (Err (ChainBroken at)) =
+    AllFall d c.assignment × (c.length ≡ c.assignment.lanes) × IsChainBrokenAt d c at
 AnswersPlan d c (Err (CircleBroken at)) = ⊥
 AnswersPlan d c (Err RunBroken) = ⊥
 

@@ -1,5 +1,6 @@
 -- Chains and circles of arcs. An arc is an item and the target of its flush; arcs join by group.
-use Rattle.std.specs.Prelude.{◌≡◌, ℕ, ◌+◌, ◌-◌, ◌<◌, ◌==◌, if◌then◌else◌, List, ◌∷◌, length, map, slice_index, slice_get, Option, Some, None}
+use Rattle.std.specs.Prelude.{◌≡◌, ℕ, ◌+◌, ◌-◌, ◌<◌, ◌==◌, if◌then◌else◌, List, ◌∷◌, length, map, slice_index}
+use Rattle.std.specs.Prelude.{slice_get, Option, Some, None}
 use Rattle.std.specs.List.{All}
 use Rattle.wq_items.specs.Chain.{IsChain, Circle}
 use Rattle.wq_items.specs.Table.{ItemWaits}
@@ -37,21 +38,25 @@ pub record IsFirstBreak (d : Declaration) (before : ℕ → Option (ℕ × ℕ))
 
 -- ---- in terms of groups
 
--- these groups are a chain along the arcs: each waits for the next; there is one arc fewer than there are groups, or none if
--- there is no group; and each arc is a declared flush, with its item in its group and its target in the next group
+-- these groups are a chain along the arcs: each waits for the next; there is one arc
+-- fewer than there are groups, or none if there is no group; and each arc is a
+-- declared flush, with its item in its group and its target in the next group
 pub record IsChainAlong (d : Declaration) (arcs : List (ℕ × ℕ)) (groups : List ℕ) : Type 0 where
   pub chain : IsChain (GroupWaits d) groups
   pub within : All (λ g. g < d.groups) groups
   pub count : length arcs ≡ length groups - 1
   pub along : (k : ℕ) (arc : ℕ × ℕ) → slice_get arcs k ≡ Some arc
-      → ItemWaits d.waits arc.0 arc.1 × (slice_get groups k ≡ Some (slice_index d.group_of arc.0)) × (slice_get groups (k + 1) ≡ Some (slice_index d.group_of arc.1))
+      → ItemWaits d.waits arc.0 arc.1
+      × (slice_get groups k ≡ Some (slice_index d.group_of arc.0))
+      × (slice_get groups (k + 1) ≡ Some (slice_index d.group_of arc.1))
 
 -- the groups of the targets of the arcs
 abbrev pub heads : Declaration → List (ℕ × ℕ) → List ℕ
 heads d arcs = map (λ (arc : ℕ × ℕ). slice_index d.group_of arc.1) arcs
 
--- groups wait for each other in a circle along the arcs: each arc is a declared flush, whose item is in the group that the arc
--- before it leads to; and of the groups that they lead to, one for each arc, each waits for the next, and the last for the first
+-- groups wait for each other in a circle along the arcs: each arc is a declared flush,
+-- whose item is in the group that the arc before it leads to; and of the groups that
+-- they lead to, one for each arc, each waits for the next, and the last for the first
 pub record IsCircleAlong (d : Declaration) (arcs : List (ℕ × ℕ)) : Type 0 where
   pub joined : AllJoin d (before_in_circle arcs) arcs
   pub circle : Circle (GroupWaits d)

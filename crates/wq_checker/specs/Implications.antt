@@ -13,22 +13,28 @@ use Rattle.wq_checker.specs.declared.answer.No.{No}
 -- if the answer to a plan is yes, the plan has this many workqueues, and is safe
 abbrev pub YesIsSafe : Declaration → Certificate → Result Yes No → Type 0
 YesIsSafe d certificate answer =
-    (plan : PlanCertificate) (number : ℕ) → certificate ≡ OfPlan plan → answer ≡ Ok (yes.Plan number) → (plan.assignment.lanes ≡ number) × IsSafe (wiring d plan.assignment)
+    (plan : PlanCertificate) (number : ℕ) → certificate ≡ OfPlan plan → answer ≡ Ok (yes.Plan number)
+    → (plan.assignment.lanes ≡ number) × IsSafe (wiring d plan.assignment)
 
 -- if the answer to a plan is yes, the lanes wait in a circle in every assignment to fewer workqueues
 abbrev pub FewerWaitInCircle : Declaration → Result Yes No → Type 0
-FewerWaitInCircle d answer = (number : ℕ) (b : Assignment) → answer ≡ Ok (yes.Plan number) → IsAssignment d.groups b → b.lanes < number → Circle (LaneWaits (wiring d b))
+FewerWaitInCircle d answer =
+    (number : ℕ) (b : Assignment) → answer ≡ Ok (yes.Plan number) → IsAssignment d.groups b → b.lanes < number
+    → Circle (LaneWaits (wiring d b))
 
 -- if the answer to a plan is yes, the plan has this many workqueues, and is least: no run of it ends stuck, and every
 -- assignment to fewer deadlocks
 abbrev pub YesIsLeast : Declaration → Certificate → Result Yes No → Type 0
 YesIsLeast d certificate answer =
-    (plan : PlanCertificate) (number : ℕ) → certificate ≡ OfPlan plan → answer ≡ Ok (yes.Plan number) → (plan.assignment.lanes ≡ number) × IsLeast d plan.assignment
+    (plan : PlanCertificate) (number : ℕ) → certificate ≡ OfPlan plan → answer ≡ Ok (yes.Plan number)
+    → (plan.assignment.lanes ≡ number) × IsLeast d plan.assignment
 
 -- if the answer to a circle is yes, the lanes wait in a circle in every assignment
 abbrev pub EachWaitsInCircle : Declaration → Result Yes No → Type 0
-EachWaitsInCircle d answer = (n : ℕ) (b : Assignment) → answer ≡ Ok (yes.Circle n) → IsAssignment d.groups b → Circle (LaneWaits (wiring d b))
+EachWaitsInCircle d answer =
+    (n : ℕ) (b : Assignment) → answer ≡ Ok (yes.Circle n) → IsAssignment d.groups b → Circle (LaneWaits (wiring d b))
 
 -- if the answer to a circle is yes, every assignment deadlocks
 abbrev pub EachDeadlocks : Declaration → Result Yes No → Type 0
-EachDeadlocks d answer = (n : ℕ) (b : Assignment) → answer ≡ Ok (yes.Circle n) → IsAssignment d.groups b → Deadlocks (wiring d b)
+EachDeadlocks d answer =
+    (n : ℕ) (b : Assignment) → answer ≡ Ok (yes.Circle n) → IsAssignment d.groups b → Deadlocks (wiring d b)

@@ -12,7 +12,8 @@ use Rattle.wq_checker.specs.declared.falling.DeclaredFlush.{DeclaredFlush}
 use Rattle.wq_checker.specs.Falling.{Falls, Declares}
 
 -- of the flushes that `Of` has, this is the first by place that doesn't fall
-pub record IsFirstOf (d : Declaration) (a : Assignment) (Of : ℕ → Target → Type 0) (flush : DeclaredFlush) : Type 0 where
+pub record IsFirstOf (d : Declaration) (a : Assignment) (Of : ℕ → Target → Type 0) (flush : DeclaredFlush)
+    : Type 0 where
   pub there : Of flush.item flush.target
   pub stays : ¬ Falls d a flush.item flush.target.item
   pub first : (k : ℕ) (other : Target) → Of k other → other.place < flush.target.place → Falls d a k other.item

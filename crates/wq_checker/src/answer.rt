@@ -1,7 +1,7 @@
 //! The answer to a certificate.
 //!
-//! The answers are those of "The command `check`" in docs/FORMAT.md. Nothing is computed here but the numbers of the reasons, in
-//! constant time.
+//! The answers are those of "The command `check`" in docs/FORMAT.md. Nothing is
+//! computed here but the numbers of the reasons, in constant time.
 
 ghost use Rattle.std.specs.Prelude.{◌≡◌};
 ghost use Rattle.wq_checker.specs.Codes.{no_code};
@@ -24,8 +24,8 @@ pub enum No {
     NotFalling { item: ItemId, target: ItemId },
     /// The number of groups of the chain isn't the number of workqueues (52).
     LengthDiffers,
-    /// Arc `at` of the chain, counted from 1, isn't a declared flush, or its item isn't in the group of the target of the arc
-    /// before it; 0 where the group of a chain of one group is missing (51).
+    /// Arc `at` of the chain, counted from 1, isn't a declared flush, or its item isn't in the group of the target of
+    /// the arc before it; 0 where the group of a chain of one group is missing (51).
     ChainBroken { at: u32 },
     /// The same for the arcs of a circle, where the first arc joins the last (53).
     CircleBroken { at: u32 },

@@ -1,7 +1,7 @@
 //! Arcs that join: each is a declared flush, and begins in the group in which the one before it ends.
 //!
-//! The rules are those of "The command `check`" in docs/FORMAT.md. The search takes time in the number of arcs and of the
-//! flushes that their items declare, and no memory.
+//! The rules are those of "The command `check`" in docs/FORMAT.md. The search takes time in the number of arcs and of
+//! the flushes that their items declare, and no memory.
 
 ghost use Rattle.std.specs.Prelude.{◌≡◌, ◌<◌, ◌≤◌, ◌↔◌, IsTrue, IfSome, IfNone, length};
 ghost use Rattle.std.specs.List.{Any, All};
@@ -50,7 +50,8 @@ fn joins<A: Allocator + Copy>(
         }
 }
 
-/// The number, counted from 1, of the first arc that doesn't join the one before it. The one before the first arc is `first`.
+/// The number, counted from 1, of the first arc that doesn't join the one before it.
+/// The one before the first arc is `first`.
 pub(crate) fn first_break<A: Allocator + Copy>(
     table: &ItemTable<'_, A>,
     groups: &Groups<A>,
@@ -61,7 +62,8 @@ pub(crate) fn first_break<A: Allocator + Copy>(
     requires first { IfSome first (λ b. b.1 < length table.now.waits) }
     requires arcs { ArcsOfItems (declaration_of table.now groups.now) arcs.now }
     requires few { length arcs.now ≤ 4096 }
-    ensures some { IfSome result (λ at. IsFirstBreak (declaration_of table.now groups.now) (before_from first arcs.now) arcs.now at) }
+    ensures some { IfSome result (λ at.
+        IsFirstBreak (declaration_of table.now groups.now) (before_from first arcs.now) arcs.now at) }
     ensures none { IfNone result (AllJoin (declaration_of table.now groups.now) (before_from first arcs.now) arcs.now) }
 {
     let _items = table.len();

@@ -1,10 +1,11 @@
 //! Whether a certificate shows what it says.
 //!
-//! For a plan: each declared flush goes to a workqueue with a lower number, so the plan is safe; and a chain of as many groups as
-//! there are workqueues shows that fewer workqueues wait in a circle, and so deadlock. For a circle: its arcs go round groups,
-//! and its run, where there is one, ends in a deadlock. The rules are those of "The command `check`" in docs/FORMAT.md. A plan
-//! takes time in the number of items and flushes, and for each arc of its chain in the number of flushes that the arc's item
-//! declares, and no memory. A circle takes that for its arcs, and for its run that of `check_run`.
+//! For a plan: each declared flush goes to a workqueue with a lower number, so the plan is safe; and a
+//! chain of as many groups as there are workqueues shows that fewer workqueues wait in a circle, and so
+//! deadlock. For a circle: its arcs go round groups, and its run, where there is one, ends in a
+//! deadlock. The rules are those of "The command `check`" in docs/FORMAT.md. A plan takes time in the
+//! number of items and flushes, and for each arc of its chain in the number of flushes that the arc's
+//! item declares, and no memory. A circle takes that for its arcs, and for its run that of `check_run`.
 
 ghost use Rattle.std.specs.Prelude.{◌≡◌, ◌<◌, ◌≤◌, ◌↔◌, IsTrue, IsSome, IfOk, OnErr, IfSome, option_map, length};
 ghost use Rattle.wq_groups.specs.Declaration.{declaration_of};
@@ -12,8 +13,10 @@ ghost use Rattle.wq_core.specs.Wiring.{wiring, own_lanes};
 ghost use Rattle.wq_core.specs.Deadlock.{DeadlocksBy};
 ghost use Rattle.wq_cert.specs.Certificate.{OfCircle, certificate};
 ghost use Rattle.wq_checker.specs.declared.run.RunEnd.TheVariants.{Deadlock};
-ghost use Rattle.wq_checker.specs.Answers.{IsAsked, IsPlanAsked, IsCircleAsked, AnswersPlan, AnswersCircle, AnswersCertificate, ShowsDeadlock, NeedsRun};
-ghost use Rattle.wq_checker.specs.Implications.{YesIsSafe, FewerWaitInCircle, YesIsLeast, EachWaitsInCircle, EachDeadlocks};
+ghost use Rattle.wq_checker.specs.Answers.{IsAsked, IsPlanAsked, IsCircleAsked, AnswersPlan, AnswersCircle};
+ghost use Rattle.wq_checker.specs.Answers.{AnswersCertificate, ShowsDeadlock, NeedsRun};
+ghost use Rattle.wq_checker.specs.Implications.{YesIsSafe, FewerWaitInCircle, YesIsLeast, EachWaitsInCircle};
+ghost use Rattle.wq_checker.specs.Implications.{EachDeadlocks};
 
 use crate::answer::{No, Yes};
 use crate::chains::first_break;
@@ -35,8 +38,10 @@ fn check_plan<A: Allocator + Copy>(
     arcs: &[(ItemId, ItemId)],
 ) -> Result<Yes, No>
     requires grouped { length groups.now.group_of ≡ length table.now.names }
-    requires asked { IsPlanAsked (declaration_of table.now groups.now) (record { assignment = assignment.now; length = chain; arcs = arcs.now }) }
-    ensures { AnswersPlan (declaration_of table.now groups.now) (record { assignment = assignment.now; length = chain; arcs = arcs.now }) result }
+    requires asked { IsPlanAsked (declaration_of table.now groups.now)
+        (record { assignment = assignment.now; length = chain; arcs = arcs.now }) }
+    ensures { AnswersPlan (declaration_of table.now groups.now)
+        (record { assignment = assignment.now; length = chain; arcs = arcs.now }) result }
 {
     if let Some((item, target)) = first_not_falling(table, groups, assignment) {
         return Err(No::NotFalling { item, target });
@@ -84,7 +89,8 @@ fn deadlocks<A: Allocator + Copy>(
 ) -> Result<bool, AllocError>
     requires grouped { length groups.now.group_of ≡ length table.now.names }
     requires few { length steps.now < 4294967295 }
-    ensures { IfOk result (λ b. IsTrue b ↔ DeadlocksBy (wiring (declaration_of table.now groups.now) (own_lanes groups.now.groups)) steps.now) }
+    ensures { IfOk result (λ b. IsTrue b
+        ↔ DeadlocksBy (wiring (declaration_of table.now groups.now) (own_lanes groups.now.groups)) steps.now) }
 {
     let assignment = own_lanes(alloc, groups.len())?;
     let end = check_run(alloc, table, groups, &assignment, steps)?;
@@ -100,7 +106,8 @@ fn show_deadlock<A: Allocator + Copy>(
 ) -> Result<bool, AllocError>
     requires grouped { length groups.now.group_of ≡ length table.now.names }
     requires few { IfSome steps.now (λ s. length s.items < 4294967295) }
-    ensures shows { IfOk result (λ b. IsTrue b ↔ ShowsDeadlock (declaration_of table.now groups.now) (option_map (λ s. s.items) steps.now)) }
+    ensures shows { IfOk result (λ b. IsTrue b
+        ↔ ShowsDeadlock (declaration_of table.now groups.now) (option_map (λ s. s.items) steps.now)) }
     ensures memory { OnErr result (IsSome steps.now) }
 {
     match steps {
@@ -118,9 +125,14 @@ fn check_circle<A: Allocator + Copy>(
     steps: &Option<Vec<Step, A>>,
 ) -> Result<Result<Yes, No>, AllocError>
     requires grouped { length groups.now.group_of ≡ length table.now.names }
-    requires asked { IsCircleAsked (declaration_of table.now groups.now) (record { arcs = arcs.now; steps = option_map (λ s. s.items) steps.now }) }
-    ensures answer { IfOk result (λ answer. AnswersCircle (declaration_of table.now groups.now) (record { arcs = arcs.now; steps = option_map (λ s. s.items) steps.now }) answer) }
-    ensures memory { OnErr result (NeedsRun (declaration_of table.now groups.now) (OfCircle (record { arcs = arcs.now; steps = option_map (λ s. s.items) steps.now }))) }
+    requires asked { IsCircleAsked (declaration_of table.now groups.now)
+        (record { arcs = arcs.now; steps = option_map (λ s. s.items) steps.now }) }
+    ensures answer { IfOk result (λ answer.
+        AnswersCircle (declaration_of table.now groups.now)
+        (record { arcs = arcs.now; steps = option_map (λ s. s.items) steps.now }) answer) }
+    ensures memory { OnErr result
+        (NeedsRun (declaration_of table.now groups.now)
+        (OfCircle (record { arcs = arcs.now; steps = option_map (λ s. s.items) steps.now }))) }
 {
     if let Some(at) = first_break(table, groups, arcs.last().copied(), arcs) {
         return Ok(Err(No::CircleBroken { at }));
@@ -143,7 +155,8 @@ fn check_certificate<A: Allocator + Copy>(
 ) -> Result<Result<Yes, No>, AllocError>
     requires grouped { length groups.now.group_of ≡ length table.now.names }
     requires asked { IsAsked (declaration_of table.now groups.now) (certificate answer.now) }
-    ensures answer { IfOk result (λ r. AnswersCertificate (declaration_of table.now groups.now) (certificate answer.now) r) }
+    ensures answer { IfOk result (λ r.
+        AnswersCertificate (declaration_of table.now groups.now) (certificate answer.now) r) }
     ensures memory { OnErr result (NeedsRun (declaration_of table.now groups.now) (certificate answer.now)) }
 {
     match answer {
@@ -160,11 +173,12 @@ fn check_certificate<A: Allocator + Copy>(
 
 /// Checks a certificate: what it shows, or the first reason why it shows nothing.
 ///
-/// The certificate is one of the declaration, as every certificate is that is read: its assignment has a lane for each group; its
-/// arcs are of items, and their number is one less than the length of the chain (none for 0), or from 1 to 4,096 in a circle; and
-/// it has fewer than 4,294,967,295 steps. A yes to a plan implies that it is safe, and that in every assignment to fewer
-/// workqueues these wait in a circle, and some run deadlocks. A yes to a circle implies that both hold for every assignment. The
-/// only error is out of memory (20), which comes only where the arcs of a circle go round and steps follow them.
+/// The certificate is one of the declaration, as every certificate is that is read: its assignment has a
+/// lane for each group; its arcs are of items, and their number is one less than the length of the chain
+/// (none for 0), or from 1 to 4,096 in a circle; and it has fewer than 4,294,967,295 steps. A yes to a
+/// plan implies that it is safe, and that in every assignment to fewer workqueues these wait in a circle,
+/// and some run deadlocks. A yes to a circle implies that both hold for every assignment. The only error
+/// is out of memory (20), which comes only where the arcs of a circle go round and steps follow them.
 pub fn check_answer<A: Allocator + Copy>(
     alloc: A,
     table: &ItemTable<'_, A>,
@@ -173,7 +187,8 @@ pub fn check_answer<A: Allocator + Copy>(
 ) -> Result<Result<Yes, No>, AllocError>
     requires grouped { length groups.now.group_of ≡ length table.now.names }
     requires asked { IsAsked (declaration_of table.now groups.now) (certificate answer.now) }
-    ensures answer { IfOk result (λ r. AnswersCertificate (declaration_of table.now groups.now) (certificate answer.now) r) }
+    ensures answer { IfOk result (λ r.
+        AnswersCertificate (declaration_of table.now groups.now) (certificate answer.now) r) }
     // What a yes to a plan implies.
     ensures safe { IfOk result (λ r. YesIsSafe (declaration_of table.now groups.now) (certificate answer.now) r) }
     ensures fewer { IfOk result (λ r. FewerWaitInCircle (declaration_of table.now groups.now) r) }

@@ -43,7 +43,8 @@ fn first_of_item<A: Allocator + Copy>(
     requires grouped { length groups.now.group_of ≡ length table.now.names }
     requires assigned { length assignment.now.lane_of_group ≡ groups.now.groups }
     requires item { item < length table.now.names }
-    ensures { FindsFirst (declaration_of table.now groups.now) assignment.now (OfItem (declaration_of table.now groups.now) item) result }
+    ensures { FindsFirst (declaration_of table.now groups.now) assignment.now
+        (OfItem (declaration_of table.now groups.now) item) result }
 {
     let _items = table.len();
     let lane = lane_of(groups, assignment, item).get();

@@ -14,23 +14,27 @@ ghost use Rattle.wq_checker.specs.declared.answer.Yes.{Yes};
 ghost use Rattle.wq_checker.specs.declared.answer.No.{No};
 ghost use Rattle.wq_checker.specs.declared.run.RunEnd.{RunEnd};
 ghost use Rattle.wq_checker.specs.Chains.{IsChainAlong, IsCircleAlong};
-ghost use Rattle.wq_checker.specs.Answers.{IsGoodPlan, IsGoodCircle, IsPlanAsked, IsCircleAsked, IsAsked, AnswersCertificate};
+ghost use Rattle.wq_checker.specs.Answers.{IsGoodPlan, IsGoodCircle, IsPlanAsked, IsCircleAsked, IsAsked};
+ghost use Rattle.wq_checker.specs.Answers.{AnswersCertificate};
 ghost use Rattle.wq_checker.specs.RunEnds.{EndsAs};
 
 /// A good plan is safe, and in every assignment to fewer workqueues these wait in a circle.
 pub fn a_good_plan_is_safe_and_fewer_wait_in_a_circle()
-    ensures safe { (d : Declaration) (c : PlanCertificate) → IsDeclaration d → IsGoodPlan d c → IsSafe (wiring d c.assignment) }
-    ensures fewer { (d : Declaration) (c : PlanCertificate) (b : Assignment) → IsDeclaration d → IsPlanAsked d c → IsGoodPlan d c →
+    ensures safe { (d : Declaration) (c : PlanCertificate) → IsDeclaration d → IsGoodPlan d c →
+        IsSafe (wiring d c.assignment) }
+    ensures fewer { (d : Declaration) (c : PlanCertificate) (b : Assignment) → IsDeclaration d → IsPlanAsked d c →
+        IsGoodPlan d c →
         IsAssignment d.groups b → b.lanes < c.assignment.lanes → Circle (LaneWaits (wiring d b)) }
 {}
 
 /// The assignment of a good plan is least: no run of it ends stuck, and every assignment to fewer workqueues deadlocks.
 pub fn a_good_plan_is_least()
-    ensures { (d : Declaration) (c : PlanCertificate) → IsDeclaration d → IsPlanAsked d c → IsGoodPlan d c → IsLeast d c.assignment }
+    ensures { (d : Declaration) (c : PlanCertificate) → IsDeclaration d → IsPlanAsked d c → IsGoodPlan d c →
+        IsLeast d c.assignment }
 {}
 
-/// The chain of a good plan is one of groups: as many as there are workqueues, each of which waits for the next. The arcs lead
-/// from each group to the next.
+/// The chain of a good plan is one of groups: as many as there are workqueues, each of which waits for the next. The
+/// arcs lead from each group to the next.
 pub fn a_good_plan_has_a_chain_of_groups()
     ensures { (d : Declaration) (c : PlanCertificate) → IsDeclaration d → IsPlanAsked d c → IsGoodPlan d c →
         (groups : List ℕ) × IsChainAlong d c.arcs groups × (length groups ≡ c.assignment.lanes) }
@@ -38,24 +42,28 @@ pub fn a_good_plan_has_a_chain_of_groups()
 
 /// A good circle goes round groups, one for each of its arcs: each waits for the next, and the last for the first.
 pub fn a_good_circle_goes_round_groups()
-    ensures { (d : Declaration) (c : CircleCertificate) → IsDeclaration d → IsCircleAsked d c → IsGoodCircle d c → IsCircleAlong d c.arcs }
+    ensures { (d : Declaration) (c : CircleCertificate) → IsDeclaration d → IsCircleAsked d c → IsGoodCircle d c →
+        IsCircleAlong d c.arcs }
 {}
 
 /// Where a circle is good, the workqueues of every assignment wait in a circle.
 pub fn a_good_circle_is_one_in_every_assignment()
-    ensures { (d : Declaration) (c : CircleCertificate) (b : Assignment) → IsDeclaration d → IsCircleAsked d c → IsGoodCircle d c →
+    ensures { (d : Declaration) (c : CircleCertificate) (b : Assignment) → IsDeclaration d → IsCircleAsked d c →
+        IsGoodCircle d c →
         IsAssignment d.groups b → Circle (LaneWaits (wiring d b)) }
 {}
 
 /// Where a circle is good, every assignment deadlocks.
 pub fn a_good_circle_deadlocks_every_assignment()
-    ensures { (d : Declaration) (c : CircleCertificate) (b : Assignment) → IsDeclaration d → IsCircleAsked d c → IsGoodCircle d c →
+    ensures { (d : Declaration) (c : CircleCertificate) (b : Assignment) → IsDeclaration d → IsCircleAsked d c →
+        IsGoodCircle d c →
         IsAssignment d.groups b → Deadlocks (wiring d b) }
 {}
 
 /// A certificate has only one answer.
 pub fn a_certificate_has_one_answer()
-    ensures one { (d : Declaration) (c : Certificate) → IsDeclaration d → (r : Result Yes No) × AnswersCertificate d c r }
+    ensures one { (d : Declaration) (c : Certificate) → IsDeclaration d →
+        (r : Result Yes No) × AnswersCertificate d c r }
     ensures at_most_one { (d : Declaration) (c : Certificate) (r s : Result Yes No) → IsDeclaration d → IsAsked d c →
         AnswersCertificate d c r → AnswersCertificate d c s → r ≡ s }
 {}
@@ -63,5 +71,6 @@ pub fn a_certificate_has_one_answer()
 /// A list of steps has only one end.
 pub fn steps_have_one_end()
     ensures one { (w : Wiring) (steps : List Step) → (end : RunEnd) × EndsAs w steps end }
-    ensures at_most_one { (w : Wiring) (steps : List Step) (r s : RunEnd) → EndsAs w steps r → EndsAs w steps s → r ≡ s }
+    ensures at_most_one { (w : Wiring) (steps : List Step) (r s : RunEnd) → EndsAs w steps r → EndsAs w steps s →
+        r ≡ s }
 {}

@@ -1,7 +1,7 @@
 //! Whether each item is queued once, and none is cancelled.
 //!
-//! A run that deadlocks must be like that, by "Steps" in docs/FORMAT.md. The queueings of all items are counted in one pass. It
-//! takes time in the number of steps and of items, and memory in the number of items.
+//! A run that deadlocks must be like that, by "Steps" in docs/FORMAT.md. The queueings of all items are counted in one
+//! pass. It takes time in the number of steps and of items, and memory in the number of items.
 
 ghost use Rattle.std.specs.Prelude.{◌≡◌, ◌<◌, ◌↔◌, ℕ, IsTrue, IfOk, OnErr, length, replicate, slice_index};
 ghost use Rattle.std.specs.List.{All, count_by};
@@ -53,7 +53,8 @@ fn count_queueings<A: Allocator + Copy>(
 ) -> Result<Vec<u32, A>, AllocError>
     requires { length steps.now < 4294967295 }
     ensures len { IfOk result (λ counts. length counts.items ≡ items) }
-    ensures counts { IfOk result (λ counts. (i : ℕ) → i < items → slice_index counts.items i ≡ count_by (λ (step : Step). queues i step) steps.now) }
+    ensures counts { IfOk result (λ counts. (i : ℕ) → i < items
+        → slice_index counts.items i ≡ count_by (λ (step : Step). queues i step) steps.now) }
     ensures memory { OnErr result (0 < items) }
 {
     let mut counts = no_counts(alloc, items)?;

@@ -1,8 +1,8 @@
 //! How a list of steps ends.
 //!
-//! The ends are those of "The command `replay`" in docs/FORMAT.md. The steps are made on the core machine, from the empty state
-//! on, by the rules of "Steps". This takes the time of the core machine's steps, and also time and memory in the number of items,
-//! flushes and workqueues.
+//! The ends are those of "The command `replay`" in docs/FORMAT.md. The steps are made on the core machine, from the
+//! empty state on, by the rules of "Steps". This takes the time of the core machine's steps, and also time and memory
+//! in the number of items, flushes and workqueues.
 
 ghost use Rattle.std.specs.Prelude.{◌≡◌, ◌<◌, ◌↔◌, IsTrue, IfOk, OnErr, IfErr, length};
 ghost use Rattle.wq_groups.specs.Declaration.{declaration_of};
@@ -36,7 +36,8 @@ fn is_declared<A: Allocator>(core: &Core<A>, q: LaneId, step: Step) -> bool
 /// Whether a lawful step keeps to the order of the declaration. There are no helpers, so none of their steps is lawful.
 fn keeps_order<A: Allocator>(core: &Core<A>, step: Step) -> bool
     requires { core.now.wiring.helpers ≡ 0 }
-    ensures { Lawful core.now.wiring core.now.state step → IsTrue result ↔ KeepsOrder core.now.wiring core.now.state step }
+    ensures { Lawful core.now.wiring core.now.state step
+        → IsTrue result ↔ KeepsOrder core.now.wiring core.now.state step }
 {
     match step {
         Step::Queue(_) | Step::Cancel(_) | Step::Start(..) | Step::Over(..) | Step::OverAll(..) =>
@@ -46,8 +47,8 @@ fn keeps_order<A: Allocator>(core: &Core<A>, step: Step) -> bool
     }
 }
 
-/// Makes the steps on a machine without helpers on which nothing was queued yet, and tells whether what ran flushed as declared. The error is the
-/// number, counted from 1, of the first step that isn't lawful.
+/// Makes the steps on a machine without helpers on which nothing was queued yet, and tells whether what ran flushed as
+/// declared. The error is the number, counted from 1, of the first step that isn't lawful.
 fn play<A: Allocator>(core: &mut Core<A>, steps: &[Step]) -> Result<bool, u32>
     requires helpers { core.old.wiring.helpers ≡ 0 }
     requires empty { core.old.state ≡ empty_state core.old.wiring }
@@ -116,8 +117,8 @@ fn ends<A: Allocator + Copy>(
     }
 }
 
-/// How a list of fewer than 4,294,967,295 steps ends under an assignment of the groups. The only error is out of memory (20),
-/// which can't occur where there is no lane.
+/// How a list of fewer than 4,294,967,295 steps ends under an assignment of the groups. The only error is out of memory
+/// (20), which can't occur where there is no lane.
 pub fn check_run<A: Allocator + Copy>(
     alloc: A,
     table: &ItemTable<'_, A>,
@@ -128,7 +129,8 @@ pub fn check_run<A: Allocator + Copy>(
     requires grouped { length groups.now.group_of ≡ length table.now.names }
     requires assigned { length assignment.now.lane_of_group ≡ groups.now.groups }
     requires few { length steps.now < 4294967295 }
-    ensures end { IfOk result (λ end. EndsAs (wiring (declaration_of table.now groups.now) assignment.now) steps.now end) }
+    ensures end { IfOk result (λ end.
+        EndsAs (wiring (declaration_of table.now groups.now) assignment.now) steps.now end) }
     ensures memory { OnErr result (0 < assignment.now.lanes) }
 {
     let core = Core::new(alloc, table, groups, assignment)?;
@@ -146,7 +148,8 @@ pub fn check_run_on<A: Allocator + Copy>(
     requires grouped { length groups.now.group_of ≡ length table.now.names }
     requires assigned { length workqueues.now.assignment.lane_of_group ≡ groups.now.groups }
     requires few { length steps.now < 4294967295 }
-    ensures end { IfOk result (λ end. EndsAs (wiring_of (declaration_of table.now groups.now) workqueues.now) steps.now end) }
+    ensures end { IfOk result (λ end.
+        EndsAs (wiring_of (declaration_of table.now groups.now) workqueues.now) steps.now end) }
     ensures memory { OnErr result (0 < workqueues.now.assignment.lanes) }
 {
     let core = Core::on_workqueues(alloc, table, groups, workqueues)?;

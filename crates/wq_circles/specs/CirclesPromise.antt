@@ -18,29 +18,36 @@ use Rattle.wq_commands.specs.Declaration.{Declared, declaration}
 use Rattle.wq_circles.specs.ComponentsText.{circles_text}
 use Rattle.wq_circles.specs.Flushes.{HasFlush, IsInComponents, AreInOneComponent, IsDeclaredFlush, IsBefore}
 
--- exactly the declared flushes that are on a circle of workqueues that have a rescuer: those whose target's workqueue leads to that of
--- their item, by way of such workqueues alone. Two of them are in one component exactly if their items are on the same workqueue, or
--- the workqueue of each leads to that of the other. No component is empty; the flushes of each are in order of place; and the
--- components are in the order of their lowest-numbered workqueues
+-- exactly the declared flushes that are on a circle of workqueues that have a rescuer: those whose target's workqueue
+-- leads to that of their item, by way of such workqueues alone. Two of them are in one component exactly if their items
+-- are on the same workqueue, or the workqueue of each leads to that of the other. No component is empty; the flushes of
+-- each are in order of place; and the components are in the order of their lowest-numbered workqueues
 pub record AreOnCircles (d : Declaration) (ws : Workqueues) (components : List (List WaitArc)) : Type 0 where
   pub declared : All (All (IsDeclaredFlush d.waits)) components
   pub lie : (b : WaitArc) → IsDeclaredFlush d.waits b
-      → IsInComponents components b ↔ Leads (RescuedWaits (wiring_of d ws)) (item_lane ws.assignment d.group_of b.dst) (item_lane ws.assignment d.group_of b.src)
+      → IsInComponents components b
+      ↔ Leads (RescuedWaits (wiring_of d ws)) (item_lane ws.assignment d.group_of b.dst)
+      (item_lane ws.assignment d.group_of b.src)
   pub together : (b c : WaitArc) → IsInComponents components b → IsInComponents components c
-      → AreInOneComponent components b c ↔ AreTogether (RescuedWaits (wiring_of d ws)) (item_lane ws.assignment d.group_of b.src) (item_lane ws.assignment d.group_of c.src)
+      → AreInOneComponent components b c
+      ↔ AreTogether (RescuedWaits (wiring_of d ws)) (item_lane ws.assignment d.group_of b.src)
+      (item_lane ws.assignment d.group_of c.src)
   pub some : All (λ (arcs : List WaitArc). arcs ≢ []) components
   pub places : All (λ (arcs : List WaitArc). IsStrictlyIncreasing (map (λ (b : WaitArc). b.place) arcs)) components
   pub workqueues : AllPairs (IsBefore (RescuedWaits (wiring_of d ws)) (item_lane ws.assignment d.group_of)) components
 
--- exactly the declared flushes of an item whose workqueue has a rescuer of one whose workqueue has none, in order of place
+-- exactly the declared flushes of an item whose workqueue has a rescuer of one whose
+-- workqueue has none, in order of place
 pub record AreForBare (d : Declaration) (ws : Workqueues) (waits : List WaitArc) : Type 0 where
   pub declared : All (IsDeclaredFlush d.waits) waits
   pub lie : (b : WaitArc) → IsDeclaredFlush d.waits b
-      → HasFlush b waits ↔ (HasRescuer (wiring_of d ws) (item_lane ws.assignment d.group_of b.src) × (¬ HasRescuer (wiring_of d ws) (item_lane ws.assignment d.group_of b.dst)))
+      → HasFlush b waits
+      ↔ (HasRescuer (wiring_of d ws) (item_lane ws.assignment d.group_of b.src)
+      × (¬ HasRescuer (wiring_of d ws) (item_lane ws.assignment d.group_of b.dst)))
   pub places : IsStrictlyIncreasing (map (λ (b : WaitArc). b.place) waits)
 
--- some run deadlocks on these workqueues, and the flushes are printed that are on circles of those that have a rescuer, and those
--- that lead from such a one to one that has none
+-- some run deadlocks on these workqueues, and the flushes are printed that are on circles of those that have a rescuer,
+-- and those that lead from such a one to one that has none
 pub record PrintsFlushes (s : Declared) (ws : Workqueues) (out : List ℕ) : Type 0 where
   pub deadlocks : Deadlocks (wiring_of (declared_waits s) ws)
   pub components : List (List WaitArc)
@@ -51,18 +58,26 @@ pub record PrintsFlushes (s : Declared) (ws : Workqueues) (out : List ℕ) : Typ
 
 -- what is promised of workqueues, by how the command ends: `safe` is printed if no run ends stuck
 abbrev pub KeepsAssigned : Declared → Workqueues → End → List ℕ → Type 0
-KeepsAssigned s ws Good out = IsAssignment s.partition.groups ws.assignment × IsSafe (wiring_of (declared_waits s) ws) × (out ≡ safe_text)
+KeepsAssigned s ws Good out =
+    IsAssignment s.partition.groups ws.assignment × IsSafe (wiring_of (declared_waits s) ws) × (out ≡ safe_text)
 KeepsAssigned s ws Bad out = IsAssignment s.partition.groups ws.assignment × PrintsFlushes s ws out
 KeepsAssigned s ws Refused out = ⊥
 
 -- the same for the text of an assignment of a declaration; a text that isn't one is refused
 abbrev pub KeepsCirclesDeclared : Declared → List ℕ → End → List ℕ → Type 0
-KeepsCirclesDeclared s text end out = MatchResult (workqueues_of_text s.table.names s.partition text) (λ ws. KeepsAssigned s ws end out) (λ fault. end ≡ Refused)
+KeepsCirclesDeclared s text end out =
+    MatchResult (workqueues_of_text s.table.names s.partition text)
+    (λ ws. KeepsAssigned s ws end out)
+    (λ fault. end ≡ Refused)
 
 -- the same for the texts of a declaration and an assignment
 abbrev pub KeepsCircles : List ℕ → List ℕ → End → List ℕ → Type 0
-KeepsCircles declared text end out = MatchResult (declaration declared) (λ s. KeepsCirclesDeclared s text end out) (λ r. end ≡ Refused)
+KeepsCircles declared text end out =
+    MatchResult (declaration declared) (λ s. KeepsCirclesDeclared s text end out) (λ r. end ≡ Refused)
 
 -- the same for only the text of a declaration: each group has its own workqueue, with the group's number
 abbrev pub KeepsOwnCircles : List ℕ → End → List ℕ → Type 0
-KeepsOwnCircles declared end out = MatchResult (declaration declared) (λ s. KeepsAssigned s (all_rescued (own_lanes s.partition.groups)) end out) (λ r. end ≡ Refused)
+KeepsOwnCircles declared end out =
+    MatchResult (declaration declared)
+    (λ s. KeepsAssigned s (all_rescued (own_lanes s.partition.groups)) end out)
+    (λ r. end ≡ Refused)

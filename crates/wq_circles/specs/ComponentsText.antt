@@ -34,7 +34,8 @@ bare_line arcs = codes "norescuer" ∷ decimal arcs ∷ []
 -- `norescuer M` and an `arc` line for each
 abbrev pub bare_lines : List (List ℕ) → List WaitArc → List (List (List ℕ))
 bare_lines names [] = []
-bare_lines names (a ∷ arcs) = bare_line (length (a ∷ arcs)) ∷ map (λ (b : WaitArc). arc_line names (ends_of b)) (a ∷ arcs)
+bare_lines names (a ∷ arcs) =
+    bare_line (length (a ∷ arcs)) ∷ map (λ (b : WaitArc). arc_line names (ends_of b)) (a ∷ arcs)
 
 -- the whole text: the components, and the flushes that lead to workqueues without a rescuer
 abbrev pub circles_text : List (List ℕ) → List (List WaitArc) → List WaitArc → List ℕ

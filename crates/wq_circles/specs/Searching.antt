@@ -1,5 +1,6 @@
 -- Searching: what a search from vertex to vertex finds, if others were found before it.
-use Rattle.std.specs.Prelude.{◌≡◌, ◌⊎◌, ◌↔◌, ℕ, ◌<◌, ◌≤◌, Bool, true, false, cond, List, [], ◌∷◌, ◌++◌, length, fold, take, slice_index_or, slice_set, Contains}
+use Rattle.std.specs.Prelude.{◌≡◌, ◌⊎◌, ◌↔◌, ℕ, ◌<◌, ◌≤◌, Bool, true, false, cond, List, [], ◌∷◌, ◌++◌, length, fold}
+use Rattle.std.specs.Prelude.{take, slice_index_or, slice_set, Contains}
 use Rattle.std.specs.List.{All}
 use Rattle.wq_items.specs.Chain.{Repeats}
 use Rattle.wq_circles.specs.Leading.{Leads}
@@ -32,7 +33,8 @@ pub record AreFound (s : Search) : Type 0 where
 abbrev pub NextNew : List (List ℕ) → Search → ℕ → ℕ → Type 0
 NextNew lists s v w = Next lists v w × (¬ Contains s.order w)
 
--- the search s went on to t: after what was found before, it found v and what v leads to by way of vertices that weren't found
+-- the search s went on to t: after what was found before, it found v and what v
+-- leads to by way of vertices that weren't found
 pub record Spreads (lists : List (List ℕ)) (s : Search) (v : ℕ) (t : Search) : Type 0 where
   pub marks : length t.marks ≡ length s.marks
   pub found : AreFound t

@@ -1,8 +1,9 @@
-//! The command `circles`: from the bytes of a declaration, and of an assignment where one is named, to the bytes of the answer.
+//! The command `circles`: from the bytes of a declaration, and of an assignment
+//! where one is named, to the bytes of the answer.
 //!
-//! The declaration is read first and the assignment next, both before either is judged. The answer is built in full before the
-//! first byte is written. The rule is that of "The command `circles`" in docs/FORMAT.md. It takes the time of reading the texts,
-//! of the components and of writing the answer.
+//! The declaration is read first and the assignment next, both before either is judged. The answer is built in full
+//! before the first byte is written. The rule is that of "The command `circles`" in docs/FORMAT.md. It takes the time
+//! of reading the texts, of the components and of writing the answer.
 
 use crate::circling::circle;
 use std::alloc::{AllocError, Allocator};

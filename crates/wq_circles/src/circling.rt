@@ -1,7 +1,7 @@
 //! The answer to a declaration and an assignment, or to a declaration alone, built in full in memory.
 //!
-//! The rule is that of "The command `circles`" in docs/FORMAT.md. It takes the time and the memory of reading the texts, of the
-//! components and of their text.
+//! The rule is that of "The command `circles`" in docs/FORMAT.md. It takes the time and the memory of reading the
+//! texts, of the components and of their text.
 
 ghost use Rattle.std.specs.Prelude.{◌≡◌, IfOk, None, length, map};
 ghost use Rattle.wq_groups.specs.Declaration.{declaration_of};
@@ -36,9 +36,11 @@ fn print_components<A: Allocator + Copy>(
 ) -> Result<Answered<A>, AllocError>
     requires grouped { length groups.now.group_of ≡ length table.now.names }
     requires assigned { length workqueues.now.assignment.lane_of_group ≡ groups.now.groups }
-    requires found { AreComponents (declaration_of table.now groups.now) workqueues.now (map (λ l. l.items) components.now) }
+    requires found { AreComponents (declaration_of table.now groups.now) workqueues.now
+        (map (λ l. l.items) components.now) }
     requires waits { waits.now ≡ bare_waits (declaration_of table.now groups.now) workqueues.now }
-    ensures answer { IfOk result (λ a. CirclesAssigned (record { table = table.now; partition = groups.now }) workqueues.now a.end a.text.items) }
+    ensures answer { IfOk result (λ a.
+        CirclesAssigned (record { table = table.now; partition = groups.now }) workqueues.now a.end a.text.items) }
     ensures why { IfOk result (λ a. a.why ≡ None) }
 {
     // What holds of every table, of all groups and of every assignment.
@@ -62,7 +64,8 @@ fn circle_assigned<A: Allocator + Copy>(
 ) -> Result<Answered<A>, AllocError>
     requires grouped { length groups.now.group_of ≡ length table.now.names }
     requires assigned { length workqueues.now.assignment.lane_of_group ≡ groups.now.groups }
-    ensures answer { IfOk result (λ a. CirclesAssigned (record { table = table.now; partition = groups.now }) workqueues.now a.end a.text.items) }
+    ensures answer { IfOk result (λ a.
+        CirclesAssigned (record { table = table.now; partition = groups.now }) workqueues.now a.end a.text.items) }
     ensures why { IfOk result (λ a. a.why ≡ None) }
 {
     let components = components(alloc, table, groups, workqueues)?;
@@ -78,8 +81,10 @@ fn circle_declared<A: Allocator + Copy>(
     text: &[u8],
 ) -> Result<Answered<A>, AllocError>
     requires { length groups.now.group_of ≡ length table.now.names }
-    ensures answer { IfOk result (λ a. CirclesDeclared (record { table = table.now; partition = groups.now }) text.now a.end a.text.items) }
-    ensures why { IfOk result (λ a. SaysFault Certificate (workqueues_of_text table.now.names groups.now text.now) a.why) }
+    ensures answer { IfOk result (λ a.
+        CirclesDeclared (record { table = table.now; partition = groups.now }) text.now a.end a.text.items) }
+    ensures why { IfOk result (λ a.
+        SaysFault Certificate (workqueues_of_text table.now.names groups.now text.now) a.why) }
 {
     // What holds of all groups.
     let _groups = groups.len();
@@ -102,7 +107,9 @@ fn circle_groups<A: Allocator + Copy>(
     groups: &Groups<A>,
 ) -> Result<Answered<A>, AllocError>
     requires { length groups.now.group_of ≡ length table.now.names }
-    ensures answer { IfOk result (λ a. CirclesAssigned (record { table = table.now; partition = groups.now }) (all_rescued (own_lanes groups.now.groups)) a.end a.text.items) }
+    ensures answer { IfOk result (λ a.
+        CirclesAssigned (record { table = table.now; partition = groups.now })
+        (all_rescued (own_lanes groups.now.groups)) a.end a.text.items) }
     ensures why { IfOk result (λ a. a.why ≡ None) }
 {
     let assignment = own_lanes(alloc, groups)?;
@@ -155,7 +162,8 @@ fn circle_own<A: Allocator + Copy>(
     }
 }
 
-/// The answer to the texts of a declaration and an assignment, or, without an assignment, to that of a declaration alone.
+/// The answer to the texts of a declaration and an assignment, or, without an
+/// assignment, to that of a declaration alone.
 pub(crate) fn circle<A: Allocator + Copy>(
     alloc: A,
     seed: u64,

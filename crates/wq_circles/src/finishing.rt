@@ -1,7 +1,7 @@
 //! The vertices in the order in which a depth-first search finishes them.
 //!
-//! A vertex is finished when all that its arcs lead to was visited. It takes time in the number of vertices and the length of the
-//! lists, and memory in the number of vertices. `walk` has the steps, two for each vertex.
+//! A vertex is finished when all that its arcs lead to was visited. It takes time in the number of vertices and the
+//! length of the lists, and memory in the number of vertices. `walk` has the steps, two for each vertex.
 
 ghost use Rattle.std.specs.Prelude.{◌≡◌, ◌<◌, length, map, false, [], IfOk};
 ghost use Rattle.std.specs.List.{All};

@@ -1,9 +1,9 @@
 //! The components of an assignment: the arcs that lie on a circle.
 //!
-//! The rule is that of "The command `circles`" in docs/FORMAT.md: an arc lies on a circle where the workqueue of its target leads
-//! to that of its item. That is so where the two are one workqueue or lead to one another. So workqueues that lead to one another
-//! are joined, and what then leads from a workqueue to itself lies on a circle. It takes the time and the memory of two wait
-//! graphs and of the components of the first one (`together`).
+//! The rule is that of "The command `circles`" in docs/FORMAT.md: an arc lies on a circle where the workqueue of its
+//! target leads to that of its item. That is so where the two are one workqueue or lead to one another. So workqueues
+//! that lead to one another are joined, and what then leads from a workqueue to itself lies on a circle. It takes the
+//! time and the memory of two wait graphs and of the components of the first one (`together`).
 
 ghost use Rattle.std.specs.Prelude.{◌≡◌, ◌<◌, length, map, IfOk, OnErr};
 ghost use Rattle.std.specs.List.{All};
@@ -118,7 +118,8 @@ fn loops_joined<A: Allocator + Copy>(
     loops(alloc, &graph)
 }
 
-/// The components of workqueues that have a rescuer, each as its arcs. The groups are those of this table, and each has a workqueue.
+/// The components of workqueues that have a rescuer, each as its arcs. The groups
+/// are those of this table, and each has a workqueue.
 ///
 /// The only error is out of memory (20), which can't occur where there is no workqueue.
 pub fn components<A: Allocator + Copy>(
@@ -129,7 +130,8 @@ pub fn components<A: Allocator + Copy>(
 ) -> Result<Vec<Vec<WaitArc, A>, A>, AllocError>
     requires grouped { length groups.now.group_of ≡ length table.now.names }
     requires assigned { length workqueues.now.assignment.lane_of_group ≡ groups.now.groups }
-    ensures components { IfOk result (λ lists. AreComponents (declaration_of table.now groups.now) workqueues.now (map (λ l. l.items) lists.items)) }
+    ensures components { IfOk result (λ lists.
+        AreComponents (declaration_of table.now groups.now) workqueues.now (map (λ l. l.items) lists.items)) }
     ensures memory { OnErr result (0 < workqueues.now.assignment.lanes) }
 {
     let graph = rescued_graph(alloc, table, groups, workqueues)?;

@@ -1,10 +1,11 @@
 //! Laws about components, as contracts of functions with empty bodies. No code runs here: the clauses are the laws.
 //!
-//! They say, in the words of docs/FORMAT.md, "The command `circles`", what components are: of arcs, and of the workqueues that
-//! lead to one another. `RescuedWaits` says which workqueue with a rescuer waits for which, and `Leads` of it which leads to which.
-//! The last two are about the lowest-numbered vertices of a wait graph.
+//! They say, in the words of docs/FORMAT.md, "The command `circles`", what components are: of arcs, and of the
+//! workqueues that lead to one another. `RescuedWaits` says which workqueue with a rescuer waits for which, and `Leads`
+//! of it which leads to which. The last two are about the lowest-numbered vertices of a wait graph.
 
-ghost use Rattle.std.specs.Prelude.{◌≡◌, ◌≤◌, ◌↔◌, Bool, ℕ, ◌<◌, List, length, slice_index, ◌≢◌, [], ◌∷◌, false, map, AllPairs};
+ghost use Rattle.std.specs.Prelude.{◌≡◌, ◌≤◌, ◌↔◌, Bool, ℕ, ◌<◌, List, length, slice_index, ◌≢◌, [], ◌∷◌, false, map};
+ghost use Rattle.std.specs.Prelude.{AllPairs};
 ghost use Rattle.std.specs.List.{All, list_any};
 ghost use Rattle.std.specs.List.Sorted.{IsStrictlyIncreasing};
 ghost use Rattle.wq_text.specs.Lines.{lines_of};
@@ -31,29 +32,37 @@ ghost use Rattle.wq_circles.specs.CirclesPromise.{AreForBare, KeepsCircles, Keep
 ghost use Rattle.wq_circles.specs.Components.{AreComponents};
 ghost use Rattle.wq_circles.specs.Flushes.{IsInComponents, AreInOneComponent, IsDeclaredFlush, IsBefore};
 
-/// A flush is in a component exactly where the workqueue of its target leads to that of its item, by way of workqueues that have a
-/// rescuer. Nothing but declared flushes is in a component.
+/// A flush is in a component exactly where the workqueue of its target leads to that of its item, by way of workqueues
+/// that have a rescuer. Nothing but declared flushes is in a component.
 pub fn what_lies_on_a_circle_is_in_a_component()
-    ensures same { (d : Declaration) (ws : Workqueues) (components : List (List WaitArc)) (b : WaitArc) → IsDeclaration d →
+    ensures same { (d : Declaration) (ws : Workqueues) (components : List (List WaitArc)) (b : WaitArc) →
+        IsDeclaration d →
         IsAssignment d.groups ws.assignment → AreComponents d ws components → IsDeclaredFlush d.waits b →
-        (IsInComponents components b ↔ Leads (RescuedWaits (wiring_of d ws)) (item_lane ws.assignment d.group_of b.dst) (item_lane ws.assignment d.group_of b.src)) }
+        (IsInComponents components b
+        ↔ Leads (RescuedWaits (wiring_of d ws)) (item_lane ws.assignment d.group_of b.dst)
+        (item_lane ws.assignment d.group_of b.src)) }
     ensures declared { (d : Declaration) (ws : Workqueues) (components : List (List WaitArc)) → IsDeclaration d →
-        IsAssignment d.groups ws.assignment → AreComponents d ws components → All (All (IsDeclaredFlush d.waits)) components }
+        IsAssignment d.groups ws.assignment → AreComponents d ws components →
+        All (All (IsDeclaredFlush d.waits)) components }
 {}
 
-/// Two flushes that lie on circles are in one component exactly where their items' workqueues are one, or each leads to the
-/// other; and no component is empty.
+/// Two flushes that lie on circles are in one component exactly where their items' workqueues are one, or each leads to
+/// the other; and no component is empty.
 pub fn a_component_is_of_workqueues_that_lead_to_one_another()
-    ensures together { (d : Declaration) (ws : Workqueues) (components : List (List WaitArc)) (b c : WaitArc) → IsDeclaration d →
-        IsAssignment d.groups ws.assignment → AreComponents d ws components → IsInComponents components b → IsInComponents components c →
+    ensures together { (d : Declaration) (ws : Workqueues) (components : List (List WaitArc)) (b c : WaitArc) →
+        IsDeclaration d →
+        IsAssignment d.groups ws.assignment → AreComponents d ws components → IsInComponents components b →
+        IsInComponents components c →
         (AreInOneComponent components b c
-        ↔ AreTogether (RescuedWaits (wiring_of d ws)) (item_lane ws.assignment d.group_of b.src) (item_lane ws.assignment d.group_of c.src)) }
-    ensures some { (d : Declaration) (ws : Workqueues) (components : List (List WaitArc)) → AreComponents d ws components →
+        ↔ AreTogether (RescuedWaits (wiring_of d ws)) (item_lane ws.assignment d.group_of b.src)
+        (item_lane ws.assignment d.group_of c.src)) }
+    ensures some { (d : Declaration) (ws : Workqueues) (components : List (List WaitArc)) →
+        AreComponents d ws components →
         All (λ (arcs : List WaitArc). arcs ≢ []) components }
 {}
 
-/// The arcs of a component are in order of place, and the components are in the order of their lowest-numbered workqueues. So no
-/// flush is in two components, or twice in one.
+/// The arcs of a component are in order of place, and the components are in the order of their lowest-numbered
+/// workqueues. So no flush is in two components, or twice in one.
 pub fn components_are_in_order()
     ensures places { (d : Declaration) (ws : Workqueues) (components : List (List WaitArc)) → IsDeclaration d →
         IsAssignment d.groups ws.assignment → AreComponents d ws components →
@@ -66,8 +75,10 @@ pub fn components_are_in_order()
 /// There is no component, and no flush leads from a workqueue that has a rescuer to one that has none, exactly where
 /// no run ends stuck.
 pub fn no_component_is_safe()
-    ensures { (d : Declaration) (ws : Workqueues) (components : List (List WaitArc)) → IsDeclaration d → IsAssignment d.groups ws.assignment →
-        ws.assignment.lanes ≤ 4096 → AreComponents d ws components → (((components ≡ []) × (bare_waits d ws ≡ [])) ↔ IsSafe (wiring_of d ws)) }
+    ensures { (d : Declaration) (ws : Workqueues) (components : List (List WaitArc)) → IsDeclaration d →
+        IsAssignment d.groups ws.assignment →
+        ws.assignment.lanes ≤ 4096 → AreComponents d ws components →
+        (((components ≡ []) × (bare_waits d ws ≡ [])) ↔ IsSafe (wiring_of d ws)) }
 {}
 
 /// Workqueues have only one list of components.
@@ -76,8 +87,8 @@ pub fn components_are_the_only_ones()
         AreComponents d ws one → AreComponents d ws other → one ≡ other }
 {}
 
-/// A declaration and an assignment, or a declaration alone, have at most one answer: one end, and one text that is printed. There
-/// is one reason for what is said besides, so `what_is_said_changes_no_answer` holds of the command.
+/// A declaration and an assignment, or a declaration alone, have at most one answer: one end, and one text that is
+/// printed. There is one reason for what is said besides, so `what_is_said_changes_no_answer` holds of the command.
 pub fn circles_have_one_answer()
     ensures end { (declared text : List ℕ) (end other : End) (out printed : List ℕ) →
         Circles declared text end out → Circles declared text other printed → end ≡ other }
@@ -90,17 +101,18 @@ pub fn circles_have_one_answer()
     ensures command { (assigned : Bool) → HasOneAnswer (CirclesTexts assigned) }
 {}
 
-/// An answer keeps its promise. Where `safe` is printed, no run ends stuck. Else some run deadlocks, and exactly those declared flushes
-/// are printed whose target's workqueue leads to that of their item by way of workqueues that have a rescuer, and, after `norescuer`,
-/// those that lead from a workqueue that has a rescuer to one that has none.
+/// An answer keeps its promise. Where `safe` is printed, no run ends stuck. Else some run deadlocks, and exactly those
+/// declared flushes are printed whose target's workqueue leads to that of their item by way of workqueues that have a
+/// rescuer, and, after `norescuer`, those that lead from a workqueue that has a rescuer to one that has none.
 pub fn circles_keep_their_promise()
     ensures assigned { (declared text : List ℕ) (end : End) (out : List ℕ) →
         Circles declared text end out → KeepsCircles declared text end out }
-    ensures own { (declared : List ℕ) (end : End) (out : List ℕ) → OwnCircles declared end out → KeepsOwnCircles declared end out }
+    ensures own { (declared : List ℕ) (end : End) (out : List ℕ) → OwnCircles declared end out →
+        KeepsOwnCircles declared end out }
 {}
 
-/// A run of `circles` ends like a run of `deadlock` that is given the same texts or, where no assignment is named, like one of
-/// `plan`. So `safe` is printed exactly where `deadlock` prints it, or where `plan` prints a plan text.
+/// A run of `circles` ends like a run of `deadlock` that is given the same texts or, where no assignment is named, like
+/// one of `plan`. So `safe` is printed exactly where `deadlock` prints it, or where `plan` prints a plan text.
 pub fn the_end_is_that_of_the_other_commands()
     ensures deadlock { (declared text : List ℕ) (end other : End) (out printed : List ℕ) →
         Circles declared text end out → Judges declared text other printed → end ≡ other }
@@ -138,13 +150,15 @@ pub fn a_text_without_norescuer_lines_keeps_its_components()
 
 /// Two vertices have the same answer exactly where they are together.
 pub fn the_lowest_tells_who_are_together()
-    ensures { (graph : List (List WaitArc)) (lowest : List ℕ) (v w : ℕ) → AreLowest (HasArc graph) (length graph) lowest → v < length graph →
+    ensures { (graph : List (List WaitArc)) (lowest : List ℕ) (v w : ℕ) →
+        AreLowest (HasArc graph) (length graph) lowest → v < length graph →
         w < length graph → (slice_index lowest v ≡ slice_index lowest w) ↔ AreTogether (HasArc graph) v w }
 {}
 
 /// The answer for a vertex is never above it. There is at most one list of answers.
 pub fn the_list_is_the_only_one()
-    ensures below { (graph : List (List WaitArc)) (lowest : List ℕ) (v : ℕ) → AreLowest (HasArc graph) (length graph) lowest →
+    ensures below { (graph : List (List WaitArc)) (lowest : List ℕ) (v : ℕ) →
+        AreLowest (HasArc graph) (length graph) lowest →
         v < length graph → slice_index lowest v ≤ v }
     ensures one { (graph : List (List WaitArc)) (one other : List ℕ) → AreLowest (HasArc graph) (length graph) one →
         AreLowest (HasArc graph) (length graph) other → one ≡ other }

@@ -53,7 +53,8 @@ fn add_tail<A: Allocator + Copy>(
     heads: &[u16],
 ) -> Result<(), AllocError>
     requires { All (λ w. w < length lists.old.items) heads.now }
-    ensures { IfOk result (λ _. HasTails (map (λ l. l.items) lists.old.items) (map (λ l. l.items) lists.new.items) vertex heads.now) }
+    ensures { IfOk result (λ _.
+        HasTails (map (λ l. l.items) lists.old.items) (map (λ l. l.items) lists.new.items) vertex heads.now) }
 {
     for head in heads {
         let list = &mut lists[usize::from(*head)];

@@ -1,11 +1,13 @@
 //! Components texts: how many components there are, and the arcs of each.
 //!
-//! The format is that of "The command `circles`" in docs/FORMAT.md. Printing takes time and memory in the length of the text.
+//! The format is that of "The command `circles`" in docs/FORMAT.md. Printing takes
+//! time and memory in the length of the text.
 
 ghost use Rattle.std.specs.Prelude.{◌≡◌, ◌<◌, ◌++◌, ◌^◌, length, map, flat_map, IfOk, OnOk};
 ghost use Rattle.std.specs.List.{All};
 ghost use Rattle.wq_text.specs.LineText.{line_text};
-ghost use Rattle.wq_circles.specs.ComponentsText.{components_line, component_line, component_lines, components_text, bare_line, bare_lines, circles_text, AreBetween};
+ghost use Rattle.wq_circles.specs.ComponentsText.{components_line, component_line, component_lines, components_text};
+ghost use Rattle.wq_circles.specs.ComponentsText.{bare_line, bare_lines, circles_text, AreBetween};
 
 use std::alloc::{AllocError, Allocator};
 use wq_cert::put_arc_line;
@@ -33,7 +35,8 @@ fn put_component<A: Allocator + Copy>(
     arcs: &[WaitArc],
 ) -> Result<(), AllocError>
     requires { AreBetween (length table.now.names) arcs.now }
-    ensures { OnOk result (out.new.items ≡ out.old.items ++ flat_map line_text (component_lines table.now.names arcs.now)) }
+    ensures { OnOk result (out.new.items
+        ≡ out.old.items ++ flat_map line_text (component_lines table.now.names arcs.now)) }
 {
     put_component_line(out, arcs)?;
     for arc in arcs {
@@ -57,8 +60,8 @@ fn put_components_line<A: Allocator + Copy>(
 
 /// The text of components: how many there are, and the arcs of each, each arc as an item and its target.
 ///
-/// There are fewer than 4,294,967,296 components, and each has fewer than 4,294,967,296 arcs, from items of the table to items of
-/// it. The only error is out of memory (20).
+/// There are fewer than 4,294,967,296 components, and each has fewer than 4,294,967,296 arcs, from items of the table
+/// to items of it. The only error is out of memory (20).
 pub fn components_text<A: Allocator + Copy>(
     alloc: A,
     table: &ItemTable<'_, A>,
@@ -120,7 +123,8 @@ pub fn circles_text<A: Allocator + Copy>(
     requires few { length components.now < 2 ^ 32 }
     requires between { All (AreBetween (length table.now.names)) (map (λ l. l.items) components.now) }
     requires waits { AreBetween (length table.now.names) waits.now }
-    ensures { IfOk result (λ text. text.items ≡ circles_text table.now.names (map (λ l. l.items) components.now) waits.now) }
+    ensures { IfOk result (λ text. text.items
+        ≡ circles_text table.now.names (map (λ l. l.items) components.now) waits.now) }
 {
     let mut out = components_text(alloc, table, components)?;
     put_bare(&mut out, table, waits)?;

@@ -1,4 +1,5 @@
-//! What a search has found so far: a mark for each vertex, and the marked vertices in the order in which they were found.
+//! What a search has found so far: a mark for each vertex, and the marked vertices
+//! in the order in which they were found.
 //!
 //! Noting a vertex takes constant time. Making the marks takes time and memory in the number of vertices.
 

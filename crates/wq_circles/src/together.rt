@@ -1,9 +1,10 @@
 //! For each vertex the lowest-numbered one that waits for it and that it waits for.
 //!
-//! A depth-first search gives the order in which the vertices are finished. They are then taken in the reverse of that order.
-//! Each vertex that wasn't found yet finds its component by a search against the arcs, and the lowest-numbered vertex found is
-//! the answer for all of them (S. R. Kosaraju; M. Sharir, "A strong-connectivity algorithm and its applications in data flow
-//! analysis", Computers and Mathematics with Applications 7, 1981). It takes time and memory in the number of vertices and arcs.
+//! A depth-first search gives the order in which the vertices are finished. They are then taken in the reverse of that
+//! order. Each vertex that wasn't found yet finds its component by a search against the arcs, and the lowest-numbered
+//! vertex found is the answer for all of them (S. R. Kosaraju; M. Sharir, "A strong-connectivity algorithm and its
+//! applications in data flow analysis", Computers and Mathematics with Applications 7, 1981). It takes time and memory
+//! in the number of vertices and arcs.
 
 ghost use Rattle.std.specs.Prelude.{◌≡◌, ◌<◌, ◌≤◌, length, map, false, MatchOption, IfOk, IfErr};
 ghost use Rattle.std.specs.List.{All};
@@ -60,8 +61,8 @@ fn settle(lowest: &mut [u16], vertices: &[u16])
     }
 }
 
-/// For each vertex the lowest-numbered one of its component. The lists hold the tails of arcs. The vertices are given in the
-/// order in which a depth-first search along the arcs finishes them.
+/// For each vertex the lowest-numbered one of its component. The lists hold the tails of arcs. The vertices are given
+/// in the order in which a depth-first search along the arcs finishes them.
 fn lowest_of_components<A: Allocator + Copy>(
     alloc: A,
     tails: &[Vec<u16, A>],
@@ -69,7 +70,8 @@ fn lowest_of_components<A: Allocator + Copy>(
 ) -> Result<Vec<u16, A>, AllocError>
     requires finished { IsFinishing (NextBack (map (λ l. l.items) tails.now)) (length tails.now) finished.now }
     requires within { All (λ list. All (λ w. w < length tails.now) list.items) tails.now }
-    ensures { IfOk result (λ lowest. AreLowest (NextBack (map (λ l. l.items) tails.now)) (length tails.now) lowest.items) }
+    ensures { IfOk result (λ lowest.
+        AreLowest (NextBack (map (λ l. l.items) tails.now)) (length tails.now) lowest.items) }
 {
     let mut found = FoundVertices::none(alloc, tails.len())?;
     let mut lowest = vec![in alloc; 0; tails.len()]?;
@@ -84,8 +86,8 @@ fn lowest_of_components<A: Allocator + Copy>(
     Ok(lowest)
 }
 
-/// For each vertex the lowest-numbered one that is together with it. Two vertices are together where they are the same, or where
-/// each leads to the other.
+/// For each vertex the lowest-numbered one that is together with it. Two vertices are together where they are the same,
+/// or where each leads to the other.
 ///
 /// The only error is out of memory (20), which can't occur for a graph without vertices.
 pub fn lowest<A: Allocator + Copy>(

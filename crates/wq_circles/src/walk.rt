@@ -1,12 +1,14 @@
 //! A depth-first search in progress: its steps.
 //!
-//! Each vertex is visited once and finished once, and each place of its list is passed once. Apart from the places that it
-//! passes, a step takes constant time.
+//! Each vertex is visited once and finished once, and each place of its list is passed once. Apart from the places that
+//! it passes, a step takes constant time.
 
-ghost use Rattle.std.specs.Prelude.{◌≡◌, ℕ, ◌+◌, ◌-◌, ◌<◌, ◌≤◌, length, map, replicate, true, false, [], slice_get, slice_index, Some, IfOk};
+ghost use Rattle.std.specs.Prelude.{◌≡◌, ℕ, ◌+◌, ◌-◌, ◌<◌, ◌≤◌, length, map, replicate, true, false, [], slice_get};
+ghost use Rattle.std.specs.Prelude.{slice_index, Some, IfOk};
 ghost use Rattle.std.specs.List.{All};
 ghost use Rattle.wq_circles.specs.Searching.{is_marked};
-ghost use Rattle.wq_circles.specs.Finishing.{Follows, IsWalkSoFar, WentOn, steps_to, with_vertex_finished, with_followed, with_visited};
+ghost use Rattle.wq_circles.specs.Finishing.{Follows, IsWalkSoFar, WentOn, steps_to, with_vertex_finished};
+ghost use Rattle.wq_circles.specs.Finishing.{with_followed, with_visited};
 
 use std::alloc::{AllocError, Allocator};
 use std::marker::Model;
@@ -36,7 +38,8 @@ impl<A: Allocator> Model for Walk<A> {
 /// The first index of this list, from `from` on, with a vertex that wasn't visited, or the length of the list.
 fn next_unvisited(heads: &[u16], visited: &[bool], from: usize) -> usize
     requires { All (λ w. w < length visited.now) heads.now }
-    ensures passed { (k : ℕ) → from ≤ k → k < result → k < length heads.now → is_marked visited.now (slice_index heads.now k) ≡ true }
+    ensures passed { (k : ℕ) → from ≤ k → k < result → k < length heads.now
+        → is_marked visited.now (slice_index heads.now k) ≡ true }
     ensures next { result < length heads.now → is_marked visited.now (slice_index heads.now result) ≡ false }
 {
     for place in from..heads.len() {

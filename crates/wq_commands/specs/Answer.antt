@@ -36,7 +36,8 @@ ends_of arc = (arc.src, arc.dst)
 -- the text of an assignment, with the chain that is printed
 abbrev pub text_of_plan : Declared → Assignment → List ℕ
 text_of_plan s a =
-    plan_text s.table.names a.lanes (item_lanes a s.partition.group_of) (map ends_of (chain_of (group_graph (declared_waits s)) a.lane_of_group))
+    plan_text s.table.names a.lanes (item_lanes a s.partition.group_of)
+    (map ends_of (chain_of (group_graph (declared_waits s)) a.lane_of_group))
 
 -- the text of a circle, with its run
 abbrev pub text_of_circle : Declared → List WaitArc → List Step → List ℕ
@@ -48,7 +49,8 @@ pub record PrintsPlan (s : Declared) (out : List ℕ) : Type 0 where
   pub plan : IsPlan (declared_waits s) assignment
   pub text : out ≡ text_of_plan s assignment
 
--- the text of the circle in which the groups wait is printed, with the run of this circle when each group has its own workqueue
+-- the text of the circle in which the groups wait is printed, with the run of this
+-- circle when each group has its own workqueue
 pub record PrintsCircle (s : Declared) (out : List ℕ) : Type 0 where
   pub circle : List WaitArc
   pub walked : IsWalkedCircle (group_graph (declared_waits s)) circle

@@ -43,7 +43,8 @@ PrintsCheck names (Err n) end out = (end ≡ Bad) × (out ≡ line_text (no_word
 
 -- what the checker answers to a certificate is printed
 abbrev pub AnswersCheck : Declared → Certificate → End → List ℕ → Type 0
-AnswersCheck s c end out = (answer : Result Yes No) × AnswersCertificate (declared_waits s) c answer × PrintsCheck s.table.names answer end out
+AnswersCheck s c end out =
+    (answer : Result Yes No) × AnswersCertificate (declared_waits s) c answer × PrintsCheck s.table.names answer end out
 
 -- the answer to the text of a certificate of a declaration
 abbrev pub ChecksDeclared : Declared → List ℕ → End → List ℕ → Type 0
@@ -54,4 +55,5 @@ ChecksDeclared s text end out =
 
 -- the answer to a declaration text and the text of a certificate: a refusal of the declaration comes first
 abbrev pub Checks : List ℕ → List ℕ → End → List ℕ → Type 0
-Checks declared text end out = MatchResult (declaration declared) (λ s. ChecksDeclared s text end out) (λ r. PrintsRefusal r end out)
+Checks declared text end out =
+    MatchResult (declaration declared) (λ s. ChecksDeclared s text end out) (λ r. PrintsRefusal r end out)

@@ -38,16 +38,19 @@ Plans texts outcome out = Answers texts.first outcome.end out × SaysDeclared te
 
 -- `check`: the checker's answer to a declaration and a certificate
 abbrev pub ChecksTexts : Given → Outcome → List ℕ → Type 0
-ChecksTexts texts outcome out = Checks texts.first texts.second outcome.end out × SaysChecked texts.first texts.second outcome.why
+ChecksTexts texts outcome out =
+    Checks texts.first texts.second outcome.end out × SaysChecked texts.first texts.second outcome.why
 
 -- `deadlock`: the verdict on a declaration and an assignment
 abbrev pub JudgesTexts : Given → Outcome → List ℕ → Type 0
-JudgesTexts texts outcome out = Judges texts.first texts.second outcome.end out × SaysAssigned texts.first texts.second outcome.why
+JudgesTexts texts outcome out =
+    Judges texts.first texts.second outcome.end out × SaysAssigned texts.first texts.second outcome.why
 
 -- `replay`: how a run ends under a declaration and an assignment
 abbrev pub ReplaysTexts : Given → Outcome → List ℕ → Type 0
 ReplaysTexts texts outcome out =
-    ReplaysRun texts.first texts.second texts.third outcome.end out × SaysReplayed texts.first texts.second texts.third outcome.why
+    ReplaysRun texts.first texts.second texts.third outcome.end out
+    × SaysReplayed texts.first texts.second texts.third outcome.why
 
 -- ---- ends
 

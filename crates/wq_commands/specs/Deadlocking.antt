@@ -22,15 +22,20 @@ safe_text = line_text (codes "safe" ∷ [])
 -- that has a rescuer to one that has none, the run begins with the item of the first such flush, even if workqueues
 -- wait in a circle, too. Else it begins with the items of the circle in which the workqueues wait that have a rescuer
 abbrev pub JudgesAssigned : Declared → Workqueues → End → List ℕ → Type 0
-JudgesAssigned s ws Good out = IsAssignment s.partition.groups ws.assignment × IsSafe (wiring_of (declared_waits s) ws) × (out ≡ safe_text)
-JudgesAssigned s ws Bad out = (steps : List Step) × IsHang (declared_waits s) ws steps × (out ≡ run_text s.table.names steps)
+JudgesAssigned s ws Good out =
+    IsAssignment s.partition.groups ws.assignment × IsSafe (wiring_of (declared_waits s) ws) × (out ≡ safe_text)
+JudgesAssigned s ws Bad out =
+    (steps : List Step) × IsHang (declared_waits s) ws steps × (out ≡ run_text s.table.names steps)
 JudgesAssigned s ws Refused out = ⊥
 
 -- the verdict on the text of an assignment of a declaration, or its refusal
 abbrev pub JudgesDeclared : Declared → List ℕ → End → List ℕ → Type 0
 JudgesDeclared s text end out =
-    MatchResult (workqueues_of_text s.table.names s.partition text) (λ ws. JudgesAssigned s ws end out) (λ fault. PrintsRefusal (cert_refusal fault) end out)
+    MatchResult (workqueues_of_text s.table.names s.partition text)
+    (λ ws. JudgesAssigned s ws end out)
+    (λ fault. PrintsRefusal (cert_refusal fault) end out)
 
 -- the verdict on the texts of a declaration and an assignment: a refusal of the declaration comes first
 abbrev pub Judges : List ℕ → List ℕ → End → List ℕ → Type 0
-Judges declared text end out = MatchResult (declaration declared) (λ s. JudgesDeclared s text end out) (λ r. PrintsRefusal r end out)
+Judges declared text end out =
+    MatchResult (declaration declared) (λ s. JudgesDeclared s text end out) (λ r. PrintsRefusal r end out)

@@ -1,5 +1,8 @@
 -- What a text declares, without the reason for which a text is refused.
-use Rattle.std.specs.Prelude.{ℕ, ◌+◌, ◌==◌, Bool, true, not, ◌&&◌, ◌||◌, nat_lt, nat_le, if◌then◌else◌, List, [], ◌∷◌, ◌++◌, length, map, filter, filter_map, flat_map, position, count_by, slice_set, slice_index_or, bytes_eq, codes, Option, Some, None, is_some, unwrap_or, option_map, option_and_then}
+use Rattle.std.specs.Prelude.{ℕ, ◌+◌, ◌==◌, Bool, true, not, ◌&&◌, ◌||◌, nat_lt, nat_le, if◌then◌else◌, List, [], ◌∷◌}
+use Rattle.std.specs.Prelude.{◌++◌, length, map, filter, filter_map, flat_map, position, count_by, slice_set}
+use Rattle.std.specs.Prelude.{slice_index_or, bytes_eq, codes, Option, Some, None, is_some, unwrap_or, option_map}
+use Rattle.std.specs.Prelude.{option_and_then}
 use Rattle.std.specs.List.{slice_split, list_all, list_any, range_with_len}
 use Rattle.std.specs.Str.Lines.{lines}
 use Rattle.wq_text.specs.Comments.{before_comment}
@@ -19,8 +22,8 @@ use Rattle.wq_commands.specs.Declaration.{Declared, max_declaration, max_declara
 abbrev pub words_in : List ℕ → List (List ℕ)
 words_in line = filter (λ word. nat_lt 0 (length word)) (slice_split is_blank (before_comment line))
 
--- the keyword takes so many names: one for `item`, two or more for `flush`, two for `flushwq`, and one or more for `ordered`. No
--- other word is a keyword
+-- the keyword takes so many names: one for `item`, two or more for `flush`, two for `flushwq`, and one or more for
+-- `ordered`. No other word is a keyword
 abbrev pub takes : List ℕ → ℕ → Bool
 takes keyword n =
     if bytes_eq keyword (codes "item") then n == 1
@@ -47,23 +50,28 @@ pub record Items : Type 0 where
 abbrev pub is_item : List (List ℕ) → List ℕ → Bool
 is_item names name = is_some (item_named names name)
 
--- the items and a new one, which has the one name that is given and flushes nothing, unless the name is taken or there are as
--- many items as may be
+-- the items and a new one, which has the one name that is given and flushes nothing,
+-- unless the name is taken or there are as many items as may be
 abbrev pub add_item : Items → List (List ℕ) → Option Items
 add_item t names =
     if list_any (is_item t.names) names || nat_le max_items (length t.names) then None
     else Some (record { names = t.names ++ names; waits = t.waits ++ ([] ∷ []) })
 
--- the items, of which the first that is listed now flushes the rest of the list, or their whole workqueues, unless that makes too
--- many flushes
+-- the items, of which the first that is listed now flushes the rest of the list, or
+-- their whole workqueues, unless that makes too many flushes
 abbrev pub add_flushes : Items → Bool → List ℕ → Option Items
 add_flushes t whole [] = Some t
 add_flushes t whole (i ∷ items) =
     if nat_lt max_flushes (flush_count t.waits + length items) then None
-    else Some (record t { waits = slice_set t.waits i (targets_of t.waits i ++ targets_from whole (flush_count t.waits) items) })
+    else Some
+    (record t {
+      waits =
+          slice_set t.waits i (targets_of t.waits i ++ targets_from whole (flush_count t.waits) items);
+    })
 
--- the items after a line of these words, if it may come next: each name on it, but for that of a new item, must be an item's. The
--- words are a directive or none (`is_read`), so a keyword that is neither `item` nor `ordered` is `flush` or `flushwq`
+-- the items after a line of these words, if it may come next: each name on it, but for
+-- that of a new item, must be an item's. The words are a directive or none (`is_read`),
+-- so a keyword that is neither `item` nor `ordered` is `flush` or `flushwq`
 abbrev pub after_line : Items → List (List ℕ) → Option Items
 after_line t [] = Some t
 after_line t (keyword ∷ names) =
@@ -86,7 +94,9 @@ ordered_on (keyword ∷ names) = if bytes_eq keyword (codes "ordered") then name
 
 -- the two names are the same, or an `ordered` line has both
 abbrev pub go_together : List (List (List ℕ)) → List ℕ → List ℕ → Bool
-go_together lines a b = bytes_eq a b || list_any (λ line. list_any (bytes_eq a) (ordered_on line) && list_any (bytes_eq b) (ordered_on line)) lines
+go_together lines a b =
+    bytes_eq a b
+    || list_any (λ line. list_any (bytes_eq a) (ordered_on line) && list_any (bytes_eq b) (ordered_on line)) lines
 
 -- the number of the first item in the group of the item with this name
 abbrev pub first_with : List (List (List ℕ)) → List (List ℕ) → List ℕ → ℕ
@@ -94,7 +104,8 @@ first_with lines names name = unwrap_or (position (go_together lines name) names
 
 -- the first items of all groups, in order
 abbrev pub first_items : List (List (List ℕ)) → List (List ℕ) → List ℕ
-first_items lines names = filter (λ i. first_with lines names (slice_index_or names i []) == i) (range_with_len 0 (length names))
+first_items lines names =
+    filter (λ i. first_with lines names (slice_index_or names i []) == i) (range_with_len 0 (length names))
 
 -- the number of the group of the item with this name: how many groups have an earlier first item
 abbrev pub group_with : List (List (List ℕ)) → List (List ℕ) → List ℕ → ℕ
@@ -111,10 +122,13 @@ pub record Named : Type 0 where
 abbrev pub in_groups : List (List (List ℕ)) → Items → Named
 in_groups lines t =
     let each = map (group_with lines t.names) t.names in
-    record { names = t.names; declared = record { waits = t.waits; group_of = each; groups = length (first_items lines t.names) } }
+    record {
+      names = t.names;
+      declared = record { waits = t.waits; group_of = each; groups = length (first_items lines t.names) };
+    }
 
--- the words of each line of a text. By the library's `lines` each line feed ends a line, which leaves out one CR directly before
--- it; bytes after the last line feed, if there are any, are a line as they are
+-- the words of each line of a text. By the library's `lines` each line feed ends a line, which leaves out one CR
+-- directly before it; bytes after the last line feed, if there are any, are a line as they are
 abbrev pub words_by_line : List ℕ → List (List (List ℕ))
 words_by_line text = map words_in (lines text)
 
@@ -127,7 +141,10 @@ is_in_form text =
 -- what a text declares, unless it is refused
 abbrev pub declared_in : List ℕ → Option Named
 declared_in text =
-    if is_in_form text then option_map (in_groups (words_by_line text)) (after_lines (record { names = []; waits = [] }) (words_by_line text)) else None
+    if is_in_form text
+    then option_map (in_groups (words_by_line text))
+    (after_lines (record { names = []; waits = [] }) (words_by_line text))
+    else None
 
 -- ---- what the passes say
 

@@ -43,9 +43,12 @@ ReplaysAssigned s ws text end out =
 -- the answer to an assignment of a declaration and a run
 abbrev pub ReplaysDeclared : Declared → List ℕ → List ℕ → End → List ℕ → Type 0
 ReplaysDeclared s assigned text end out =
-    MatchResult (workqueues_of_text s.table.names s.partition assigned) (λ ws. ReplaysAssigned s ws text end out) (λ fault. PrintsRefusal (cert_refusal fault) end out)
+    MatchResult (workqueues_of_text s.table.names s.partition assigned)
+    (λ ws. ReplaysAssigned s ws text end out)
+    (λ fault. PrintsRefusal (cert_refusal fault) end out)
 
--- the answer to the texts of a declaration, an assignment and a run; if any is refused, the refusal of the first such text is
--- printed
+-- the answer to the texts of a declaration, an assignment and a run; if any is
+-- refused, the refusal of the first such text is printed
 abbrev pub ReplaysRun : List ℕ → List ℕ → List ℕ → End → List ℕ → Type 0
-ReplaysRun declared assigned text end out = MatchResult (declaration declared) (λ s. ReplaysDeclared s assigned text end out) (λ r. PrintsRefusal r end out)
+ReplaysRun declared assigned text end out =
+    MatchResult (declaration declared) (λ s. ReplaysDeclared s assigned text end out) (λ r. PrintsRefusal r end out)

@@ -1,5 +1,5 @@
--- What the printed bytes show besides what is promised of them: they are spelled as a certificate is, the flushes of a plan fall,
--- and the run after a circle deadlocks.
+-- What the printed bytes show besides what is promised of them: they are spelled as a certificate is, the flushes of a
+-- plan fall, and the run after a circle deadlocks.
 use Rattle.std.specs.Prelude.{◌≡◌, ℕ, List, Some, MatchResult}
 use Rattle.wq_core.specs.declared.step.Step.{Step}
 use Rattle.wq_core.specs.Wiring.{wiring, own_lanes}
@@ -15,9 +15,9 @@ use Rattle.wq_commands.specs.Answer.{declared_waits}
 use Rattle.wq_commands.specs.Declaration.{Declared, declaration}
 use Rattle.wq_commands.specs.Promise.{KeepsPlan, KeepsCircle}
 
--- the bytes keep what is promised of a plan. They spell its assignment, its arcs, and as many groups as it has workqueues, within
--- the limits of a certificate; each flush falls to a workqueue with a lower number; and each group of the chain waits for the
--- next
+-- the bytes keep what is promised of a plan. They spell its assignment, its arcs, and as many groups as it has
+-- workqueues, within the limits of a certificate; each flush falls to a workqueue with a lower number; and each group
+-- of the chain waits for the next
 pub record ShowsPlan (s : Declared) (out : List ℕ) : Type 0 where
   pub kept : KeepsPlan s.table.names (declared_waits s) out
   pub plan : PlanCertificate
@@ -27,9 +27,9 @@ pub record ShowsPlan (s : Declared) (out : List ℕ) : Type 0 where
   pub falls : AllFall (declared_waits s) plan.assignment
   pub is_chain : IsChainAlong (declared_waits s) plan.arcs kept.groups
 
--- the bytes keep what is promised of a circle. They are the text of its arcs with a run after them, and spell both, within the
--- limits of a certificate; the groups along the arcs wait for each other in a circle; and the run deadlocks where each group has
--- its own workqueue
+-- the bytes keep what is promised of a circle. They are the text of its arcs with a run after them, and spell both,
+-- within the limits of a certificate; the groups along the arcs wait for each other in a circle; and the run deadlocks
+-- where each group has its own workqueue
 pub record ShowsCircle (s : Declared) (out : List ℕ) : Type 0 where
   pub kept : KeepsCircle s.table.names (declared_waits s) out
   pub steps : List Step

@@ -1,4 +1,5 @@
--- What is said beside an answer: which text is refused, and for what; what a certificate lacks; or which step isn't lawful.
+-- What is said beside an answer: which text is refused, and for what; what a
+-- certificate lacks; or which step isn't lawful.
 use Rattle.std.specs.Prelude.{◌≡◌, List, ℕ, Option, Some, None, Result, Ok, Err, MatchResult}
 use Rattle.wq_text.specs.Refusal.{Refusal}
 use Rattle.wq_core.specs.declared.step.Step.{Step}
@@ -34,7 +35,9 @@ SaysFault which read why = MatchResult read (λ _. why ≡ None) (λ fault. why 
 -- a declaration and an assignment of it: the first of them that is refused
 abbrev pub SaysAssigned : List ℕ → List ℕ → Option Why → Type 0
 SaysAssigned declared assigned why =
-    MatchResult (declaration declared) (λ s. SaysFault SecondText (workqueues_of_text s.table.names s.partition assigned) why) (λ r. why ≡ refused_for Declaration r)
+    MatchResult (declaration declared)
+    (λ s. SaysFault SecondText (workqueues_of_text s.table.names s.partition assigned) why)
+    (λ r. why ≡ refused_for Declaration r)
 
 -- which step isn't lawful, if a run ends like this
 abbrev pub unlawful : RunEnd → Option Why
@@ -43,11 +46,15 @@ unlawful _ = None
 
 -- how these steps end under an assignment says which of them isn't lawful, if one isn't
 abbrev pub SaysSteps : Declared → Workqueues → List Step → Option Why → Type 0
-SaysSteps s ws steps why = (run_end : RunEnd) × EndsAs (wiring_of (declared_waits s) ws) steps run_end × (why ≡ unlawful run_end)
+SaysSteps s ws steps why =
+    (run_end : RunEnd) × EndsAs (wiring_of (declared_waits s) ws) steps run_end × (why ≡ unlawful run_end)
 
 -- a run under an assignment of a declaration: it is refused, or a step isn't lawful, or there is nothing to say
 abbrev pub SaysRunUnder : Declared → Workqueues → List ℕ → Option Why → Type 0
-SaysRunUnder s ws run why = MatchResult (run_of s.table.names run) (λ steps. SaysSteps s ws steps why) (λ fault. why ≡ refused_for Run (cert_refusal fault))
+SaysRunUnder s ws run why =
+    MatchResult (run_of s.table.names run)
+    (λ steps. SaysSteps s ws steps why)
+    (λ fault. why ≡ refused_for Run (cert_refusal fault))
 
 -- an assignment of a declaration, and a run
 abbrev pub SaysRun : Declared → List ℕ → List ℕ → Option Why → Type 0
@@ -57,7 +64,8 @@ SaysRun s assigned run why =
 
 -- a declaration, an assignment of it, and a run: the first of them that is refused
 abbrev pub SaysReplayed : List ℕ → List ℕ → List ℕ → Option Why → Type 0
-SaysReplayed declared assigned run why = MatchResult (declaration declared) (λ s. SaysRun s assigned run why) (λ r. why ≡ refused_for Declaration r)
+SaysReplayed declared assigned run why =
+    MatchResult (declaration declared) (λ s. SaysRun s assigned run why) (λ r. why ≡ refused_for Declaration r)
 
 -- what a certificate lacks, if the checker answers this
 abbrev pub lack : Result Yes No → Option Why
@@ -70,8 +78,12 @@ SaysLack s c why = (answer : Result Yes No) × AnswersCertificate (declared_wait
 
 -- a certificate of a declaration: it is refused, or lacks something, or there is nothing to say
 abbrev pub SaysCertificate : Declared → List ℕ → Option Why → Type 0
-SaysCertificate s text why = MatchResult (answer_of s.table.names s.partition text) (λ c. SaysLack s c why) (λ fault. why ≡ refused_for SecondText (cert_refusal fault))
+SaysCertificate s text why =
+    MatchResult (answer_of s.table.names s.partition text)
+    (λ c. SaysLack s c why)
+    (λ fault. why ≡ refused_for SecondText (cert_refusal fault))
 
 -- a declaration and a certificate: the first of them that is refused, or what the certificate lacks
 abbrev pub SaysChecked : List ℕ → List ℕ → Option Why → Type 0
-SaysChecked declared text why = MatchResult (declaration declared) (λ s. SaysCertificate s text why) (λ r. why ≡ refused_for Declaration r)
+SaysChecked declared text why =
+    MatchResult (declaration declared) (λ s. SaysCertificate s text why) (λ r. why ≡ refused_for Declaration r)

@@ -23,8 +23,8 @@ pub record IsTrueOfPlan (s : Declared) (claim out : List ℕ) : Type 0 where
   pub is_chain : IsChainAlong (declared_waits s) plan.arcs chain
   pub long : length chain ≡ plan.assignment.lanes
 
--- a circle is read from the certificate, and `yes circle N` is printed, where N is the number of its arcs; these lead round a
--- circle of groups, and every assignment deadlocks
+-- a circle is read from the certificate, and `yes circle N` is printed, where N is the number of its arcs; these lead
+-- round a circle of groups, and every assignment deadlocks
 pub record IsTrueOfCircle (s : Declared) (claim out : List ℕ) : Type 0 where
   pub circle : CircleCertificate
   pub read : answer_of s.table.names s.partition claim ≡ Ok (OfCircle circle)
@@ -34,4 +34,5 @@ pub record IsTrueOfCircle (s : Declared) (claim out : List ℕ) : Type 0 where
 
 -- what is printed is a yes to the plan or to the circle of a certificate, and it is true of what the text declares
 abbrev pub YesIsTrue : List ℕ → List ℕ → List ℕ → Type 0
-YesIsTrue text claim out = MatchResult (declaration text) (λ s. IsTrueOfPlan s claim out ⊎ IsTrueOfCircle s claim out) (λ r. ⊥)
+YesIsTrue text claim out =
+    MatchResult (declaration text) (λ s. IsTrueOfPlan s claim out ⊎ IsTrueOfCircle s claim out) (λ r. ⊥)

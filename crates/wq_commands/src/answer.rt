@@ -1,7 +1,7 @@
 //! The answer to a declaration text, built in full in memory.
 //!
-//! It takes time in the length of the text, and for a circle also the time of its run (`wq_deadlock`). It takes memory in the
-//! length of the text.
+//! It takes time in the length of the text, and for a circle also the time of its
+//! run (`wq_deadlock`). It takes memory in the length of the text.
 
 ghost use Rattle.std.specs.Prelude.{◌≡◌, IfOk, None, length};
 ghost use Rattle.wq_groups.specs.Declaration.{declaration_of};
@@ -35,7 +35,8 @@ fn text_of_plan<A: Allocator + Copy>(
 ) -> Result<Vec<u8, A>, AllocError>
     requires grouped { length groups.now.group_of ≡ length table.now.names }
     requires planned { IsPlanned (declaration_of table.now groups.now) assignment.now chain.now }
-    ensures { IfOk result (λ text. text.items ≡ text_of_plan (record { table = table.now; partition = groups.now }) assignment.now) }
+    ensures { IfOk result (λ text. text.items
+        ≡ text_of_plan (record { table = table.now; partition = groups.now }) assignment.now) }
 {
     // What holds of every table and of all groups.
     let _items = table.len();
@@ -44,7 +45,8 @@ fn text_of_plan<A: Allocator + Copy>(
     plan_text(alloc, table, groups, assignment, &chain)
 }
 
-/// The run by which the items of a table hang although each group has a workqueue of its own. The groups wait in a circle.
+/// The run by which the items of a table hang although each group has a workqueue of
+/// its own. The groups wait in a circle.
 fn run_of_groups<A: Allocator + Copy>(
     alloc: A,
     table: &ItemTable<'_, A>,
@@ -52,7 +54,8 @@ fn run_of_groups<A: Allocator + Copy>(
 ) -> Result<Vec<Step, A>, AllocError>
     requires grouped { length groups.now.group_of ≡ length table.now.names }
     requires unsafe_groups { Deadlocks (wiring (declaration_of table.now groups.now) (own_lanes groups.now.groups)) }
-    ensures { IfOk result (λ steps. IsDeadlock (declaration_of table.now groups.now) (own_lanes groups.now.groups) steps.items) }
+    ensures { IfOk result (λ steps.
+        IsDeadlock (declaration_of table.now groups.now) (own_lanes groups.now.groups) steps.items) }
 {
     let run = circle_run(alloc, table, groups)?;
     // `None` would say that these workqueues are safe.
@@ -88,7 +91,8 @@ fn print_answer<A: Allocator + Copy>(
 ) -> Result<Answered<A>, AllocError>
     requires grouped { length groups.now.group_of ≡ length table.now.names }
     requires solved { Solves (declaration_of table.now groups.now) answer.now }
-    ensures answer { IfOk result (λ a. AnswersDeclared (record { table = table.now; partition = groups.now }) a.end a.text.items) }
+    ensures answer { IfOk result (λ a.
+        AnswersDeclared (record { table = table.now; partition = groups.now }) a.end a.text.items) }
     ensures why { IfOk result (λ a. a.why ≡ None) }
 {
     match answer {
@@ -110,7 +114,8 @@ fn answer_declared<A: Allocator + Copy>(
     groups: &Groups<A>,
 ) -> Result<Answered<A>, AllocError>
     requires { length groups.now.group_of ≡ length table.now.names }
-    ensures answer { IfOk result (λ a. AnswersDeclared (record { table = table.now; partition = groups.now }) a.end a.text.items) }
+    ensures answer { IfOk result (λ a.
+        AnswersDeclared (record { table = table.now; partition = groups.now }) a.end a.text.items) }
     ensures why { IfOk result (λ a. a.why ≡ None) }
 {
     let answer = solve(alloc, table, groups)?;

@@ -1,7 +1,7 @@
 //! The command `check`: from the bytes of a declaration and a certificate to the bytes of the checker's answer.
 //!
-//! The declaration is read first and the certificate next, both before either is judged. The answer is built in full before the
-//! first byte is written. It takes the time of reading the texts, of judging them and of writing the answer.
+//! The declaration is read first and the certificate next, both before either is judged. The answer is built in full
+//! before the first byte is written. It takes the time of reading the texts, of judging them and of writing the answer.
 
 ghost use Rattle.std.specs.Prelude.{◌≡◌, ◌≢◌, ◌≤◌, ◌+◌, ◌⊎◌, ℕ, List, Err, IfOk};
 ghost use Rattle.wq_meter.specs.Meter.{count_after, LosesPrefix, WritesPrefix, WritesWhole};
@@ -50,13 +50,13 @@ impl<A: Allocator + Copy> Command<A> for CheckCommand {
     }
 }
 
-/// Reads a declaration and then a certificate to their ends, and writes what the checker answers: `yes K`, `yes circle N` or `no
-/// ..`. Where one of the two is refused, it writes the refusal of the first that is.
+/// Reads a declaration and then a certificate to their ends, and writes what the checker answers: `yes K`,
+/// `yes circle N` or `no ..`. Where one of the two is refused, it writes the refusal of the first that is.
 ///
 /// At most 1,048,577 bytes of the declaration and 8,388,609 of the certificate are read, in at most as many calls. The
-/// certificate isn't touched until the declaration has been read to its end. The errors are `Fault::Read`, where a read failed,
-/// `Fault::Memory`, where memory ran out, and `Fault::Write`, where a write failed or took no byte. After `Fault::Write` a prefix
-/// of the answer is written, and after the others nothing.
+/// certificate isn't touched until the declaration has been read to its end. The errors are `Fault::Read`, where a read
+/// failed, `Fault::Memory`, where memory ran out, and `Fault::Write`, where a write failed or took no byte. After
+/// `Fault::Write` a prefix of the answer is written, and after the others nothing.
 ///
 /// The names are hashed with `seed`. No answer depends on it.
 pub fn check_cmd<D: Read, C: Read, W: Write, A: Allocator + Copy>(
@@ -71,12 +71,13 @@ pub fn check_cmd<D: Read, C: Read, W: Write, A: Allocator + Copy>(
         × ChecksInput D.remaining C.remaining declaration.old declaration.new certificate.old certificate.new end out
         × WritesWhole W.contents writer.old writer.new out) }
 
-    // This answer is true where it is a yes. To a plan it is `yes K`: its assignment has K workqueues and lets no run of
-    // queueings, cancellations and steps of rescuers and helpers end stuck, and every assignment to fewer workqueues has a run
-    // without helpers, with each item queued once and flushing as declared, that ends stuck. To a circle it is `yes circle N`:
-    // its N arcs go round groups, and every assignment has such a run.
+    // This answer is true where it is a yes. To a plan it is `yes K`: its assignment has K workqueues and lets no run
+    // of queueings, cancellations and steps of rescuers and helpers end stuck, and every assignment to fewer workqueues
+    // has a run without helpers, with each item queued once and flushing as declared, that ends stuck. To a circle it
+    // is `yes circle N`: its N arcs go round groups, and every assignment has such a run.
     ensures promised { IfOk result (λ end. (out : List ℕ)
-        × KeepsYesOfInput D.remaining C.remaining declaration.old declaration.new certificate.old certificate.new end out
+        × KeepsYesOfInput D.remaining C.remaining declaration.old declaration.new certificate.old certificate.new end
+        out
         × WritesWhole W.contents writer.old writer.new out) }
 
     // What a fault leaves.
@@ -89,14 +90,18 @@ pub fn check_cmd<D: Read, C: Read, W: Write, A: Allocator + Copy>(
     // What is asked of the readers, whatever the result.
     ensures lost { LosesPrefix D.remaining declaration.old declaration.new (max_declaration + 1)
         × LosesPrefix C.remaining certificate.old certificate.new (max_certificate + 1) }
-    ensures order { AfterGiven D.remaining declaration.old declaration.new max_declaration certificate.old certificate.new }
-    ensures reads { (declaration.new.calls ≤ declaration.old.calls + (max_declaration + 1)) × (certificate.new.calls ≤ certificate.old.calls + (max_certificate + 1)) }
-    ensures bytes_read { (declaration.new.bytes ≤ declaration.old.bytes + (max_declaration + 1)) × (certificate.new.bytes ≤ certificate.old.bytes + (max_certificate + 1)) }
+    ensures order { AfterGiven D.remaining declaration.old declaration.new max_declaration certificate.old
+        certificate.new }
+    ensures reads { (declaration.new.calls ≤ declaration.old.calls + (max_declaration + 1))
+        × (certificate.new.calls ≤ certificate.old.calls + (max_certificate + 1)) }
+    ensures bytes_read { (declaration.new.bytes ≤ declaration.old.bytes + (max_declaration + 1))
+        × (certificate.new.bytes ≤ certificate.old.bytes + (max_certificate + 1)) }
 
     // Which fault it is, and which reader's.
     ensures read_failed { result ≡ Err Fault.Read →
         (HasFailed declaration.old declaration.new × (certificate.new ≡ certificate.old))
-        ⊎ (HasGiven D.remaining declaration.old declaration.new max_declaration × HasFailed certificate.old certificate.new) }
+        ⊎ (HasGiven D.remaining declaration.old declaration.new max_declaration
+        × HasFailed certificate.old certificate.new) }
     ensures no_read_failed { result ≢ Err Fault.Read →
         (declaration.new.failures ≡ declaration.old.failures) × (certificate.new.failures ≡ certificate.old.failures) }
     ensures write_failed { result ≡ Err Fault.Write → writer.new.failures ≡ count_after writer.old.failures 1 }

@@ -8,7 +8,8 @@ ghost use Rattle.wq_text.specs.LineText.{spaced, line_text};
 ghost use Rattle.wq_cert.specs.Certificate.{certificate};
 ghost use Rattle.wq_checker.specs.Answers.{IsAsked};
 ghost use Rattle.wq_checker.specs.declared.answer.No.TheVariants.{NotFalling};
-ghost use Rattle.wq_commands.specs.Checking.{yes_words, no_details, no_words, NamesItems, PrintsCheck, AnswersCheck, ChecksDeclared, Checks};
+ghost use Rattle.wq_commands.specs.Checking.{yes_words, no_details, no_words, NamesItems, PrintsCheck, AnswersCheck};
+ghost use Rattle.wq_commands.specs.Checking.{ChecksDeclared, Checks};
 ghost use Rattle.wq_commands.specs.Why.{lack, SaysLack, SaysCertificate, SaysChecked};
 
 use crate::declaration::{Stop, read_declaration};
@@ -62,7 +63,8 @@ fn put_flush<A: Allocator + Copy>(
 ) -> Result<(), AllocError>
     requires item { item < length table.now.names }
     requires target { target < length table.now.names }
-    ensures { OnOk result (out.new.items ≡ out.old.items ++ flat_map spaced (no_details table.now.names (NotFalling item target))) }
+    ensures { OnOk result (out.new.items
+        ≡ out.old.items ++ flat_map spaced (no_details table.now.names (NotFalling item target))) }
 {
     put_word(out, table.name(item))?;
     put_word(out, table.name(target))?;
@@ -143,8 +145,11 @@ fn check_certificate<A: Allocator + Copy>(
 ) -> Result<Answered<A>, AllocError>
     requires grouped { length groups.now.group_of ≡ length table.now.names }
     requires asked { IsAsked (declaration_of table.now groups.now) (certificate claim.now) }
-    ensures answer { IfOk result (λ a. AnswersCheck (record { table = table.now; partition = groups.now }) (certificate claim.now) a.end a.text.items) }
-    ensures why { IfOk result (λ a. SaysLack (record { table = table.now; partition = groups.now }) (certificate claim.now) a.why) }
+    ensures answer { IfOk result (λ a.
+        AnswersCheck (record { table = table.now; partition = groups.now })
+        (certificate claim.now) a.end a.text.items) }
+    ensures why { IfOk result (λ a.
+        SaysLack (record { table = table.now; partition = groups.now }) (certificate claim.now) a.why) }
 {
     // What holds of every table and of all groups.
     let _items = table.len();
@@ -161,8 +166,10 @@ fn check_declared<A: Allocator + Copy>(
     text: &[u8],
 ) -> Result<Answered<A>, AllocError>
     requires { length groups.now.group_of ≡ length table.now.names }
-    ensures answer { IfOk result (λ a. ChecksDeclared (record { table = table.now; partition = groups.now }) text.now a.end a.text.items) }
-    ensures why { IfOk result (λ a. SaysCertificate (record { table = table.now; partition = groups.now }) text.now a.why) }
+    ensures answer { IfOk result (λ a.
+        ChecksDeclared (record { table = table.now; partition = groups.now }) text.now a.end a.text.items) }
+    ensures why { IfOk result (λ a.
+        SaysCertificate (record { table = table.now; partition = groups.now }) text.now a.why) }
 {
     // What holds of every table and of all groups.
     let _items = table.len();
@@ -179,8 +186,8 @@ fn check_declared<A: Allocator + Copy>(
     }
 }
 
-/// The checker's answer to the texts of a declaration and a certificate, and beside it which text is refused, or what the
-/// certificate lacks.
+/// The checker's answer to the texts of a declaration and a certificate, and beside
+/// it which text is refused, or what the certificate lacks.
 pub(crate) fn check<A: Allocator + Copy>(
     alloc: A,
     seed: u64,

@@ -1,7 +1,7 @@
 //! The command `deadlock`: from the bytes of a declaration and an assignment to the bytes of the verdict on it.
 //!
-//! The declaration is read first and the assignment next, both before either is judged. The answer is built in full before the
-//! first byte is written. It takes the time of reading the texts, of the verdict and of writing the answer.
+//! The declaration is read first and the assignment next, both before either is judged. The answer is built in full
+//! before the first byte is written. It takes the time of reading the texts, of the verdict and of writing the answer.
 
 ghost use Rattle.std.specs.Prelude.{◌≡◌, ◌≢◌, ◌≤◌, ◌+◌, ◌⊎◌, ℕ, List, Err, IfOk};
 ghost use Rattle.wq_meter.specs.Meter.{count_after, LosesPrefix, WritesPrefix, WritesWhole};
@@ -50,13 +50,14 @@ impl<A: Allocator + Copy> Command<A> for DeadlockCommand {
     }
 }
 
-/// Reads a declaration and then an assignment to their ends, and writes whether the assignment is safe: `safe`, or else the text
-/// of a run by which it deadlocks. Where one of the two is refused, it writes the refusal of the first that is.
+/// Reads a declaration and then an assignment to their ends, and writes whether the
+/// assignment is safe: `safe`, or else the text of a run by which it deadlocks.
+/// Where one of the two is refused, it writes the refusal of the first that is.
 ///
-/// At most 1,048,577 bytes of the declaration and 8,388,609 of the assignment are read, in at most as many calls. The assignment
-/// isn't touched until the declaration has been read to its end. The errors are `Fault::Read`, where a read failed,
-/// `Fault::Memory`, where memory ran out, and `Fault::Write`, where a write failed or took no byte. After `Fault::Write` a prefix
-/// of the answer is written, and after the others nothing.
+/// At most 1,048,577 bytes of the declaration and 8,388,609 of the assignment are read, in at most as many calls. The
+/// assignment isn't touched until the declaration has been read to its end. The errors are `Fault::Read`, where a read
+/// failed, `Fault::Memory`, where memory ran out, and `Fault::Write`, where a write failed or took no byte. After
+/// `Fault::Write` a prefix of the answer is written, and after the others nothing.
 ///
 /// The names are hashed with `seed`. No answer depends on it.
 pub fn deadlock_cmd<D: Read, S: Read, W: Write, A: Allocator + Copy>(
@@ -81,14 +82,18 @@ pub fn deadlock_cmd<D: Read, S: Read, W: Write, A: Allocator + Copy>(
     // What is asked of the readers, whatever the result.
     ensures lost { LosesPrefix D.remaining declaration.old declaration.new (max_declaration + 1)
         × LosesPrefix S.remaining assignment.old assignment.new (max_certificate + 1) }
-    ensures order { AfterGiven D.remaining declaration.old declaration.new max_declaration assignment.old assignment.new }
-    ensures reads { (declaration.new.calls ≤ declaration.old.calls + (max_declaration + 1)) × (assignment.new.calls ≤ assignment.old.calls + (max_certificate + 1)) }
-    ensures bytes_read { (declaration.new.bytes ≤ declaration.old.bytes + (max_declaration + 1)) × (assignment.new.bytes ≤ assignment.old.bytes + (max_certificate + 1)) }
+    ensures order { AfterGiven D.remaining declaration.old declaration.new max_declaration assignment.old
+        assignment.new }
+    ensures reads { (declaration.new.calls ≤ declaration.old.calls + (max_declaration + 1))
+        × (assignment.new.calls ≤ assignment.old.calls + (max_certificate + 1)) }
+    ensures bytes_read { (declaration.new.bytes ≤ declaration.old.bytes + (max_declaration + 1))
+        × (assignment.new.bytes ≤ assignment.old.bytes + (max_certificate + 1)) }
 
     // Which fault it is, and which reader's.
     ensures read_failed { result ≡ Err Fault.Read →
         (HasFailed declaration.old declaration.new × (assignment.new ≡ assignment.old))
-        ⊎ (HasGiven D.remaining declaration.old declaration.new max_declaration × HasFailed assignment.old assignment.new) }
+        ⊎ (HasGiven D.remaining declaration.old declaration.new max_declaration
+        × HasFailed assignment.old assignment.new) }
     ensures no_read_failed { result ≢ Err Fault.Read →
         (declaration.new.failures ≡ declaration.old.failures) × (assignment.new.failures ≡ assignment.old.failures) }
     ensures write_failed { result ≡ Err Fault.Write → writer.new.failures ≡ count_after writer.old.failures 1 }

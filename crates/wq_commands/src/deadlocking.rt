@@ -1,7 +1,7 @@
 //! The answer to a declaration and an assignment, built in full in memory.
 //!
-//! The rule is that of "Deadlocking runs" in docs/FORMAT.md. It takes the time and the memory of reading the two texts and of the
-//! verdict, whose run has 45,056 steps at most.
+//! The rule is that of "Deadlocking runs" in docs/FORMAT.md. It takes the time and the memory of reading the two texts
+//! and of the verdict, whose run has 45,056 steps at most.
 
 ghost use Rattle.std.specs.Prelude.{◌≡◌, IfOk, None, length};
 ghost use Rattle.wq_groups.specs.Declaration.{declaration_of};
@@ -66,7 +66,8 @@ fn print_verdict<A: Allocator + Copy>(
     requires grouped { length groups.now.group_of ≡ length table.now.names }
     requires assigned { length workqueues.now.assignment.lane_of_group ≡ groups.now.groups }
     requires judged { IsJudged (declaration_of table.now groups.now) workqueues.now judged.now }
-    ensures answer { IfOk result (λ a. JudgesAssigned (record { table = table.now; partition = groups.now }) workqueues.now a.end a.text.items) }
+    ensures answer { IfOk result (λ a.
+        JudgesAssigned (record { table = table.now; partition = groups.now }) workqueues.now a.end a.text.items) }
     ensures why { IfOk result (λ a. a.why ≡ None) }
 {
     match judged {
@@ -90,7 +91,8 @@ fn judge_assigned<A: Allocator + Copy>(
 ) -> Result<Answered<A>, AllocError>
     requires grouped { length groups.now.group_of ≡ length table.now.names }
     requires assigned { length workqueues.now.assignment.lane_of_group ≡ groups.now.groups }
-    ensures answer { IfOk result (λ a. JudgesAssigned (record { table = table.now; partition = groups.now }) workqueues.now a.end a.text.items) }
+    ensures answer { IfOk result (λ a.
+        JudgesAssigned (record { table = table.now; partition = groups.now }) workqueues.now a.end a.text.items) }
     ensures why { IfOk result (λ a. a.why ≡ None) }
 {
     let judged = judge_workqueues(alloc, table, groups, workqueues)?;
@@ -105,8 +107,10 @@ fn judge_declared<A: Allocator + Copy>(
     text: &[u8],
 ) -> Result<Answered<A>, AllocError>
     requires { length groups.now.group_of ≡ length table.now.names }
-    ensures answer { IfOk result (λ a. JudgesDeclared (record { table = table.now; partition = groups.now }) text.now a.end a.text.items) }
-    ensures why { IfOk result (λ a. SaysFault Certificate (workqueues_of_text table.now.names groups.now text.now) a.why) }
+    ensures answer { IfOk result (λ a.
+        JudgesDeclared (record { table = table.now; partition = groups.now }) text.now a.end a.text.items) }
+    ensures why { IfOk result (λ a.
+        SaysFault Certificate (workqueues_of_text table.now.names groups.now text.now) a.why) }
 {
     // What holds of all groups.
     let _groups = groups.len();

@@ -1,5 +1,5 @@
-//! The four passes over a declaration text, one after the other. Those over the lines and over the items are made in one where
-//! neither finds a fault.
+//! The four passes over a declaration text, one after the other. Those over the lines and over the items are made in
+//! one where neither finds a fault.
 //!
 //! They take time in the length of the text, and memory in the number of items and flushes.
 
@@ -10,7 +10,8 @@ ghost use Rattle.wq_decl.specs.Reading.{first_fault, directives, decl_refusal};
 ghost use Rattle.wq_items.specs.Building.{table_of};
 ghost use Rattle.wq_items.specs.FirstFault.{RanOut};
 ghost use Rattle.wq_groups.specs.OutOfMemory.{RanOutReading};
-ghost use Rattle.wq_commands.specs.Declaration.{declaration, by_table, unless_refused, max_declaration, max_declaration_line};
+ghost use Rattle.wq_commands.specs.Declaration.{declaration, by_table, unless_refused, max_declaration};
+ghost use Rattle.wq_commands.specs.Declaration.{max_declaration_line};
 ghost use Rattle.wq_commands.specs.Stop.{StopsAt, item_stop, group_stop};
 ghost use Rattle.wq_commands.specs.declared.declaration.Stop.TheVariants.{Refused, OutOfMemory};
 
@@ -92,9 +93,11 @@ impl From<GroupError> for Stop {
     }
 }
 
-/// The directives of a text and the table that they declare, or the first fault of the passes over the lines and the items.
+/// The directives of a text and the table that they declare, or the first fault of
+/// the passes over the lines and the items.
 ///
-/// A text without a fault is read in one pass. For any other, the two passes, one after the other, tell which fault it has.
+/// A text without a fault is read in one pass. For any other, the two passes, one
+/// after the other, tell which fault it has.
 #[tactic(auto, using(crate::proofs::StopLemmas::ran_out_of_items))]
 fn read_table<A: Allocator + Copy>(
     alloc: A,
@@ -119,15 +122,16 @@ fn read_table<A: Allocator + Copy>(
 
 /// Reads what a text declares. The names are hashed with this seed; no answer depends on it.
 ///
-/// The error is the first fault of the first pass that has one, or `OutOfMemory`, where a growth was refused before it: then no
-/// earlier pass has a fault.
+/// The error is the first fault of the first pass that has one, or `OutOfMemory`, where a growth was refused before it:
+/// then no earlier pass has a fault.
 #[tactic(auto, using(crate::proofs::StopLemmas::ran_out_of_groups))]
 pub fn read_declaration<A: Allocator + Copy>(
     alloc: A,
     seed: u64,
     text: &[u8],
 ) -> Result<Declaration<'_, A>, Stop>
-    ensures declaration { IfOk result (λ d. declaration text.now ≡ Ok (record { table = d.table; partition = d.groups })) }
+    ensures declaration { IfOk result (λ d. declaration text.now
+        ≡ Ok (record { table = d.table; partition = d.groups })) }
     ensures stop { IfErr result (λ s. StopsAt s (declaration text.now)) }
     // The first two passes take no memory.
     ensures first_passes { result ≡ Err OutOfMemory → (limit_fault max_declaration max_declaration_line text.now ≡ None)

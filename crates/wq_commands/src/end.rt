@@ -1,5 +1,5 @@
-//! How a run of the program ends. The status of each end is the program's own convention: 0 for a good answer, and another number
-//! for each other kind of answer. Every call takes constant time.
+//! How a run of the program ends. The status of each end is the program's own convention: 0 for a good answer, and
+//! another number for each other kind of answer. Every call takes constant time.
 ghost use Rattle.std.specs.Prelude.{◌≡◌};
 
 /// How the program ends, if it met no fault.

@@ -2,7 +2,8 @@
 //!
 //! The examples are computed by the definitions, so that a reader can compare them with those of the format.
 
-ghost use Rattle.std.specs.Prelude.{◌≡◌, ◌↔◌, false, ℕ, ◌+◌, ◌*◌, ◌<◌, ◌≤◌, ◌⊎◌, List, length, [], take, codes, Ok, Err, option_map};
+ghost use Rattle.std.specs.Prelude.{◌≡◌, ◌↔◌, false, ℕ, ◌+◌, ◌*◌, ◌<◌, ◌≤◌, ◌⊎◌, List, length, [], take, codes, Ok};
+ghost use Rattle.std.specs.Prelude.{Err, option_map};
 ghost use Rattle.std.specs.Result.{result_ok};
 ghost use Rattle.wq_items.specs.Table.{IsTable, flush_count};
 ghost use Rattle.wq_groups.specs.Partition.{IsPartition};
@@ -47,8 +48,10 @@ ghost use Rattle.wq_commands.specs.declared.end.End.TheVariants.{Good, Bad, Refu
 
 /// A text has one answer at most: one end, and one text that is printed.
 pub fn a_text_has_one_answer()
-    ensures end { (text : List ℕ) (end other : End) (out printed : List ℕ) → Answers text end out → Answers text other printed → end ≡ other }
-    ensures out { (text : List ℕ) (end other : End) (out printed : List ℕ) → Answers text end out → Answers text other printed → out ≡ printed }
+    ensures end { (text : List ℕ) (end other : End) (out printed : List ℕ) → Answers text end out →
+        Answers text other printed → end ≡ other }
+    ensures out { (text : List ℕ) (end other : End) (out printed : List ℕ) → Answers text end out →
+        Answers text other printed → out ≡ printed }
 {}
 
 /// A text declares what its passes make of it, and nothing where a pass finds a fault.
@@ -56,21 +59,23 @@ pub fn a_text_declares_what_its_passes_make()
     ensures { (text : List ℕ) → declared_in text ≡ option_map named_of (result_ok (declaration text)) }
 {}
 
-/// An answer keeps what it promises. For a plan text: its assignment lets no run end stuck; every assignment to fewer workqueues
-/// has a run that ends stuck, with each item queued once and flushing as declared; and the printed arcs lead through as many
-/// groups as there are workqueues. For a circle text: its arcs lead round groups, and every assignment has such a run.
+/// An answer keeps what it promises. For a plan text: its assignment lets no run end stuck; every
+/// assignment to fewer workqueues has a run that ends stuck, with each item queued once and
+/// flushing as declared; and the printed arcs lead through as many groups as there are workqueues.
+/// For a circle text: its arcs lead round groups, and every assignment has such a run.
 pub fn an_answer_keeps_its_promise()
     ensures { (text : List ℕ) (end : End) (out : List ℕ) → Answers text end out → KeepsPromise text end out }
 {}
 
-/// An answer shows what it promises, within the limits of a certificate: its bytes spell the plan, each flush of which falls to a
-/// workqueue with a lower number; or the circle with a run after it, which deadlocks where each group has a workqueue of its own.
+/// An answer shows what it promises, within the limits of a certificate: its bytes spell
+/// the plan, each flush of which falls to a workqueue with a lower number; or the circle
+/// with a run after it, which deadlocks where each group has a workqueue of its own.
 pub fn an_answer_shows_its_promise()
     ensures { (text : List ℕ) (end : End) (out : List ℕ) → Answers text end out → ShowsAnswer text end out }
 {}
 
-/// The plan or the circle that the printed bytes show is the one that is read from them: `read_answer` reads exactly this plan or
-/// this circle, `read_assignment` the assignment of the plan, and the checker calls it good.
+/// The plan or the circle that the printed bytes show is the one that is read from them: `read_answer` reads exactly
+/// this plan or this circle, `read_assignment` the assignment of the plan, and the checker calls it good.
 pub fn what_is_promised_is_read()
     ensures plan { (text out : List ℕ) (s : Declared) → declaration text ≡ Ok s → (shown : ShowsPlan s out) →
         IsReadAsGoodPlan s out shown.plan }
@@ -78,16 +83,16 @@ pub fn what_is_promised_is_read()
         IsReadAsGoodCircle s out shown.circle }
 {}
 
-/// What `plan` prints is answered with yes: for a plan of K workqueues `check` prints `yes K`, and for a circle of N arcs with
-/// its run `yes circle N`.
+/// What `plan` prints is answered with yes: for a plan of K workqueues `check` prints `yes K`, and for a circle of N
+/// arcs with its run `yes circle N`.
 pub fn a_printed_answer_is_checked_with_yes()
     ensures { (text out : List ℕ) (end : End) → Answers text end out → ChecksYes text out end }
 {}
 
-/// A yes that `check` prints is true. For a plan it is `yes K`, where K is the number of workqueues of the assignment that is
-/// read from the certificate: no run of this assignment ends stuck, and every assignment to fewer workqueues has a run that ends
-/// stuck, with each item queued once and flushing as declared. For a circle it is `yes circle N`, where N is the number of arcs
-/// that are read: they go round groups, and every assignment has such a run.
+/// A yes that `check` prints is true. For a plan it is `yes K`, where K is the number of workqueues of the assignment
+/// that is read from the certificate: no run of this assignment ends stuck, and every assignment to fewer workqueues
+/// has a run that ends stuck, with each item queued once and flushing as declared. For a circle it is `yes circle N`,
+/// where N is the number of arcs that are read: they go round groups, and every assignment has such a run.
 pub fn a_printed_yes_is_true()
     ensures { (text claim out : List ℕ) → Checks text claim Good out → YesIsTrue text claim out }
 {}
@@ -97,19 +102,22 @@ pub fn a_text_has_an_answer()
     ensures { (text : List ℕ) → (end : End) × (out : List ℕ) × Answers text end out }
 {}
 
-/// Texts that are too long are all refused in the same way, and the bytes up to the first one too many show it. What comes after
-/// them changes no answer.
+/// Texts that are too long are all refused in the same way, and the bytes up to the first one too many show it. What
+/// comes after them changes no answer.
 pub fn a_long_text_is_refused_by_its_prefix()
-    ensures refused { (text : List ℕ) → max_declaration < length text → declaration text ≡ Err (record { code = 1; line = 0 }) }
+    ensures refused { (text : List ℕ) → max_declaration < length text →
+        declaration text ≡ Err (record { code = 1; line = 0 }) }
     ensures prefix { (text : List ℕ) → declaration (take (max_declaration + 1) text) ≡ declaration text }
 {}
 
-/// The text of a plan has at most 8,388,608 bytes, and no line of it has more than 524,288, so whoever reads it back can
-/// set limits.
+/// The text of a plan has at most 8,388,608 bytes, and no line of it has more than
+/// 524,288, so whoever reads it back can set limits.
 pub fn a_printed_plan_is_within_the_limits()
-    ensures text { (text : List ℕ) (s : Declared) (a : Assignment) → declaration text ≡ Ok s → IsPlan (declared_waits s) a →
+    ensures text { (text : List ℕ) (s : Declared) (a : Assignment) → declaration text ≡ Ok s →
+        IsPlan (declared_waits s) a →
         length (text_of_plan s a) ≤ 8388608 }
-    ensures lines { (text : List ℕ) (s : Declared) (a : Assignment) → declaration text ≡ Ok s → IsPlan (declared_waits s) a →
+    ensures lines { (text : List ℕ) (s : Declared) (a : Assignment) → declaration text ≡ Ok s →
+        IsPlan (declared_waits s) a →
         All (λ (line : LineView). length line.bytes ≤ 524288) (lines_of (text_of_plan s a)) }
 {}
 
@@ -119,11 +127,13 @@ pub fn a_printed_circle_is_within_the_limits()
         IsWalkedCircle (group_graph (declared_waits s)) circle →
         IsCircleRun (wiring (declared_waits s) (own_lanes s.partition.groups)) circle steps →
         (length circle ≤ 4096) × (length steps ≤ 45056) }
-    ensures text { (text : List ℕ) (s : Declared) (circle : List WaitArc) (steps : List Step) → declaration text ≡ Ok s →
+    ensures text { (text : List ℕ) (s : Declared) (circle : List WaitArc) (steps : List Step) →
+        declaration text ≡ Ok s →
         IsWalkedCircle (group_graph (declared_waits s)) circle →
         IsCircleRun (wiring (declared_waits s) (own_lanes s.partition.groups)) circle steps →
         length (text_of_circle s circle steps) ≤ 8388608 }
-    ensures lines { (text : List ℕ) (s : Declared) (circle : List WaitArc) (steps : List Step) → declaration text ≡ Ok s →
+    ensures lines { (text : List ℕ) (s : Declared) (circle : List WaitArc) (steps : List Step) →
+        declaration text ≡ Ok s →
         IsWalkedCircle (group_graph (declared_waits s)) circle →
         IsCircleRun (wiring (declared_waits s) (own_lanes s.partition.groups)) circle steps →
         All (λ (line : LineView). length line.bytes ≤ 524288) (lines_of (text_of_circle s circle steps)) }
@@ -139,10 +149,11 @@ pub fn a_use_before_its_declaration_is_refused()
     ensures { Answers (codes "item a\nflush a b\nitem b\n") Refused (codes "refused 8 line 2\n") }
 {}
 
-/// Blanks, comments and a carriage return before a line feed change no answer. Nor does it matter if the last line feed is
-/// missing.
+/// Blanks, comments and a carriage return before a line feed change no answer. Nor
+/// does it matter if the last line feed is missing.
 pub fn blanks_comments_and_carriage_returns_change_no_answer()
-    ensures { Answers (codes "item a # x\r\n\titem\tb\r\nflush a b") Good (codes "plan 2\nwq 0 b\nwq 1 a\nchain 2\narc a b\n") }
+    ensures { Answers (codes "item a # x\r\n\titem\tb\r\nflush a b") Good
+        (codes "plan 2\nwq 0 b\nwq 1 a\nchain 2\narc a b\n") }
 {}
 
 /// An item is on one `ordered` line at most.
@@ -176,13 +187,17 @@ pub fn a_flush_within_an_ordered_line_is_a_circle()
 /// A declaration and an assignment have only one verdict: one end, and one text that is printed.
 pub fn an_assignment_has_one_verdict()
     ensures one { (declared text : List ℕ) → (end : End) × (out : List ℕ) × Judges declared text end out }
-    ensures end { (declared text : List ℕ) (end other : End) (out printed : List ℕ) → Judges declared text end out → Judges declared text other printed → end ≡ other }
-    ensures out { (declared text : List ℕ) (end other : End) (out printed : List ℕ) → Judges declared text end out → Judges declared text other printed → out ≡ printed }
+    ensures end { (declared text : List ℕ) (end other : End) (out printed : List ℕ) → Judges declared text end out →
+        Judges declared text other printed → end ≡ other }
+    ensures out { (declared text : List ℕ) (end other : End) (out printed : List ℕ) → Judges declared text end out →
+        Judges declared text other printed → out ≡ printed }
 {}
 
-/// The run that `deadlock` prints is read back: given the same declaration and assignment, `replay` answers `deadlock` to it.
+/// The run that `deadlock` prints is read back: given the same declaration and
+/// assignment, `replay` answers `deadlock` to it.
 pub fn a_printed_run_is_replayed_to_a_deadlock()
-    ensures { (declared text out : List ℕ) → Judges declared text Bad out → ReplaysRun declared text out Bad (line_text (replay_words Deadlock)) }
+    ensures { (declared text out : List ℕ) → Judges declared text Bad out →
+        ReplaysRun declared text out Bad (line_text (replay_words Deadlock)) }
 {}
 
 /// A declaration and a certificate have one answer of `check` at most: one end, and one text that is printed.
@@ -211,8 +226,8 @@ pub fn a_replay_has_an_answer()
     ensures { (text lanes steps : List ℕ) → (end : End) × (out : List ℕ) × ReplaysRun text lanes steps end out }
 {}
 
-/// Each of `plan`, `check`, `deadlock` and `replay` has at most one answer to its texts: one end, one text that is printed, and one
-/// reason for what is said besides. So `what_is_said_changes_no_answer` holds of it.
+/// Each of `plan`, `check`, `deadlock` and `replay` has at most one answer to its texts: one end, one text that is
+/// printed, and one reason for what is said besides. So `what_is_said_changes_no_answer` holds of it.
 pub fn each_command_has_one_answer()
     ensures plan { HasOneAnswer Plans }
     ensures check { HasOneAnswer ChecksTexts }
@@ -220,9 +235,9 @@ pub fn each_command_has_one_answer()
     ensures replay { HasOneAnswer ReplaysTexts }
 {}
 
-/// What a text declares is a declaration: it has one list of flushes and one group for each item, and at most 16,384 flushes,
-/// each of an item and at a place of its own. Its table and its groups meet the preconditions of the laws about tables and
-/// groups, with a group for each item of the table.
+/// What a text declares is a declaration: it has one list of flushes and one group for each item, and at most 16,384
+/// flushes, each of an item and at a place of its own. Its table and its groups meet the preconditions of the laws
+/// about tables and groups, with a group for each item of the table.
 pub fn what_a_text_declares_is_a_declaration()
     ensures declared { (text : List ℕ) (s : Declared) → declaration text ≡ Ok s → IsDeclaration (declared_waits s) }
     ensures table { (text : List ℕ) (s : Declared) → declaration text ≡ Ok s → IsTable s.table }

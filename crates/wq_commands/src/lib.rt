@@ -1,9 +1,9 @@
 //! The commands of the program, over any reader and any writer.
 //!
-//! What the program relies on: the bytes written are the answer text to the bytes read. The commands are those of docs/FORMAT.md.
-//! Each is one function of its texts (`PlanCommand` and its like), which also says why it answers a refusal or a `no`;
-//! `carry_out` reads, asks and writes for all of them. What a run reads and writes is bounded and counted. A command takes the time
-//! of reading its texts, of answering them and of writing the answer.
+//! What the program relies on: the bytes written are the answer text to the bytes read. The commands are those of
+//! docs/FORMAT.md. Each is one function of its texts (`PlanCommand` and its like), which also says why it answers a
+//! refusal or a `no`; `carry_out` reads, asks and writes for all of them. What a run reads and writes is bounded and
+//! counted. A command takes the time of reading its texts, of answering them and of writing the answer.
 #![tactic(auto)]
 
 mod answer;

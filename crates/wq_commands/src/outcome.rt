@@ -1,4 +1,5 @@
-//! How a command that was carried out ended, for callers that need to know no more than its end. It takes constant time.
+//! How a command that was carried out ended, for callers that need to know no more
+//! than its end. It takes constant time.
 
 ghost use Rattle.std.specs.Prelude.{◌≡◌, ◌≢◌, Err, IfOk, IsOkAnd};
 ghost use Rattle.std.specs.Result.{IsErrAnd};

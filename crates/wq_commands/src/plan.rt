@@ -47,12 +47,12 @@ impl<A: Allocator + Copy> Command<A> for PlanCommand {
     }
 }
 
-/// Reads a declaration to its end and writes its answer: the text of its plan, or that of the circle in which its groups wait,
-/// with a run that shows it, or the refusal.
+/// Reads a declaration to its end and writes its answer: the text of its plan, or that of the circle in which its
+/// groups wait, with a run that shows it, or the refusal.
 ///
 /// At most 1,048,577 bytes are read, in at most as many calls. The errors are `Fault::Read`, where a read failed,
-/// `Fault::Memory`, where memory ran out, and `Fault::Write`, where a write failed or took no byte. After `Fault::Write` a prefix
-/// of the answer is written, and after the others nothing.
+/// `Fault::Memory`, where memory ran out, and `Fault::Write`, where a write failed or took no byte. After
+/// `Fault::Write` a prefix of the answer is written, and after the others nothing.
 ///
 /// The names are hashed with `seed`. No answer depends on it.
 pub fn plan_cmd<R: Read, W: Write, A: Allocator + Copy>(
@@ -65,20 +65,22 @@ pub fn plan_cmd<R: Read, W: Write, A: Allocator + Copy>(
     ensures answered { IfOk result (λ end. (out : List ℕ) × AnswersInput R.remaining reader.old reader.new end out
         × WritesWhole W.contents writer.old writer.new out) }
 
-    // This answer is true. For every declaration text that is answered, either the printed assignment lets no run of queueings,
-    // cancellations and steps of rescuers and helpers end stuck, and every assignment to fewer workqueues has a run without
-    // helpers, with each item queued once and flushing as declared, that ends stuck; or a printed circle of groups is given and
-    // every assignment has such a run.
-    ensures promised { IfOk result (λ end. (out : List ℕ) × KeepsPromiseOfInput R.remaining reader.old reader.new end out
+    // This answer is true. For every declaration text that is answered, either the printed assignment lets no run of
+    // queueings, cancellations and steps of rescuers and helpers end stuck, and every assignment to fewer workqueues
+    // has a run without helpers, with each item queued once and flushing as declared, that ends stuck; or a printed
+    // circle of groups is given and every assignment has such a run.
+    ensures promised { IfOk result (λ end. (out : List ℕ)
+        × KeepsPromiseOfInput R.remaining reader.old reader.new end out
         × WritesWhole W.contents writer.old writer.new out) }
 
-    // The written bytes show it, within the limits of a certificate: they spell this plan, whose flushes all fall, or this circle
-    // with a run after it, which deadlocks where each group has its own workqueue.
+    // The written bytes show it, within the limits of a certificate: they spell this plan, whose flushes all fall, or
+    // this circle with a run after it, which deadlocks where each group has its own workqueue.
     ensures shown { IfOk result (λ end. (out : List ℕ) × ShowsAnswerOfInput R.remaining reader.old reader.new end out
         × WritesWhole W.contents writer.old writer.new out) }
 
     // What a fault leaves.
-    ensures prefix { result ≡ Err Fault.Write → (end : End) × (out : List ℕ) × AnswersInput R.remaining reader.old reader.new end out
+    ensures prefix { result ≡ Err Fault.Write
+        → (end : End) × (out : List ℕ) × AnswersInput R.remaining reader.old reader.new end out
         × WritesPrefix W.contents writer.old writer.new out }
     ensures untouched { result ≡ Err Fault.Memory → writer.new ≡ writer.old }
     ensures unwritten { result ≡ Err Fault.Read → writer.new ≡ writer.old }

@@ -1,8 +1,8 @@
 //! The command `replay`: from the bytes of a declaration, an assignment and a run to how the run ends.
 //!
-//! The declaration is read first, then the assignment and then the run, all before any is judged. The answer is built in full
-//! before the first byte is written. It takes the time of reading the texts, of judging them and making the steps, and of writing
-//! the answer.
+//! The declaration is read first, then the assignment and then the run, all before any is judged. The answer is built
+//! in full before the first byte is written. It takes the time of reading the texts, of judging them and making the
+//! steps, and of writing the answer.
 
 ghost use Rattle.std.specs.Prelude.{◌≡◌, ◌≢◌, ◌≤◌, ◌+◌, ◌⊎◌, ℕ, List, Err, IfOk};
 ghost use Rattle.wq_meter.specs.Meter.{count_after, LosesPrefix, WritesPrefix, WritesWhole};
@@ -57,13 +57,14 @@ impl<A: Allocator + Copy> Command<A> for ReplayCommand {
     }
 }
 
-/// Reads a declaration, an assignment and a run to their ends, makes the steps of the run, and writes how it ends: `open`,
-/// `deadlock`, `stuck` or `not lawful N`. Where one of the three is refused, it writes the refusal of the first that is.
+/// Reads a declaration, an assignment and a run to their ends, makes the steps of
+/// the run, and writes how it ends: `open`, `deadlock`, `stuck` or `not lawful N`.
+/// Where one of the three is refused, it writes the refusal of the first that is.
 ///
-/// At most 1,048,577 bytes of the declaration and 8,388,609 of each of the others are read, in at most as many calls. Each isn't
-/// touched until those before it have been read to their ends. The errors are `Fault::Read`, where a read failed,
-/// `Fault::Memory`, where memory ran out, and `Fault::Write`, where a write failed or took no byte. After `Fault::Write` a prefix
-/// of the answer is written, and after the others nothing.
+/// At most 1,048,577 bytes of the declaration and 8,388,609 of each of the others are read, in at most as many calls.
+/// Each isn't touched until those before it have been read to their ends. The errors are `Fault::Read`, where a read
+/// failed, `Fault::Memory`, where memory ran out, and `Fault::Write`, where a write failed or took no byte. After
+/// `Fault::Write` a prefix of the answer is written, and after the others nothing.
 ///
 /// The names are hashed with `seed`. No answer depends on it.
 pub fn replay_cmd<D: Read, S: Read, R: Read, W: Write, A: Allocator + Copy>(
@@ -76,12 +77,14 @@ pub fn replay_cmd<D: Read, S: Read, R: Read, W: Write, A: Allocator + Copy>(
 ) -> Result<End, Fault>
     // The answer to the texts that the readers had is written, and nothing else.
     ensures answered { IfOk result (λ end. (out : List ℕ)
-        × ReplaysInput D.remaining S.remaining R.remaining declaration.old declaration.new assignment.old assignment.new run.old run.new end out
+        × ReplaysInput D.remaining S.remaining R.remaining declaration.old declaration.new assignment.old assignment.new
+        run.old run.new end out
         × WritesWhole W.contents writer.old writer.new out) }
 
     // What a fault leaves.
     ensures prefix { result ≡ Err Fault.Write → (end : End) × (out : List ℕ)
-        × ReplaysInput D.remaining S.remaining R.remaining declaration.old declaration.new assignment.old assignment.new run.old run.new end out
+        × ReplaysInput D.remaining S.remaining R.remaining declaration.old declaration.new assignment.old assignment.new
+        run.old run.new end out
         × WritesPrefix W.contents writer.old writer.new out }
     ensures untouched { result ≡ Err Fault.Memory → writer.new ≡ writer.old }
     ensures unwritten { result ≡ Err Fault.Read → writer.new ≡ writer.old }
@@ -94,15 +97,21 @@ pub fn replay_cmd<D: Read, S: Read, R: Read, W: Write, A: Allocator + Copy>(
         × AfterGiven D.remaining declaration.old declaration.new max_declaration run.old run.new
         × AfterGiven S.remaining assignment.old assignment.new max_certificate run.old run.new }
     ensures reads { (declaration.new.calls ≤ declaration.old.calls + (max_declaration + 1))
-        × (assignment.new.calls ≤ assignment.old.calls + (max_certificate + 1)) × (run.new.calls ≤ run.old.calls + (max_certificate + 1)) }
+        × (assignment.new.calls ≤ assignment.old.calls + (max_certificate + 1))
+        × (run.new.calls ≤ run.old.calls + (max_certificate + 1)) }
     ensures bytes_read { (declaration.new.bytes ≤ declaration.old.bytes + (max_declaration + 1))
-        × (assignment.new.bytes ≤ assignment.old.bytes + (max_certificate + 1)) × (run.new.bytes ≤ run.old.bytes + (max_certificate + 1)) }
+        × (assignment.new.bytes ≤ assignment.old.bytes + (max_certificate + 1))
+        × (run.new.bytes ≤ run.old.bytes + (max_certificate + 1)) }
 
     // Which fault it is, and which reader's.
     ensures read_failed { result ≡ Err Fault.Read →
         (HasFailed declaration.old declaration.new × (assignment.new ≡ assignment.old) × (run.new ≡ run.old))
-        ⊎ (HasGiven D.remaining declaration.old declaration.new max_declaration × HasFailed assignment.old assignment.new × (run.new ≡ run.old))
-        ⊎ (HasGiven D.remaining declaration.old declaration.new max_declaration × HasGiven S.remaining assignment.old assignment.new max_certificate × HasFailed run.old run.new) }
+        ⊎ (HasGiven D.remaining declaration.old declaration.new max_declaration
+        × HasFailed assignment.old assignment.new
+        × (run.new ≡ run.old))
+        ⊎ (HasGiven D.remaining declaration.old declaration.new max_declaration
+        × HasGiven S.remaining assignment.old assignment.new max_certificate
+        × HasFailed run.old run.new) }
     ensures no_read_failed { result ≢ Err Fault.Read → (declaration.new.failures ≡ declaration.old.failures)
         × (assignment.new.failures ≡ assignment.old.failures) × (run.new.failures ≡ run.old.failures) }
     ensures write_failed { result ≡ Err Fault.Write → writer.new.failures ≡ count_after writer.old.failures 1 }

@@ -4,7 +4,8 @@
 
 ghost use Rattle.std.specs.Prelude.{◌≡◌, ◌∷◌, [], ◌<◌, IfOk, length, codes, decimal};
 ghost use Rattle.wq_text.specs.LineText.{line_text};
-ghost use Rattle.wq_commands.specs.Replaying.{replay_words, replay_end, AnswersReplay, ReplaysAssigned, ReplaysDeclared, ReplaysRun};
+ghost use Rattle.wq_commands.specs.Replaying.{replay_words, replay_end, AnswersReplay, ReplaysAssigned};
+ghost use Rattle.wq_commands.specs.Replaying.{ReplaysDeclared, ReplaysRun};
 ghost use Rattle.wq_commands.specs.Why.{unlawful, SaysSteps, SaysRunUnder, SaysRun, SaysReplayed};
 
 use crate::declaration::{Stop, read_declaration};
@@ -82,8 +83,11 @@ fn replay_steps<A: Allocator + Copy>(
     requires grouped { length groups.now.group_of ≡ length table.now.names }
     requires assigned { length workqueues.now.assignment.lane_of_group ≡ groups.now.groups }
     requires few { length steps.now < 4294967295 }
-    ensures answer { IfOk result (λ a. AnswersReplay (record { table = table.now; partition = groups.now }) workqueues.now steps.now a.end a.text.items) }
-    ensures why { IfOk result (λ a. SaysSteps (record { table = table.now; partition = groups.now }) workqueues.now steps.now a.why) }
+    ensures answer { IfOk result (λ a.
+        AnswersReplay
+        (record { table = table.now; partition = groups.now }) workqueues.now steps.now a.end a.text.items) }
+    ensures why { IfOk result (λ a.
+        SaysSteps (record { table = table.now; partition = groups.now }) workqueues.now steps.now a.why) }
 {
     let end = check_run_on(alloc, table, groups, workqueues, steps)?;
     let text = replay_text(alloc, end)?;
@@ -104,8 +108,11 @@ fn replay_assigned<A: Allocator + Copy>(
 ) -> Result<Answered<A>, AllocError>
     requires grouped { length groups.now.group_of ≡ length table.now.names }
     requires assigned { length workqueues.now.assignment.lane_of_group ≡ groups.now.groups }
-    ensures answer { IfOk result (λ a. ReplaysAssigned (record { table = table.now; partition = groups.now }) workqueues.now text.now a.end a.text.items) }
-    ensures why { IfOk result (λ a. SaysRunUnder (record { table = table.now; partition = groups.now }) workqueues.now text.now a.why) }
+    ensures answer { IfOk result (λ a.
+        ReplaysAssigned
+        (record { table = table.now; partition = groups.now }) workqueues.now text.now a.end a.text.items) }
+    ensures why { IfOk result (λ a.
+        SaysRunUnder (record { table = table.now; partition = groups.now }) workqueues.now text.now a.why) }
 {
     // What holds of every table and of all groups.
     let _items = table.len();
@@ -131,8 +138,11 @@ fn replay_declared<A: Allocator + Copy>(
     text: &[u8],
 ) -> Result<Answered<A>, AllocError>
     requires { length groups.now.group_of ≡ length table.now.names }
-    ensures answer { IfOk result (λ a. ReplaysDeclared (record { table = table.now; partition = groups.now }) assigned.now text.now a.end a.text.items) }
-    ensures why { IfOk result (λ a. SaysRun (record { table = table.now; partition = groups.now }) assigned.now text.now a.why) }
+    ensures answer { IfOk result (λ a.
+        ReplaysDeclared
+        (record { table = table.now; partition = groups.now }) assigned.now text.now a.end a.text.items) }
+    ensures why { IfOk result (λ a.
+        SaysRun (record { table = table.now; partition = groups.now }) assigned.now text.now a.why) }
 {
     // What holds of every table and of all groups.
     let _items = table.len();
@@ -148,8 +158,8 @@ fn replay_declared<A: Allocator + Copy>(
     }
 }
 
-/// How the run in the third text ends, for the declaration and the assignment in the first two, and which of them is refused, if
-/// one is.
+/// How the run in the third text ends, for the declaration and the assignment in the
+/// first two, and which of them is refused, if one is.
 pub(crate) fn replay<A: Allocator + Copy>(
     alloc: A,
     seed: u64,

@@ -1,7 +1,8 @@
-//! What is said beside an answer: which text is refused, and for what; what a certificate lacks; or which step isn't lawful.
+//! What is said beside an answer: which text is refused, and for what; what a
+//! certificate lacks; or which step isn't lawful.
 //!
-//! A command hands it out beside the answer. So whoever says it in more words than the answer has (`wq_diagnosis`) needn't read the
-//! texts again to learn it. It takes constant time.
+//! A command hands it out beside the answer. So whoever says it in more words than the answer has (`wq_diagnosis`)
+//! needn't read the texts again to learn it. It takes constant time.
 
 ghost use Rattle.std.specs.Prelude.{◌≡◌, IfOk, None, Some};
 ghost use Rattle.wq_commands.specs.Answer.{PrintsRefusal};

@@ -15,7 +15,8 @@ counted_shape lane_of_item q = record { items = count_on lane_of_item q; ordered
 
 -- the shape of lane q: how many items are on it, and whether it holds a group of two or more
 abbrev pub shape_of : Assignment → Partition → List ℕ → ℕ → LaneShape
-shape_of a p lane_of_item q = record { items = count_on lane_of_item q; ordered = is_ordered_lane a p.group_of p.groups q }
+shape_of a p lane_of_item q =
+    record { items = count_on lane_of_item q; ordered = is_ordered_lane a p.group_of p.groups q }
 
 -- an idle lane of this shape: with room for all its items, and with this many helpers unless it is ordered
 abbrev pub idle_of_shape : ℕ → LaneShape → HeldLane
@@ -28,7 +29,8 @@ idle_of_shape helpers shape = record {
 
 -- the machine of a declaration and its workqueues with this many helpers, before anything is queued
 abbrev pub first_machine_on : Declaration → Workqueues → ℕ → Machine
-first_machine_on d ws helpers = record { wiring = with_helpers (wiring_of d ws) helpers; state = empty_state (wiring d ws.assignment) }
+first_machine_on d ws helpers =
+    record { wiring = with_helpers (wiring_of d ws) helpers; state = empty_state (wiring d ws.assignment) }
 
 -- the machine of a declaration and an assignment with this many helpers, before anything is queued
 abbrev pub first_machine_with : Declaration → Assignment → ℕ → Machine

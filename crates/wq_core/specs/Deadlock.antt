@@ -8,20 +8,22 @@ use Rattle.wq_core.specs.State.{State, HasUnfinished, empty_state}
 use Rattle.wq_core.specs.Rules.{Lawful}
 use Rattle.wq_core.specs.Runs.{IsRun, end_of, IsForcedStep, AsDeclaredFrom, IsOnce, HasNoHelp}
 
--- an entry is unfinished on a lane that has a rescuer, and no step is lawful but queueings, cancellations, starts of helpers and
--- starts on bare lanes
+-- an entry is unfinished on a lane that has a rescuer, and no step is lawful but queueings, cancellations, starts of
+-- helpers and starts on bare lanes
 pub record IsStuck (w : Wiring) (s : State) : Type 0 where
   pub left : HasUnfinished s
   pub rescuer : HasRescuer w left.lane
   pub no_step : (step : Step) → IsForcedStep w step → ¬ Lawful w s step
 
--- with 0 to 8 helpers of each lane, no run ends stuck. This says something about an assignment only if each item is on one of the
--- lanes, which has to be said beside it (`IsLeast` says it by `IsAssignment`)
+-- with 0 to 8 helpers of each lane, no run ends stuck. This says something about an assignment only if each item is on
+-- one of the lanes, which has to be said beside it (`IsLeast` says it by `IsAssignment`)
 abbrev pub IsSafe : Wiring → Type 0
 IsSafe w = (n : ℕ) → n ≤ max_helpers →
-    (steps : List Step) → IsRun (with_helpers w n) steps → ¬ IsStuck (with_helpers w n) (end_of (with_helpers w n) steps)
+    (steps : List Step) → IsRun (with_helpers w n) steps
+    → ¬ IsStuck (with_helpers w n) (end_of (with_helpers w n) steps)
 
--- the steps are a run that ends stuck, with each item queued once and flushing as declared, and none of them is a helper's
+-- the steps are a run that ends stuck, with each item queued once and flushing as
+-- declared, and none of them is a helper's
 pub record DeadlocksBy (w : Wiring) (steps : List Step) : Type 0 where
   pub run : IsRun w steps
   pub once : IsOnce w steps

@@ -1,5 +1,7 @@
 -- Lanes and machines as the code holds them.
-use Rattle.std.specs.Prelude.{◌≡◌, ◌≢◌, ℕ, ◌<◌, ◌≤◌, ◌+◌, ◌-◌, ◌*◌, ◌^◌, if◌then◌else◌, List, [], ◌++◌, length, replicate, AllPairs, Some, None, Option, map, Bool, false, ◌==◌, ◌&&◌, ◌||◌, nat_lt, slice_get, slice_index_or, MatchOption, IsPermutation}
+use Rattle.std.specs.Prelude.{◌≡◌, ◌≢◌, ℕ, ◌<◌, ◌≤◌, ◌+◌, ◌-◌, ◌*◌, ◌^◌, if◌then◌else◌, List, [], ◌++◌, length}
+use Rattle.std.specs.Prelude.{replicate, AllPairs, Some, None, Option, map, Bool, false, ◌==◌, ◌&&◌, ◌||◌, nat_lt}
+use Rattle.std.specs.Prelude.{slice_get, slice_index_or, MatchOption, IsPermutation}
 use Rattle.std.specs.List.{list_any}
 use Rattle.std.specs.List.Sorted.{IsNonDecreasing}
 use Rattle.wq_items.specs.declared.target.Target.{Target}
@@ -92,8 +94,8 @@ pub record Machine : Type 0 where
   pub wiring : Wiring
   pub state : State
 
--- what holds for the entry that a context runs: it has made at most as many waits as its item declares; while it waits, it has
--- made at least one, and its item declares a flush of what it waits for
+-- what holds for the entry that a context runs: it has made at most as many waits as its item declares; while it waits,
+-- it has made at least one, and its item declares a flush of what it waits for
 pub record IsSoundRunning (w : Wiring) (r : Running) : Type 0 where
   pub made : r.made ≤ length (declared_by w r.entry.item)
   pub waits : (f : Waiting) → r.waiting ≡ Some f → (0 < r.made) × ItemWaitsBy w.waits f.whole r.entry.item f.target
@@ -102,21 +104,22 @@ pub record IsSoundRunning (w : Wiring) (r : Running) : Type 0 where
 abbrev pub AreHelpers : Wiring → State → Type 0
 AreHelpers w s = (q c : ℕ) (r : Running) → RunsIn (lane_at s q) c r → c ≤ helpers_of w q
 
--- what holds for every state after a run: it has the wiring's lanes, and each has a place for each helper that it may have; each
--- entry is of an item that exists, is on that item's lane, and has a number that was given; a lane has at most one pending entry
--- of an item, and an item runs in at most one context, which exists; and what runs is sound
+-- what holds for every state after a run: it has the wiring's lanes, and each has a place for each helper that it may
+-- have; each entry is of an item that exists, is on that item's lane, and has a number that was given; a lane has at
+-- most one pending entry of an item, and an item runs in at most one context, which exists; and what runs is sound
 pub record IsSoundState (w : Wiring) (s : State) : Type 0 where
   pub one_each : length s.lanes ≡ w.lanes
   pub places : (q : ℕ) → length (lane_at s q).helping ≡ max_helpers
   pub own_lane : (q : ℕ) (e : Entry) → IsUnfinishedOn (lane_at s q) e → (e.item < items w) × (lane_of w e.item ≡ q)
   pub given : (q : ℕ) (e : Entry) → IsUnfinishedOn (lane_at s q) e → e.number < s.next
   pub once : (q : ℕ) → AllPairs (λ (e f : Entry). e.item ≢ f.item) (lane_at s q).pending
-  pub one_context : (q c d : ℕ) (r x : Running) → RunsIn (lane_at s q) c r → RunsIn (lane_at s q) d x → r.entry.item ≡ x.entry.item → c ≡ d
+  pub one_context : (q c d : ℕ) (r x : Running) → RunsIn (lane_at s q) c r → RunsIn (lane_at s q) d x
+      → r.entry.item ≡ x.entry.item → c ≡ d
   pub helpers : AreHelpers w s
   pub running : (q c : ℕ) (r : Running) → RunsIn (lane_at s q) c r → IsSoundRunning w r
 
--- what holds for every machine: its wiring and its state are sound, and within the limits of declarations, of assignments, of
--- helpers and of the numbers that are given
+-- what holds for every machine: its wiring and its state are sound, and within the limits of declarations, of
+-- assignments, of helpers and of the numbers that are given
 pub record IsMachine (m : Machine) : Type 0 where
   pub wiring : IsWiring m.wiring
   pub state : IsSoundState m.wiring m.state
@@ -147,23 +150,28 @@ HasRoom lane_of_item q h = count_on lane_of_item q ≤ h.room
 -- for each item in turn, the number of its pending entry, or none if no entry of it is pending
 pub record IsNumbering (w : Wiring) (s : State) (numbers : List (Option ℕ)) : Type 0 where
   pub one_each : length numbers ≡ items w
-  pub pending : (i n : ℕ) → slice_index_or numbers i None ≡ Some n → IsPendingOn (lane_at s (lane_of w i)) (record { number = n; item = i })
+  pub pending : (i n : ℕ) → slice_index_or numbers i None ≡ Some n
+      → IsPendingOn (lane_at s (lane_of w i)) (record { number = n; item = i })
   pub noted : (q : ℕ) (e : Entry) → IsPendingOn (lane_at s q) e → slice_index_or numbers e.item None ≡ Some e.number
 
--- what holds for these fields: the machine is sound; each lane has room for all its items, and has its helpers; the numbers are
--- those of the pending entries, and they rise on each lane
-pub record IsHeld (waits : List (List Target)) (lane_of_item : List ℕ) (bare : List Bool) (helpers : ℕ) (pending : List (Option ℕ)) (lanes : List HeldLane) (next : ℕ) : Type 0 where
+-- what holds for these fields: the machine is sound; each lane has room for all its items, and has its helpers; the
+-- numbers are those of the pending entries, and they rise on each lane
+pub record IsHeld (waits : List (List Target)) (lane_of_item : List ℕ) (bare : List Bool) (helpers : ℕ)
+    (pending : List (Option ℕ)) (lanes : List HeldLane) (next : ℕ) : Type 0 where
   pub machine : IsMachine (machine_of waits lane_of_item bare helpers lanes next)
   pub room : (q : ℕ) (h : HeldLane) → slice_get lanes q ≡ Some h → HasRoom lane_of_item q h
-  pub helped : (q : ℕ) (h : HeldLane) → slice_get lanes q ≡ Some h → h.helpers ≡ helpers_of (machine_of waits lane_of_item bare helpers lanes next).wiring q
-  pub numbers : IsNumbering (machine_of waits lane_of_item bare helpers lanes next).wiring (machine_of waits lane_of_item bare helpers lanes next).state pending
+  pub helped : (q : ℕ) (h : HeldLane) → slice_get lanes q ≡ Some h
+      → h.helpers ≡ helpers_of (machine_of waits lane_of_item bare helpers lanes next).wiring q
+  pub numbers : IsNumbering (machine_of waits lane_of_item bare helpers lanes next).wiring
+      (machine_of waits lane_of_item bare helpers lanes next).state pending
   pub rising : (q : ℕ) → IsRising (lane_at (machine_of waits lane_of_item bare helpers lanes next).state q).pending
 
 -- ---- steps of a machine
 
 -- the number that a step gives, if it is lawful
 abbrev pub IsNumberOf : Machine → Step → Option ℕ → Type 0
-IsNumberOf m step answer = MatchOption answer (¬ Lawful m.wiring m.state step) (λ n. Lawful m.wiring m.state step × Gives m.state step n)
+IsNumberOf m step answer =
+    MatchOption answer (¬ Lawful m.wiring m.state step) (λ n. Lawful m.wiring m.state step × Gives m.state step n)
 
 -- the step is a queueing, and would be given the number that no entry is given
 abbrev pub UsesUp : State → Step → Type 0

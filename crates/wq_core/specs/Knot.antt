@@ -10,10 +10,12 @@ HasLane w is q = Any (λ i. lane_of w i ≡ q) is
 
 -- item i declares a flush of an item on the lane of one of these, or on a bare lane
 abbrev pub WaitsAmong : Wiring → List ℕ → ℕ → Type 0
-WaitsAmong w is i = Any (λ (t : Target). HasLane w is (lane_of w t.item) ⊎ (¬ HasRescuer w (lane_of w t.item))) (declared_by w i)
+WaitsAmong w is i =
+    Any (λ (t : Target). HasLane w is (lane_of w t.item) ⊎ (¬ HasRescuer w (lane_of w t.item))) (declared_by w i)
 
--- items that hold one another up, or that a bare lane holds up: there is at least one, no two are on the same lane, each is on a
--- lane that has a rescuer, and each declares a flush of an item on the lane of one of them, or on a bare lane
+-- items that hold one another up, or that a bare lane holds up: there is at least
+-- one, no two are on the same lane, each is on a lane that has a rescuer, and each
+-- declares a flush of an item on the lane of one of them, or on a bare lane
 pub record IsKnot (w : Wiring) (knot : List ℕ) : Type 0 where
   pub some : 0 < length knot
   pub apart : AllPairs (λ i j. lane_of w i ≢ lane_of w j) knot

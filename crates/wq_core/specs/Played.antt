@@ -1,4 +1,5 @@
--- The run that is played: each step is that of the lowest lane whose rescuer can move, and executions flush as declared.
+-- The run that is played: each step is that of the lowest lane whose rescuer can
+-- move, and executions flush as declared.
 use Rattle.std.specs.Prelude.{◌≡◌, ℕ, ◌<◌, ◌⊎◌, not, ◌==◌, List, [], ◌∷◌, ◌++◌, filter, map}
 use Rattle.std.specs.List.{list_any, range_with_len}
 use Rattle.wq_core.specs.declared.step.Step.{Step}
@@ -46,7 +47,8 @@ HasNoDeclaredStep w s q = (step : Step) → ¬ IsDeclaredStep w s q step
 abbrev pub IsPlayedFrom : Wiring → State → List Step → Type 0
 IsPlayedFrom w s [] = (q : ℕ) → HasNoDeclaredStep w s q
 IsPlayedFrom w s (step ∷ steps) =
-    ((q : ℕ) × IsDeclaredStep w s q step × ((p : ℕ) → p < q → HasNoDeclaredStep w s p)) × IsPlayedFrom w (effect w s step) steps
+    ((q : ℕ) × IsDeclaredStep w s q step × ((p : ℕ) → p < q → HasNoDeclaredStep w s p))
+    × IsPlayedFrom w (effect w s step) steps
 
 -- these items are queued first, in their order, and then all others, in declaration order
 abbrev pub queue_order : Wiring → List ℕ → List Step

@@ -1,20 +1,24 @@
 -- Rules: which steps are lawful in a state, what they do to it, and which number they give.
-use Rattle.std.specs.Prelude.{◌≡◌, ℕ, zero, suc, Bool, true, false, ◌+◌, ◌<◌, ◌==◌, not, [], ◌∷◌, ◌++◌, length, filter, Some, None, option_map}
+use Rattle.std.specs.Prelude.{◌≡◌, ℕ, zero, suc, Bool, true, false, ◌+◌, ◌<◌, ◌==◌, not, [], ◌∷◌, ◌++◌, length, filter}
+use Rattle.std.specs.Prelude.{Some, None, option_map}
 use Rattle.wq_items.specs.Table.{ItemWaitsBy}
 use Rattle.wq_core.specs.declared.entry.Entry.{Entry}
 use Rattle.wq_core.specs.declared.entry.Waiting.{Waiting}
 use Rattle.wq_core.specs.declared.entry.Running.{Running}
 use Rattle.wq_core.specs.declared.step.Step.{Step}
-use Rattle.wq_core.specs.declared.step.Step.TheVariants.{Queue, Cancel, Start, Wait, Over, WaitAll, OverAll, Finish, Help}
+use Rattle.wq_core.specs.declared.step.Step.TheVariants.{Queue, Cancel, Start, Wait, Over, WaitAll, OverAll, Finish}
+use Rattle.wq_core.specs.declared.step.Step.TheVariants.{Help}
 use Rattle.wq_core.specs.declared.step.HelpStep.{HelpStep}
-use Rattle.wq_core.specs.declared.step.HelpStep.TheVariants.{Start as DoStart, Wait as DoWait, WaitAll as DoWaitAll, Over as DoOver, OverAll as DoOverAll, Finish as DoFinish}
+use Rattle.wq_core.specs.declared.step.HelpStep.TheVariants.{Start as DoStart, Wait as DoWait, WaitAll as DoWaitAll}
+use Rattle.wq_core.specs.declared.step.HelpStep.TheVariants.{Over as DoOver, OverAll as DoOverAll, Finish as DoFinish}
 use Rattle.wq_core.specs.Wiring.{Wiring, HasHelper, items, lane_of, declared_by}
-use Rattle.wq_core.specs.State.{Lane, State, lane_at, with_lane, run_by, with_run_by, RunsIn, is_running, next_of, pending_of, IsPendingOn, HasPending, HasUnfinishedBelow, IsUnfinishedOn, IsBusyBelow}
+use Rattle.wq_core.specs.State.{Lane, State, lane_at, with_lane, run_by, with_run_by, RunsIn, is_running, next_of}
+use Rattle.wq_core.specs.State.{pending_of, IsPendingOn, HasPending, HasUnfinishedBelow, IsUnfinishedOn, IsBusyBelow}
 
 -- ---- what one context may do with what it runs
 
--- what runs may begin to wait for item b, or for the whole lane of b: it isn't waiting, its item declares such a flush, and it has
--- made fewer waits than its item declares
+-- what runs may begin to wait for item b, or for the whole lane of b: it isn't waiting, its item declares such a flush,
+-- and it has made fewer waits than its item declares
 pub record MayWait (w : Wiring) (whole : Bool) (b : ℕ) (r : Running) : Type 0 where
   pub awake : r.waiting ≡ None
   pub declared : ItemWaitsBy w.waits whole r.entry.item b
@@ -26,8 +30,8 @@ abbrev pub IsHeldBack : Wiring → State → Bool → ℕ → ℕ → Type 0
 IsHeldBack w s false b mark = HasUnfinishedBelow s b mark
 IsHeldBack w s true b mark = IsBusyBelow (lane_at s (lane_of w b)) mark
 
--- item i holds such a wait back: an unfinished entry of i on the lane of b has a number below the mark, and i is b itself unless
--- the whole lane is waited for
+-- item i holds such a wait back: an unfinished entry of i on the lane of b has a number below the mark, and i is b
+-- itself unless the whole lane is waited for
 pub record IsHolder (w : Wiring) (s : State) (whole : Bool) (b mark i : ℕ) : Type 0 where
   pub entry : Entry
   pub unfinished : IsUnfinishedOn (lane_at s (lane_of w b)) entry
@@ -115,10 +119,10 @@ MayDo w s q c (DoOver b) = (r : Running) × RunsIn (lane_at s q) c r × MayBeOve
 MayDo w s q c (DoOverAll b) = (r : Running) × RunsIn (lane_at s q) c r × MayBeOver w s true b r
 MayDo w s q c (DoFinish i) = (r : Running) × RunsIn (lane_at s q) c r × MayFinish i r
 
--- a step is lawful: an item is queued only while no entry of it is pending, and cancelled only while one is; an idle rescuer
--- starts the first pending entry whose item isn't running, and an idle helper any such entry; and what runs waits, goes on and
--- finishes as above. Nothing is lawful on a lane that doesn't exist, nor for a helper that a lane doesn't have, and after a run
--- there is no entry of an item that doesn't exist
+-- a step is lawful: an item is queued only while no entry of it is pending, and cancelled only while one is; an idle
+-- rescuer starts the first pending entry whose item isn't running, and an idle helper any such entry; and what runs
+-- waits, goes on and finishes as above. Nothing is lawful on a lane that doesn't exist, nor for a helper that a lane
+-- doesn't have, and after a run there is no entry of an item that doesn't exist
 abbrev pub Lawful : Wiring → State → Step → Type 0
 Lawful w s (Queue i) = (i < items w) × (¬ HasPending s i)
 Lawful w s (Cancel i) = HasPending s i
@@ -150,7 +154,8 @@ with_started c i lane = with_run_by (with_cancelled i lane) c (option_map begun 
 
 -- it waits for item b in this way, with this mark, and has made one more wait
 abbrev pub waiting_for : Bool → ℕ → ℕ → Running → Running
-waiting_for whole b mark r = record r { made = r.made + 1; waiting = Some (record { target = b; whole = whole; mark = mark }) }
+waiting_for whole b mark r =
+    record r { made = r.made + 1; waiting = Some (record { target = b; whole = whole; mark = mark }) }
 
 -- it no longer waits
 abbrev pub going_on : Running → Running
@@ -198,8 +203,10 @@ abbrev pub GivesIn : State → ℕ → ℕ → HelpStep → ℕ → Type 0
 GivesIn s q c (DoStart i) n = (e : Entry) × (pending_of (lane_at s q) i ≡ Some e) × (e.number ≡ n)
 GivesIn s q c (DoWait b) n = n ≡ s.next
 GivesIn s q c (DoWaitAll b) n = n ≡ s.next
-GivesIn s q c (DoOver b) n = (r : Running) × RunsIn (lane_at s q) c r × ((f : Waiting) × (r.waiting ≡ Some f) × (f.mark ≡ n))
-GivesIn s q c (DoOverAll b) n = (r : Running) × RunsIn (lane_at s q) c r × ((f : Waiting) × (r.waiting ≡ Some f) × (f.mark ≡ n))
+GivesIn s q c (DoOver b) n =
+    (r : Running) × RunsIn (lane_at s q) c r × ((f : Waiting) × (r.waiting ≡ Some f) × (f.mark ≡ n))
+GivesIn s q c (DoOverAll b) n =
+    (r : Running) × RunsIn (lane_at s q) c r × ((f : Waiting) × (r.waiting ≡ Some f) × (f.mark ≡ n))
 GivesIn s q c (DoFinish i) n = (r : Running) × RunsIn (lane_at s q) c r × (r.entry.number ≡ n)
 
 -- the number of the entry that is queued or cancelled; of a step of a context, as above

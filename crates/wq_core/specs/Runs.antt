@@ -1,12 +1,14 @@
 -- Runs: lists of steps of any length, each lawful when it is made.
-use Rattle.std.specs.Prelude.{◌≡◌, ℕ, ◌<◌, List, [], ◌∷◌, length, slice_get, ⊤, MatchBool, Some, Bool, true, false, ◌==◌}
+use Rattle.std.specs.Prelude.{◌≡◌, ℕ, ◌<◌, List, [], ◌∷◌, length, slice_get, ⊤, MatchBool, Some, Bool, true, false}
+use Rattle.std.specs.Prelude.{◌==◌}
 use Rattle.std.specs.List.{All, count_by}
 use Rattle.wq_items.specs.declared.target.Target.{Target}
 use Rattle.wq_core.specs.declared.entry.Running.{Running}
 use Rattle.wq_core.specs.declared.step.Step.{Step}
 use Rattle.wq_core.specs.declared.step.Step.TheVariants.{Queue, Cancel, Start, Wait, WaitAll, Finish, Help}
 use Rattle.wq_core.specs.declared.step.HelpStep.{HelpStep}
-use Rattle.wq_core.specs.declared.step.HelpStep.TheVariants.{Start as DoStart, Wait as DoWait, WaitAll as DoWaitAll, Finish as DoFinish}
+use Rattle.wq_core.specs.declared.step.HelpStep.TheVariants.{Start as DoStart, Wait as DoWait, WaitAll as DoWaitAll}
+use Rattle.wq_core.specs.declared.step.HelpStep.TheVariants.{Finish as DoFinish}
 use Rattle.wq_core.specs.Wiring.{Wiring, HasRescuer, items, declared_by}
 use Rattle.wq_core.specs.State.{State, lane_at, empty_state, RunsIn}
 use Rattle.wq_core.specs.Rules.{Lawful, effect}
@@ -53,8 +55,8 @@ abbrev pub GoesOn : HelpStep → Type 0
 GoesOn (DoStart i) = ⊥
 GoesOn _ = ⊤
 
--- any step but a queueing, a cancellation, a helper's start and a start on a bare lane: what goes on though nobody queues or
--- cancels, and no helper and no worker comes
+-- any step but a queueing, a cancellation, a helper's start and a start on a bare lane: what goes on though nobody
+-- queues or cancels, and no helper and no worker comes
 abbrev pub IsForcedStep : Wiring → Step → Type 0
 IsForcedStep w (Queue i) = ⊥
 IsForcedStep w (Cancel i) = ⊥
@@ -69,12 +71,13 @@ abbrev pub IsNextWait : Wiring → State → ℕ → ℕ → Bool → ℕ → Ty
 IsNextWait w s q c whole b = (r : Running) × RunsIn (lane_at s q) c r
     × ((t : Target) × (slice_get (declared_by w r.entry.item) r.made ≡ Some t) × (t.item ≡ b) × (t.whole ≡ whole))
 
--- this deed of context c of lane q is in the declared order: its next wait is for the next declared target, of the kind that is
--- declared there, and it finishes after the last
+-- this deed of context c of lane q is in the declared order: its next wait is for the next declared target, of the kind
+-- that is declared there, and it finishes after the last
 abbrev pub KeepsOrderIn : Wiring → State → ℕ → ℕ → HelpStep → Type 0
 KeepsOrderIn w s q c (DoWait b) = IsNextWait w s q c false b
 KeepsOrderIn w s q c (DoWaitAll b) = IsNextWait w s q c true b
-KeepsOrderIn w s q c (DoFinish i) = (r : Running) × RunsIn (lane_at s q) c r × (r.made ≡ length (declared_by w r.entry.item))
+KeepsOrderIn w s q c (DoFinish i) =
+    (r : Running) × RunsIn (lane_at s q) c r × (r.made ≡ length (declared_by w r.entry.item))
 KeepsOrderIn w s q c _ = ⊤
 
 -- what runs keeps to the order of its declaration, in each context

@@ -1,12 +1,13 @@
 -- States: what is queued and what runs, lane by lane.
-use Rattle.std.specs.Prelude.{◌≡◌, ℕ, zero, suc, ◌<◌, ◌==◌, ◌||◌, not, Bool, false, ◌⊎◌, List, [], replicate, find, slice_index_or, slice_set, Option, Some, None, Contains}
+use Rattle.std.specs.Prelude.{◌≡◌, ℕ, zero, suc, ◌<◌, ◌==◌, ◌||◌, not, Bool, false, ◌⊎◌, List, [], replicate, find}
+use Rattle.std.specs.Prelude.{slice_index_or, slice_set, Option, Some, None, Contains}
 use Rattle.std.specs.List.{list_any}
 use Rattle.wq_core.specs.declared.entry.Entry.{Entry}
 use Rattle.wq_core.specs.declared.entry.Running.{Running}
 use Rattle.wq_core.specs.Wiring.{Wiring, max_helpers}
 
--- the entries that are pending on a lane, the oldest first; what its rescuer runs; and what each of its helpers runs, helper 1
--- first. There is a place for each helper that a lane may have
+-- the entries that are pending on a lane, the oldest first; what its rescuer runs; and what each of its helpers runs,
+-- helper 1 first. There is a place for each helper that a lane may have
 pub record Lane : Type 0 where
   pub pending : List Entry
   pub running : Option Running

@@ -4,7 +4,8 @@ use Rattle.wq_core.specs.declared.entry.Entry.{Entry}
 use Rattle.wq_core.specs.declared.entry.Waiting.{Waiting}
 use Rattle.wq_core.specs.declared.entry.Running.{Running}
 use Rattle.wq_core.specs.declared.step.HelpStep.{HelpStep}
-use Rattle.wq_core.specs.declared.step.HelpStep.TheVariants.{Start as DoStart, Wait as DoWait, WaitAll as DoWaitAll, Over as DoOver, OverAll as DoOverAll, Finish as DoFinish}
+use Rattle.wq_core.specs.declared.step.HelpStep.TheVariants.{Start as DoStart, Wait as DoWait, WaitAll as DoWaitAll}
+use Rattle.wq_core.specs.declared.step.HelpStep.TheVariants.{Over as DoOver, OverAll as DoOverAll, Finish as DoFinish}
 use Rattle.wq_core.specs.Wiring.{Wiring, declared_by}
 use Rattle.wq_core.specs.State.{Lane, State, run_by}
 
@@ -17,7 +18,8 @@ abbrev pub waits_over : ℕ → Option Waiting → ℕ
 waits_over made None = made
 waits_over made (Some flush) = made - 1
 
--- what is left of a running entry: all of it except its start, the waits that it has made, and the ends of those that are over
+-- what is left of a running entry: all of it except its start, the waits that it has
+-- made, and the ends of those that are over
 abbrev pub running_work : Wiring → Option Running → ℕ
 running_work w None = 0
 running_work w (Some r) = whole_work w r.entry.item - (1 + r.made + waits_over r.made r.waiting)

@@ -1,7 +1,7 @@
 //! The parts of a machine, made from a declaration and an assignment.
 //!
-//! Each part takes memory in the number of what it lists: the items, or the lanes. It takes time in that number, and in the number
-//! of groups. An empty list takes no memory.
+//! Each part takes memory in the number of what it lists: the items, or the lanes. It takes time in that number, and in
+//! the number of groups. An empty list takes no memory.
 
 ghost use Rattle.std.specs.Prelude.{◌≡◌, ◌<◌, ◌≤◌, length, map, replicate, IfOk, OnErr, false};
 ghost use Rattle.std.specs.List.{All, range_with_len};
@@ -33,7 +33,8 @@ fn count_items<A: Allocator + Copy>(
 ) -> Result<Vec<LaneShape, A>, AllocError>
     requires few { length lane_of_item.now ≤ 4096 }
     requires within { All (λ l. l < lanes) lane_of_item.now }
-    ensures shapes { IfOk result (λ shapes. shapes.items ≡ map (counted_shape lane_of_item.now) (range_with_len 0 lanes)) }
+    ensures shapes { IfOk result (λ shapes. shapes.items
+        ≡ map (counted_shape lane_of_item.now) (range_with_len 0 lanes)) }
     ensures memory { OnErr result (0 < lanes) }
 {
     let mut shapes = empty_shapes(alloc, lanes)?;

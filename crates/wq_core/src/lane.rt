@@ -1,17 +1,19 @@
 //! A lane: what is queued on it, and what its contexts run.
 //!
-//! It changes as "Rules" in the specs of this crate says, in terms of one lane alone. `cancel`, `start` and `last_below` find an
-//! entry in time in the logarithm of the number of pending entries, `start` the first one in constant time. `cancel` and `start`
-//! then move those before or after it, whichever are fewer. Each other call takes constant time, since a lane has few contexts.
-//! Only `new` takes memory.
+//! It changes as "Rules" in the specs of this crate says, in terms of one lane alone. `cancel`, `start` and
+//! `last_below` find an entry in time in the logarithm of the number of pending entries, `start` the first one in
+//! constant time. `cancel` and `start` then move those before or after it, whichever are fewer. Each other call takes
+//! constant time, since a lane has few contexts. Only `new` takes memory.
 
-ghost use Rattle.std.specs.Prelude.{◌≡◌, ◌≢◌, ◌<◌, ◌≤◌, ◌+◌, ◌^◌, ◌↔◌, Option, None, Some, length, replicate, AllPairs, IfOk, OnErr, IfSome, IfNone, IsTrue, slice_get};
+ghost use Rattle.std.specs.Prelude.{◌≡◌, ◌≢◌, ◌<◌, ◌≤◌, ◌+◌, ◌^◌, ◌↔◌, Option, None, Some, length, replicate, AllPairs};
+ghost use Rattle.std.specs.Prelude.{IfOk, OnErr, IfSome, IfNone, IsTrue, slice_get};
 ghost use Rattle.std.specs.List.{All, list_any};
 ghost use Rattle.std.specs.VecDeque.Iter.{deque_iter_rest};
 ghost use Rattle.wq_core.specs.declared.entry.Entry.{Entry};
 ghost use Rattle.wq_core.specs.declared.entry.Running.{Running};
 ghost use Rattle.wq_core.specs.Wiring.{max_helpers};
-ghost use Rattle.wq_core.specs.State.{run_by, with_run_by, runs_item, is_running, next_of, IsPendingOn, IsRunOn, IsUnfinishedOn, IsBusy, IsBusyBelow};
+ghost use Rattle.wq_core.specs.State.{run_by, with_run_by, runs_item, is_running, next_of, IsPendingOn, IsRunOn};
+ghost use Rattle.wq_core.specs.State.{IsUnfinishedOn, IsBusy, IsBusyBelow};
 ghost use Rattle.wq_core.specs.Held.{IsRising, IsRunAmong, runs_below, lane_runs_below};
 ghost use Rattle.wq_core.specs.Building.{idle_of_shape};
 ghost use Rattle.wq_core.specs.Rules.{with_queued, with_cancelled, with_started, with_wait, with_over, with_finished};
@@ -35,8 +37,8 @@ pub struct LaneShape {
     pub ordered: bool,
 }
 
-/// What is queued on a lane, the next one first, and what runs. Contracts see these, how many entries there is room for, and how
-/// many helpers there are.
+/// What is queued on a lane, the next one first, and what runs. Contracts see these, how many entries there is room
+/// for, and how many helpers there are.
 #[derive(Drop)]
 pub struct Lane<A: Allocator> {
     pending: VecDeque<Entry, A>,
@@ -145,8 +147,8 @@ fn idle_places<A: Allocator + Copy>(
 }
 
 impl<A: Allocator + Copy> Lane<A> {
-    /// An idle lane of this shape, with this many helpers unless it is ordered. The only error is out of memory (20), which can't
-    /// occur where there are no items and no helpers.
+    /// An idle lane of this shape, with this many helpers unless it is ordered. The only error is out of memory (20),
+    /// which can't occur where there are no items and no helpers.
     pub fn new(alloc: A, shape: LaneShape, helpers: u8) -> Result<Self, AllocError>
         requires { helpers ≤ max_helpers }
         ensures lane { IfOk result (λ l. l ≡ idle_of_shape helpers shape) }
@@ -256,7 +258,8 @@ impl<A: Allocator> Lane<A> {
         first_below(mark, self.helping.as_slice())
     }
 
-    /// Whether an unfinished entry has a number below the mark. The numbers of the pending ones rise, so the first one tells.
+    /// Whether an unfinished entry has a number below the mark. The numbers of the
+    /// pending ones rise, so the first one tells.
     pub(crate) fn is_busy_below(&self, mark: u32) -> bool
         requires { IsRising self.now.lane.pending }
         ensures { IsTrue result ↔ IsBusyBelow self.now.lane mark }
@@ -269,8 +272,8 @@ impl<A: Allocator> Lane<A> {
         self.running_below(mark).is_some()
     }
 
-    /// The last pending entry with a number below the mark, or one that runs where none has one. None where no unfinished entry
-    /// has a number below the mark.
+    /// The last pending entry with a number below the mark, or one that runs where none has one. None where no
+    /// unfinished entry has a number below the mark.
     pub(crate) fn last_below(&self, mark: u32) -> Option<Entry>
         requires { IsRising self.now.lane.pending }
         ensures some { IfSome result (λ e. IsUnfinishedOn self.now.lane e × (e.number < mark)) }

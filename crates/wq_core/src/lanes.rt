@@ -1,7 +1,7 @@
 //! All lanes. They are changed one at a time.
 //!
-//! The machine holds its lanes only here, so that a change of one lane is seen to leave the others as they are. `new` and
-//! `are_idle` take time in the number of lanes. Each other call takes constant time. Only `new` takes memory.
+//! The machine holds its lanes only here, so that a change of one lane is seen to leave the others as they are. `new`
+//! and `are_idle` take time in the number of lanes. Each other call takes constant time. Only `new` takes memory.
 
 ghost use Rattle.std.specs.Prelude.{◌≡◌, ◌<◌, ◌≤◌, ◌↔◌, length, map, slice_get, Some, IfOk, OnErr, IsTrue};
 ghost use Rattle.std.specs.List.{All};
@@ -45,8 +45,8 @@ fn all_idle<A: Allocator>(lanes: &[Lane<A>]) -> bool
 }
 
 impl<A: Allocator + Copy> Lanes<A> {
-    /// Idle lanes of these shapes, each with this many helpers unless it is ordered. The only error is out of memory (20), which
-    /// can't occur where there is no lane.
+    /// Idle lanes of these shapes, each with this many helpers unless it is ordered. The only error is out of memory
+    /// (20), which can't occur where there is no lane.
     pub fn new(alloc: A, shapes: &[LaneShape], helpers: u8) -> Result<Self, AllocError>
         requires { helpers ≤ max_helpers }
         ensures lanes { IfOk result (λ lanes. lanes ≡ map (idle_of_shape helpers) shapes.now) }

@@ -10,17 +10,19 @@ ghost use Rattle.wq_groups.specs.Declaration.{Declaration, IsDeclaration, GroupW
 ghost use Rattle.wq_groups.specs.Assignment.{Assignment, IsAssignment, group_lane};
 ghost use Rattle.wq_core.specs.declared.entry.Running.{Running};
 ghost use Rattle.wq_core.specs.declared.step.Step.{Step};
-ghost use Rattle.wq_core.specs.Wiring.{Wiring, IsWiring, HasRescuer, LaneWaits, RescuedWaits, wiring, with_helpers, max_helpers, lane_of};
+ghost use Rattle.wq_core.specs.Wiring.{Wiring, IsWiring, HasRescuer, LaneWaits, RescuedWaits, wiring, with_helpers};
+ghost use Rattle.wq_core.specs.Wiring.{max_helpers, lane_of};
 ghost use Rattle.wq_core.specs.State.{State, lane_at, RunsIn, HasUnfinished};
 ghost use Rattle.wq_core.specs.Rules.{Lawful, Gives};
-ghost use Rattle.wq_core.specs.Runs.{IsRun, IsRunFrom, end_of, IsRescuerStep, IsForcedStep, IsCancel, HasNoHelp, is_rescuer_step};
+ghost use Rattle.wq_core.specs.Runs.{IsRun, IsRunFrom, end_of, IsRescuerStep, IsForcedStep, IsCancel, HasNoHelp};
+ghost use Rattle.wq_core.specs.Runs.{is_rescuer_step};
 ghost use Rattle.wq_core.specs.Deadlock.{IsStuck, IsSafe, DeadlocksBy, Deadlocks, IsLeast};
 ghost use Rattle.wq_core.specs.Played.{CanMove, IsDeclaredStep, IsPlayedFrom, queue_order};
 ghost use Rattle.wq_core.specs.Knot.{IsKnot};
 ghost use Rattle.wq_core.specs.Work.{work_left};
 
-/// A declaration and an assignment of its groups have a wiring, and what holds of every wiring holds of it: each item has one of
-/// the lanes, and each target is an item.
+/// A declaration and an assignment of its groups have a wiring, and what holds of every wiring holds of it: each item
+/// has one of the lanes, and each target is an item.
 pub fn wirings_are_sound()
     ensures { (d : Declaration) (a : Assignment) → IsDeclaration d → IsAssignment d.groups a → IsWiring (wiring d a) }
 {}
@@ -36,17 +38,18 @@ pub fn a_step_gives_a_number()
     ensures { (w : Wiring) (s : State) (step : Step) → Lawful w s step → (n : ℕ) × Gives s step n }
 {}
 
-/// Where nothing more is queued, the rescuers and the helpers make at most as many steps as there is work left, whatever the
-/// order, and whatever is cancelled in between.
+/// Where nothing more is queued, the rescuers and the helpers make at most as many steps as there is work left,
+/// whatever the order, and whatever is cancelled in between.
 pub fn rescuer_steps_are_bounded()
     ensures { (w : Wiring) (steps more : List Step) → IsRun w steps →
         All (λ (step : Step). IsRescuerStep step ⊎ IsCancel step) more → IsRunFrom w (end_of w steps) more →
         count_by is_rescuer_step more ≤ work_left w (end_of w steps) }
 {}
 
-/// Where each lane has a rescuer, and the lanes have numbers that fall along every declared flush, from the lane of the item that
-/// waits to that of its target, no run ends stuck, whatever the number of helpers. With bare lanes it is enough that this holds of
-/// each flush of an item whose lane has a rescuer, and that the lane of its target has one, too.
+/// Where each lane has a rescuer, and the lanes have numbers that fall along every declared
+/// flush, from the lane of the item that waits to that of its target, no run ends stuck,
+/// whatever the number of helpers. With bare lanes it is enough that this holds of each
+/// flush of an item whose lane has a rescuer, and that the lane of its target has one, too.
 pub fn falling_numbers_are_safe()
     ensures all_rescued { (w : Wiring) (number : ℕ → ℕ) → w.bare ≡ [] →
         ((i j : ℕ) → ItemWaits w.waits i j → number (lane_of w j) < number (lane_of w i)) → IsSafe w }
@@ -67,12 +70,15 @@ pub fn a_lane_that_can_move_has_a_declared_step()
         CanMove w (end_of w steps) q → (step : Step) × IsDeclaredStep w (end_of w steps) q step }
 {}
 
-/// Where no run ends stuck: if a run leaves a state in which no step is lawful but queueings, cancellations, starts of helpers and
-/// starts on bare lanes, nothing is unfinished in that state where each lane has a rescuer, and else nothing on such lanes.
+/// Where no run ends stuck: if a run leaves a state in which no step is lawful but
+/// queueings, cancellations, starts of helpers and starts on bare lanes, nothing is
+/// unfinished in that state where each lane has a rescuer, and else nothing on such lanes.
 pub fn at_rest_nothing_is_unfinished()
-    ensures all_rescued { (w : Wiring) (steps : List Step) → w.bare ≡ [] → w.helpers ≤ max_helpers → IsSafe w → IsRun w steps →
+    ensures all_rescued { (w : Wiring) (steps : List Step) → w.bare ≡ [] → w.helpers ≤ max_helpers → IsSafe w →
+        IsRun w steps →
         ((step : Step) → IsForcedStep w step → ¬ Lawful w (end_of w steps) step) → ¬ HasUnfinished (end_of w steps) }
-    ensures rescued { (w : Wiring) (steps : List Step) (left : HasUnfinished (end_of w steps)) → w.helpers ≤ max_helpers →
+    ensures rescued { (w : Wiring) (steps : List Step) (left : HasUnfinished (end_of w steps)) →
+        w.helpers ≤ max_helpers →
         IsSafe w → IsRun w steps → ((step : Step) → IsForcedStep w step → ¬ Lawful w (end_of w steps) step) →
         ¬ HasRescuer w left.lane }
 {}
@@ -84,8 +90,8 @@ pub fn an_item_runs_in_one_context()
         r.entry.item ≡ x.entry.item → (q ≡ p) × (c ≡ d) }
 {}
 
-/// Steps without a helper's are a run under any number of helpers exactly where they are one under none; they leave the same
-/// state, are stuck alike, and deadlock alike.
+/// Steps without a helper's are a run under any number of helpers exactly where they are one under none; they leave the
+/// same state, are stuck alike, and deadlock alike.
 pub fn helpers_change_no_run_without_them()
     ensures run { (w : Wiring) (n : ℕ) (steps : List Step) → HasNoHelp steps →
         IsRun (with_helpers w n) steps ↔ IsRun (with_helpers w 0) steps }
@@ -107,8 +113,8 @@ pub fn lanes_come_to_wait_in_a_circle()
     ensures of_a_circle { (d : Declaration) (a : Assignment) → Circle (GroupWaits d) → Circle (LaneWaits (wiring d a)) }
 {}
 
-/// Where items hold one another up, or a bare lane does, the run that queues them before all others and is then played to its end
-/// deadlocks.
+/// Where items hold one another up, or a bare lane does, the run that queues them
+/// before all others and is then played to its end deadlocks.
 pub fn a_knot_deadlocks()
     ensures { (w : Wiring) (knot : List ℕ) (steps : List Step) → IsWiring w → IsKnot w knot →
         IsPlayedFrom w (end_of w (queue_order w knot)) steps → DeadlocksBy w (queue_order w knot ++ steps) }
@@ -120,18 +126,19 @@ pub fn lanes_that_wait_in_a_circle_deadlock()
     ensures rescued { (w : Wiring) → IsWiring w → Circle (RescuedWaits w) → Deadlocks w }
 {}
 
-/// Where an item on a lane that has a rescuer waits for an item on a bare lane, there is a deadlock: queue the item that waits before
-/// all others, and play what is queued to its end.
+/// Where an item on a lane that has a rescuer waits for an item on a bare lane, there is a deadlock: queue the item
+/// that waits before all others, and play what is queued to its end.
 pub fn a_wait_for_a_bare_lane_deadlocks()
-    ensures run { (w : Wiring) (i j : ℕ) (steps : List Step) → IsWiring w → ItemWaits w.waits i j → HasRescuer w (lane_of w i) →
+    ensures run { (w : Wiring) (i j : ℕ) (steps : List Step) → IsWiring w → ItemWaits w.waits i j →
+        HasRescuer w (lane_of w i) →
         (¬ HasRescuer w (lane_of w j)) → IsPlayedFrom w (end_of w (queue_order w (i ∷ []))) steps →
         DeadlocksBy w (queue_order w (i ∷ []) ++ steps) }
     ensures deadlocks { (w : Wiring) (i j : ℕ) → IsWiring w → ItemWaits w.waits i j → HasRescuer w (lane_of w i) →
         (¬ HasRescuer w (lane_of w j)) → Deadlocks w }
 {}
 
-/// Where as many groups as there are lanes wait for one another in a chain, an assignment whose lanes fall along all waits of
-/// groups is least.
+/// Where as many groups as there are lanes wait for one another in a chain, an
+/// assignment whose lanes fall along all waits of groups is least.
 pub fn a_chain_as_long_shows_the_least()
     ensures { (d : Declaration) (a : Assignment) (groups : List ℕ) → IsDeclaration d → IsAssignment d.groups a →
         ((g h : ℕ) → GroupWaits d g h → group_lane a h < group_lane a g) →

@@ -1,22 +1,25 @@
 //! The machine: its wiring, its state, and the steps that change it.
 //!
-//! The rules are those of "Rules" in the specs of this crate. The number of an item's pending entry is kept beside the lanes, so
-//! a question about an item takes constant time. So does each step, and the question which number it would give, with two
-//! exceptions. A cancellation takes time in the logarithm of the number of entries that are pending on the lane, and moves those
-//! before or after the one that is removed, whichever are fewer. A wait takes time in the logarithm of the number of the item's
-//! targets. Only `new` and `with_helpers` take memory. They take memory in the number of items, flushes, lanes and helpers; their
-//! time is that times the logarithm of the flushes of one item.
+//! The rules are those of "Rules" in the specs of this crate. The number of an item's pending entry is kept beside the
+//! lanes, so a question about an item takes constant time. So does each step, and the question which number it would
+//! give, with two exceptions. A cancellation takes time in the logarithm of the number of entries that are pending on
+//! the lane, and moves those before or after the one that is removed, whichever are fewer. A wait takes time in the
+//! logarithm of the number of the item's targets. Only `new` and `with_helpers` take memory. They take memory in the
+//! number of items, flushes, lanes and helpers; their time is that times the logarithm of the flushes of one item.
 
-ghost use Rattle.std.specs.Prelude.{◌≡◌, ◌<◌, ◌≤◌, length, slice_get, Some, IfSome, IfNone, OnSome, IfOk, OnErr, IfErr, IsTrue, ◌↔◌, take};
+ghost use Rattle.std.specs.Prelude.{◌≡◌, ◌<◌, ◌≤◌, length, slice_get, Some, IfSome, IfNone, OnSome, IfOk, OnErr, IfErr};
+ghost use Rattle.std.specs.Prelude.{IsTrue, ◌↔◌, take};
 ghost use Rattle.wq_items.specs.Table.{ItemWaitsBy};
 ghost use Rattle.wq_groups.specs.Declaration.{declaration_of};
 ghost use Rattle.wq_core.specs.declared.step.StepError.{StepError};
 ghost use Rattle.wq_core.specs.declared.step.Step.TheVariants.{Queue, Cancel, Start, Help};
 ghost use Rattle.wq_core.specs.declared.step.HelpStep.TheVariants.{Start as DoStart, Finish as DoFinish};
 ghost use Rattle.wq_core.specs.Wiring.{HasRescuer, max_helpers, helpers_of, HasContext, items, lane_of, declared_by};
-ghost use Rattle.wq_core.specs.State.{lane_at, run_by, next_of, IsPendingOn, HasPending, HasUnfinishedBelow, HasUnfinishedOf, HasUnfinished, IsBusyBelow};
+ghost use Rattle.wq_core.specs.State.{lane_at, run_by, next_of, IsPendingOn, HasPending, HasUnfinishedBelow};
+ghost use Rattle.wq_core.specs.State.{HasUnfinishedOf, HasUnfinished, IsBusyBelow};
 ghost use Rattle.wq_core.specs.Rules.{IsHeldBack, step_in, wait_deed, over_deed};
-ghost use Rattle.wq_core.specs.Held.{IsMachine, IsNumberOf, IsDone, IsRefusal, AreDone, machine_after, HasPendingBelow, RunsBelow, IsRising};
+ghost use Rattle.wq_core.specs.Held.{IsMachine, IsNumberOf, IsDone, IsRefusal, AreDone, machine_after, HasPendingBelow};
+ghost use Rattle.wq_core.specs.Held.{RunsBelow, IsRising};
 ghost use Rattle.wq_core.specs.Building.{first_machine, first_machine_on, first_machine_with};
 
 use crate::building::lane_shapes;
@@ -55,10 +58,11 @@ impl<A: Allocator> Model for Core<A> {
 }
 
 impl<A: Allocator + Copy> Core<A> {
-    /// Makes the machine of a declaration and an assignment, without helpers, before anything is queued: of a table, the groups of
-    /// its items, and the lane of each group.
+    /// Makes the machine of a declaration and an assignment, without helpers, before anything is queued: of a table,
+    /// the groups of its items, and the lane of each group.
     ///
-    /// The only error is out of memory (20), which can't occur where there is no lane; any other machine holds lanes in memory.
+    /// The only error is out of memory (20), which can't occur where there is no
+    /// lane; any other machine holds lanes in memory.
     pub fn new(
         alloc: A,
         table: &ItemTable<'_, A>,
@@ -73,7 +77,8 @@ impl<A: Allocator + Copy> Core<A> {
         Core::with_helpers(alloc, table, groups, assignment, 0)
     }
 
-    /// Makes the machine in which each lane has this many helpers, at most 8, unless it holds a group of two or more items.
+    /// Makes the machine in which each lane has this many helpers, at most 8, unless
+    /// it holds a group of two or more items.
     ///
     /// The only error is out of memory (20), which can't occur where there is no lane.
     pub fn with_helpers(
@@ -86,7 +91,8 @@ impl<A: Allocator + Copy> Core<A> {
         requires grouped { length groups.now.group_of ≡ length table.now.names }
         requires assigned { length assignment.now.lane_of_group ≡ groups.now.groups }
         requires few { helpers ≤ max_helpers }
-        ensures machine { IfOk result (λ m. m ≡ first_machine_with (declaration_of table.now groups.now) assignment.now helpers) }
+        ensures machine { IfOk result (λ m. m
+            ≡ first_machine_with (declaration_of table.now groups.now) assignment.now helpers) }
         ensures memory { OnErr result (0 < assignment.now.lanes) }
     {
         Self::made(alloc, table, groups, assignment, Vec::new(alloc), helpers)
@@ -103,7 +109,8 @@ impl<A: Allocator + Copy> Core<A> {
     ) -> Result<Self, AllocError>
         requires grouped { length groups.now.group_of ≡ length table.now.names }
         requires assigned { length workqueues.now.assignment.lane_of_group ≡ groups.now.groups }
-        ensures machine { IfOk result (λ m. m ≡ first_machine_on (declaration_of table.now groups.now) workqueues.now 0) }
+        ensures machine { IfOk result (λ m. m
+            ≡ first_machine_on (declaration_of table.now groups.now) workqueues.now 0) }
         ensures memory { OnErr result (0 < workqueues.now.assignment.lanes) }
     {
         let bare = workqueues.bare_lanes(alloc)?;
@@ -123,7 +130,9 @@ impl<A: Allocator + Copy> Core<A> {
         requires assigned { length assignment.now.lane_of_group ≡ groups.now.groups }
         requires few { helpers ≤ max_helpers }
         ensures machine { IfOk result (λ m.
-            m ≡ first_machine_on (declaration_of table.now groups.now) (record { assignment = assignment.now; bare = bare.items }) helpers) }
+            m
+            ≡ first_machine_on (declaration_of table.now groups.now)
+            (record { assignment = assignment.now; bare = bare.items }) helpers) }
         ensures memory { OnErr result (0 < assignment.now.lanes) }
     {
         let _lanes = assignment.lanes();
@@ -208,8 +217,8 @@ impl<A: Allocator> Core<A> {
         self.lanes.lane(q)
     }
 
-    /// What the rescuer of a lane runs, with the waits that it has made and what it waits for; nothing where it runs nothing, or
-    /// where there is no such lane.
+    /// What the rescuer of a lane runs, with the waits that it has made and what it waits for; nothing where it runs
+    /// nothing, or where there is no such lane.
     pub fn running_on(&self, q: LaneId) -> Option<Running>
         ensures running { result ≡ (lane_at self.now.state q).running }
         ensures machine { IsMachine self.now }
@@ -221,8 +230,8 @@ impl<A: Allocator> Core<A> {
         }
     }
 
-    /// What a context runs, the rescuer of a lane, 0, or its helper of this number, with the waits that it has made and what it
-    /// waits for; nothing where it runs nothing, or where there is no such context.
+    /// What a context runs, the rescuer of a lane, 0, or its helper of this number, with the waits that it has made and
+    /// what it waits for; nothing where it runs nothing, or where there is no such context.
     pub fn running_in(&self, q: LaneId, helper: u8) -> Option<Running>
         ensures running { result ≡ run_by (lane_at self.now.state q) helper }
         ensures machine { IsMachine self.now }
@@ -234,8 +243,8 @@ impl<A: Allocator> Core<A> {
         }
     }
 
-    /// The entry that a context of a lane starts next, the first pending one whose item isn't running; none where there is no such
-    /// entry, or no such lane.
+    /// The entry that a context of a lane starts next, the first pending one whose item isn't running; none where there
+    /// is no such entry, or no such lane.
     pub fn next_on(&self, q: LaneId) -> Option<Entry>
         ensures next { result ≡ next_of (lane_at self.now.state q) }
         ensures machine { IsMachine self.now }
@@ -270,7 +279,8 @@ impl<A: Allocator> Core<A> {
 
     /// The pending entry of an item, where there is one.
     fn pending_entry(&self, item: ItemId) -> Option<Entry>
-        ensures some { IfSome result (λ e. IsPendingOn (lane_at self.now.state (lane_of self.now.wiring item)) e × (e.item ≡ item)) }
+        ensures some { IfSome result (λ e. IsPendingOn (lane_at self.now.state (lane_of self.now.wiring item)) e
+            × (e.item ≡ item)) }
         ensures item { OnSome result (item < items self.now.wiring) }
         ensures none { IfNone result (¬ HasPending self.now.state item) }
         ensures machine { IsMachine self.now }
@@ -300,8 +310,8 @@ impl<A: Allocator> Core<A> {
         }
     }
 
-    /// Whether an unfinished entry of an item, pending or running, has a number below the mark. An item that doesn't exist has
-    /// none.
+    /// Whether an unfinished entry of an item, pending or running, has a number
+    /// below the mark. An item that doesn't exist has none.
     pub fn unfinished_below(&self, item: ItemId, mark: u32) -> bool
         ensures { IsTrue result ↔ HasUnfinishedBelow self.now.state item mark }
     {
@@ -319,8 +329,8 @@ impl<A: Allocator> Core<A> {
         }
     }
 
-    /// Whether what a wait with this mark is for isn't done: an unfinished entry of the item has a lower number, or any unfinished
-    /// entry of its whole lane.
+    /// Whether what a wait with this mark is for isn't done: an unfinished entry of the item has a lower number, or any
+    /// unfinished entry of its whole lane.
     pub fn is_held_back(&self, whole: bool, target: ItemId, mark: u32) -> bool
         requires { target < items self.now.wiring }
         ensures { IsTrue result ↔ IsHeldBack self.now.wiring self.now.state whole target mark }
@@ -531,7 +541,8 @@ impl<A: Allocator> Core<A> {
     /// Starts the pending entry of an item in a context, and gives its number.
     fn start(&mut self, q: LaneId, helper: u8, item: ItemId) -> Result<u32, StepError>
         ensures done { IfOk result (λ n. IsDone self.old (step_in q helper (DoStart item)) n self.new) }
-        ensures refused { IfErr result (λ e. IsRefusal self.old (step_in q helper (DoStart item)) e × (self.new ≡ self.old)) }
+        ensures refused { IfErr result (λ e. IsRefusal self.old (step_in q helper (DoStart item)) e
+            × (self.new ≡ self.old)) }
     {
         let Some(number) = self.may_start(q, helper, item) else {
             return Err(StepError::NotLawful);
@@ -571,7 +582,8 @@ impl<A: Allocator> Core<A> {
     /// Finishes what a context runs, and gives the number of its entry.
     fn finish(&mut self, q: LaneId, helper: u8, item: ItemId) -> Result<u32, StepError>
         ensures done { IfOk result (λ n. IsDone self.old (step_in q helper (DoFinish item)) n self.new) }
-        ensures refused { IfErr result (λ e. IsRefusal self.old (step_in q helper (DoFinish item)) e × (self.new ≡ self.old)) }
+        ensures refused { IfErr result (λ e. IsRefusal self.old (step_in q helper (DoFinish item)) e
+            × (self.new ≡ self.old)) }
     {
         let Some(number) = self.may_finish(q, helper, item) else {
             return Err(StepError::NotLawful);
@@ -598,8 +610,8 @@ impl<A: Allocator> Core<A> {
         }
     }
 
-    /// The number that a step would give; none where it wouldn't be made, because it isn't lawful (30) or the numbers are used up
-    /// (31).
+    /// The number that a step would give; none where it wouldn't be made, because it
+    /// isn't lawful (30) or the numbers are used up (31).
     #[inline(always)]
     pub fn peek(&self, step: &Step) -> Option<u32>
         ensures some { IfSome result (λ n. IsDone self.now step.now n (machine_after self.now step.now)) }
@@ -621,11 +633,11 @@ impl<A: Allocator> Core<A> {
         }
     }
 
-    /// Makes a step, and gives the number of the entry that is queued, removed, started or finished, or the mark of the wait that
-    /// begins or is over.
+    /// Makes a step, and gives the number of the entry that is queued, removed,
+    /// started or finished, or the mark of the wait that begins or is over.
     ///
-    /// The error is `NotLawful` (30) exactly where the step isn't lawful, or `NumbersUsedUp` (31) exactly where a lawful queueing
-    /// would get the number 4,294,967,295. After an error nothing is changed.
+    /// The error is `NotLawful` (30) exactly where the step isn't lawful, or `NumbersUsedUp` (31) exactly where a
+    /// lawful queueing would get the number 4,294,967,295. After an error nothing is changed.
     #[inline(always)]
     pub fn step(&mut self, step: Step) -> Result<u32, StepError>
         ensures done { IfOk result (λ n. IsDone self.old step n self.new) }
@@ -646,7 +658,8 @@ impl<A: Allocator> Core<A> {
 
     /// Makes the steps of a list in order, up to the first that isn't made.
     ///
-    /// The error has the index of that step, from 0, and the cause. The steps before it are made, and those after it aren't.
+    /// The error has the index of that step, from 0, and the cause. The steps before
+    /// it are made, and those after it aren't.
     pub fn run(&mut self, steps: &[Step]) -> Result<(), RunError>
         requires { length steps.now < 4294967295 }
         ensures done { IfOk result (λ _. AreDone self.old steps.now self.new) }

@@ -1,7 +1,7 @@
 //! The number of each item's pending entry.
 //!
-//! The entries are on the lanes. Here the entry of an item is found without a look at its lane. Each call takes constant time,
-//! except for `new`, which takes time and memory in the number of items.
+//! The entries are on the lanes. Here the entry of an item is found without a look at its lane. Each call takes
+//! constant time, except for `new`, which takes time and memory in the number of items.
 
 ghost use Rattle.std.specs.Prelude.{◌≡◌, ◌<◌, length, replicate, slice_index_or, slice_set, Some, None, IfOk, OnErr};
 
@@ -24,8 +24,8 @@ impl<A: Allocator> Model for PendingNumbers<A> {
 }
 
 impl<A: Allocator> PendingNumbers<A> {
-    /// Numbers for this many items, none of which has a pending entry. The only error is out of memory (20), which can't occur
-    /// where there is no item.
+    /// Numbers for this many items, none of which has a pending entry. The only error is out of memory (20), which
+    /// can't occur where there is no item.
     pub(crate) fn new(alloc: A, items: u16) -> Result<Self, AllocError>
         ensures numbers { IfOk result (λ p. p ≡ replicate items None) }
         ensures memory { OnErr result (0 < items) }

@@ -1,10 +1,12 @@
-//! Questions about a lane: whether it can move, its next step where what runs flushes as declared, and what holds a wait back.
+//! Questions about a lane: whether it can move, its next step where what runs
+//! flushes as declared, and what holds a wait back.
 //!
-//! A lane moves by the steps of its contexts, by the rules of "Rules" in the specs of this crate: an idle rescuer starts what is
-//! queued and doesn't run, what waits goes on once its wait is over, and anything else that runs can finish. A helper needn't start
-//! anything, so a start of a helper isn't counted. What flushes as declared waits for the targets of its item in their order, and
-//! finishes after the last one. `declared` takes constant time, `enabled` takes time in the number of lanes and of helpers, and
-//! `holder` in the logarithm of the number of entries that are pending on a lane. Nothing takes memory.
+//! A lane moves by the steps of its contexts, by the rules of "Rules" in the specs of this crate: an idle rescuer
+//! starts what is queued and doesn't run, what waits goes on once its wait is over, and anything else that runs can
+//! finish. A helper needn't start anything, so a start of a helper isn't counted. What flushes as declared waits for
+//! the targets of its item in their order, and finishes after the last one. `declared` takes constant time, `enabled`
+//! takes time in the number of lanes and of helpers, and `holder` in the logarithm of the number of entries that are
+//! pending on a lane. Nothing takes memory.
 
 ghost use Rattle.std.specs.Prelude.{◌≡◌, ◌<◌, ◌↔◌, ℕ, IsTrue, IfSome, IfNone, None, Some, slice_get};
 ghost use Rattle.wq_core.specs.declared.step.Step.{Step};
@@ -24,7 +26,8 @@ use wq_items::{ItemId, Target};
 impl<A: Allocator> Core<A> {
     /// The entry that an idle rescuer starts next. A bare lane has no rescuer, so nobody is sure to start one there.
     fn starts_next(&self, q: LaneId) -> Option<Entry>
-        ensures some { IfSome result (λ e. HasRescuer self.now.wiring q × (next_of (lane_at self.now.state q) ≡ Some e)) }
+        ensures some { IfSome result (λ e. HasRescuer self.now.wiring q
+            × (next_of (lane_at self.now.state q) ≡ Some e)) }
         ensures none { IfNone result (HasRescuer self.now.wiring q → next_of (lane_at self.now.state q) ≡ None) }
     {
         if self.has_rescuer(q) {
@@ -81,9 +84,9 @@ impl<A: Allocator> Core<A> {
         self.rescuer_can_move(q) || self.a_helper_goes_on(q)
     }
 
-    /// An item that holds back a wait for an item or for its whole lane, with this mark: an unfinished entry of it has a number
-    /// below the mark, and is waited for. It is the item that is waited for, or that of the last such entry that is pending on its
-    /// lane, or of one that runs there. None only where nothing holds the wait back.
+    /// An item that holds back a wait for an item or for its whole lane, with this mark: an unfinished entry of it has
+    /// a number below the mark, and is waited for. It is the item that is waited for, or that of the last such entry
+    /// that is pending on its lane, or of one that runs there. None only where nothing holds the wait back.
     pub fn holder(&self, whole: bool, target: ItemId, mark: u32) -> Option<ItemId>
         requires { target < items self.now.wiring }
         ensures some { IfSome result (λ i. IsHolder self.now.wiring self.now.state whole target mark i) }
@@ -101,8 +104,8 @@ impl<A: Allocator> Core<A> {
         }
     }
 
-    /// The lowest lane that can make a step: a start of its rescuer, if it has one, or a wait, the end of a wait or a finish of any of
-    /// its contexts. None only where no lane can.
+    /// The lowest lane that can make a step: a start of its rescuer, if it has one, or a wait, the end of a wait or a
+    /// finish of any of its contexts. None only where no lane can.
     pub fn enabled(&self) -> Option<LaneId>
         ensures some { IfSome result (λ q. CanMove self.now.wiring self.now.state q
             × ((p : ℕ) → p < q → ¬ CanMove self.now.wiring self.now.state p)) }
@@ -127,8 +130,8 @@ impl<A: Allocator> Core<A> {
         self.waits(item).get(made as usize).copied()
     }
 
-    /// The step of an idle rescuer: it starts the first pending entry whose item isn't running, if there is one. A bare lane has no
-    /// such step.
+    /// The step of an idle rescuer: it starts the first pending entry whose item
+    /// isn't running, if there is one. A bare lane has no such step.
     fn declared_idle(&self, q: LaneId) -> Option<Step>
         requires { (lane_at self.now.state q).running ≡ None }
         ensures some { IfSome result (λ step. IsDeclaredStep self.now.wiring self.now.state q step) }
@@ -138,8 +141,8 @@ impl<A: Allocator> Core<A> {
         Some(Step::Start(q, next.item))
     }
 
-    /// The step of a rescuer that runs something. Where it waits, that is the end of the wait, if the wait is over. Otherwise it is
-    /// the next wait, or, after the last one, the finish.
+    /// The step of a rescuer that runs something. Where it waits, that is the end of the wait, if the wait is over.
+    /// Otherwise it is the next wait, or, after the last one, the finish.
     fn declared_running(&self, q: LaneId, running: Running) -> Option<Step>
         requires machine { IsMachine self.now }
         requires runs { Runs (lane_at self.now.state q) running }
@@ -161,9 +164,9 @@ impl<A: Allocator> Core<A> {
         }
     }
 
-    /// The step that the rescuer of a lane can make where what it runs flushes as declared: each execution waits for the targets
-    /// of its item in their order, and finishes after the last one. None only where it can make no such step, for example where
-    /// there is no such lane.
+    /// The step that the rescuer of a lane can make where what it runs flushes as declared: each execution waits for
+    /// the targets of its item in their order, and finishes after the last one. None only where it can make no such
+    /// step, for example where there is no such lane.
     pub fn declared(&self, q: LaneId) -> Option<Step>
         ensures some { IfSome result (λ step. IsDeclaredStep self.now.wiring self.now.state q step) }
         ensures none { IfNone result (HasNoDeclaredStep self.now.wiring self.now.state q) }

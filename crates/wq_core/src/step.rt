@@ -1,9 +1,10 @@
 //! Steps of the machine, and why a step isn't made.
 //!
-//! Queue and Cancel are `queue_work` and `cancel_work`. The other steps are what the rescuer of a workqueue does: it takes the next
-//! work (Start), whose function may call `flush_work` (Wait) or `flush_workqueue` (WaitAll), which return once the wait is over
-//! (Over, OverAll); and then the function ends (Finish). They are those of kernel/workqueue.c. A helper, as another worker of the
-//! workqueue, does the same (Help). Nothing is computed here, and each call takes constant time.
+//! Queue and Cancel are `queue_work` and `cancel_work`. The other steps are what the rescuer of a workqueue does: it
+//! takes the next work (Start), whose function may call `flush_work` (Wait) or `flush_workqueue` (WaitAll), which
+//! return once the wait is over (Over, OverAll); and then the function ends (Finish). They are those of
+//! kernel/workqueue.c. A helper, as another worker of the workqueue, does the same (Help). Nothing is computed here,
+//! and each call takes constant time.
 
 ghost use Rattle.std.specs.Prelude.{◌≡◌};
 ghost use Rattle.wq_core.specs.Held.{step_code};

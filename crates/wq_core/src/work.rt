@@ -1,8 +1,8 @@
 //! The work left: how many steps of rescuers and helpers can still come at most, where nothing more is queued.
 //!
-//! It is that of "Work" in the specs of this crate: for each unfinished entry a start, a finish, and a wait and its end for each
-//! declared flush, less the steps that were made for it. `work_left` takes time in the number of contexts and of pending entries.
-//! `work_after`, which goes on from an earlier answer, takes constant time. Nothing takes memory.
+//! It is that of "Work" in the specs of this crate: for each unfinished entry a start, a finish, and a wait and its end
+//! for each declared flush, less the steps that were made for it. `work_left` takes time in the number of contexts and
+//! of pending entries. `work_after`, which goes on from an earlier answer, takes constant time. Nothing takes memory.
 
 ghost use Rattle.std.specs.Prelude.{◌≡◌, ◌<◌, ◌≤◌, ◌+◌, ◌*◌, sum_by};
 ghost use Rattle.wq_core.specs.declared.entry.Entry.{Entry};
@@ -42,7 +42,8 @@ impl<A: Allocator> Core<A> {
     /// What is left of the pending entries of a lane.
     fn pending_work(&self, q: LaneId) -> u64
         requires { q < self.now.wiring.lanes }
-        ensures work { result ≡ sum_by (λ (e : Entry). whole_work self.now.wiring e.item) (lane_at self.now.state q).pending }
+        ensures work { result
+            ≡ sum_by (λ (e : Entry). whole_work self.now.wiring e.item) (lane_at self.now.state q).pending }
         ensures few { result ≤ 4096 * 32770 }
     {
         let _items = self.items();
@@ -88,8 +89,9 @@ impl<A: Allocator> Core<A> {
         self.pending_work(q) + (self.running_work(q, 0) + self.helping_work(q))
     }
 
-    /// The number of starts, waits, ends of waits and finishes that can still be made at most, where nothing more is queued. It
-    /// is at most that of an execution of 32,770 steps for each of 4,096 items that are queued and 4,096 that run.
+    /// The number of starts, waits, ends of waits and finishes that can still be made
+    /// at most, where nothing more is queued. It is at most that of an execution of
+    /// 32,770 steps for each of 4,096 items that are queued and 4,096 that run.
     pub fn work_left(&self) -> u64
         ensures work { result ≡ work_left self.now.wiring self.now.state }
         ensures few { result ≤ 8192 * 32770 }
@@ -115,9 +117,9 @@ impl<A: Allocator> Core<A> {
         }
     }
 
-    /// The work that is left after a lawful step, from the work before it. A queueing adds all steps of an execution, and a
-    /// cancellation subtracts them. A start, a wait and the end of a wait subtract one. A finish subtracts itself and the waits
-    /// that weren't made, with their ends.
+    /// The work that is left after a lawful step, from the work before it. A queueing adds all steps of an execution,
+    /// and a cancellation subtracts them. A start, a wait and the end of a wait subtract one. A finish subtracts itself
+    /// and the waits that weren't made, with their ends.
     #[inline(always)]
     pub fn work_after(&self, step: &Step, work: u64) -> u64
         requires lawful { Lawful self.now.wiring self.now.state step.now }

@@ -1,7 +1,8 @@
 //! Workqueues, some of which may have no rescuer.
 //!
-//! An assignment puts groups on workqueues with WQ_MEM_RECLAIM. A kernel has others, too, as `system_wq`: nobody promises that a
-//! worker runs their items while memory is short (Documentation/core-api/workqueue.rst, "WQ_MEM_RECLAIM"). Their lanes are bare.
+//! An assignment puts groups on workqueues with WQ_MEM_RECLAIM. A kernel has others, too, as `system_wq`: nobody
+//! promises that a worker runs their items while memory is short (Documentation/core-api/workqueue.rst,
+//! "WQ_MEM_RECLAIM"). Their lanes are bare.
 
 ghost use Rattle.std.specs.Prelude.{◌≡◌, ◌<◌, ◌≤◌, ◌↔◌, length, slice_index_or, false, IfOk, OnErr, IsTrue};
 

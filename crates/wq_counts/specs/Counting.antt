@@ -1,20 +1,26 @@
 -- Counting: how many rows there are of an item or a lane, of a kind and with an answer.
 --
--- Every row is counted except those of starts, which no seat counts. A row of a helper's step counts as that of the same step of
--- the rescuer. A row of a wait, or of its end, counts for the item that is waited for, and where a whole lane is waited for, for the
--- item that names it. A caller's ask about a whole lane, and the end of its wait, count for the lane. Counts stand in slots: slot n
--- holds those of item n and those of lane n.
-use Rattle.std.specs.Prelude.{◌≡◌, ℕ, ◌+◌, ◌*◌, ◌<◌, ◌==◌, ◌&&◌, Option, Some, None, option_map, is_some, Bool, true, false, List, length, slice_index, slice_set}
+-- Every row is counted except those of starts, which no seat counts. A row of a helper's step counts as that of the
+-- same step of the rescuer. A row of a wait, or of its end, counts for the item that is waited for, and where a whole
+-- lane is waited for, for the item that names it. A caller's ask about a whole lane, and the end of its wait, count for
+-- the lane. Counts stand in slots: slot n holds those of item n and those of lane n.
+use Rattle.std.specs.Prelude.{◌≡◌, ℕ, ◌+◌, ◌*◌, ◌<◌, ◌==◌, ◌&&◌, Option, Some, None, option_map, is_some, Bool, true}
+use Rattle.std.specs.Prelude.{false, List, length, slice_index, slice_set}
 use Rattle.std.specs.List.{All, count_by}
 use Rattle.wq_core.specs.declared.step.HelpStep.{HelpStep}
-use Rattle.wq_core.specs.declared.step.HelpStep.TheVariants.{Start as DoStart, Wait as DoWait, WaitAll as DoWaitAll, Over as DoOver, OverAll as DoOverAll, Finish as DoFinish}
+use Rattle.wq_core.specs.declared.step.HelpStep.TheVariants.{Start as DoStart, Wait as DoWait, WaitAll as DoWaitAll}
+use Rattle.wq_core.specs.declared.step.HelpStep.TheVariants.{Over as DoOver, OverAll as DoOverAll, Finish as DoFinish}
 use Rattle.wq_core.specs.Rules.{deed_item}
 use Rattle.wq_rows.specs.declared.event.Event.{Event}
-use Rattle.wq_rows.specs.declared.event.Event.TheVariants.{Queue, Cancel, Start, Wait, Over, Finish, Ask, Told, WaitAll, OverAll, AskLane, ToldLane, Help}
+use Rattle.wq_rows.specs.declared.event.Event.TheVariants.{Queue, Cancel, Start, Wait, Over, Finish, Ask, Told, WaitAll}
+use Rattle.wq_rows.specs.declared.event.Event.TheVariants.{OverAll, AskLane, ToldLane, Help}
 use Rattle.wq_rows.specs.declared.event.Row.{Row}
 use Rattle.wq_rows.specs.Packing.{item_in, lane_in}
 use Rattle.wq_counts.specs.declared.kind.Kind.{Kind}
-use Rattle.wq_counts.specs.declared.kind.Kind.TheVariants.{Queue as QueueKind, Cancel as CancelKind, Wait as WaitKind, Over as OverKind, Ask as AskKind, Told as ToldKind, Finish as FinishKind, WaitAll as WaitAllKind, OverAll as OverAllKind}
+use Rattle.wq_counts.specs.declared.kind.Kind.TheVariants.{Queue as QueueKind, Cancel as CancelKind, Wait as WaitKind}
+use Rattle.wq_counts.specs.declared.kind.Kind.TheVariants.{Over as OverKind, Ask as AskKind, Told as ToldKind}
+use Rattle.wq_counts.specs.declared.kind.Kind.TheVariants.{Finish as FinishKind, WaitAll as WaitAllKind}
+use Rattle.wq_counts.specs.declared.kind.Kind.TheVariants.{OverAll as OverAllKind}
 use Rattle.wq_counts.specs.declared.kind.LaneKind.{LaneKind}
 use Rattle.wq_counts.specs.declared.kind.LaneKind.TheVariants.{Ask as AskLaneKind, Told as ToldLaneKind}
 
@@ -206,11 +212,14 @@ has_lane_kind (Some one) kind = lane_kind_place one == lane_kind_place kind
 
 -- the row is of this item and kind, with this answer
 abbrev pub is_of : ℕ → Kind → Bool → Row → Bool
-is_of i kind said row = has_kind (kind_in row.event) kind && ((item_in row.event == i) && (answer_place row.yes == answer_place said))
+is_of i kind said row =
+    has_kind (kind_in row.event) kind && ((item_in row.event == i) && (answer_place row.yes == answer_place said))
 
 -- the row is of this lane and kind, with this answer
 abbrev pub is_of_lane : ℕ → LaneKind → Bool → Row → Bool
-is_of_lane q kind said row = has_lane_kind (lane_kind_in row.event) kind && ((lane_in row.event == q) && (answer_place row.yes == answer_place said))
+is_of_lane q kind said row =
+    has_lane_kind (lane_kind_in row.event) kind
+    && ((lane_in row.event == q) && (answer_place row.yes == answer_place said))
 
 -- how many of these rows are of this item and kind, with this answer
 abbrev pub tally : List Row → ℕ → Kind → Bool → ℕ
@@ -233,7 +242,8 @@ is_at (Some own) p = own == p
 abbrev pub raises : ℕ → Row → Bool
 raises p row = is_at (counted_place row.event row.yes) p
 
--- the counts of this many slots are the tallies of the rows: at each place there is the number of the rows that are counted there
+-- the counts of this many slots are the tallies of the rows: at each place there is
+-- the number of the rows that are counted there
 abbrev pub AreTallies : ℕ → List Row → List ℕ → Type 0
 AreTallies slots rows counts = (p : ℕ) → p < counts_each * slots → slice_index counts p ≡ count_by (raises p) rows
 

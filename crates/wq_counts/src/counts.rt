@@ -1,13 +1,16 @@
 //! How many rows there are, for each item or lane, kind and answer, and in total.
 //!
-//! Counts stand in slots. A slot has 22 counts, two for each kind, no before yes: those of the item with its number, for each of
-//! the 9 kinds, and then those of the lane with its number, for each of the 2 kinds of a lane. So there are as many slots as items
-//! or lanes, whichever are more. `new`, `add` and `is_same` take time in the number of slots. Each other call takes constant time.
-//! Only `new` takes memory: 8 bytes for each count.
+//! Counts stand in slots. A slot has 22 counts, two for each kind, no before yes: those of the item with its number,
+//! for each of the 9 kinds, and then those of the lane with its number, for each of the 2 kinds of a lane. So there are
+//! as many slots as items or lanes, whichever are more. `new`, `add` and `is_same` take time in the number of slots.
+//! Each other call takes constant time. Only `new` takes memory: 8 bytes for each count.
 
-ghost use Rattle.std.specs.Prelude.{◌≡◌, ℕ, ◌+◌, ◌*◌, ◌<◌, ◌≤◌, ◌↔◌, IsTrue, length, replicate, sum, slice_index, if◌then◌else◌, IfOk, OnErr, true};
+ghost use Rattle.std.specs.Prelude.{◌≡◌, ℕ, ◌+◌, ◌*◌, ◌<◌, ◌≤◌, ◌↔◌, IsTrue, length, replicate, sum, slice_index};
+ghost use Rattle.std.specs.Prelude.{if◌then◌else◌, IfOk, OnErr, true};
 ghost use Rattle.wq_counts.specs.declared.kind.Kind.TheVariants.{Queue, Cancel, Finish};
-ghost use Rattle.wq_counts.specs.Counting.{counts_each, place as place_of, lane_place as lane_place_of, help_place as help_place_of, counted_place as counted_place_of, slot_in, made, asked_lane, told_lane, raised_at, noted_as, noted, is_counted};
+ghost use Rattle.wq_counts.specs.Counting.{counts_each, place as place_of, lane_place as lane_place_of};
+ghost use Rattle.wq_counts.specs.Counting.{help_place as help_place_of, counted_place as counted_place_of, slot_in};
+ghost use Rattle.wq_counts.specs.Counting.{made, asked_lane, told_lane, raised_at, noted_as, noted, is_counted};
 
 use crate::kind::{Kind, LaneKind};
 use std::alloc::{AllocError, Allocator};

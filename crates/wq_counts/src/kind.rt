@@ -1,7 +1,7 @@
 //! Kinds of rows that are counted: those of all events except starts, which no seat counts.
 //!
-//! The events are those of wq_rows. A helper's step counts as the same step of the rescuer. Asks about a whole lane, and the ends of
-//! such waits, are counted for the lane; all others for an item. Each answer takes constant time.
+//! The events are those of wq_rows. A helper's step counts as the same step of the rescuer. Asks about a whole lane,
+//! and the ends of such waits, are counted for the lane; all others for an item. Each answer takes constant time.
 
 ghost use Rattle.std.specs.Prelude.{◌≡◌};
 ghost use Rattle.wq_counts.specs.Counting.{help_kind_in, kind_in, kind_place, lane_kind_place};

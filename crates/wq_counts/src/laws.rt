@@ -2,16 +2,20 @@
 //!
 //! They are about lists of counts and rows alone, whatever code counts them.
 
-ghost use Rattle.std.specs.Prelude.{◌≡◌, ℕ, ◌+◌, ◌*◌, ◌<◌, ◌≤◌, ◌↔◌, ◌⊎◌, Some, None, Bool, true, List, [], ◌∷◌, ◌++◌, length, replicate, sum, slice_index};
+ghost use Rattle.std.specs.Prelude.{◌≡◌, ℕ, ◌+◌, ◌*◌, ◌<◌, ◌≤◌, ◌↔◌, ◌⊎◌, Some, None, Bool, true, List, [], ◌∷◌, ◌++◌};
+ghost use Rattle.std.specs.Prelude.{length, replicate, sum, slice_index};
 ghost use Rattle.wq_rows.specs.declared.event.Row.{Row};
 ghost use Rattle.wq_rows.specs.Packing.{item_in, lane_in};
 ghost use Rattle.wq_counts.specs.declared.kind.Kind.{Kind};
 ghost use Rattle.wq_counts.specs.declared.kind.LaneKind.{LaneKind};
-ghost use Rattle.wq_counts.specs.Counting.{kind_in, lane_kind_in, slot_in, is_of, is_of_lane, is_counted, counts_each, HasCountsOf, made, made_lane, raised, raised_lane, noted, tally, tally_lane, counted_rows, AreRowsOf, AreTallies};
+ghost use Rattle.wq_counts.specs.Counting.{kind_in, lane_kind_in, slot_in, is_of, is_of_lane, is_counted, counts_each};
+ghost use Rattle.wq_counts.specs.Counting.{HasCountsOf, made, made_lane, raised, raised_lane, noted, tally, tally_lane};
+ghost use Rattle.wq_counts.specs.Counting.{counted_rows, AreRowsOf, AreTallies};
 
 /// Another row of an item, a kind and an answer raises the count of these by one, and no other count.
 pub fn one_more_raises_one_count()
-    ensures same { (counts : List ℕ) (i : ℕ) (kind : Kind) (said : Bool) → counts_each * i + counts_each ≤ length counts →
+    ensures same { (counts : List ℕ) (i : ℕ) (kind : Kind) (said : Bool) →
+        counts_each * i + counts_each ≤ length counts →
         made (raised counts i kind said) i kind said ≡ made counts i kind said + 1 }
     ensures other { (counts : List ℕ) (i j : ℕ) (kind other : Kind) (said answer : Bool) →
         (¬ ((j ≡ i) × (other ≡ kind) × (answer ≡ said))) →
@@ -22,7 +26,8 @@ pub fn one_more_raises_one_count()
 
 /// Another row of a lane, a kind and an answer raises the count of these by one, and no other count.
 pub fn one_more_of_a_lane_raises_one_count()
-    ensures same { (counts : List ℕ) (q : ℕ) (kind : LaneKind) (said : Bool) → counts_each * q + counts_each ≤ length counts →
+    ensures same { (counts : List ℕ) (q : ℕ) (kind : LaneKind) (said : Bool) →
+        counts_each * q + counts_each ≤ length counts →
         made_lane (raised_lane counts q kind said) q kind said ≡ made_lane counts q kind said + 1 }
     ensures other { (counts : List ℕ) (q p : ℕ) (kind other : LaneKind) (said answer : Bool) →
         (¬ ((p ≡ q) × (other ≡ kind) × (answer ≡ said))) →
@@ -31,8 +36,8 @@ pub fn one_more_of_a_lane_raises_one_count()
         made (raised_lane counts q kind said) i other answer ≡ made counts i other answer }
 {}
 
-/// The counts of this many slots are equal exactly where each item, kind and answer has the same count in both, and each lane,
-/// kind and answer.
+/// The counts of this many slots are equal exactly where each item, kind and answer
+/// has the same count in both, and each lane, kind and answer.
 pub fn counts_are_equal_where_each_count_is()
     ensures { (slots : ℕ) (a b : List ℕ) → HasCountsOf slots a → HasCountsOf slots b → (a ≡ b)
         ↔ (((i : ℕ) (kind : Kind) (said : Bool) → i < slots → made a i kind said ≡ made b i kind said)
@@ -42,7 +47,8 @@ pub fn counts_are_equal_where_each_count_is()
 /// A row that is counted belongs to one item or lane and one kind, with one answer: its own. A start belongs to none.
 pub fn a_counted_row_is_of_one_item_kind_and_answer()
     ensures counted { (row : Row) → (is_counted row.event ≡ true)
-        ↔ (((kind : Kind) × (kind_in row.event ≡ Some kind)) ⊎ ((kind : LaneKind) × (lane_kind_in row.event ≡ Some kind))) }
+        ↔ (((kind : Kind) × (kind_in row.event ≡ Some kind))
+        ⊎ ((kind : LaneKind) × (lane_kind_in row.event ≡ Some kind))) }
     ensures own { (row : Row) (kind : Kind) → kind_in row.event ≡ Some kind →
         is_of (item_in row.event) kind row.yes row ≡ true }
     ensures no_other { (row : Row) (i : ℕ) (kind : Kind) (said : Bool) → is_of i kind said row ≡ true →
@@ -54,12 +60,13 @@ pub fn a_counted_row_is_of_one_item_kind_and_answer()
     ensures not_both { (row : Row) (kind : Kind) → kind_in row.event ≡ Some kind → lane_kind_in row.event ≡ None }
 {}
 
-/// The counts are the tallies of the rows exactly where each says how many of the rows are of its item, kind and answer, or of
-/// its lane, kind and answer.
+/// The counts are the tallies of the rows exactly where each says how many of the rows are of its item, kind and
+/// answer, or of its lane, kind and answer.
 pub fn tallies_are_those_of_each_item_and_lane()
     ensures { (slots : ℕ) (rows : List Row) (counts : List ℕ) → AreTallies slots rows counts
         ↔ (((i : ℕ) (kind : Kind) (said : Bool) → i < slots → made counts i kind said ≡ tally rows i kind said)
-        × ((q : ℕ) (kind : LaneKind) (said : Bool) → q < slots → made_lane counts q kind said ≡ tally_lane rows q kind said)) }
+        × ((q : ℕ) (kind : LaneKind) (said : Bool) → q < slots →
+        made_lane counts q kind said ≡ tally_lane rows q kind said)) }
 {}
 
 /// The counts of no rows are 0. They stay those of the rows with each row that is added.

@@ -1,7 +1,8 @@
 -- What the steps of a run name.
 use Rattle.std.specs.Prelude.{◌<◌}
 use Rattle.wq_core.specs.declared.step.Step.{Step}
-use Rattle.wq_core.specs.declared.step.Step.TheVariants.{Queue, Cancel, Start, Wait, Over, WaitAll, OverAll, Finish, Help}
+use Rattle.wq_core.specs.declared.step.Step.TheVariants.{Queue, Cancel, Start, Wait, Over, WaitAll, OverAll, Finish}
+use Rattle.wq_core.specs.declared.step.Step.TheVariants.{Help}
 use Rattle.wq_core.specs.Rules.{deed_item}
 use Rattle.wq_core.specs.Wiring.{Wiring, items}
 

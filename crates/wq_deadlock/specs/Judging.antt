@@ -28,14 +28,15 @@ bare_waits d ws = filter (leads_to_bare ws d.group_of) (arcs_by_place d.waits d.
 abbrev pub rescued_graph : Declaration → Workqueues → List (List WaitArc)
 rescued_graph d ws = without ws.bare (lane_graph d ws.assignment)
 
--- these items are queued first: if some flush leads to a workqueue without a rescuer, the item of the first one; else those of the
--- circle of the walk among the lanes that have a rescuer
+-- these items are queued first: if some flush leads to a workqueue without a rescuer, the item of the first one; else
+-- those of the circle of the walk among the lanes that have a rescuer
 abbrev pub AreFirst : Declaration → Workqueues → List WaitArc → List ℕ → Type 0
 AreFirst d ws (a ∷ more) first = first ≡ a.src ∷ []
-AreFirst d ws [] first = (circle : List WaitArc) × IsWalkedCircle (rescued_graph d ws) circle × (first ≡ flushing_items circle)
+AreFirst d ws [] first =
+    (circle : List WaitArc) × IsWalkedCircle (rescued_graph d ws) circle × (first ≡ flushing_items circle)
 
--- these are workqueues of the declaration's groups; the steps queue these items first, and play what is queued to its end; and they
--- are a run that ends stuck, with each item queued once and flushing as declared
+-- these are workqueues of the declaration's groups; the steps queue these items first, and play what is queued to its
+-- end; and they are a run that ends stuck, with each item queued once and flushing as declared
 pub record IsHang (d : Declaration) (ws : Workqueues) (steps : List Step) : Type 0 where
   pub assignment : IsAssignment d.groups ws.assignment
   pub first : List ℕ

@@ -1,7 +1,8 @@
 -- Where the search for the lowest lane that can move continues.
 use Rattle.std.specs.Prelude.{ℕ}
 use Rattle.wq_core.specs.declared.step.Step.{Step}
-use Rattle.wq_core.specs.declared.step.Step.TheVariants.{Queue, Cancel, Start, Wait, Over, WaitAll, OverAll, Finish, Help}
+use Rattle.wq_core.specs.declared.step.Step.TheVariants.{Queue, Cancel, Start, Wait, Over, WaitAll, OverAll, Finish}
+use Rattle.wq_core.specs.declared.step.Step.TheVariants.{Help}
 
 -- the lane from which it continues after a step of lane q: only a finish can make a lower lane movable
 abbrev pub search_from : ℕ → Step → ℕ

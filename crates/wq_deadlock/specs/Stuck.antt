@@ -1,9 +1,11 @@
 -- Lanes that are known to be stuck, while a machine is played.
-use Rattle.std.specs.Prelude.{◌≡◌, ℕ, List, [], ◌∷◌, ◌++◌, Bool, true, false, slice_index_or, slice_set, Option, Some, None, Contains}
+use Rattle.std.specs.Prelude.{◌≡◌, ℕ, List, [], ◌∷◌, ◌++◌, Bool, true, false, slice_index_or, slice_set, Option, Some}
+use Rattle.std.specs.Prelude.{None, Contains}
 use Rattle.wq_core.specs.declared.entry.Waiting.{Waiting}
 use Rattle.wq_core.specs.declared.entry.Running.{Running}
 use Rattle.wq_core.specs.declared.step.Step.{Step}
-use Rattle.wq_core.specs.declared.step.Step.TheVariants.{Queue, Cancel, Start, Wait, Over, WaitAll, OverAll, Finish, Help}
+use Rattle.wq_core.specs.declared.step.Step.TheVariants.{Queue, Cancel, Start, Wait, Over, WaitAll, OverAll, Finish}
+use Rattle.wq_core.specs.declared.step.Step.TheVariants.{Help}
 use Rattle.wq_core.specs.Wiring.{Wiring}
 use Rattle.wq_core.specs.State.{State, lane_at, Runs}
 use Rattle.wq_core.specs.Rules.{IsHeldBack, IsHolder}
@@ -37,7 +39,8 @@ with_waiting waiting q (Some i) = slice_set waiting i (slice_index_or waiting i 
 
 -- what is known after lane q was found to be stuck, and this item to hold back its wait, or none
 abbrev pub with_stuck : StuckLanes → ℕ → Option ℕ → StuckLanes
-with_stuck stuck q holder = record { known = slice_set stuck.known q true; waiting = with_waiting stuck.waiting q holder }
+with_stuck stuck q holder =
+    record { known = slice_set stuck.known q true; waiting = with_waiting stuck.waiting q holder }
 
 -- item i is finished: the lanes whose wait it was found to hold back aren't known to be stuck any more
 pub record IsReleased (old : StuckLanes) (i : ℕ) (new : StuckLanes) : Type 0 where

@@ -15,17 +15,18 @@ use Rattle.wq_deadlock.specs.declared.outcome.Verdict.{Verdict}
 use Rattle.wq_deadlock.specs.declared.outcome.Verdict.TheVariants as verdict
 use Rattle.wq_deadlock.specs.CircleRun.{IsCircleRun}
 
--- an assignment of the declaration's groups, no run of which ends stuck; each lane has its rank in the wait graph of the lanes;
--- and along every declared flush the rank falls, from the lane of the item to that of its target
+-- an assignment of the declaration's groups, no run of which ends stuck; each lane has its rank in the wait graph of
+-- the lanes; and along every declared flush the rank falls, from the lane of the item to that of its target
 pub record IsSafeByRanks (d : Declaration) (a : Assignment) (ranks : List ℕ) : Type 0 where
   pub assignment : IsAssignment d.groups a
   pub safe : IsSafe (wiring d a)
   pub one_each : length ranks ≡ a.lanes
   pub are_ranks : AreRanks (lane_graph d a) ranks
-  pub fall : (i j : ℕ) → ItemWaits d.waits i j → slice_index ranks (item_lane a d.group_of j) < slice_index ranks (item_lane a d.group_of i)
+  pub fall : (i j : ℕ) → ItemWaits d.waits i j
+      → slice_index ranks (item_lane a d.group_of j) < slice_index ranks (item_lane a d.group_of i)
 
--- an assignment of the declaration's groups, whose lanes wait in the circle of the walk; the steps are the run of this circle;
--- and they are a run that ends stuck, with each item queued once and flushing as declared
+-- an assignment of the declaration's groups, whose lanes wait in the circle of the walk; the steps are the run of this
+-- circle; and they are a run that ends stuck, with each item queued once and flushing as declared
 pub record IsDeadlock (d : Declaration) (a : Assignment) (steps : List Step) : Type 0 where
   pub assignment : IsAssignment d.groups a
   pub lanes_wait : Circle (LaneWaits (wiring d a))

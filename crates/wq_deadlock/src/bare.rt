@@ -1,7 +1,7 @@
 //! Flushes that lead to a workqueue without a rescuer.
 //!
-//! Where an item whose workqueue has a rescuer waits for one whose workqueue has none, nothing guarantees that the wait is ever over.
-//! It takes time and memory in the number of items and flushes.
+//! Where an item whose workqueue has a rescuer waits for one whose workqueue has none, nothing guarantees that the wait
+//! is ever over. It takes time and memory in the number of items and flushes.
 
 ghost use Rattle.std.specs.Prelude.{◌≡◌, ◌<◌, length, filter, IfOk, IfErr, OnErr};
 ghost use Rattle.std.specs.List.{All};
@@ -52,7 +52,8 @@ fn bare_among<A: Allocator + Copy>(
     requires src { All (λ a. a.src < length groups.now.group_of) arcs.now }
     requires dst { All (λ a. a.dst < length groups.now.group_of) arcs.now }
     requires assigned { length workqueues.now.assignment.lane_of_group ≡ groups.now.groups }
-    ensures waits { IfOk result (λ waits. waits.items ≡ filter (leads_to_bare workqueues.now groups.now.group_of) arcs.now) }
+    ensures waits { IfOk result (λ waits. waits.items
+        ≡ filter (leads_to_bare workqueues.now groups.now.group_of) arcs.now) }
     ensures memory { IfErr result (λ _. 0 < length arcs.now) }
 {
     let mut waits = Vec::new(alloc);
@@ -64,8 +65,8 @@ fn bare_among<A: Allocator + Copy>(
     Ok(waits)
 }
 
-/// The flushes that lead from a workqueue that has a rescuer to one that has none, in order of place. The groups are those of this
-/// table, and each has a workqueue.
+/// The flushes that lead from a workqueue that has a rescuer to one that has none, in order of place. The groups are
+/// those of this table, and each has a workqueue.
 ///
 /// The only error is out of memory (20), which can't occur where there is no workqueue.
 pub fn bare_waits<A: Allocator + Copy>(

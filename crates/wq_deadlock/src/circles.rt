@@ -1,7 +1,7 @@
 //! The run that shows a circle of groups: that of the assignment in which each group has a lane of its own.
 //!
-//! Where groups wait in a circle, no assignment is safe, not even the one with as many lanes as there are groups. It takes as
-//! long as a verdict on that assignment.
+//! Where groups wait in a circle, no assignment is safe, not even the one with as many lanes as there are groups. It
+//! takes as long as a verdict on that assignment.
 
 ghost use Rattle.std.specs.Prelude.{◌≡◌, ◌<◌, length, IfOk, OnErr};
 ghost use Rattle.std.specs.List.{range_with_len};
@@ -43,8 +43,8 @@ pub fn own_lanes<A: Allocator + Copy>(
     Ok(Assignment::new(groups.len(), lanes).unwrap())
 }
 
-/// The run by which the assignment deadlocks in which group g has lane g. It is `None` exactly where that assignment is safe, and
-/// so where the groups wait in no circle. The groups are those of this table.
+/// The run by which the assignment deadlocks in which group g has lane g. It is `None` exactly where that assignment is
+/// safe, and so where the groups wait in no circle. The groups are those of this table.
 ///
 /// The only error is out of memory (20), which can't occur where there is no group.
 pub fn circle_run<A: Allocator + Copy>(
@@ -53,7 +53,8 @@ pub fn circle_run<A: Allocator + Copy>(
     groups: &Groups<A>,
 ) -> Result<Option<Vec<Step, A>>, AllocError>
     requires { length groups.now.group_of ≡ length table.now.names }
-    ensures run { IfOk result (λ run. IsGroupsRun (declaration_of table.now groups.now) (option_map (λ steps. steps.items) run)) }
+    ensures run { IfOk result (λ run.
+        IsGroupsRun (declaration_of table.now groups.now) (option_map (λ steps. steps.items) run)) }
     ensures memory { OnErr result (0 < groups.now.groups) }
 {
     let assignment = own_lanes(alloc, groups)?;

@@ -1,4 +1,5 @@
-//! The run of items that hold up all that wait for them: they are queued first, and then all others, and what is queued is played.
+//! The run of items that hold up all that wait for them: they are queued first, and
+//! then all others, and what is queued is played.
 
 ghost use Rattle.std.specs.Prelude.{◌≡◌, ◌≤◌, length, IfOk};
 ghost use Rattle.wq_core.specs.State.{empty_state};

@@ -20,8 +20,8 @@ pub fn own_lanes_wait_as_groups_do()
     ensures { (d : Declaration) → IsDeclaration d → lane_graph d (own_lanes d.groups) ≡ group_graph d }
 {}
 
-/// Unsafe and deadlocking are the same. An assignment is safe, or some run deadlocks in which each item is queued once and
-/// flushes as declared, but not both.
+/// Unsafe and deadlocking are the same. An assignment is safe, or some run deadlocks in which each item is queued once
+/// and flushes as declared, but not both.
 pub fn unsafe_is_deadlocking()
     ensures one { (d : Declaration) (a : Assignment) → IsDeclaration d → IsAssignment d.groups a →
         IsSafe (wiring d a) ⊎ Deadlocks (wiring d a) }
@@ -32,9 +32,11 @@ pub fn unsafe_is_deadlocking()
 
 /// A circle in which the lanes wait has a run, and by this run the assignment deadlocks.
 pub fn a_circle_has_a_run()
-    ensures run { (d : Declaration) (a : Assignment) (circle : List WaitArc) → IsDeclaration d → IsAssignment d.groups a →
+    ensures run { (d : Declaration) (a : Assignment) (circle : List WaitArc) → IsDeclaration d →
+        IsAssignment d.groups a →
         IsWalkedCircle (lane_graph d a) circle → (steps : List Step) × IsCircleRun (wiring d a) circle steps }
-    ensures deadlocks { (d : Declaration) (a : Assignment) (circle : List WaitArc) (steps : List Step) → IsDeclaration d →
+    ensures deadlocks { (d : Declaration) (a : Assignment) (circle : List WaitArc) (steps : List Step) →
+        IsDeclaration d →
         IsAssignment d.groups a → IsWalkedCircle (lane_graph d a) circle → IsCircleRun (wiring d a) circle steps →
         DeadlocksBy (wiring d a) steps }
 {}
@@ -47,9 +49,9 @@ pub fn the_run_is_the_only_one()
         IsCircleRun w circle one → IsCircleRun w circle other → one ≡ other }
 {}
 
-/// The steps of a run by which an assignment deadlocks name items and lanes that exist. There are at most three for each item,
-/// where it is queued, started and finished, and two for each declared flush, where a wait begins and is over. So there are
-/// 45,056 at most.
+/// The steps of a run by which an assignment deadlocks name items and lanes that exist. There are at most three for
+/// each item, where it is queued, started and finished, and two for each declared flush, where a wait begins and is
+/// over. So there are 45,056 at most.
 pub fn a_deadlocking_run_is_bounded()
     ensures named { (d : Declaration) (a : Assignment) (steps : List Step) → IsDeclaration d → IsAssignment d.groups a →
         DeadlocksBy (wiring d a) steps → All (IsNamed (wiring d a)) steps }

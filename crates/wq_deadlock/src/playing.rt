@@ -1,11 +1,11 @@
 //! A machine that is played to its end: again and again the lowest lane that can move moves, and flushes as declared.
 //!
-//! It is "Played" in the specs of `wq_core`. A start, a wait or the end of a wait makes no lower lane movable, since it finishes
-//! nothing. So the search for the lowest lane goes on from the lane that moved, and begins again at lane 0 only after a finish. A
-//! lane that was found to be stuck is skipped until an item that holds back its wait is finished. Where it waits for a whole
-//! workqueue, that is the item of the last entry that is waited for; a workqueue finishes its entries in order, so the wait is
-//! over then. So each lane is asked at most twice for each of its own steps, and once more. The rest of the search skips stuck
-//! lanes after each finish.
+//! It is "Played" in the specs of `wq_core`. A start, a wait or the end of a wait makes no lower lane movable, since it
+//! finishes nothing. So the search for the lowest lane goes on from the lane that moved, and begins again at lane 0
+//! only after a finish. A lane that was found to be stuck is skipped until an item that holds back its wait is
+//! finished. Where it waits for a whole workqueue, that is the item of the last entry that is waited for; a workqueue
+//! finishes its entries in order, so the wait is over then. So each lane is asked at most twice for each of its own
+//! steps, and once more. The rest of the search skips stuck lanes after each finish.
 
 ghost use Rattle.std.specs.Prelude.{◌≡◌, ◌<◌, ℕ, length, IfOk, IfSome, OnOk, [], ◌∷◌, ◌++◌};
 ghost use Rattle.wq_core.specs.declared.entry.Waiting.{Waiting};
@@ -60,7 +60,8 @@ fn make<A: Allocator + Copy>(
 /// An item that holds back the wait of a lane, if it waits: an unfinished entry of it is waited for.
 fn holder<A: Allocator>(core: &Core<A>, q: LaneId) -> Option<ItemId>
     ensures item { IfSome result (λ i. i < items core.now.wiring) }
-    ensures holder { (flush : Waiting) → Awaits core.now.state q flush → IsHeldBackBy core.now.wiring core.now.state flush result }
+    ensures holder { (flush : Waiting) → Awaits core.now.state q flush
+        → IsHeldBackBy core.now.wiring core.now.state flush result }
 {
     let running = core.running_on(q)?;
     let flush = running.waiting?;

@@ -1,8 +1,8 @@
 //! The queueings with which the run of a circle begins.
 //!
-//! The items that flush along the circle's arcs come first, in the circle's order, and then all others, in declaration order. So
-//! each lane of the circle starts with an item that waits for the next lane, and no lane of the circle finishes anything.
-//! It takes time in the number of items times the length of the circle.
+//! The items that flush along the circle's arcs come first, in the circle's order, and then all others, in declaration
+//! order. So each lane of the circle starts with an item that waits for the next lane, and no lane of the circle
+//! finishes anything. It takes time in the number of items times the length of the circle.
 
 ghost use Rattle.std.specs.Prelude.{◌≡◌, ◌+◌, ◌<◌, ◌==◌, length, IfOk};
 ghost use Rattle.std.specs.List.{list_any};

@@ -1,10 +1,11 @@
 //! Whether an assignment is safe: no run of it ends stuck.
 //!
-//! The rule is that of Documentation/core-api/workqueue.rst, "Guidelines": work items that are used during reclaim and depend on
-//! one another belong on separate workqueues with WQ_MEM_RECLAIM. Where the workqueues have ranks that fall along every declared
-//! flush, a chain of workqueues can always move at its end. Where they wait in a circle, some run ends stuck. This is asked once,
-//! when a runtime is made. No run and no machine is made for it. The wait graph of the workqueues takes time in the number of
-//! items, workqueues and flushes, and its ranks take time in that of workqueues and flushes.
+//! The rule is that of Documentation/core-api/workqueue.rst, "Guidelines": work items that are used
+//! during reclaim and depend on one another belong on separate workqueues with WQ_MEM_RECLAIM. Where the
+//! workqueues have ranks that fall along every declared flush, a chain of workqueues can always move at
+//! its end. Where they wait in a circle, some run ends stuck. This is asked once, when a runtime is
+//! made. No run and no machine is made for it. The wait graph of the workqueues takes time in the number
+//! of items, workqueues and flushes, and its ranks take time in that of workqueues and flushes.
 
 ghost use Rattle.std.specs.Prelude.{◌≡◌, ◌<◌, ◌↔◌, length, IfOk, OnErr, IsTrue};
 ghost use Rattle.wq_groups.specs.Declaration.{declaration_of};
@@ -17,8 +18,8 @@ use wq_groups::{Assignment, Groups};
 use wq_items::ItemTable;
 use wq_levels::{Ranked, rank};
 
-/// Whether an assignment of a table's items is safe. The groups are those of this table, and the assignment has a workqueue for
-/// each of them.
+/// Whether an assignment of a table's items is safe. The groups are those of this
+/// table, and the assignment has a workqueue for each of them.
 ///
 /// The only error is out of memory (20), which can't occur where there is no workqueue.
 pub fn is_safe<A: Allocator + Copy>(
@@ -29,7 +30,8 @@ pub fn is_safe<A: Allocator + Copy>(
 ) -> Result<bool, AllocError>
     requires grouped { length groups.now.group_of ≡ length table.now.names }
     requires assigned { length assignment.now.lane_of_group ≡ groups.now.groups }
-    ensures safe { IfOk result (λ safe. IsTrue safe ↔ IsSafe (wiring (declaration_of table.now groups.now) assignment.now)) }
+    ensures safe { IfOk result (λ safe. IsTrue safe
+        ↔ IsSafe (wiring (declaration_of table.now groups.now) assignment.now)) }
     ensures memory { OnErr result (0 < assignment.now.lanes) }
 {
     // Each group has a member.

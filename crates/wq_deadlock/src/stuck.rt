@@ -1,12 +1,13 @@
 //! Lanes that are known to be stuck while a machine is played.
 //!
-//! A lane that can't move has nothing to start, or waits, and some item holds its wait back: an unfinished entry of that item is
-//! waited for. Where nothing is queued, the lane can move again only once that item is finished. So it isn't asked again before.
-//! Each call takes constant time, except for two: `new` takes time in the number of lanes and items, and `release` in the number
-//! of lanes that are released. Memory is taken once for all lanes and once for all items; then only where one item is found to
-//! hold back more than eight lanes.
+//! A lane that can't move has nothing to start, or waits, and some item holds its wait back: an unfinished entry of
+//! that item is waited for. Where nothing is queued, the lane can move again only once that item is finished. So it
+//! isn't asked again before. Each call takes constant time, except for two: `new` takes time in the number of lanes and
+//! items, and `release` in the number of lanes that are released. Memory is taken once for all lanes and once for all
+//! items; then only where one item is found to hold back more than eight lanes.
 
-ghost use Rattle.std.specs.Prelude.{◌≡◌, ◌<◌, ◌↔◌, ℕ, length, map, replicate, slice_index_or, true, false, [], Contains, IfOk, OnOk, IfSome, IsTrue};
+ghost use Rattle.std.specs.Prelude.{◌≡◌, ◌<◌, ◌↔◌, ℕ, length, map, replicate, slice_index_or, true, false, []};
+ghost use Rattle.std.specs.Prelude.{Contains, IfOk, OnOk, IfSome, IsTrue};
 ghost use Rattle.wq_deadlock.specs.Stuck.{IsKnown, IsReleased, with_stuck};
 
 use smallvec::SmallVec;
@@ -15,9 +16,9 @@ use std::marker::Model;
 use wq_groups::LaneId;
 use wq_items::ItemId;
 
-/// The numbers of the lanes that one item was found to hold back: nearly always none or a few. Up to eight lie in the list
-/// itself, which takes as many bytes as with room for four. They are numbers, since a place that isn't used holds a default.
-/// A list keeps its allocator, and the size of that has to be known: that of a reference is.
+/// The numbers of the lanes that one item was found to hold back: nearly always none or a few. Up to eight lie in the
+/// list itself, which takes as many bytes as with room for four. They are numbers, since a place that isn't used holds
+/// a default. A list keeps its allocator, and the size of that has to be known: that of a reference is.
 type Waiting<'a, A> = SmallVec<u16, 8, &'a A>;
 
 /// For each lane whether it is known to be stuck, and for each item the lanes whose wait it was found to hold back.
@@ -49,7 +50,8 @@ fn empty_lists<A: Allocator>(alloc: &A, items: u16) -> Result<Vec<Waiting<'_, A>
 
 /// Forgets that any of these lanes was known to be stuck.
 fn forget<A: Allocator>(known: &mut Vec<bool, A>, lanes: &[u16])
-    ensures known { (q : ℕ) → slice_index_or known.new.items q false ≡ true → (slice_index_or known.old.items q false ≡ true) × (¬ Contains lanes.now q) }
+    ensures known { (q : ℕ) → slice_index_or known.new.items q false ≡ true
+        → (slice_index_or known.old.items q false ≡ true) × (¬ Contains lanes.now q) }
     ensures len { length known.new.items ≡ length known.old.items }
 {
     for q in lanes {

@@ -1,8 +1,9 @@
 //! Whether workqueues are safe, of which some may have no rescuer.
 //!
-//! Nobody can rely on a workqueue without a rescuer. So an item whose workqueue has one may never finish where it waits for an item
-//! whose workqueue has none. Where no item does that, what is on those without a rescuer counts no more, and the others are judged
-//! by their graph. It takes the time of two wait graphs and their ranks, and, where it isn't safe, that of the run.
+//! Nobody can rely on a workqueue without a rescuer. So an item whose workqueue has one may never
+//! finish where it waits for an item whose workqueue has none. Where no item does that, what is
+//! on those without a rescuer counts no more, and the others are judged by their graph. It takes
+//! the time of two wait graphs and their ranks, and, where it isn't safe, that of the run.
 
 ghost use Rattle.std.specs.Prelude.{◌≡◌, ◌<◌, [], length, IfOk, OnErr};
 ghost use Rattle.wq_groups.specs.Declaration.{declaration_of};
@@ -88,10 +89,10 @@ fn judge_rescued<A: Allocator + Copy>(
 
 /// Whether workqueues of a table's items are safe. The groups are those of this table, and each has a workqueue.
 ///
-/// `Deadlock` has a run that ends stuck. The items that are queued first hold up all that wait for them: where a flush leads from a
-/// workqueue that has a rescuer to one that has none, that is the item of the first such flush, and otherwise those are the items of
-/// the circle in which the workqueues wait that have a rescuer. The only error is out of memory (20), which can't occur where there is
-/// no workqueue.
+/// `Deadlock` has a run that ends stuck. The items that are queued first hold up all that wait for them: where a flush
+/// leads from a workqueue that has a rescuer to one that has none, that is the item of the first such flush, and
+/// otherwise those are the items of the circle in which the workqueues wait that have a rescuer. The only error is out
+/// of memory (20), which can't occur where there is no workqueue.
 pub fn judge<A: Allocator + Copy>(
     alloc: A,
     table: &ItemTable<'_, A>,

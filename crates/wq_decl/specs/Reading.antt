@@ -1,5 +1,6 @@
 -- Directives: what a line of a declaration says, or its first fault by the rows of the format's table.
-use Rattle.std.specs.Prelude.{ℕ, ◌==◌, ◌||◌, ◌&&◌, Bool, true, false, nat_le, if◌then◌else◌, List, [], ◌∷◌, Option, Some, None, Result, Ok, Err, IsTrue}
+use Rattle.std.specs.Prelude.{ℕ, ◌==◌, ◌||◌, ◌&&◌, Bool, true, false, nat_le, if◌then◌else◌, List, [], ◌∷◌, Option}
+use Rattle.std.specs.Prelude.{Some, None, Result, Ok, Err, IsTrue}
 use Rattle.std.specs.Option.{option_or}
 use Rattle.std.specs.List.{list_all, list_any, filter_map, AllByRecursion}
 use Rattle.wq_text.specs.Lines.{LineView}
@@ -29,13 +30,15 @@ item_reading n (name ∷ extra ∷ others) = Err (ExtraWord n)
 abbrev pub flush_reading : ℕ → List WordView → Result (Option Directive) DeclError
 flush_reading n [] = Err (MissingName n)
 flush_reading n (name ∷ []) = Err (MissingName n)
-flush_reading n (name ∷ target ∷ others) = if are_names (name ∷ target ∷ others) then Ok (Some (Flush name (target ∷ others))) else Err (BadName n)
+flush_reading n (name ∷ target ∷ others) =
+    if are_names (name ∷ target ∷ others) then Ok (Some (Flush name (target ∷ others))) else Err (BadName n)
 
 -- the words after `flushwq` on line n: two names
 abbrev pub flushwq_reading : ℕ → List WordView → Result (Option Directive) DeclError
 flushwq_reading n [] = Err (MissingName n)
 flushwq_reading n (name ∷ []) = Err (MissingName n)
-flushwq_reading n (name ∷ target ∷ []) = if are_names (name ∷ target ∷ []) then Ok (Some (FlushWq name target)) else Err (BadName n)
+flushwq_reading n (name ∷ target ∷ []) =
+    if are_names (name ∷ target ∷ []) then Ok (Some (FlushWq name target)) else Err (BadName n)
 flushwq_reading n (name ∷ target ∷ extra ∷ others) = Err (ExtraWord n)
 
 -- the words after `ordered` on line n: at least one name
@@ -58,7 +61,8 @@ words_reading n (first ∷ others) = reading_after (keyword_of first.bytes) n ot
 
 -- what a line says, or its first fault; its comment may hold any bytes
 abbrev pub reading : LineView → Result (Option Directive) DeclError
-reading l = if list_all is_text_byte (before_comment l.bytes) then words_reading l.no (words_of l) else Err (BadByte l.no)
+reading l =
+    if list_all is_text_byte (before_comment l.bytes) then words_reading l.no (words_of l) else Err (BadByte l.no)
 
 -- the fault of a line that has one
 abbrev pub fault_in : Result (Option Directive) DeclError → Option DeclError
@@ -105,7 +109,8 @@ ordered_lines ds = filter_map ordered_line ds
 -- each word of a directive is a name
 abbrev pub HasNames : Directive → Type 0
 HasNames (Item name) = IsTrue (is_name name.bytes)
-HasNames (Flush name targets) = IsTrue (is_name name.bytes) × AllByRecursion (λ (w : WordView). IsTrue (is_name w.bytes)) targets
+HasNames (Flush name targets) =
+    IsTrue (is_name name.bytes) × AllByRecursion (λ (w : WordView). IsTrue (is_name w.bytes)) targets
 HasNames (FlushWq name target) = IsTrue (is_name name.bytes) × IsTrue (is_name target.bytes)
 HasNames (Ordered names) = AllByRecursion (λ (w : WordView). IsTrue (is_name w.bytes)) names
 

@@ -1,5 +1,5 @@
--- Rows of faults: which rows of the table of refusals in docs/FORMAT.md a line breaks, in terms of its bytes and its words.
--- The first of them decides.
+-- Rows of faults: which rows of the table of refusals in docs/FORMAT.md a line breaks, in terms of its bytes and its
+-- words. The first of them decides.
 use Rattle.std.specs.Prelude.{◌≡◌, ◌≢◌, ◌⊎◌, ℕ, ◌<◌, ◌≤◌, List, [], ◌∷◌, length, codes, IsTrue}
 use Rattle.std.specs.List.{Any}
 use Rattle.wq_text.specs.Lines.{LineView}
@@ -16,7 +16,11 @@ HasBadByte bytes = Any (λ (b : ℕ). ¬ IsTrue (is_text_byte b)) bytes
 
 -- the first word isn't a directive
 abbrev pub IsUnknown : WordView → List WordView → Type 0
-IsUnknown first others = (first.bytes ≢ codes "item") × (first.bytes ≢ codes "flush") × (first.bytes ≢ codes "flushwq") × (first.bytes ≢ codes "ordered")
+IsUnknown first others =
+    (first.bytes ≢ codes "item")
+    × (first.bytes ≢ codes "flush")
+    × (first.bytes ≢ codes "flushwq")
+    × (first.bytes ≢ codes "ordered")
 
 -- no word follows `item` or `ordered`, or fewer than two follow `flush` or `flushwq`
 abbrev pub LacksName : WordView → List WordView → Type 0

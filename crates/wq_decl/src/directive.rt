@@ -14,7 +14,8 @@ pub enum Directive<'a> {
     Item(Word<'a>),
     /// `flush NAME TARGET..`: the item with this name may flush each of the targets each time that it runs.
     Flush(Word<'a>, Words<'a>),
-    /// `flushwq NAME TARGET`: the item with this name may flush the whole workqueue of the target each time that it runs.
+    /// `flushwq NAME TARGET`: the item with this name may flush the whole workqueue
+    /// of the target each time that it runs.
     FlushWq(Word<'a>, Word<'a>),
     /// `ordered NAME..`: the items with these names share one ordered workqueue.
     Ordered(Words<'a>),

@@ -1,9 +1,9 @@
 //! The keyword of a line: its first word, which says which directive the line holds.
 //!
-//! The directives are those of "Directives" in docs/FORMAT.md. Each reader of a declaration asks here which of them a line holds, and
-//! nobody else looks at a first word. Most lines begin with `flush`, `item` or `ordered`, without a blank before it and with a space
-//! after it. Of these the word isn't cut: it is compared where it would be. A call takes time in the bytes up to the end of the
-//! first word.
+//! The directives are those of "Directives" in docs/FORMAT.md. Each reader of a declaration asks here which of them a
+//! line holds, and nobody else looks at a first word. Most lines begin with `flush`, `item` or `ordered`, without a
+//! blank before it and with a space after it. Of these the word isn't cut: it is compared where it would be. A call
+//! takes time in the bytes up to the end of the first word.
 
 ghost use Rattle.std.specs.Prelude.{◌≡◌};
 ghost use Rattle.wq_text.specs.Words.{words_of};
@@ -67,8 +67,8 @@ fn cut_other<'a>(line: &Line<'a>) -> Option<(Option<Keyword>, Words<'a>)>
     cut_first(line)
 }
 
-/// The first word of a line as a keyword, if it is one, and the words after it; nothing where the line has no word before its
-/// comment.
+/// The first word of a line as a keyword, if it is one, and the words after it;
+/// nothing where the line has no word before its comment.
 #[inline(always)]
 pub fn cut_keyword<'a>(line: &Line<'a>) -> Option<(Option<Keyword>, Words<'a>)>
     ensures { result ≡ keyword_cut (words_of line.now) }

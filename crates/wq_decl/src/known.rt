@@ -1,7 +1,7 @@
 //! One line that has no fault, as a directive.
 //!
-//! Nothing is judged again: the keyword of the line tells which directive it holds, and the words after it are names. So at most three
-//! words of a line are looked at, each byte once.
+//! Nothing is judged again: the keyword of the line tells which directive it holds, and the words after it are names.
+//! So at most three words of a line are looked at, each byte once.
 
 ghost use Rattle.std.specs.Prelude.{◌≡◌, ℕ, Ok, IsOk};
 ghost use Rattle.wq_decl.specs.Reading.{reading_after, reading};

@@ -10,14 +10,15 @@ ghost use Rattle.wq_decl.specs.Faults.{AllRead, IsLowestDeclFault};
 ghost use Rattle.wq_decl.specs.Origins.{IsFrom};
 ghost use Rattle.wq_decl.specs.Rows.{BreaksRow, BreaksFirst};
 
-/// Lines have no fault exactly where each of them reads. Otherwise the first fault is that of the lowest line that doesn't read.
+/// Lines have no fault exactly where each of them reads. Otherwise the first fault
+/// is that of the lowest line that doesn't read.
 pub fn first_fault_is_the_lowest()
     ensures none { (lines : List LineView) → (first_fault lines ≡ None) ↔ AllRead lines }
     ensures some { (lines : List LineView) (e : DeclError) → (first_fault lines ≡ Some e) ↔ IsLowestDeclFault lines e }
 {}
 
-/// A line has no fault exactly where it breaks no row of the table of refusals. Otherwise its fault is that of the first row that
-/// it breaks: 3, 4, 5, 12 and 6, in this order.
+/// A line has no fault exactly where it breaks no row of the table of refusals. Otherwise its fault is that of the
+/// first row that it breaks: 3, 4, 5, 12 and 6, in this order.
 pub fn the_first_row_of_a_line_decides()
     ensures none { (line : LineView) → IsOk (reading line) ↔ ((e : DeclError) → ¬ BreaksRow line e) }
     ensures fault { (line : LineView) (e : DeclError) → (reading line ≡ Err e) ↔ BreaksFirst line e }

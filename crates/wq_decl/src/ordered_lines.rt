@@ -1,8 +1,8 @@
 //! The `ordered` lines of a declaration, without its other lines.
 //!
-//! The directives are those of "Directives" in docs/FORMAT.md. The lines have no fault, so nothing is judged again: the keyword of a
-//! line tells whether it is one of them, and the names on it are left to the caller. Going over them takes time in the length of the
-//! text.
+//! The directives are those of "Directives" in docs/FORMAT.md. The lines have no fault, so nothing is judged again: the
+//! keyword of a line tells whether it is one of them, and the names on it are left to the caller. Going over them takes
+//! time in the length of the text.
 
 ghost use Rattle.std.specs.Prelude.{◌≡◌, ◌∷◌, ℕ, List, None, Some, IsOk, length};
 ghost use Rattle.std.specs.List.{cons_option};
@@ -17,7 +17,8 @@ use wq_text::{Line, Lines, Words};
 /// The number of a line without a fault and the names on it, if it is an `ordered` line.
 fn read_ordered_line<'a>(line: &Line<'a>) -> Option<(u32, Words<'a>)>
     requires { IsOk (reading line.now) }
-    ensures { (rest : List LineView) → ordered_lines (directives (line.now ∷ rest)) ≡ cons_option result (ordered_lines (directives rest)) }
+    ensures { (rest : List LineView)
+        → ordered_lines (directives (line.now ∷ rest)) ≡ cons_option result (ordered_lines (directives rest)) }
 {
     let (keyword, names) = cut_keyword(line)?;
     match keyword? {
@@ -41,7 +42,8 @@ fn next_ordered_line<'a>(lines: &mut Lines<'a>) -> Option<(u32, Words<'a>)>
     None
 }
 
-/// The `ordered` lines of a view, in order: of each its number and the names on it. Contracts see the list of those that are left.
+/// The `ordered` lines of a view, in order: of each its number and the names on it.
+/// Contracts see the list of those that are left.
 #[derive(Drop)]
 pub struct OrderedLines<'a> {
     lines: Lines<'a>,
@@ -72,8 +74,8 @@ impl<'a> OrderedLines<'a> {
         OrderedLines { lines, left: None }
     }
 
-    /// Those among these lines, which have no fault, and how many there are, where that is known. Then no line after the last of them
-    /// is looked at.
+    /// Those among these lines, which have no fault, and how many there are, where that is known. Then no line after
+    /// the last of them is looked at.
     pub fn counted(lines: Lines<'a>, count: Option<u32>) -> OrderedLines<'a>
         requires faultless { first_fault lines ≡ None }
         requires count { (n : ℕ) → count ≡ Some n → length (ordered_lines (directives lines)) ≡ n }

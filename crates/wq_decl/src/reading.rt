@@ -1,12 +1,14 @@
 //! One line as a directive.
 //!
-//! It looks at each byte of the line a fixed number of times: as words are cut, as names are judged, and where there is a fault.
+//! It looks at each byte of the line a fixed number of times: as words are cut, as
+//! names are judged, and where there is a fault.
 
 ghost use Rattle.std.specs.Prelude.{◌≡◌};
 ghost use Rattle.std.specs.List.{list_all};
 ghost use Rattle.wq_text.specs.Words.{words_of};
 ghost use Rattle.wq_decl.specs.Names.{is_name_byte, is_name, are_names};
-ghost use Rattle.wq_decl.specs.Reading.{is_text_byte, item_reading, flush_reading, flushwq_reading, ordered_reading, reading_after, words_reading, reading};
+ghost use Rattle.wq_decl.specs.Reading.{is_text_byte, item_reading, flush_reading, flushwq_reading, ordered_reading};
+ghost use Rattle.wq_decl.specs.Reading.{reading_after, words_reading, reading};
 
 use crate::directive::Directive;
 use crate::fault::DeclError;

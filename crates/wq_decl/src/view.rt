@@ -1,7 +1,7 @@
 //! A declaration as the list of its directives.
 //!
-//! Making a view looks at each line once, and so does going through its directives again, or through its `ordered` lines. It takes
-//! no memory.
+//! Making a view looks at each line once, and so does going through its directives
+//! again, or through its `ordered` lines. It takes no memory.
 
 ghost use Rattle.std.specs.Prelude.{◌≡◌, ℕ, List, None, Some, IfErr, IfOk};
 ghost use Rattle.std.specs.Iterator.{YieldsFirst, item_count};
@@ -48,10 +48,11 @@ impl<'a> Model for DeclView<'a> {
 impl<'a> DeclView<'a> {
     /// Reads the directives of a text.
     ///
-    /// The error is the first fault, of the lowest line that has one: `BadByte` (3), `UnknownWord` (4), `MissingName` (5),
-    /// `ExtraWord` (12) or `BadName` (6), in this order in a line.
+    /// The error is the first fault, of the lowest line that has one: `BadByte` (3), `UnknownWord` (4), `MissingName`
+    /// (5), `ExtraWord` (12) or `BadName` (6), in this order in a line.
     pub fn new(text: Text<'a>) -> Result<DeclView<'a>, DeclError>
-        ensures directives { IfOk result (λ view. (view ≡ directives (lines_of text.entry)) × (first_fault (lines_of text.entry) ≡ None)) }
+        ensures directives { IfOk result (λ view. (view ≡ directives (lines_of text.entry))
+            × (first_fault (lines_of text.entry) ≡ None)) }
         ensures fault { IfErr result (λ e. first_fault (lines_of text.entry) ≡ Some e) }
     {
         let mut orders = false;
@@ -68,8 +69,8 @@ impl<'a> DeclView<'a> {
         })
     }
 
-    /// The view of a text known to have no faulty line, given whether some line is an `ordered` line, and its `ordered` lines, which
-    /// were found already: nothing is looked at again.
+    /// The view of a text known to have no faulty line, given whether some line is an `ordered` line, and its `ordered`
+    /// lines, which were found already: nothing is looked at again.
     pub fn of_ordered(text: Text<'a>, orders: bool, ordered: OrderedLines<'a>) -> DeclView<'a>
         requires faultless { first_fault (lines_of text) ≡ None }
         requires orders { orders ≡ has_ordered (directives (lines_of text)) }
@@ -100,7 +101,8 @@ impl<'a> DeclView<'a> {
         }
     }
 
-    /// The `ordered` lines in order: of each its number and the names on it. Of another line its first word is looked at, at most.
+    /// The `ordered` lines in order: of each its number and the names on it. Of
+    /// another line its first word is looked at, at most.
     pub fn ordered_lines(&self) -> OrderedLines<'a>
         ensures value { result ≡ ordered_lines self.now }
         ensures names { AllByRecursion (λ (l : ℕ × List WordView). HasNames (Ordered l.1)) (ordered_lines self.now) }

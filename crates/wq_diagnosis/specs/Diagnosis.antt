@@ -7,7 +7,8 @@ use Rattle.wq_findings.specs.Shown.{place_text, shown}
 abbrev pub shown_lines : List (List ℕ) → List ℕ
 shown_lines lines = flat_map (λ line. map shown line ++ (10 ∷ [])) lines
 
--- the first line: the file, the place in it, what is wrong, and the word of the answer (`refused` or `no`) with its number
+-- the first line: the file, the place in it, what is wrong, and the word of the
+-- answer (`refused` or `no`) with its number
 abbrev pub head : List ℕ → List ℕ → List ℕ → List ℕ → ℕ → List ℕ
 head file place what word code =
     (((((((((file ++ place_text place) ++ codes ": ") ++ what) ++ codes " [") ++ word) ++ codes " ") ++ decimal code)

@@ -9,12 +9,14 @@ use Rattle.wq_diagnosis.specs.Diagnosis.{IsDiagnosis, shown_lines}
 -- what is said about a text: nothing if it isn't refused, and else a diagnosis of its refusal
 abbrev pub Diagnoses : List ℕ → Option Refusal → Option (List ℕ) → Type 0
 Diagnoses file None said = said ≡ None
-Diagnoses file (Some r) said = (text : List ℕ) × (said ≡ Some text) × IsDiagnosis file (codes "refused") r.code r.line text
+Diagnoses file (Some r) said =
+    (text : List ℕ) × (said ≡ Some text) × IsDiagnosis file (codes "refused") r.code r.line text
 
 -- what is said about a certificate: the diagnosis of a `no`, with its number; nothing if there is none
 abbrev pub SaysNo : List ℕ → Option No → Option (List ℕ) → Type 0
 SaysNo file None said = said ≡ None
-SaysNo file (Some why) said = (text : List ℕ) × (line : ℕ) × (said ≡ Some text) × IsDiagnosis file (codes "no") (no_code why) line text
+SaysNo file (Some why) said =
+    (text : List ℕ) × (line : ℕ) × (said ≡ Some text) × IsDiagnosis file (codes "no") (no_code why) line text
 
 -- a declaration without an item
 abbrev pub HasNoItem : List ℕ → Type 0

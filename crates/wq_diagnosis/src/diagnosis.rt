@@ -1,7 +1,8 @@
 //! The text of a diagnosis, and the diagnoses of the texts of a command.
 //!
-//! The form is that of "Diagnoses" in docs/FORMAT.md. A call that is told the refusal, or what a certificate lacks, takes the time and
-//! the memory of reading the declaration and of searching the text for the fault. The others read the texts first to learn it.
+//! The form is that of "Diagnoses" in docs/FORMAT.md. A call that is told the refusal,
+//! or what a certificate lacks, takes the time and the memory of reading the declaration
+//! and of searching the text for the fault. The others read the texts first to learn it.
 
 ghost use Rattle.std.specs.Prelude.{◌≡◌, ◌++◌, ◌∷◌, codes, length, map, option_map, ℕ, IfOk, OnOk, Some, IsTrue};
 ghost use Rattle.wq_findings.specs.Shown.{place_text};
@@ -71,7 +72,10 @@ fn put_answer<A: Allocator + Copy>(
     word: &str,
     code: &str,
 ) -> Result<(), AllocError>
-    ensures { OnOk result (out.new.items ≡ ((((((out.old.items ++ codes " [") ++ word.now) ++ codes " ") ++ code.now) ++ codes ", `wqplan explain ") ++ code.now) ++ codes "`]") }
+    ensures { OnOk result (out.new.items
+        ≡ ((((((out.old.items ++ codes " [") ++ word.now) ++ codes " ") ++ code.now) ++ codes ", `wqplan explain ")
+        ++ code.now)
+        ++ codes "`]") }
 {
     put(out, b" [")?;
     put(out, word.as_bytes())?;
@@ -92,7 +96,14 @@ fn put_head<A: Allocator + Copy>(
     word: &str,
     code: &str,
 ) -> Result<(), AllocError>
-    ensures { OnOk result (out.new.items ≡ ((((((((((out.old.items ++ file.now) ++ place_text place.now) ++ codes ": ") ++ what.now) ++ codes " [") ++ word.now) ++ codes " ") ++ code.now) ++ codes ", `wqplan explain ") ++ code.now) ++ codes "`]") }
+    ensures { OnOk result (out.new.items
+        ≡ ((((((((((out.old.items ++ file.now) ++ place_text place.now) ++ codes ": ") ++ what.now) ++ codes " [")
+        ++ word.now)
+        ++ codes " ")
+        ++ code.now)
+        ++ codes ", `wqplan explain ")
+        ++ code.now)
+        ++ codes "`]") }
 {
     put(out, file.as_bytes())?;
     put_place(alloc, out, place)?;
@@ -152,7 +163,8 @@ fn whole_text<A: Allocator + Copy>(
     code: u32,
     details: &[Vec<u8, A>],
 ) -> Result<Vec<u8, A>, AllocError>
-    ensures { IfOk result (λ text. text.items ≡ shown_lines (head file.now place.now what.now word.now code ∷ map (λ line. line.items) details.now)) }
+    ensures { IfOk result (λ text. text.items
+        ≡ shown_lines (head file.now place.now what.now word.now code ∷ map (λ line. line.items) details.now)) }
 {
     let head = head(alloc, file, place, what, word, code)?;
     let mut out = Vec::new(alloc);
@@ -212,7 +224,8 @@ fn of_refused<A: Allocator + Copy>(
     declaration: Source<'_>,
     refusal: Refusal,
 ) -> Result<Vec<u8, A>, AllocError>
-    ensures { IfOk result (λ said. IsDiagnosis declaration.entry.file.now refusal.word.now refusal.code refusal.line said.items) }
+    ensures { IfOk result (λ said.
+        IsDiagnosis declaration.entry.file.now refusal.word.now refusal.code refusal.line said.items) }
 {
     let text = lines_of(declaration.text);
     let finding = in_declaration(alloc, &text, refusal.code, refusal.line)?;
@@ -229,8 +242,8 @@ fn of_refused<A: Allocator + Copy>(
     )
 }
 
-/// The diagnosis of a declaration that is refused for the fault of this number on this line, and below it those of its further
-/// mistakes.
+/// The diagnosis of a declaration that is refused for the fault of this number on
+/// this line, and below it those of its further mistakes.
 ///
 /// The only error is out of memory (20). The names are hashed with `seed`. Nothing that is said depends on it.
 pub fn of_refused_declaration<A: Allocator + Copy>(
@@ -278,15 +291,16 @@ fn of_fault<A: Allocator + Copy>(
     refusal: Refusal,
 ) -> Result<Vec<u8, A>, AllocError>
     requires { length declared.now.groups.group_of ≡ length declared.now.table.names }
-    ensures { IfOk result (λ said. IsDiagnosis certificate.entry.file.now refusal.word.now refusal.code refusal.line said.items) }
+    ensures { IfOk result (λ said.
+        IsDiagnosis certificate.entry.file.now refusal.word.now refusal.code refusal.line said.items) }
 {
     let text = lines_of(certificate.text);
     let Found { line, finding } = find_fault(alloc, kind, declared, declaration, &text, refusal)?;
     diagnosis(alloc, certificate.file, line, refusal, finding)
 }
 
-/// The diagnosis of a certificate of a declaration that is refused for the fault of this number on this line; nothing where the
-/// declaration itself is refused.
+/// The diagnosis of a certificate of a declaration that is refused for the fault of this number on this line; nothing
+/// where the declaration itself is refused.
 ///
 /// The only error is out of memory (20). The names are hashed with `seed`. No answer depends on it.
 pub fn of_refused_certificate<A: Allocator + Copy>(
@@ -299,7 +313,8 @@ pub fn of_refused_certificate<A: Allocator + Copy>(
     line: u32,
 ) -> Result<Option<Vec<u8, A>>, AllocError>
     ensures { IfOk result (λ said. SaysIfDeclared declaration.now
-        (Diagnoses certificate.entry.file.now (Some (record { code = code; line = line }))) (option_map (λ text. text.items) said)) }
+        (Diagnoses certificate.entry.file.now (Some (record { code = code; line = line })))
+        (option_map (λ text. text.items) said)) }
 {
     match read_declaration(alloc, seed, declaration) {
         Ok(declared) => {
@@ -362,7 +377,8 @@ fn has_no_item<A: Allocator + Copy>(alloc: A, seed: u64, text: &[u8]) -> Result<
 
 /// Says that a declaration has no item; nothing where it has one, or is refused.
 ///
-/// The only error is out of memory (20). Where a line has a word, it takes the time up to the first such line, and no memory.
+/// The only error is out of memory (20). Where a line has a word, it takes the time
+/// up to the first such line, and no memory.
 ///
 /// The names are hashed with `seed`. No answer depends on it.
 pub fn of_no_item<A: Allocator + Copy>(
@@ -370,7 +386,8 @@ pub fn of_no_item<A: Allocator + Copy>(
     seed: u64,
     declaration: Source<'_>,
 ) -> Result<Option<Vec<u8, A>>, AllocError>
-    ensures { IfOk result (λ said. NotesNoItem declaration.entry.file.now declaration.entry.text.now (option_map (λ text. text.items) said)) }
+    ensures { IfOk result (λ said.
+        NotesNoItem declaration.entry.file.now declaration.entry.text.now (option_map (λ text. text.items) said)) }
 {
     if !has_no_item(alloc, seed, declaration.text)? {
         return Ok(None);
@@ -396,7 +413,8 @@ pub fn of_lack<A: Allocator + Copy>(
     certificate: Source<'_>,
     no: &No,
 ) -> Result<Vec<u8, A>, AllocError>
-    ensures { IfOk result (λ said. (line : ℕ) × IsDiagnosis certificate.entry.file.now (codes "no") (no_code no.now) line said.items) }
+    ensures { IfOk result (λ said. (line : ℕ)
+        × IsDiagnosis certificate.entry.file.now (codes "no") (no_code no.now) line said.items) }
 {
     let text = lines_of(certificate.text);
     let Found { line, finding } = in_answer(&declared.table, &text, no);

@@ -25,7 +25,8 @@ fn failed_line<A: Allocator + Copy>(
     Ok(line)
 }
 
-/// The line that names a file which can't be opened, read or written, and says why. Each byte of it is shown as one of a diagnosis is.
+/// The line that names a file which can't be opened, read or written, and says why.
+/// Each byte of it is shown as one of a diagnosis is.
 ///
 /// The only error is out of memory (20).
 pub fn of_failed<A: Allocator + Copy>(
@@ -33,7 +34,8 @@ pub fn of_failed<A: Allocator + Copy>(
     file: &str,
     why: &str,
 ) -> Result<Vec<u8, A>, AllocError>
-    ensures { IfOk result (λ said. said.items ≡ shown_lines ((((codes "wqplan: " ++ file.now) ++ codes ": ") ++ why.now) ∷ [])) }
+    ensures { IfOk result (λ said. said.items
+        ≡ shown_lines ((((codes "wqplan: " ++ file.now) ++ codes ": ") ++ why.now) ∷ [])) }
 {
     let line = failed_line(alloc, file, why)?;
     let mut said = Vec::new(alloc);

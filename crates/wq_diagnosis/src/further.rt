@@ -1,4 +1,5 @@
-//! The further mistakes of a declaration that is refused: what it would be refused for, if the lines before were mended.
+//! The further mistakes of a declaration that is refused: what it would be refused
+//! for, if the lines before were mended.
 //!
 //! The text is mended and read again, at most 30 times. So it takes the time and the memory of that many readings.
 
@@ -48,7 +49,8 @@ fn refusal_of<A: Allocator + Copy>(
     }
 }
 
-/// Adds the lines about further mistakes of a declaration that is refused like this: at most nine of them, and of each line one.
+/// Adds the lines about further mistakes of a declaration that is refused like this:
+/// at most nine of them, and of each line one.
 ///
 /// The names are hashed with `seed`. Nothing that is said depends on it.
 pub(crate) fn push_further<A: Allocator + Copy>(

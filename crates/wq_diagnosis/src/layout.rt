@@ -1,6 +1,7 @@
 //! Lines as they are shown in a diagnosis, and what is shown of a text.
 //!
-//! Each byte is shown as "Diagnoses" in docs/FORMAT.md says. A call takes time and memory in the length of what is shown.
+//! Each byte is shown as "Diagnoses" in docs/FORMAT.md says. A call takes time and
+//! memory in the length of what is shown.
 
 ghost use Rattle.std.specs.Prelude.{◌≡◌, ◌++◌, ◌∷◌, [], map, IfOk, OnOk};
 ghost use Rattle.wq_findings.specs.Shown.{shown};
@@ -68,7 +69,8 @@ pub fn column(mark: Mark) -> u32 {
     u32::try_from(mark.at).unwrap_or(u32::MAX).saturating_add(1)
 }
 
-/// The lines of a text, however long they are. A text of more than 4,294,967,295 bytes, which no command reads, has none.
+/// The lines of a text, however long they are. A text of more than 4,294,967,295
+/// bytes, which no command reads, has none.
 pub fn lines_of(text: &[u8]) -> Text<'_> {
     match Text::new(text, u32::MAX, u32::MAX) {
         Ok(text) => text,

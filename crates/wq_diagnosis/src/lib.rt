@@ -1,5 +1,5 @@
-//! Diagnoses: what standard error says of a text that is refused, in addition to the refusal; of a run with a step that isn't lawful;
-//! and of a file that can't be read or written.
+//! Diagnoses: what standard error says of a text that is refused, in addition to the refusal; of a run with a step that
+//! isn't lawful; and of a file that can't be read or written.
 //!
 //! What the layer above relies on: a diagnosis begins with the file and the line of the refusal, has the number of the
 //! refusal on its first line, and is printable ASCII and line feeds, whatever the text holds; and of the first step

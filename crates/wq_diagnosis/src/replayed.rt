@@ -1,7 +1,7 @@
 //! What standard error says of a run with a step that isn't lawful.
 //!
-//! The form is that of "Diagnoses" in docs/FORMAT.md. It takes the time and the memory of reading the three texts and of making the
-//! steps.
+//! The form is that of "Diagnoses" in docs/FORMAT.md. It takes the time and the
+//! memory of reading the three texts and of making the steps.
 
 ghost use Rattle.std.specs.Prelude.{◌≡◌, ◌∷◌, ◌<◌, ℕ, Ok, IfNone, IfOk, IfSome, length, map, option_map};
 ghost use Rattle.wq_core.specs.Runs.{HasNoHelp};
@@ -114,7 +114,8 @@ fn whole_text<A: Allocator + Copy>(
     number: u32,
     details: &[Vec<u8, A>],
 ) -> Result<Vec<u8, A>, AllocError>
-    ensures { IfOk result (λ said. said.items ≡ shown_lines (unlawful_head file.now place.now what.now number ∷ map (λ line. line.items) details.now)) }
+    ensures { IfOk result (λ said. said.items
+        ≡ shown_lines (unlawful_head file.now place.now what.now number ∷ map (λ line. line.items) details.now)) }
 {
     let head = head(alloc, file, place, what, number)?;
     let mut out = Vec::new(alloc);
@@ -283,8 +284,8 @@ fn of_named<A: Allocator + Copy>(
     of_run(alloc, declared, workqueues, &names, run, number)
 }
 
-/// What is said of a run of this declaration: nothing where the assignment or the run is refused, or the step of this number isn't
-/// the first that isn't lawful.
+/// What is said of a run of this declaration: nothing where the assignment or the run is refused, or the step of this
+/// number isn't the first that isn't lawful.
 fn of_declared<A: Allocator + Copy>(
     alloc: A,
     declared: &Declaration<'_, A>,
@@ -316,8 +317,8 @@ fn of_declared<A: Allocator + Copy>(
     }
 }
 
-/// Says of a run why the step of this number isn't lawful. The first step is 1. Where another step is the first that isn't lawful, or
-/// there is none, or where a text is refused, it says nothing.
+/// Says of a run why the step of this number isn't lawful. The first step is 1. Where another step is the first that
+/// isn't lawful, or there is none, or where a text is refused, it says nothing.
 ///
 /// The only error is out of memory (20). The names are hashed with `seed`. No answer depends on it.
 pub fn of_unlawful<A: Allocator + Copy>(

@@ -35,13 +35,15 @@ pub enum Unlawful {
     NothingRuns,
     /// An entry of this item runs on the workqueue, and waits so.
     Waits(ItemId, Waiting),
-    /// This item runs on the workqueue, and declares no flush of the other one; or, where this is so, none of its whole workqueue.
+    /// This item runs on the workqueue, and declares no flush of the other one; or,
+    /// where this is so, none of its whole workqueue.
     Undeclared(ItemId, bool),
     /// This item runs on the workqueue, and has made as many waits as it declares flushes.
     AllMade(ItemId),
     /// This item runs on the workqueue, and doesn't wait.
     Awake(ItemId),
-    /// An entry that was queued before the wait is unfinished: one of the item, or, where this is so, one on its workqueue.
+    /// An entry that was queued before the wait is unfinished: one of the item, or,
+    /// where this is so, one on its workqueue.
     Unfinished(bool),
 }
 

@@ -53,7 +53,8 @@ pub fn workqueue_of<A: Allocator + Copy>(
 ) -> LaneId
     requires item { item < length declared.now.groups.group_of }
     requires assigned { length workqueues.now.assignment.lane_of_group ≡ declared.now.groups.groups }
-    ensures { result ≡ workqueue_of (record { table = declared.now.table; partition = declared.now.groups }) workqueues.now item }
+    ensures { result
+        ≡ workqueue_of (record { table = declared.now.table; partition = declared.now.groups }) workqueues.now item }
 {
     workqueues.assignment().lane(declared.groups.of(item))
 }
@@ -75,7 +76,8 @@ pub fn item_words<A: Allocator + Copy>(
     declared: &Declaration<'_, A>,
     item: ItemId,
 ) -> Result<Vec<u8, A>, AllocError>
-    ensures { IfOk result (λ words. words.items ≡ item_words (record { table = declared.now.table; partition = declared.now.groups }) item) }
+    ensures { IfOk result (λ words. words.items
+        ≡ item_words (record { table = declared.now.table; partition = declared.now.groups }) item) }
 {
     let mut words = Vec::new(alloc);
     put(&mut words, b"`")?;

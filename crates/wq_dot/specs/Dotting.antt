@@ -1,6 +1,8 @@
--- The answer to a declaration and an assignment, or to only a declaration: a drawing. Where workqueues can hang, the flushes are bold
--- red in which a shortest run waits that ends stuck. There may be several such runs: that is the one freedom of an answer.
-use Rattle.std.specs.Prelude.{◌≡◌, ◌⊎◌, ◌==◌, ◌&&◌, not, cond, if◌then◌else◌, Bool, false, true, ℕ, List, [], ◌++◌, length, codes, decimal, MatchResult}
+-- The answer to a declaration and an assignment, or to only a declaration: a drawing.
+-- Where workqueues can hang, the flushes are bold red in which a shortest run waits that
+-- ends stuck. There may be several such runs: that is the one freedom of an answer.
+use Rattle.std.specs.Prelude.{◌≡◌, ◌⊎◌, ◌==◌, ◌&&◌, not, cond, if◌then◌else◌, Bool, false, true, ℕ, List, [], ◌++◌}
+use Rattle.std.specs.Prelude.{length, codes, decimal, MatchResult}
 use Rattle.std.specs.List.{list_any}
 use Rattle.wq_text.specs.LineText.{spaced}
 use Rattle.wq_items.specs.Chain.{HasCircle}
@@ -43,7 +45,9 @@ counted n thing = spaced (decimal n) ++ codes " " ++ thing ++ cond (n == 1) [] (
 
 -- what is said of so many bold waits, and the legend, each line of which ends with `\l`, as Graphviz wants it
 abbrev pub bold_text : ℕ → List ℕ
-bold_text n = if n == 0 then [] else codes "," ++ counted n (codes "wait") ++ codes " in bold\\lBold: the chain that needs so many workqueues.\\l"
+bold_text n =
+    if n == 0 then []
+    else codes "," ++ counted n (codes "wait") ++ codes " in bold\\lBold: the chain that needs so many workqueues.\\l"
 
 -- `plan of K workqueues`, and what is said of the bold waits
 abbrev pub plan_title : ℕ → ℕ → List ℕ
@@ -57,7 +61,8 @@ leading_text leading = if leading == 0 then [] else codes "," ++ spaced (decimal
 abbrev pub awaited : ℕ → ℕ → List ℕ
 awaited leading red =
     if leading == 0 then codes "only it, or one that waits for it, can do"
-    else (if leading == red then codes "no rescuer does" else codes "only it, or one that waits for it, can do,\\lor that no rescuer does")
+    else (if leading == red then codes "no rescuer does"
+    else codes "only it, or one that waits for it, can do,\\lor that no rescuer does")
 
 -- how many of the red waits are bold, if not all are
 abbrev pub shortest_text : ℕ → ℕ → List ℕ
@@ -69,13 +74,15 @@ shortest_legend red bold = if red == bold then [] else codes "\\lBold: enough to
 
 -- the legend of red waits
 abbrev pub red_legend : ℕ → ℕ → List ℕ
-red_legend leading red = codes "\\lRed: while memory is short, a worker may wait for work\\lthat " ++ awaited leading red ++ codes "."
+red_legend leading red =
+    codes "\\lRed: while memory is short, a worker may wait for work\\lthat " ++ awaited leading red ++ codes "."
 
 -- `safe` if no wait is red, else what hangs, the number of red waits and their legend
 abbrev pub red_text : List ℕ → ℕ → ℕ → ℕ → List ℕ
 red_text hanging leading red bold =
     if red == 0 then codes "safe"
-    else hanging ++ codes "," ++ counted red (codes "wait") ++ codes " in red" ++ leading_text leading ++ shortest_text red bold ++ red_legend leading red ++ shortest_legend red bold
+    else hanging ++ codes "," ++ counted red (codes "wait") ++ codes " in red" ++ leading_text leading
+    ++ shortest_text red bold ++ red_legend leading red ++ shortest_legend red bold
 
 -- some workqueue has no rescuer
 abbrev pub some_bare : List Bool → Bool
@@ -83,7 +90,9 @@ some_bare bare = list_any (λ b. b) bare
 
 -- the legend of dashed frames, if there is one
 abbrev pub dashed_legend : List Bool → List ℕ
-dashed_legend bare = if some_bare bare then codes "\\lDashed: no rescuer. While memory is short, nothing\\lguarantees that work there runs." else []
+dashed_legend bare =
+    if some_bare bare
+    then codes "\\lDashed: no rescuer. While memory is short, nothing\\lguarantees that work there runs." else []
 
 -- the end of the last line of a legend, if there is one
 abbrev pub legend_end : List Bool → ℕ → List ℕ
@@ -91,7 +100,8 @@ legend_end bare red = if red == 0 && not (some_bare bare) then [] else codes "\\
 
 -- the title of a drawing in which so many waits are red, of which so many lead to no rescuer, and so many are bold
 abbrev pub circles_title : List ℕ → ℕ → List Bool → ℕ → ℕ → List ℕ
-circles_title hanging leading bare red bold = red_text hanging leading red bold ++ dashed_legend bare ++ legend_end bare red
+circles_title hanging leading bare red bold =
+    red_text hanging leading red bold ++ dashed_legend bare ++ legend_end bare red
 
 -- ---- drawings
 
@@ -99,59 +109,78 @@ circles_title hanging leading bare red bold = red_text hanging leading red bold 
 abbrev pub declared_looks : Declared → FlushLook → List WaitArc → List FlushLook
 declared_looks s look arcs = looks_of (flush_count s.table.waits) look arcs
 
--- the drawing of what is declared, on these workqueues with these names, with these looks and comments; the title is made of the
--- looks
-abbrev pub drawing_of : Declared → Workqueues → List (List ℕ) → (List FlushLook → List ℕ) → List FlushLook → List (List ℕ) → List ℕ
+-- the drawing of what is declared, on these workqueues with these names, with these
+-- looks and comments; the title is made of the looks
+abbrev pub drawing_of : Declared → Workqueues → List (List ℕ) → (List FlushLook → List ℕ) → List FlushLook
+    → List (List ℕ) → List ℕ
 drawing_of s ws called title looks comments = drawing_text s.table s.partition ws called (title looks) looks comments
 
 -- the plan is drawn; the flushes along the chain of its plan text are bold
 pub record DrawsPlan (s : Declared) (comments : List (List ℕ)) (out : List ℕ) : Type 0 where
   pub assignment : Assignment
   pub plan : IsPlan (declared_waits s) assignment
-  pub drawn : out ≡ drawing_of s (all_rescued assignment) [] (λ looks. plan_title assignment.lanes (marked looks)) (declared_looks s Bold (chain_of (group_graph (declared_waits s)) assignment.lane_of_group)) comments
+  pub drawn : out
+      ≡ drawing_of s (all_rescued assignment) []
+      (λ looks. plan_title assignment.lanes (marked looks))
+      (declared_looks s Bold (chain_of (group_graph (declared_waits s)) assignment.lane_of_group)) comments
 
 -- the flushes that are on a circle, of these components, and those that lead to a workqueue without a rescuer
 abbrev pub hanging_arcs : Declared → Workqueues → List (List WaitArc) → List WaitArc
 hanging_arcs s ws components = all_arcs components ++ bare_waits (declared_waits s) ws
 
--- these are the waits of a shortest run of the workqueues that ends stuck, in the walk whose run it is; none if no run ends stuck
+-- these are the waits of a shortest run of the workqueues that ends stuck, in the
+-- walk whose run it is; none if no run ends stuck
 abbrev pub AreShortest : Declaration → Workqueues → List Hop → Type 0
 AreShortest d ws hops = (IsSafe (wiring_of d ws) × (hops ≡ [])) ⊎ ((steps : List Step) × IsHangOf d ws hops steps)
 
--- how the flushes of what is declared look: those in which these waits are made are bold red, and of the others those of these arcs red
+-- how the flushes of what is declared look: those in which these waits are made are
+-- bold red, and of the others those of these arcs red
 abbrev pub hanging_looks : Declared → List Hop → List WaitArc → List FlushLook
 hanging_looks s hops arcs = red_looks_of (flush_count s.table.waits) hops arcs
 
--- workqueues with these names are drawn; the flushes that are on a circle are red, and so are those that lead to a workqueue without
--- a rescuer, and if there are any, this is what hangs; and bold red are those in which these waits are made, which are those of a
--- shortest run that ends stuck
-pub record DrawsCircles (s : Declared) (comments : List (List ℕ)) (ws : Workqueues) (called : List (List ℕ)) (hanging : List ℕ) (hops : List Hop) (out : List ℕ) : Type 0 where
+-- workqueues with these names are drawn; the flushes that are on a circle are red, and so are those that lead to a
+-- workqueue without a rescuer, and if there are any, this is what hangs; and bold red are those in which these waits
+-- are made, which are those of a shortest run that ends stuck
+pub record DrawsCircles (s : Declared) (comments : List (List ℕ)) (ws : Workqueues) (called : List (List ℕ))
+    (hanging : List ℕ) (hops : List Hop) (out : List ℕ) : Type 0 where
   pub components : List (List WaitArc)
   pub are : AreComponents (declared_waits s) ws components
   pub shortest : AreShortest (declared_waits s) ws hops
-  pub drawn : out ≡ drawing_of s ws called (λ looks. circles_title hanging (length (bare_waits (declared_waits s) ws)) ws.bare (marked looks) (bold_red looks)) (hanging_looks s hops (hanging_arcs s ws components)) comments
+  pub drawn : out
+      ≡ drawing_of s ws called
+      (λ looks.
+      circles_title hanging (length (bare_waits (declared_waits s) ws)) ws.bare (marked looks) (bold_red looks))
+      (hanging_looks s hops (hanging_arcs s ws components)) comments
 
--- the groups of a declaration are drawn, with the comments of its flushes: on the workqueues of their plan or, if they wait in a circle, each on its own
--- workqueue, and then these are the waits of a shortest run that ends stuck
+-- the groups of a declaration are drawn, with the comments of its flushes: on the workqueues of their plan or, if they
+-- wait in a circle, each on its own workqueue, and then these are the waits of a shortest run that ends stuck
 abbrev pub DrawsGroups : Declared → List (List ℕ) → List Hop → List ℕ → Type 0
 DrawsGroups s comments hops out =
     DrawsPlan s comments out
-    ⊎ (HasCircle (GroupWaits (declared_waits s)) s.partition.groups × DrawsCircles s comments (all_rescued (own_lanes s.partition.groups)) [] (codes "every assignment can hang") hops out)
+    ⊎ (HasCircle (GroupWaits (declared_waits s)) s.partition.groups
+    × DrawsCircles s comments (all_rescued (own_lanes s.partition.groups)) []
+    (codes "every assignment can hang") hops out)
 
 -- ---- answers in which, if something hangs, the flushes of these waits are bold red
 
 -- the answer to workqueues of a declaration's groups, with these names
 abbrev pub DrawsAssigned : Declared → List (List ℕ) → Workqueues → List (List ℕ) → List Hop → End → List ℕ → Type 0
-DrawsAssigned s comments ws called hops end out = (end ≡ Good) × DrawsCircles s comments ws called (codes "can hang") hops out
+DrawsAssigned s comments ws called hops end out =
+    (end ≡ Good) × DrawsCircles s comments ws called (codes "can hang") hops out
 
 -- the answer to the text of an assignment of a declaration, in which the workqueues have their names, or its refusal
 abbrev pub DrawsDeclared : Declared → List (List ℕ) → List ℕ → List Hop → End → List ℕ → Type 0
 DrawsDeclared s comments text hops end out =
-    MatchResult (workqueues_of_text s.table.names s.partition text) (λ ws. DrawsAssigned s comments ws (names_of text) hops end out) (λ fault. PrintsRefusal (cert_refusal fault) end out)
+    MatchResult (workqueues_of_text s.table.names s.partition text)
+    (λ ws. DrawsAssigned s comments ws (names_of text) hops end out)
+    (λ fault. PrintsRefusal (cert_refusal fault) end out)
 
 -- the answer to the texts of a declaration and an assignment: a refusal of the declaration comes first
 abbrev pub DrawsBy : List Hop → List ℕ → List ℕ → End → List ℕ → Type 0
-DrawsBy hops declared text end out = MatchResult (declaration declared) (λ s. DrawsDeclared s (comments_of declared) text hops end out) (λ r. PrintsRefusal r end out)
+DrawsBy hops declared text end out =
+    MatchResult (declaration declared)
+    (λ s. DrawsDeclared s (comments_of declared) text hops end out)
+    (λ r. PrintsRefusal r end out)
 
 -- the answer to the groups of a declaration
 abbrev pub DrawsOwn : Declared → List (List ℕ) → List Hop → End → List ℕ → Type 0
@@ -159,7 +188,10 @@ DrawsOwn s comments hops end out = (end ≡ Good) × DrawsGroups s comments hops
 
 -- the answer to only the text of a declaration
 abbrev pub OwnDrawsBy : List Hop → List ℕ → End → List ℕ → Type 0
-OwnDrawsBy hops declared end out = MatchResult (declaration declared) (λ s. DrawsOwn s (comments_of declared) hops end out) (λ r. PrintsRefusal r end out)
+OwnDrawsBy hops declared end out =
+    MatchResult (declaration declared)
+    (λ s. DrawsOwn s (comments_of declared) hops end out)
+    (λ r. PrintsRefusal r end out)
 
 -- ---- answers
 
@@ -180,10 +212,13 @@ dot_limits false = one_text
 
 -- its answer in which the flushes of these waits are bold red, if something hangs, and why
 abbrev pub DrawsTextsBy : List Hop → Bool → Given → Outcome → List ℕ → Type 0
-DrawsTextsBy hops true texts outcome out = DrawsBy hops texts.first texts.second outcome.end out × SaysAssigned texts.first texts.second outcome.why
-DrawsTextsBy hops false texts outcome out = OwnDrawsBy hops texts.first outcome.end out × SaysDeclared texts.first outcome.why
+DrawsTextsBy hops true texts outcome out =
+    DrawsBy hops texts.first texts.second outcome.end out × SaysAssigned texts.first texts.second outcome.why
+DrawsTextsBy hops false texts outcome out =
+    OwnDrawsBy hops texts.first outcome.end out × SaysDeclared texts.first outcome.why
 
 -- its answer, and why
 abbrev pub DrawsTexts : Bool → Given → Outcome → List ℕ → Type 0
-DrawsTexts true texts outcome out = Draws texts.first texts.second outcome.end out × SaysAssigned texts.first texts.second outcome.why
+DrawsTexts true texts outcome out =
+    Draws texts.first texts.second outcome.end out × SaysAssigned texts.first texts.second outcome.why
 DrawsTexts false texts outcome out = OwnDraws texts.first outcome.end out × SaysDeclared texts.first outcome.why

@@ -1,6 +1,7 @@
--- Drawings: the text for Graphviz that shows the items in their groups and workqueues, and the flushes between them, line by
--- line.
-use Rattle.std.specs.Prelude.{ℕ, ◌==◌, ◌&&◌, nat_lt, cond, Bool, true, false, List, [], ◌∷◌, ◌++◌, length, map, flat_map, filter, slice_index_or, codes, decimal}
+-- Drawings: the text for Graphviz that shows the items in their groups and
+-- workqueues, and the flushes between them, line by line.
+use Rattle.std.specs.Prelude.{ℕ, ◌==◌, ◌&&◌, nat_lt, cond, Bool, true, false, List, [], ◌∷◌, ◌++◌, length, map}
+use Rattle.std.specs.Prelude.{flat_map, filter, slice_index_or, codes, decimal}
 use Rattle.std.specs.List.{list_any, range_with_len}
 use Rattle.wq_items.specs.declared.target.Target.{Target}
 use Rattle.wq_items.specs.Table.{Table, items_at, targets_of}
@@ -21,7 +22,8 @@ use Rattle.wq_dot.specs.Tooltips.{tooltip_text}
 abbrev pub head_lines : List ℕ → List (List ℕ)
 head_lines title =
     codes "digraph wqplan {"
-    ∷ (codes "  graph [label=\"" ++ title ++ codes "\", labelloc=t, labeljust=l, rankdir=LR, nodesep=0.15, ranksep=1, fontname=\"sans-serif\"];")
+    ∷ (codes "  graph [label=\"" ++ title
+    ++ codes "\", labelloc=t, labeljust=l, rankdir=LR, nodesep=0.15, ranksep=1, fontname=\"sans-serif\"];")
     ∷ codes "  node [shape=box, style=filled, fillcolor=white, height=0.3, fontname=\"sans-serif\", fontsize=12];"
     ∷ codes "  edge [arrowsize=0.7];"
     ∷ []
@@ -36,12 +38,13 @@ single_line names i = codes "    \"" ++ name_of names i ++ codes "\";"
 abbrev pub member_line : List (List ℕ) → ℕ → List ℕ
 member_line names i = codes "      \"" ++ name_of names i ++ codes "\";"
 
--- a group of several items, of which this one is the first: a box within the workqueue's box, with the word `ordered` and a line
--- for each item
+-- a group of several items, of which this one is the first: a box within the
+-- workqueue's box, with the word `ordered` and a line for each item
 abbrev pub group_box_lines : List (List ℕ) → ℕ → List ℕ → List (List ℕ)
 group_box_lines names first members =
     (codes "    subgraph \"cluster ordered " ++ name_of names first ++ codes "\" {")
-    ∷ (codes "      graph [label=\"\", style=dashed, color=black]; \"ordered " ++ name_of names first ++ codes "\" [label=\"ordered\", shape=plaintext, style=\"\"];")
+    ∷ (codes "      graph [label=\"\", style=dashed, color=black]; \"ordered " ++ name_of names first
+    ++ codes "\" [label=\"ordered\", shape=plaintext, style=\"\"];")
     ∷ (map (member_line names) members ++ (codes "    }" ∷ []))
 
 -- the lines of a group with these items
@@ -65,7 +68,8 @@ frame_text false = codes "style=filled, color=gray92"
 abbrev pub frame_line : List ℕ → Bool → Bool → ℕ → List ℕ
 frame_line name shared bare q =
     codes "    graph [label=\"\", " ++ frame_text bare
-    ++ codes "]; \"" ++ numbered q ++ codes "\" [" ++ label_text name shared bare q ++ codes "shape=plaintext, style=\"\", fontsize=14];"
+    ++ codes "]; \"" ++ numbered q ++ codes "\" [" ++ label_text name shared bare q
+    ++ codes "shape=plaintext, style=\"\", fontsize=14];"
 
 -- workqueue q with this name and these groups: its three lines, with those of the groups before the third one
 abbrev pub box_lines : List (List ℕ) → List ℕ → List ℕ → Bool → Bool → ℕ → List ℕ → List (List ℕ)
@@ -86,9 +90,11 @@ workqueue_box_lines names group_of ws called q =
 abbrev pub is_whole_at : List (List Target) → WaitArc → Bool
 is_whole_at waits flush = list_any (λ (t : Target). (t.place == flush.place) && t.whole) (targets_of waits flush.src)
 
--- the flush is drawn from its target: a flush goes the other way too, and that one is of the item that was declared first
+-- the flush is drawn from its target: a flush goes the other way too, and that one
+-- is of the item that was declared first
 abbrev pub is_turned : List (List Target) → WaitArc → Bool
-is_turned waits flush = nat_lt flush.dst flush.src && list_any (λ (t : Target). t.item == flush.src) (targets_of waits flush.dst)
+is_turned waits flush =
+    nat_lt flush.dst flush.src && list_any (λ (t : Target). t.item == flush.src) (targets_of waits flush.dst)
 
 -- the line and the colour of an arrow
 abbrev pub look_text : FlushLook → List ℕ
@@ -120,12 +126,14 @@ arrow_line names waits look comment flush =
 
 -- the line of a flush, with the look and the comment that are at its place
 abbrev pub flush_line : List (List ℕ) → List (List Target) → List FlushLook → List (List ℕ) → WaitArc → List ℕ
-flush_line names waits looks comments flush = arrow_line names waits (slice_index_or looks flush.place Plain) (slice_index_or comments flush.place []) flush
+flush_line names waits looks comments flush =
+    arrow_line names waits (slice_index_or looks flush.place Plain) (slice_index_or comments flush.place []) flush
 
 -- ---- the text
 
 -- all lines: the head, each workqueue from 0 up, each flush in order of place, and the end
-abbrev pub drawing_lines : Table → Partition → Workqueues → List (List ℕ) → List ℕ → List FlushLook → List (List ℕ) → List (List ℕ)
+abbrev pub drawing_lines : Table → Partition → Workqueues → List (List ℕ) → List ℕ → List FlushLook → List (List ℕ)
+    → List (List ℕ)
 drawing_lines t p ws called title looks comments =
     head_lines title
     ++ flat_map (workqueue_box_lines t.names p.group_of ws called) (range_with_len 0 ws.assignment.lanes)
@@ -137,5 +145,6 @@ abbrev pub ended : List ℕ → List ℕ
 ended line = line ++ (10 ∷ [])
 
 -- the text of the drawing
-abbrev pub drawing_text : Table → Partition → Workqueues → List (List ℕ) → List ℕ → List FlushLook → List (List ℕ) → List ℕ
+abbrev pub drawing_text : Table → Partition → Workqueues → List (List ℕ) → List ℕ → List FlushLook → List (List ℕ)
+    → List ℕ
 drawing_text t p ws called title looks comments = flat_map ended (drawing_lines t p ws called title looks comments)

@@ -1,5 +1,5 @@
--- How the flushes of a drawing look: those of some arcs have a mark, those in which some waits are made another, and the others have
--- none.
+-- How the flushes of a drawing look: those of some arcs have a mark, those in which
+-- some waits are made another, and the others have none.
 use Rattle.std.specs.Prelude.{ℕ, ◌<◌, ◌==◌, Bool, true, false, List, map, flat_map, fold, cond, slice_set}
 use Rattle.std.specs.List.{All, count_by, list_any, range_with_len}
 use Rattle.wq_graph.specs.declared.arc.WaitArc.{WaitArc}
@@ -15,10 +15,11 @@ look_at look arcs place = cond (list_any (λ (a : WaitArc). a.place == place) ar
 abbrev pub looks_of : ℕ → FlushLook → List WaitArc → List FlushLook
 looks_of n look arcs = map (look_at look arcs) (range_with_len 0 n)
 
--- how the flush at this place looks if it is bold red where one of these waits is made in it, and else red where it is that of one
--- of these arcs
+-- how the flush at this place looks if it is bold red where one of these waits is
+-- made in it, and else red where it is that of one of these arcs
 abbrev pub red_look_at : List Hop → List WaitArc → ℕ → FlushLook
-red_look_at hops arcs place = cond (list_any (λ (h : Hop). h.flush.place == place) hops) BoldRed (look_at Red arcs place)
+red_look_at hops arcs place =
+    cond (list_any (λ (h : Hop). h.flush.place == place) hops) BoldRed (look_at Red arcs place)
 
 -- how each of n flushes looks then, in order of place
 abbrev pub red_looks_of : ℕ → List Hop → List WaitArc → List FlushLook

@@ -1,5 +1,6 @@
 -- Labels of workqueues: their names or numbers, as the text for Graphviz has them.
-use Rattle.std.specs.Prelude.{ℕ, ◌==◌, ◌&&◌, not, nat_le, cond, if◌then◌else◌, Bool, List, [], ◌++◌, length, flat_map, bytes_eq, codes, decimal}
+use Rattle.std.specs.Prelude.{ℕ, ◌==◌, ◌&&◌, not, nat_le, cond, if◌then◌else◌, Bool, List, [], ◌++◌, length, flat_map}
+use Rattle.std.specs.Prelude.{bytes_eq, codes, decimal}
 use Rattle.std.specs.List.{count_by}
 use Rattle.wq_dot.specs.Tooltips.{escaped}
 
@@ -33,4 +34,5 @@ is_plain name bare = length name == 0 && not bare
 
 -- the label as an attribute, unless it is the one that Graphviz makes
 abbrev pub label_text : List ℕ → Bool → Bool → ℕ → List ℕ
-label_text name shared bare q = if is_plain name bare then [] else codes "label=\"" ++ label_of name shared bare q ++ codes "\", "
+label_text name shared bare q =
+    if is_plain name bare then [] else codes "label=\"" ++ label_of name shared bare q ++ codes "\", "

@@ -15,6 +15,7 @@ is_line_of names i line = bytes_eq (single_line names i) line || bytes_eq (membe
 abbrev pub is_arrow : List ℕ → Bool
 is_arrow line = bytes_eq (take 3 line) (codes "  \"")
 
--- the flush of this arc is in one of these components, or leads from a workqueue that has a rescuer to one that has none
+-- the flush of this arc is in one of these components, or leads from a workqueue
+-- that has a rescuer to one that has none
 abbrev pub IsRed : Declaration → Workqueues → List (List WaitArc) → WaitArc → Type 0
 IsRed d ws components b = IsInComponents components b ⊎ HasFlush b (bare_waits d ws)

@@ -1,5 +1,6 @@
 -- Tooltips: the comment of the line that declares a flush, as the text for Graphviz has it.
-use Rattle.std.specs.Prelude.{ℕ, ◌-◌, ◌==◌, ◌&&◌, nat_le, if◌then◌else◌, List, [], ◌∷◌, ◌++◌, Option, Some, None, length, take, replicate, flat_map, codes}
+use Rattle.std.specs.Prelude.{ℕ, ◌-◌, ◌==◌, ◌&&◌, nat_le, if◌then◌else◌, List, [], ◌∷◌, ◌++◌, Option, Some, None}
+use Rattle.std.specs.Prelude.{length, take, replicate, flat_map, codes}
 use Rattle.wq_text.specs.Lines.{LineView, lines_of}
 use Rattle.wq_text.specs.Words.{WordView, words_of}
 use Rattle.wq_decl.specs.declared.keyword.Keyword.{Keyword}

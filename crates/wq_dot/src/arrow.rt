@@ -1,8 +1,8 @@
 //! A flush: an arrow from the item to the target.
 //!
-//! The line is that of "The command `dot`" in docs/FORMAT.md. Printing takes time and memory in the length of what is printed, and
-//! time in the logarithm of the number of flushes that the item declares. If the target was declared before the item, it also
-//! takes time in the number of flushes that the target declares.
+//! The line is that of "The command `dot`" in docs/FORMAT.md. Printing takes time and memory in the length of what is
+//! printed, and time in the logarithm of the number of flushes that the item declares. If the target was declared
+//! before the item, it also takes time in the number of flushes that the target declares.
 
 ghost use Rattle.std.specs.Prelude.{◌≡◌, ◌<◌, ◌==◌, ◌++◌, cond, length, OnOk};
 ghost use Rattle.std.specs.List.{list_any};
@@ -113,7 +113,8 @@ pub(crate) fn put_flush<A: Allocator + Copy>(
 ) -> Result<(), AllocError>
     requires item { flush.src < length table.now.names }
     requires target { flush.dst < length table.now.names }
-    ensures { OnOk result (out.new.items ≡ out.old.items ++ ended (arrow_line table.now.names table.now.waits look comment.now flush)) }
+    ensures { OnOk result (out.new.items
+        ≡ out.old.items ++ ended (arrow_line table.now.names table.now.waits look comment.now flush)) }
 {
     let turned = is_turned(table, &flush);
     put_ends(out, table, tail(&flush, turned), tip(&flush, turned))?;

@@ -1,9 +1,10 @@
 //! Comments: for each flush that a text declares that of its line, in order of place.
 //!
-//! What is shown of them is said in "The command `dot`" of docs/FORMAT.md. It takes time in the length of the text, and memory in the
-//! number of flushes: the bytes stay where they are.
+//! What is shown of them is said in "The command `dot`" of docs/FORMAT.md. It takes time in the length of the text, and
+//! memory in the number of flushes: the bytes stay where they are.
 
-ghost use Rattle.std.specs.Prelude.{◌≡◌, ◌-◌, ◌++◌, [], IfOk, None, OnOk, flat_map, length, map, replicate, slice_index_or, take};
+ghost use Rattle.std.specs.Prelude.{◌≡◌, ◌-◌, ◌++◌, [], IfOk, None, OnOk, flat_map, length, map, replicate};
+ghost use Rattle.std.specs.Prelude.{slice_index_or, take};
 ghost use Rattle.wq_dot.specs.Tooltips.{comment_of, comments_of, flushes_on, line_comments, max_comment};
 ghost use Rattle.wq_text.specs.Limits.{limit_fault};
 ghost use Rattle.wq_commands.specs.Declaration.{max_declaration, max_declaration_line};
@@ -59,7 +60,8 @@ fn put_comments<'a, A: Allocator + Copy>(
     comment: &'a [u8],
     times: usize,
 ) -> Result<(), AllocError>
-    ensures { OnOk result (map (λ c. c.now) comments.new.items ≡ map (λ c. c.now) comments.old.items ++ replicate times comment.now) }
+    ensures { OnOk result (map (λ c. c.now) comments.new.items
+        ≡ map (λ c. c.now) comments.old.items ++ replicate times comment.now) }
 {
     for _ in 0..times {
         comments.push(comment)?;

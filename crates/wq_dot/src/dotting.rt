@@ -1,7 +1,7 @@
 //! The answer to a declaration and an assignment, or to a declaration alone, built in full in memory.
 //!
-//! The rule is that of "The command `dot`" in docs/FORMAT.md. It takes the time and the memory of reading the texts, of the plan,
-//! of the components, of the search for a shortest run and of the drawing.
+//! The rule is that of "The command `dot`" in docs/FORMAT.md. It takes the time and the memory of reading the texts, of
+//! the plan, of the components, of the search for a shortest run and of the drawing.
 
 ghost use Rattle.std.specs.Prelude.{◌≡◌, [], IfOk, List, None, codes, length, map};
 ghost use Rattle.wq_items.specs.Chain.{HasCircle};
@@ -19,7 +19,8 @@ ghost use Rattle.wq_commands.specs.declared.why.Which.TheVariants.{Certificate};
 ghost use Rattle.wq_commands.specs.Why.{SaysFault, SaysAssigned, SaysDeclared};
 ghost use Rattle.wq_circles.specs.Components.{AreComponents};
 ghost use Rattle.wq_dot.specs.Tooltips.{comments_of};
-ghost use Rattle.wq_dot.specs.Dotting.{AreShortest, DrawsAssigned, DrawsCircles, DrawsDeclared, DrawsGroups, DrawsOwn, DrawsPlan, DrawsTexts, Draws, OwnDraws};
+ghost use Rattle.wq_dot.specs.Dotting.{AreShortest, DrawsAssigned, DrawsCircles, DrawsDeclared, DrawsGroups, DrawsOwn};
+ghost use Rattle.wq_dot.specs.Dotting.{DrawsPlan, DrawsTexts, Draws, OwnDraws};
 
 use crate::comments::comments;
 use crate::drawing::drawing_text;
@@ -50,7 +51,8 @@ fn draw_plan<A: Allocator + Copy>(
 ) -> Result<Vec<u8, A>, AllocError>
     requires grouped { length groups.now.group_of ≡ length table.now.names }
     requires planned { IsPlanned (declaration_of table.now groups.now) assignment.now chain.now }
-    ensures { IfOk result (λ text. DrawsPlan (record { table = table.now; partition = groups.now }) (map (λ c. c.now) comments.now) text.items) }
+    ensures { IfOk result (λ text.
+        DrawsPlan (record { table = table.now; partition = groups.now }) (map (λ c. c.now) comments.now) text.items) }
 {
     // What holds of every table and of all groups.
     let _items = table.len();
@@ -71,8 +73,8 @@ fn draw_plan<A: Allocator + Copy>(
     )
 }
 
-/// The drawing of workqueues with these names and these components, of whose flushes these lead to one without a rescuer. `hanging` says
-/// what hangs if there are any, and `hops` are the waits of a shortest run that ends stuck.
+/// The drawing of workqueues with these names and these components, of whose flushes these lead to one without a
+/// rescuer. `hanging` says what hangs if there are any, and `hops` are the waits of a shortest run that ends stuck.
 fn draw_components<A: Allocator + Copy>(
     alloc: A,
     table: &ItemTable<'_, A>,
@@ -87,11 +89,13 @@ fn draw_components<A: Allocator + Copy>(
 ) -> Result<Vec<u8, A>, AllocError>
     requires grouped { length groups.now.group_of ≡ length table.now.names }
     requires assigned { length workqueues.now.assignment.lane_of_group ≡ groups.now.groups }
-    requires found { AreComponents (declaration_of table.now groups.now) workqueues.now (map (λ l. l.items) components.now) }
+    requires found { AreComponents (declaration_of table.now groups.now) workqueues.now
+        (map (λ l. l.items) components.now) }
     requires waits { waits.now ≡ bare_waits (declaration_of table.now groups.now) workqueues.now }
     requires shortest { AreShortest (declaration_of table.now groups.now) workqueues.now hops.now }
     ensures { IfOk result (λ text.
-        DrawsCircles (record { table = table.now; partition = groups.now }) (map (λ c. c.now) comments.now) workqueues.now (map (λ n. n.now) called.now)
+        DrawsCircles (record { table = table.now; partition = groups.now })
+        (map (λ c. c.now) comments.now) workqueues.now (map (λ n. n.now) called.now)
         hanging.now hops.now text.items) }
 {
     // What holds of every table, of all groups and of every assignment.
@@ -118,8 +122,9 @@ fn draw_components<A: Allocator + Copy>(
     )
 }
 
-/// The drawing of workqueues with these names, with those flushes marked that lie on a circle or lead to a workqueue without a rescuer,
-/// and those in which a shortest run waits that ends stuck. `hanging` says what hangs if there are any.
+/// The drawing of workqueues with these names, with those flushes marked that lie on
+/// a circle or lead to a workqueue without a rescuer, and those in which a shortest
+/// run waits that ends stuck. `hanging` says what hangs if there are any.
 fn draw_circles<A: Allocator + Copy>(
     alloc: A,
     table: &ItemTable<'_, A>,
@@ -132,7 +137,8 @@ fn draw_circles<A: Allocator + Copy>(
     requires grouped { length groups.now.group_of ≡ length table.now.names }
     requires assigned { length workqueues.now.assignment.lane_of_group ≡ groups.now.groups }
     ensures { IfOk result (λ text. (hops : List Hop) ×
-        DrawsCircles (record { table = table.now; partition = groups.now }) (map (λ c. c.now) comments.now) workqueues.now (map (λ n. n.now) called.now)
+        DrawsCircles (record { table = table.now; partition = groups.now })
+        (map (λ c. c.now) comments.now) workqueues.now (map (λ n. n.now) called.now)
         hanging.now hops text.items) }
 {
     let components = components(alloc, table, groups, workqueues)?;
@@ -161,7 +167,8 @@ fn draw_own_lanes<A: Allocator + Copy>(
 ) -> Result<Vec<u8, A>, AllocError>
     requires { length groups.now.group_of ≡ length table.now.names }
     ensures { IfOk result (λ text. (hops : List Hop) ×
-        DrawsCircles (record { table = table.now; partition = groups.now }) (map (λ c. c.now) comments.now) (all_rescued (own_lanes groups.now.groups)) []
+        DrawsCircles (record { table = table.now; partition = groups.now }) (map (λ c. c.now) comments.now)
+        (all_rescued (own_lanes groups.now.groups)) []
         (codes "every assignment can hang") hops text.items) }
 {
     let assignment = own_lanes(alloc, groups)?;
@@ -188,7 +195,8 @@ fn draw_answer<A: Allocator + Copy>(
     requires grouped { length groups.now.group_of ≡ length table.now.names }
     requires solved { Solves (declaration_of table.now groups.now) answer.now }
     ensures { IfOk result (λ text. (hops : List Hop) ×
-        DrawsGroups (record { table = table.now; partition = groups.now }) (map (λ c. c.now) comments.now) hops text.items) }
+        DrawsGroups (record { table = table.now; partition = groups.now })
+        (map (λ c. c.now) comments.now) hops text.items) }
 {
     match answer {
         Answer::Plan { assignment, chain } => draw_plan(
@@ -207,7 +215,8 @@ fn draw_groups<A: Allocator + Copy>(
 ) -> Result<Vec<u8, A>, AllocError>
     requires { length groups.now.group_of ≡ length table.now.names }
     ensures { IfOk result (λ text. (hops : List Hop) ×
-        DrawsGroups (record { table = table.now; partition = groups.now }) (map (λ c. c.now) comments.now) hops text.items) }
+        DrawsGroups (record { table = table.now; partition = groups.now })
+        (map (λ c. c.now) comments.now) hops text.items) }
 {
     let answer = solve(alloc, table, groups)?;
     draw_answer(alloc, table, groups, comments, &answer)
@@ -225,7 +234,8 @@ fn draw_assigned<A: Allocator + Copy>(
     requires grouped { length groups.now.group_of ≡ length table.now.names }
     requires assigned { length workqueues.now.assignment.lane_of_group ≡ groups.now.groups }
     ensures answer { IfOk result (λ a. (hops : List Hop) ×
-        DrawsAssigned (record { table = table.now; partition = groups.now }) (map (λ c. c.now) comments.now) workqueues.now (map (λ n. n.now) called.now)
+        DrawsAssigned (record { table = table.now; partition = groups.now })
+        (map (λ c. c.now) comments.now) workqueues.now (map (λ n. n.now) called.now)
         hops a.end a.text.items) }
     ensures why { IfOk result (λ a. a.why ≡ None) }
 {
@@ -254,7 +264,8 @@ fn draw_named<A: Allocator + Copy>(
     requires assigned { length workqueues.now.assignment.lane_of_group ≡ groups.now.groups }
     requires limits { limit_fault max_certificate max_certificate_line text.now ≡ None }
     ensures answer { IfOk result (λ a. (hops : List Hop) ×
-        DrawsAssigned (record { table = table.now; partition = groups.now }) (map (λ c. c.now) comments.now) workqueues.now (names_of text.now)
+        DrawsAssigned (record { table = table.now; partition = groups.now })
+        (map (λ c. c.now) comments.now) workqueues.now (names_of text.now)
         hops a.end a.text.items) }
     ensures why { IfOk result (λ a. a.why ≡ None) }
 {
@@ -271,7 +282,8 @@ fn draw_unassigned<A: Allocator + Copy>(
 ) -> Result<Answered<A>, AllocError>
     requires { length groups.now.group_of ≡ length table.now.names }
     ensures answer { IfOk result (λ a. (hops : List Hop) ×
-        DrawsOwn (record { table = table.now; partition = groups.now }) (map (λ c. c.now) comments.now) hops a.end a.text.items) }
+        DrawsOwn (record { table = table.now; partition = groups.now })
+        (map (λ c. c.now) comments.now) hops a.end a.text.items) }
     ensures why { IfOk result (λ a. a.why ≡ None) }
 {
     let text = draw_groups(alloc, table, groups, comments)?;
@@ -288,8 +300,10 @@ fn draw_declared<A: Allocator + Copy>(
 ) -> Result<Answered<A>, AllocError>
     requires { length groups.now.group_of ≡ length table.now.names }
     ensures answer { IfOk result (λ a. (hops : List Hop) ×
-        DrawsDeclared (record { table = table.now; partition = groups.now }) (map (λ c. c.now) comments.now) text.now hops a.end a.text.items) }
-    ensures why { IfOk result (λ a. SaysFault Certificate (workqueues_of_text table.now.names groups.now text.now) a.why) }
+        DrawsDeclared (record { table = table.now; partition = groups.now })
+        (map (λ c. c.now) comments.now) text.now hops a.end a.text.items) }
+    ensures why { IfOk result (λ a.
+        SaysFault Certificate (workqueues_of_text table.now.names groups.now text.now) a.why) }
 {
     // What holds of all groups.
     let _groups = groups.len();
@@ -316,8 +330,10 @@ fn draw_commented<A: Allocator + Copy>(
     requires grouped { length groups.now.group_of ≡ length table.now.names }
     requires limits { limit_fault max_declaration max_declaration_line declared.now ≡ None }
     ensures answer { IfOk result (λ a. (hops : List Hop) ×
-        DrawsDeclared (record { table = table.now; partition = groups.now }) (comments_of declared.now) text.now hops a.end a.text.items) }
-    ensures why { IfOk result (λ a. SaysFault Certificate (workqueues_of_text table.now.names groups.now text.now) a.why) }
+        DrawsDeclared (record { table = table.now; partition = groups.now })
+        (comments_of declared.now) text.now hops a.end a.text.items) }
+    ensures why { IfOk result (λ a.
+        SaysFault Certificate (workqueues_of_text table.now.names groups.now text.now) a.why) }
 {
     let comments = comments(alloc, declared)?;
     draw_declared(alloc, table, groups, &comments, text)
@@ -333,7 +349,8 @@ fn draw_own_commented<A: Allocator + Copy>(
     requires grouped { length groups.now.group_of ≡ length table.now.names }
     requires limits { limit_fault max_declaration max_declaration_line declared.now ≡ None }
     ensures answer { IfOk result (λ a. (hops : List Hop) ×
-        DrawsOwn (record { table = table.now; partition = groups.now }) (comments_of declared.now) hops a.end a.text.items) }
+        DrawsOwn (record { table = table.now; partition = groups.now })
+        (comments_of declared.now) hops a.end a.text.items) }
     ensures why { IfOk result (λ a. a.why ≡ None) }
 {
     let comments = comments(alloc, declared)?;
@@ -385,7 +402,8 @@ fn draw_own<A: Allocator + Copy>(
     }
 }
 
-/// The answer to the texts of a declaration and an assignment, or, without an assignment, to that of a declaration alone.
+/// The answer to the texts of a declaration and an assignment, or, without an
+/// assignment, to that of a declaration alone.
 pub(crate) fn draw<A: Allocator + Copy>(
     alloc: A,
     seed: u64,

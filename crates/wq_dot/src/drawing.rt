@@ -1,7 +1,8 @@
 //! The text of a drawing: its head, its workqueues, its flushes and its end.
 //!
-//! The format is that of "The command `dot`" in docs/FORMAT.md. Drawing takes time and memory in the number of items, groups,
-//! workqueues and flushes, and in the length of the text, and as many comparisons of names as sorting those of the workqueues.
+//! The format is that of "The command `dot`" in docs/FORMAT.md. Drawing takes time and
+//! memory in the number of items, groups, workqueues and flushes, and in the length of
+//! the text, and as many comparisons of names as sorting those of the workqueues.
 
 ghost use Rattle.std.specs.Prelude.{◌≡◌, false, length, map, slice_index_or, IfOk};
 ghost use Rattle.wq_items.specs.Table.{flush_count};
@@ -31,9 +32,9 @@ fn is_bare(bare: &[bool], number: u16) -> bool
     }
 }
 
-/// The drawing of a table's items on the workqueues of an assignment, with this title. `bare` says which of these have no rescuer, and
-/// `called` has their names: no byte for one that has none. `looks` says how each flush looks, in order of place, and `comments` what
-/// its tooltip says: nothing if there is no comment at its place.
+/// The drawing of a table's items on the workqueues of an assignment, with this title. `bare` says which of these have
+/// no rescuer, and `called` has their names: no byte for one that has none. `looks` says how each flush looks, in order
+/// of place, and `comments` what its tooltip says: nothing if there is no comment at its place.
 ///
 /// The groups are those of the table's items, and each has a workqueue. The only error is out of memory (20).
 pub fn drawing_text<A: Allocator + Copy>(
@@ -50,7 +51,8 @@ pub fn drawing_text<A: Allocator + Copy>(
     requires grouped { length groups.now.group_of ≡ length table.now.names }
     requires assigned { length assignment.now.lane_of_group ≡ groups.now.groups }
     requires looks { length looks.now ≡ flush_count table.now.waits }
-    ensures { IfOk result (λ text. text.items ≡ drawing_text table.now groups.now (record { assignment = assignment.now; bare = bare.now })
+    ensures { IfOk result (λ text. text.items
+        ≡ drawing_text table.now groups.now (record { assignment = assignment.now; bare = bare.now })
         (map (λ n. n.now) called.now) title.now looks.now (map (λ c. c.now) comments.now)) }
 {
     let workqueues = assignment.lanes();

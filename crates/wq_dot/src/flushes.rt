@@ -1,14 +1,16 @@
-//! How each flush of a drawing looks: those of a chain are bold, those of components red, and so are those that lead to a workqueue
-//! without a rescuer. Those in which a shortest run waits that ends stuck are bold and red. The others are plain.
+//! How each flush of a drawing looks: those of a chain are bold, those of components
+//! red, and so are those that lead to a workqueue without a rescuer. Those in which
+//! a shortest run waits that ends stuck are bold and red. The others are plain.
 //!
-//! The rule is that of "The command `dot`" in docs/FORMAT.md. A flush is identified by its place. So if several have the same
-//! item and target, only the one that is meant is marked. It takes time and memory in the number of flushes.
+//! The rule is that of "The command `dot`" in docs/FORMAT.md. A flush is identified by its place. So if several have
+//! the same item and target, only the one that is meant is marked. It takes time and memory in the number of flushes.
 
 ghost use Rattle.std.specs.Prelude.{◌≡◌, ◌<◌, ◌^◌, ◌++◌, length, map, flat_map, IfOk};
 ghost use Rattle.std.specs.List.{All};
 ghost use Rattle.wq_items.specs.Table.{flush_count};
 ghost use Rattle.wq_dot.specs.declared.look.FlushLook.{FlushLook};
-ghost use Rattle.wq_dot.specs.Flushes.{AreFlushes, AreMarkable, all_arcs, bold_red, looks_of, marked, red_looks_of, with_bold_red, with_marks};
+ghost use Rattle.wq_dot.specs.Flushes.{AreFlushes, AreMarkable, all_arcs, bold_red, looks_of, marked, red_looks_of};
+ghost use Rattle.wq_dot.specs.Flushes.{with_bold_red, with_marks};
 
 use crate::look::FlushLook;
 use std::alloc::{AllocError, Allocator};
@@ -66,7 +68,8 @@ pub(crate) fn bold_flushes<A: Allocator + Copy>(
     Ok(looks)
 }
 
-/// How each flush of a table's items looks, in order of place. Those of these components are red, and so are these waits.
+/// How each flush of a table's items looks, in order of place. Those of these
+/// components are red, and so are these waits.
 fn red_flushes<A: Allocator + Copy>(
     alloc: A,
     table: &ItemTable<'_, A>,
@@ -76,7 +79,8 @@ fn red_flushes<A: Allocator + Copy>(
     requires places { All (AreMarkable (flush_count table.now.waits)) (map (λ l. l.items) components.now) }
     requires waits { AreMarkable (flush_count table.now.waits) waits.now }
     ensures { IfOk result (λ looks. looks.items
-        ≡ looks_of (flush_count table.now.waits) FlushLook.Red (all_arcs (map (λ l. l.items) components.now) ++ waits.now)) }
+        ≡ looks_of (flush_count table.now.waits) FlushLook.Red (all_arcs (map (λ l. l.items) components.now)
+        ++ waits.now)) }
 {
     let mut looks = vec![in alloc; FlushLook::Plain; table.flushes() as usize]?;
     for arcs in components {
@@ -86,8 +90,8 @@ fn red_flushes<A: Allocator + Copy>(
     Ok(looks)
 }
 
-/// How each flush of a table's items looks, in order of place. Those of these components are red, and so are these waits; but those are
-/// bold and red in which a run waits as these hops say.
+/// How each flush of a table's items looks, in order of place. Those of these components are red, and so are these
+/// waits; but those are bold and red in which a run waits as these hops say.
 pub(crate) fn hanging_flushes<A: Allocator + Copy>(
     alloc: A,
     table: &ItemTable<'_, A>,
@@ -99,7 +103,8 @@ pub(crate) fn hanging_flushes<A: Allocator + Copy>(
     requires waits { AreMarkable (flush_count table.now.waits) waits.now }
     requires hops { AreFlushes (flush_count table.now.waits) hops.now }
     ensures { IfOk result (λ looks. looks.items
-        ≡ red_looks_of (flush_count table.now.waits) hops.now (all_arcs (map (λ l. l.items) components.now) ++ waits.now)) }
+        ≡ red_looks_of (flush_count table.now.waits) hops.now (all_arcs (map (λ l. l.items) components.now)
+        ++ waits.now)) }
 {
     let mut looks = red_flushes(alloc, table, components, waits)?;
     mark_bold_red(looks.as_mut_slice(), hops);

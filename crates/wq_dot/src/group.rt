@@ -1,6 +1,7 @@
 //! A group: its item, or a box with its items.
 //!
-//! The lines are those of "The command `dot`" in docs/FORMAT.md. Printing takes time and memory in the length of what is printed.
+//! The lines are those of "The command `dot`" in docs/FORMAT.md. Printing takes time
+//! and memory in the length of what is printed.
 
 ghost use Rattle.std.specs.Prelude.{◌≡◌, ◌<◌, ◌++◌, flat_map, length, OnOk};
 ghost use Rattle.std.specs.List.{All};
@@ -47,7 +48,8 @@ fn put_ordered<A: Allocator + Copy>(
 ) -> Result<(), AllocError>
     requires first { first < length table.now.names }
     requires members { All (λ i. i < length table.now.names) members.now }
-    ensures { OnOk result (out.new.items ≡ out.old.items ++ flat_map ended (group_box_lines table.now.names first members.now)) }
+    ensures { OnOk result (out.new.items
+        ≡ out.old.items ++ flat_map ended (group_box_lines table.now.names first members.now)) }
 {
     put(out, b"    subgraph \"cluster ordered ")?;
     put(out, table.name(first))?;

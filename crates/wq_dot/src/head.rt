@@ -1,6 +1,7 @@
 //! The head of a drawing.
 //!
-//! The lines are those of "The command `dot`" in docs/FORMAT.md. Printing takes time and memory in the length of the title.
+//! The lines are those of "The command `dot`" in docs/FORMAT.md. Printing takes time
+//! and memory in the length of the title.
 
 ghost use Rattle.std.specs.Prelude.{◌≡◌, ◌++◌, flat_map, OnOk};
 ghost use Rattle.wq_dot.specs.Drawing.{ended, head_lines};

@@ -1,6 +1,7 @@
 //! The label of a workqueue: its name, or its number if it has none.
 //!
-//! The rule is that of "The command `dot`" in docs/FORMAT.md. Printing one takes time and memory in the length of the name.
+//! The rule is that of "The command `dot`" in docs/FORMAT.md. Printing one takes
+//! time and memory in the length of the name.
 
 ghost use Rattle.std.specs.Prelude.{◌≡◌, ◌++◌, OnOk};
 ghost use Rattle.wq_dot.specs.Labels.{before_name, is_plain, label_of, label_text, named, numbered, rescuer_text};
@@ -79,8 +80,8 @@ fn is_plain(name: &[u8], bare: bool) -> bool
     name.is_empty() && !bare
 }
 
-/// Adds the label of a workqueue as an attribute, unless it is the one that Graphviz makes. `shared` says whether others have its name,
-/// too, and `bare` whether it has no rescuer.
+/// Adds the label of a workqueue as an attribute, unless it is the one that Graphviz makes. `shared` says whether
+/// others have its name, too, and `bare` whether it has no rescuer.
 pub(crate) fn put_label<A: Allocator + Copy>(
     out: &mut Vec<u8, A>,
     name: &[u8],

@@ -1,6 +1,7 @@
 //! The names that several workqueues have.
 //!
-//! They are kept in order, so it takes n log n comparisons of names, in the number of workqueues, and memory in this number.
+//! They are kept in order, so it takes n log n comparisons of names, in the number
+//! of workqueues, and memory in this number.
 
 ghost use Rattle.std.specs.Prelude.{map, IfOk};
 ghost use Rattle.wq_dot.specs.Shared.{HasShared};

@@ -3,7 +3,9 @@
 //! They are those of "The command `dot`" in docs/FORMAT.md. Making one takes time and memory in its length.
 
 ghost use Rattle.std.specs.Prelude.{◌≡◌, ◌==◌, ◌++◌, [], codes, cond, IfOk, OnOk};
-ghost use Rattle.wq_dot.specs.Dotting.{awaited, bold_text, circles_title, counted, dashed_legend, leading_text, legend_end, plan_title, red_legend, red_text, shortest_legend, shortest_text, some_bare};
+ghost use Rattle.wq_dot.specs.Dotting.{awaited, bold_text, circles_title, counted, dashed_legend, leading_text};
+ghost use Rattle.wq_dot.specs.Dotting.{legend_end, plan_title, red_legend, red_text, shortest_legend, shortest_text};
+ghost use Rattle.wq_dot.specs.Dotting.{some_bare};
 
 use std::alloc::{AllocError, Allocator};
 use wq_text::{put, put_number, put_word};
@@ -178,8 +180,8 @@ fn legend_end(bare: &[bool], red: u32) -> &'static [u8]
     }
 }
 
-/// The title of a drawing with so many red waits, so many of which lead to no rescuer, and so many of which are bold: what hangs, or
-/// that nothing does. `bare` says which workqueues have no rescuer.
+/// The title of a drawing with so many red waits, so many of which lead to no rescuer, and so many of which are bold:
+/// what hangs, or that nothing does. `bare` says which workqueues have no rescuer.
 pub(crate) fn circles_title<A: Allocator + Copy>(
     alloc: A,
     hanging: &[u8],

@@ -1,6 +1,7 @@
 //! The tooltip of an arrow: the comment of the line that declares the flush.
 //!
-//! The escapes are those of "The command `dot`" in docs/FORMAT.md. Printing takes time and memory in the length of the comment.
+//! The escapes are those of "The command `dot`" in docs/FORMAT.md. Printing takes
+//! time and memory in the length of the comment.
 
 ghost use Rattle.std.specs.Prelude.{◌≡◌, ◌++◌, OnOk, flat_map};
 ghost use Rattle.wq_dot.specs.Tooltips.{escaped, tooltip_of, tooltip_text};

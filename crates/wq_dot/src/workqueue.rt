@@ -1,6 +1,7 @@
 //! A workqueue: a box with its groups.
 //!
-//! The lines are those of "The command `dot`" in docs/FORMAT.md. Printing takes time and memory in the length of what is printed.
+//! The lines are those of "The command `dot`" in docs/FORMAT.md. Printing takes time
+//! and memory in the length of what is printed.
 
 ghost use Rattle.std.specs.Prelude.{◌≡◌, ◌<◌, ◌++◌, flat_map, length, OnOk};
 ghost use Rattle.std.specs.List.{All};
@@ -43,8 +44,8 @@ fn put_frame<A: Allocator + Copy>(
     put(out, b"shape=plaintext, style=\"\", fontsize=14];\n")
 }
 
-/// Adds the lines of a workqueue with this name and these groups. `shared` says whether others have its name, too, and `bare` whether it
-/// has no rescuer.
+/// Adds the lines of a workqueue with this name and these groups. `shared` says whether others have its name, too, and
+/// `bare` whether it has no rescuer.
 pub(crate) fn put_workqueue<A: Allocator + Copy>(
     out: &mut Vec<u8, A>,
     table: &ItemTable<'_, A>,

@@ -1,10 +1,12 @@
 //! The command `explain`: from a word to what it means, and the list of all that is explained.
 //!
-//! The rule is that of docs/FORMAT.md, "The command `explain`". The text is built in full before its first byte is written, and
-//! nothing is read. It takes time and memory in the length of the text.
+//! The rule is that of docs/FORMAT.md, "The command `explain`". The text is built in full before its first byte is
+//! written, and nothing is read. It takes time and memory in the length of the text.
 
 ghost use Rattle.std.specs.Prelude.{◌≡◌, ◌≢◌, ◌++◌, Err, IfOk, map, option_map};
-ghost use Rattle.wq_explain.specs.Explaining.{end_in, explained_end, explained_text, explanation_in, explanation_text, explanations, known_or_not, number_in, numbers_and_faults, row_of, text_in, text_or_titles, titles, unknown_text, words_of_texts};
+ghost use Rattle.wq_explain.specs.Explaining.{end_in, explained_end, explained_text, explanation_in, explanation_text};
+ghost use Rattle.wq_explain.specs.Explaining.{explanations, known_or_not, number_in, numbers_and_faults, row_of};
+ghost use Rattle.wq_explain.specs.Explaining.{text_in, text_or_titles, titles, unknown_text, words_of_texts};
 ghost use Rattle.wq_meter.specs.Meter.{count_after, WritesPrefix, WritesWhole};
 
 use crate::table::{EXPLANATIONS, Explanation, with_name, with_number};
@@ -110,8 +112,10 @@ fn explain<A: Allocator + Copy>(
     rows: &[Explanation],
     word: Option<&str>,
 ) -> Result<(Explained, Vec<u8, A>), AllocError>
-    ensures known { IfOk result (λ printed. printed.0 ≡ end_in (map row_of rows.now) (option_map (λ s. s.now) word.entry)) }
-    ensures text { IfOk result (λ printed. printed.1.items ≡ text_in (map row_of rows.now) (option_map (λ s. s.now) word.entry)) }
+    ensures known { IfOk result (λ printed. printed.0
+        ≡ end_in (map row_of rows.now) (option_map (λ s. s.now) word.entry)) }
+    ensures text { IfOk result (λ printed. printed.1.items
+        ≡ text_in (map row_of rows.now) (option_map (λ s. s.now) word.entry)) }
 {
     match word {
         Some(word) => explain_word(alloc, rows, word),
@@ -119,12 +123,12 @@ fn explain<A: Allocator + Copy>(
     }
 }
 
-/// Writes the explanation that a word names, by its number or its name; upper and lower case don't differ. Without a word it writes
-/// the list of all explanations.
+/// Writes the explanation that a word names, by its number or its name; upper and
+/// lower case don't differ. Without a word it writes the list of all explanations.
 /// For a word without an explanation it writes that list below a line that says so.
 ///
-/// The errors are `Fault::Memory`, where memory ran out, and `Fault::Write`, where a write failed or took no byte. After
-/// `Fault::Write` a prefix of the text is written, and after `Fault::Memory` nothing.
+/// The errors are `Fault::Memory`, where memory ran out, and `Fault::Write`, where a write failed or took no byte.
+/// After `Fault::Write` a prefix of the text is written, and after `Fault::Memory` nothing.
 pub fn explain_cmd<W: Write, A: Allocator + Copy>(
     alloc: A,
     word: Option<&str>,
@@ -132,10 +136,12 @@ pub fn explain_cmd<W: Write, A: Allocator + Copy>(
 ) -> Result<Explained, Fault>
     // The text of this word is written, and nothing else.
     ensures answered { IfOk result (λ end. end ≡ explained_end (option_map (λ s. s.now) word.entry)) }
-    ensures written { IfOk result (λ end. WritesWhole W.contents writer.old writer.new (explained_text (option_map (λ s. s.now) word.entry))) }
+    ensures written { IfOk result (λ end.
+        WritesWhole W.contents writer.old writer.new (explained_text (option_map (λ s. s.now) word.entry))) }
 
     // What a fault leaves.
-    ensures prefix { result ≡ Err Fault.Write → WritesPrefix W.contents writer.old writer.new (explained_text (option_map (λ s. s.now) word.entry)) }
+    ensures prefix { result ≡ Err Fault.Write
+        → WritesPrefix W.contents writer.old writer.new (explained_text (option_map (λ s. s.now) word.entry)) }
     ensures untouched { result ≡ Err Fault.Memory → writer.new ≡ writer.old }
     ensures never_reads { result ≢ Err Fault.Read }
 

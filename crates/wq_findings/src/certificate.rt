@@ -1,7 +1,7 @@
 //! What is wrong on a line of a certificate that is refused, and what was most likely meant.
 //!
-//! The refusals are those of "Refusals of certificates" in docs/FORMAT.md. It takes time in the length of the text and, where a
-//! name is unknown, in the names of the declaration times the length of one.
+//! The refusals are those of "Refusals of certificates" in docs/FORMAT.md. It takes time in the length of the text and,
+//! where a name is unknown, in the names of the declaration times the length of one.
 
 use crate::finding::{Finding, Found};
 use crate::guess::{foreign_hint, has_separator, most_like, text_with};

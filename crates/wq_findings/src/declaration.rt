@@ -1,7 +1,7 @@
 //! What is wrong on a line of a declaration that is refused, and what was most likely meant.
 //!
-//! The refusals are those of "Refusals" in docs/FORMAT.md. It takes time in the length of the text and, where a name is unknown,
-//! in the names of the text times the length of one.
+//! The refusals are those of "Refusals" in docs/FORMAT.md. It takes time in the length of the text and, where a name is
+//! unknown, in the names of the text times the length of one.
 
 use crate::finding::Finding;
 use crate::guess::{Guess, ZERO_BYTE, begins_comment, encoding_hint, guess_at, has_separator};

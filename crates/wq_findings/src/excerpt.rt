@@ -1,6 +1,7 @@
 //! The part of a line that is shown, and the marks below it.
 //!
-//! Each byte has one column, so the marks are below the bytes that they mean. It takes time in the length of what is shown.
+//! Each byte has one column, so the marks are below the bytes that they mean. It
+//! takes time in the length of what is shown.
 
 ghost use Rattle.std.specs.Prelude.{None};
 

@@ -1,7 +1,7 @@
 //! What a word was most likely meant to be.
 //!
-//! `strsim` says how alike two words are, in time of the product of their lengths. Apart from that, a call takes time in the
-//! length of the word, and `guess_at` in that of the text.
+//! `strsim` says how alike two words are, in time of the product of their lengths. Apart from that, a call takes time
+//! in the length of the word, and `guess_at` in that of the text.
 
 use crate::hint::Hint;
 use crate::quoted::Quoted;
@@ -20,8 +20,9 @@ pub(crate) fn letters<A: Allocator + Copy>(alloc: A, word: &[u8]) -> Result<Stri
     Quoted(word).to_string(alloc)
 }
 
-/// How many letters have to be inserted, deleted, replaced or swapped with the next one to get from one word to another, if these
-/// are few: at most one in three and fewer than there are, or one in a short word. None where the words aren't alike.
+/// How many letters have to be inserted, deleted, replaced or swapped with the next
+/// one to get from one word to another, if these are few: at most one in three and
+/// fewer than there are, or one in a short word. None where the words aren't alike.
 pub(crate) fn edits_between<A: Allocator + Copy>(
     alloc: A,
     word: &str,
@@ -86,8 +87,8 @@ pub(crate) fn foreign_hint(line: &[u8], word: &[u8]) -> Option<Hint<'static>> {
     }
 }
 
-/// The hint for a call of the kernel, written in the place of a directive. `wait`, `queue` and `cancel` are such calls only among
-/// directives; elsewhere they are steps of a run.
+/// The hint for a call of the kernel, written in the place of a directive. `wait`, `queue` and `cancel` are such calls
+/// only among directives; elsewhere they are steps of a run.
 pub(crate) fn call_hint(word: &[u8], is_among_directives: bool) -> Option<Hint<'static>> {
     let Ok(word) = str::from_utf8(word) else {
         return None;

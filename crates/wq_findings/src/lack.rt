@@ -1,7 +1,7 @@
 //! What a certificate lacks to which the checker says no.
 //!
-//! The reasons are those of "The command `check`" in docs/FORMAT.md. It takes time in the length of the text and in the number of
-//! flushes that one item declares.
+//! The reasons are those of "The command `check`" in docs/FORMAT.md. It takes time in the length of the text and in the
+//! number of flushes that one item declares.
 
 use crate::finding::{Finding, Found};
 use crate::hint::Hint;

@@ -1,7 +1,8 @@
 //! A declaration with a refused line mended, so that what would be refused next can be told.
 //!
-//! A line is mended as the hint says, or else taken out. Where nobody can say whether a line that is taken out declares an item,
-//! nothing that depends on the items is told from then on. It takes time in the length of the text, and memory for another one.
+//! A line is mended as the hint says, or else taken out. Where nobody can say whether a
+//! line that is taken out declares an item, nothing that depends on the items is told
+//! from then on. It takes time in the length of the text, and memory for another one.
 
 use crate::declaration::not_above;
 use crate::guess::{Guess, begins_comment, encoding_hint, guess_at, text_with};
@@ -140,8 +141,8 @@ impl<A: Allocator + Copy> Mending<A> {
         self.lines.iter().any(|line| *line == no)
     }
 
-    /// The text with the line mended for which it is refused with this number, and the same of its own lines. Nothing where no one can
-    /// say what would be refused next.
+    /// The text with the line mended for which it is refused with this number, and the same of its own lines. Nothing
+    /// where no one can say what would be refused next.
     ///
     /// The only error is out of memory (20).
     pub fn mended(
@@ -240,7 +241,8 @@ impl<A: Allocator + Copy> Mending<A> {
         })
     }
 
-    /// A line with a word that isn't a name. Where an `item` line has one with a comma or a semicolon behind it, that is left out.
+    /// A line with a word that isn't a name. Where an `item` line has one with a
+    /// comma or a semicolon behind it, that is left out.
     fn of_bad_name<'a>(&mut self, line: &Line<'a>) -> Mend<'a> {
         match (Keyword::of(first_word(line)), word_at(line, 1)) {
             (Some(Keyword::Item), Some(word)) => match word.bytes {
@@ -307,7 +309,8 @@ fn rewritten<A: Allocator + Copy>(
     Ok(out)
 }
 
-/// A line with a name that isn't declared above: it declares the item in place of the line below that does, if there is one.
+/// A line with a name that isn't declared above: it declares the item in place of
+/// the line below that does, if there is one.
 fn of_unknown_item<'a, A: Allocator + Copy>(
     alloc: A,
     text: &Text<'a>,

@@ -1,7 +1,7 @@
 //! Names of a declaration, each with the line that it is on.
 //!
-//! Reading takes time in the length of the text, and memory in the number of names. Finding a name takes time in the number of
-//! names; there are at most 4,096 above a line that is refused.
+//! Reading takes time in the length of the text, and memory in the number of names. Finding a name takes time in the
+//! number of names; there are at most 4,096 above a line that is refused.
 
 use crate::guess::{edits_between, letters};
 use crate::token::{bytes_at, first_word};

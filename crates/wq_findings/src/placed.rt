@@ -1,6 +1,7 @@
 //! Which items are on which lines of workqueues of a certificate that is refused because of that.
 //!
-//! It takes time in the length of the text, and, for a group that is split, in the number of items times the names on its line.
+//! It takes time in the length of the text, and, for a group that is split, in the
+//! number of items times the names on its line.
 
 ghost use Rattle.std.specs.Prelude.{◌<◌, length};
 

@@ -1,7 +1,7 @@
 //! What should come next in a certificate, judging by the lines above.
 //!
-//! The forms are those of "Certificates" in docs/FORMAT.md. The lines above have their forms, since a certificate is judged line
-//! by line. Going through them takes time in the length of the text.
+//! The forms are those of "Certificates" in docs/FORMAT.md. The lines above have their forms, since a certificate is
+//! judged line by line. Going through them takes time in the length of the text.
 
 ghost use Rattle.std.specs.Prelude.{None};
 
@@ -28,7 +28,8 @@ pub enum Stage {
     Plan,
     /// `circle N`.
     Circle,
-    /// The `wq` line of this number; this many are left, or nothing says how many. Where nothing does, it may be a `norescuer` line.
+    /// The `wq` line of this number; this many are left, or nothing says how many.
+    /// Where nothing does, it may be a `norescuer` line.
     Workqueue { next: u32, left: Option<u32> },
     /// `chain N`.
     Chain,
@@ -187,7 +188,8 @@ impl fmt::Display for Stage {
     }
 }
 
-/// What comes after the first word of a line: a number or none, and then a fixed number of names, or any number of them.
+/// What comes after the first word of a line: a number or none, and then a fixed
+/// number of names, or any number of them.
 #[derive(Clone, Copy)]
 pub(crate) struct Shape {
     pub(crate) has_number: bool,
@@ -222,8 +224,8 @@ fn is_step(word: &[u8]) -> bool {
         || word == b"finish".as_slice()
 }
 
-/// The first line that isn't one of a workqueue, in an assignment of these lines alone, if there is such a line, and what should be
-/// in its place.
+/// The first line that isn't one of a workqueue, in an assignment of these lines
+/// alone, if there is such a line, and what should be in its place.
 pub(crate) fn stray_line<'a>(kind: CertificateKind, text: &Text<'a>) -> Option<(Line<'a>, Stage)> {
     let mut stage = None;
     for line in text.lines() {
@@ -240,8 +242,8 @@ pub(crate) fn stray_line<'a>(kind: CertificateKind, text: &Text<'a>) -> Option<(
     None
 }
 
-/// The line of this number, and what should be on it, judging by the lines above. Where there is no such line, that is what should
-/// come at the end of the text.
+/// The line of this number, and what should be on it, judging by the lines above. Where there is no such line, that is
+/// what should come at the end of the text.
 pub(crate) fn line_and_stage<'a>(
     kind: CertificateKind,
     text: &Text<'a>,

@@ -77,8 +77,8 @@ pub(crate) fn bytes_at<'a>(line: &Line<'a>, place: usize) -> &'a [u8] {
     }
 }
 
-/// The bytes of the first word of a line; none where it has no word. Empty lines and comments, of which a text may have millions,
-/// are told by their first byte.
+/// The bytes of the first word of a line; none where it has no word. Empty lines and comments, of which a text may have
+/// millions, are told by their first byte.
 pub(crate) fn first_word<'a>(line: &Line<'a>) -> &'a [u8] {
     match line.bytes() {
         [] | [b'#', ..] => b"",

@@ -1,5 +1,6 @@
 -- Wait graphs: for each vertex, the declared flushes that leave it. Vertices are groups, or lanes.
-use Rattle.std.specs.Prelude.{◌≡◌, ℕ, ◌<◌, ◌≤◌, ◌==◌, Bool, false, not, if◌then◌else◌, List, [], length, map, flat_map, filter, filter_map, find, slice_index, slice_index_or, Option, Contains}
+use Rattle.std.specs.Prelude.{◌≡◌, ℕ, ◌<◌, ◌≤◌, ◌==◌, Bool, false, not, if◌then◌else◌, List, [], length, map, flat_map}
+use Rattle.std.specs.Prelude.{filter, filter_map, find, slice_index, slice_index_or, Option, Contains}
 use Rattle.std.specs.List.{All, Any, range_with_len}
 use Rattle.std.specs.List.Sorted.{IsStrictlyIncreasing}
 use Rattle.wq_items.specs.declared.target.Target.{Target}
@@ -14,7 +15,8 @@ arc_of vertex_of src t = record { src = src; dst = t.item; head = slice_index ve
 
 -- the arcs of all declared flushes, item by item
 abbrev pub arcs_by_item : List (List Target) → List ℕ → List WaitArc
-arcs_by_item waits vertex_of = flat_map (λ i. map (arc_of vertex_of i) (targets_of waits i)) (range_with_len 0 (length waits))
+arcs_by_item waits vertex_of =
+    flat_map (λ i. map (arc_of vertex_of i) (targets_of waits i)) (range_with_len 0 (length waits))
 
 -- the arc of the flush at this place
 abbrev pub arc_at : List (List Target) → List ℕ → ℕ → Option WaitArc
@@ -79,7 +81,8 @@ arcs_without out graph v = if is_left_out out v then [] else arcs_kept out (arcs
 abbrev pub without : List Bool → List (List WaitArc) → List (List WaitArc)
 without out graph = map (arcs_without out graph) (range_with_len 0 (length graph))
 
--- what holds for every wait graph: at most 4,096 vertices; each arc leads to one of them; the places of a vertex's arcs rise
+-- what holds for every wait graph: at most 4,096 vertices; each arc leads to one of
+-- them; the places of a vertex's arcs rise
 pub record IsGraph (graph : List (List WaitArc)) : Type 0 where
   pub few : length graph ≤ max_lanes
   pub heads : All (λ (arcs : List WaitArc). All (λ (a : WaitArc). a.head < length graph) arcs) graph

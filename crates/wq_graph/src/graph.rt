@@ -1,8 +1,9 @@
 //! Who waits for whom: for each vertex the declared flushes that leave it.
 //!
-//! The vertices are the groups of the items, or their lanes. So an arc leaves a group or a lane whichever of its items declares
-//! the flush. All arcs are in one vector, those of vertex 0 first, and for each vertex it is known where its arcs begin. Making a
-//! graph takes time and memory in the number of items, vertices and flushes. Each other call takes constant time.
+//! The vertices are the groups of the items, or their lanes. So an arc leaves a group or a lane
+//! whichever of its items declares the flush. All arcs are in one vector, those of vertex 0
+//! first, and for each vertex it is known where its arcs begin. Making a graph takes time and
+//! memory in the number of items, vertices and flushes. Each other call takes constant time.
 
 ghost use Rattle.std.specs.Prelude.{◌≡◌, ◌<◌, ◌≤◌, length, flat_map, IfOk, IfErr};
 ghost use Rattle.std.specs.List.{All};
@@ -74,8 +75,8 @@ impl<A: Allocator + Copy> WaitGraph<A> {
         Self::of_vertices(alloc, table, groups.numbers(), groups.len())
     }
 
-    /// The wait graph of the lanes of an assignment. The groups are those of this table, and the assignment has a lane for each
-    /// of them. A lane that serves no group has no arc.
+    /// The wait graph of the lanes of an assignment. The groups are those of this table, and the assignment has a lane
+    /// for each of them. A lane that serves no group has no arc.
     ///
     /// The only error is out of memory (20), which can't occur where there is no lane.
     pub fn of_lanes(
@@ -94,8 +95,8 @@ impl<A: Allocator + Copy> WaitGraph<A> {
         Self::of_vertices(alloc, table, vertex_of.as_slice(), lanes)
     }
 
-    /// The same graph without the vertices of which this says so: no arc leaves one or leads to one. They keep their numbers. A vertex
-    /// past the end of the list stays.
+    /// The same graph without the vertices of which this says so: no arc leaves one or leads to one. They keep their
+    /// numbers. A vertex past the end of the list stays.
     ///
     /// The only error is out of memory (20), which can't occur where there is no vertex.
     pub fn without(self, alloc: A, left_out: &[bool]) -> Result<Self, AllocError>

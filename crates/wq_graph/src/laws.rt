@@ -8,10 +8,11 @@ ghost use Rattle.wq_groups.specs.Declaration.{Declaration, IsDeclaration, GroupW
 ghost use Rattle.wq_groups.specs.Assignment.{Assignment, IsAssignment, item_lanes};
 ghost use Rattle.wq_graph.specs.declared.arc.WaitArc.{WaitArc};
 ghost use Rattle.wq_items.specs.Table.{VertexWaits};
-ghost use Rattle.wq_graph.specs.Graph.{arcs_from, arcs_at, group_graph, lane_graph, AreArcsFrom, HasArc, IsGraph, is_left_out, without};
+ghost use Rattle.wq_graph.specs.Graph.{arcs_from, arcs_at, group_graph, lane_graph, AreArcsFrom, HasArc, IsGraph};
+ghost use Rattle.wq_graph.specs.Graph.{is_left_out, without};
 
-/// The arcs that leave a vertex are the declared flushes that leave it, one for each, in order of place. That holds whatever the
-/// vertices of the items are, and so for the graphs of the groups and of the lanes.
+/// The arcs that leave a vertex are the declared flushes that leave it, one for each, in order of place. That holds
+/// whatever the vertices of the items are, and so for the graphs of the groups and of the lanes.
 pub fn arcs_are_the_declared_flushes()
     ensures from { (d : Declaration) (vertex_of : List ℕ) (v : ℕ) →
         IsDeclaration d → AreArcsFrom d.waits vertex_of v (arcs_from d.waits vertex_of v) }
@@ -33,20 +34,21 @@ pub fn groups_wait_along_arcs()
         IsDeclaration d → (GroupWaits d g h ↔ HasArc (group_graph d) g h) }
 {}
 
-/// A lane waits for a lane, by an item of the one that declares a flush of an item of the other, exactly where an arc leaves
-/// the one for the other.
+/// A lane waits for a lane, by an item of the one that declares a flush of an item of the other, exactly where an arc
+/// leaves the one for the other.
 pub fn lanes_wait_along_arcs()
     ensures { (d : Declaration) (a : Assignment) (p q : ℕ) → IsDeclaration d → IsAssignment d.groups a →
         (VertexWaits d.waits (item_lanes a d.group_of) p q ↔ HasArc (lane_graph d a) p q) }
 {}
 
-/// Of a graph without some of its vertices: an arc leaves a vertex for another exactly where it did before and both stay; and what
-/// holds of every wait graph holds of it. Where no vertex is left out, it is the same graph.
+/// Of a graph without some of its vertices: an arc leaves a vertex for another exactly where it did before and both
+/// stay; and what holds of every wait graph holds of it. Where no vertex is left out, it is the same graph.
 pub fn a_graph_without_vertices()
     ensures arcs { (out : List Bool) (graph : List (List WaitArc)) (v w : ℕ) → HasArc (without out graph) v w
         ↔ ((is_left_out out v ≡ false) × (is_left_out out w ≡ false) × HasArc graph v w) }
     ensures sound { (out : List Bool) (graph : List (List WaitArc)) → IsGraph graph → IsGraph (without out graph) }
-    ensures same { (out : List Bool) (graph : List (List WaitArc)) → ((v : ℕ) → is_left_out out v ≡ false) → without out graph ≡ graph }
+    ensures same { (out : List Bool) (graph : List (List WaitArc)) → ((v : ℕ) → is_left_out out v ≡ false) →
+        without out graph ≡ graph }
 {}
 
 /// What holds of every wait graph holds of the graph of the groups of a declaration, and of that of the lanes of an

@@ -1,7 +1,7 @@
 //! A wait graph without some of its vertices: those of workqueues on which nobody is waited for.
 //!
-//! The vertices keep their numbers; none of their arcs is kept, and no arc to them. It takes time in the number of vertices and arcs,
-//! and memory in those that are kept.
+//! The vertices keep their numbers; none of their arcs is kept, and no arc to them. It takes time in the number of
+//! vertices and arcs, and memory in those that are kept.
 
 ghost use Rattle.std.specs.Prelude.{◌≡◌, ◌<◌, ◌++◌, length, IfOk, IfErr};
 ghost use Rattle.wq_buckets.specs.Cuts.{AreCuts, pieces};

@@ -2,8 +2,8 @@
 use Rattle.std.specs.Prelude.{◌≡◌, ℕ, ◌<◌, List, length, map, slice_index}
 use Rattle.std.specs.List.{All}
 
--- an assignment puts each group on a lane, which is a workqueue: how many lanes there are, and for each group in turn the number
--- of its lane. A lane may serve no group
+-- an assignment puts each group on a lane, which is a workqueue: how many lanes there are, and for each group in turn
+-- the number of its lane. A lane may serve no group
 pub record Assignment : Type 0 where
   pub lanes : ℕ
   pub lane_of_group : List ℕ

@@ -1,5 +1,7 @@
 -- Grouping: which groups the `ordered` lines of a declaration make, or what the first fault is.
-use Rattle.std.specs.Prelude.{◌≡◌, ◌≢◌, ℕ, ◌==◌, ◌||◌, ◌&&◌, nat_lt, Bool, false, if◌then◌else◌, List, [], ◌∷◌, ◌++◌, length, map, flat_map, filter, position, slice_index_or, bytes_eq, Option, Some, None, Result, Ok, Err, Contains, AllPairs}
+use Rattle.std.specs.Prelude.{◌≡◌, ◌≢◌, ℕ, ◌==◌, ◌||◌, ◌&&◌, nat_lt, Bool, false, if◌then◌else◌, List, [], ◌∷◌, ◌++◌}
+use Rattle.std.specs.Prelude.{length, map, flat_map, filter, position, slice_index_or, bytes_eq, Option, Some, None}
+use Rattle.std.specs.Prelude.{Result, Ok, Err, Contains, AllPairs}
 use Rattle.std.specs.List.{Any, list_any, count_by, range_with_len}
 use Rattle.std.specs.Option.{unwrap_or}
 use Rattle.wq_text.specs.Refusal.{Refusal}
@@ -35,8 +37,8 @@ first_regrouped before (d ∷ ds) =
 abbrev pub all_ordered : List (ℕ × Directive) → List (List ℕ)
 all_ordered ds = flat_map names_ordered ds
 
--- line n is the first that orders a name again: the names on the `ordered` lines before it all differ, but together with
--- those on the line they don't
+-- line n is the first that orders a name again: the names on the `ordered` lines before it all differ, but together
+-- with those on the line they don't
 pub record IsLowestRegrouped (ds : List (ℕ × Directive)) (n : ℕ) : Type 0 where
   pub before : List (ℕ × Directive)
   pub line : ℕ × Directive
@@ -54,7 +56,9 @@ ShareLine ds a b = Any (λ (d : ℕ × Directive). Contains (names_ordered d) a 
 
 -- the two names are the same, or an `ordered` line has both
 abbrev pub are_together : List (ℕ × Directive) → List ℕ → List ℕ → Bool
-are_together ds a b = bytes_eq a b || list_any (λ d. list_any (bytes_eq a) (names_ordered d) && list_any (bytes_eq b) (names_ordered d)) ds
+are_together ds a b =
+    bytes_eq a b
+    || list_any (λ d. list_any (bytes_eq a) (names_ordered d) && list_any (bytes_eq b) (names_ordered d)) ds
 
 -- the first-declared item of the group of this name, which is an item's name
 abbrev pub first_member : List (ℕ × Directive) → List (List ℕ) → List ℕ → ℕ
@@ -62,7 +66,8 @@ first_member ds names name = unwrap_or (position (are_together ds name) names) 0
 
 -- the first-declared items of all groups, in order
 abbrev pub first_members : List (ℕ × Directive) → List (List ℕ) → List ℕ
-first_members ds names = filter (λ i. first_member ds names (slice_index_or names i []) == i) (range_with_len 0 (length names))
+first_members ds names =
+    filter (λ i. first_member ds names (slice_index_or names i []) == i) (range_with_len 0 (length names))
 
 -- the number of the group of this name: how many groups have an earlier first-declared item
 abbrev pub group_number : List (ℕ × Directive) → List (List ℕ) → List ℕ → ℕ
@@ -70,7 +75,8 @@ group_number ds names name = count_by (λ i. nat_lt i (first_member ds names nam
 
 -- the groups of the items with these names, if no name is ordered twice
 abbrev pub partition_of : List (ℕ × Directive) → List (List ℕ) → Partition
-partition_of ds names = record { group_of = map (group_number ds names) names; groups = length (first_members ds names) }
+partition_of ds names =
+    record { group_of = map (group_number ds names) names; groups = length (first_members ds names) }
 
 -- ---- what is answered
 

@@ -9,7 +9,8 @@ pub record Partition : Type 0 where
   pub groups : ℕ
 
 -- at most 4,096 items, and no more groups than items; each item is in one of the groups, and each group has a member;
--- groups are numbered by their first members: before an item there are members of all groups with lower numbers than its own
+-- groups are numbered by their first members: before an item there are members of
+-- all groups with lower numbers than its own
 pub record IsPartition (p : Partition) : Type 0 where
   pub few_items : length p.group_of ≤ max_items
   pub few_groups : p.groups ≤ length p.group_of
@@ -23,4 +24,5 @@ ShareGroup group_of i j = slice_index group_of i ≡ slice_index group_of j
 
 -- items share a group in one partition exactly if they do in the other
 abbrev pub AreAlike : Partition → Partition → Type 0
-AreAlike p q = (i j : ℕ) → i < length p.group_of → j < length p.group_of → ShareGroup p.group_of i j ↔ ShareGroup q.group_of i j
+AreAlike p q =
+    (i j : ℕ) → i < length p.group_of → j < length p.group_of → ShareGroup p.group_of i j ↔ ShareGroup q.group_of i j

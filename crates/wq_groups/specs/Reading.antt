@@ -19,7 +19,8 @@ lowest_of names ordered = position_or_len (λ (name : List ℕ). list_any (bytes
 
 -- what is noted after these directives: for each item, the first-declared item of its group, and whether its name is on
 -- an `ordered` line; no name is there twice
-pub record IsNoted (ds : List (ℕ × Directive)) (names : List (List ℕ)) (first : List ℕ) (ordered : List Bool) : Type 0 where
+pub record IsNoted (ds : List (ℕ × Directive)) (names : List (List ℕ)) (first : List ℕ) (ordered : List Bool)
+    : Type 0 where
   pub firsts : first ≡ map (first_member ds names) names
   pub marks : ordered ≡ marks_of names (all_ordered ds)
   pub apart : AllPairs (λ (a b : List ℕ). a ≢ b) (all_ordered ds)

@@ -1,8 +1,8 @@
 //! Which workqueue serves each group.
 //!
-//! An assignment is what a driver's author decides: one `alloc_workqueue` with WQ_MEM_RECLAIM for each lane, and one lane
-//! for each group (Documentation/core-api/workqueue.rst, "Guidelines"). Making one takes time in the number of groups,
-//! and a list of lanes time and memory in its length; each other call takes constant time.
+//! An assignment is what a driver's author decides: one `alloc_workqueue` with WQ_MEM_RECLAIM for each lane, and one
+//! lane for each group (Documentation/core-api/workqueue.rst, "Guidelines"). Making one takes time in the number of
+//! groups, and a list of lanes time and memory in its length; each other call takes constant time.
 
 ghost use Rattle.std.specs.Prelude.{◌≡◌, ◌<◌, ◌≤◌, ◌↔◌, length, slice_get, Some, IsSome, IsTrue, IfSome, IfOk, OnErr};
 ghost use Rattle.std.specs.List.{All};
@@ -15,11 +15,12 @@ use crate::lane_id::LaneId;
 use std::alloc::{AllocError, Allocator};
 use std::marker::Model;
 
-/// How many lanes an assignment may have: as many as a declaration may have items, since no plan needs more. A runtime takes fewer.
+/// How many lanes an assignment may have: as many as a declaration may have items,
+/// since no plan needs more. A runtime takes fewer.
 pub const MAX_ASSIGNED_LANES: u16 = 4096;
 
-/// An assignment puts each group on a lane, which is a workqueue: how many lanes there are, and the lane of each group. A lane
-/// may serve no group. Contracts see only these.
+/// An assignment puts each group on a lane, which is a workqueue: how many lanes there are, and the lane of each group.
+/// A lane may serve no group. Contracts see only these.
 #[derive(Drop)]
 pub struct Assignment<A: Allocator> {
     lanes: u16,

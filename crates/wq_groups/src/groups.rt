@@ -1,9 +1,9 @@
 //! The groups of the items: those that share one ordered workqueue.
 //!
-//! The rules are those of "Items and groups" in docs/FORMAT.md. An ordered workqueue executes at most one work item at any time,
-//! in queued order (Documentation/core-api/workqueue.rst), so the items of a group are on one workqueue whatever the plan.
-//! Reading takes time in the number of words of the declaration, and memory in the number of items. Afterwards each question is
-//! answered in constant time.
+//! The rules are those of "Items and groups" in docs/FORMAT.md. An ordered workqueue executes at most one work item at
+//! any time, in queued order (Documentation/core-api/workqueue.rst), so the items of a group are on one workqueue
+//! whatever the plan. Reading takes time in the number of words of the declaration, and memory in the number of items.
+//! Afterwards each question is answered in constant time.
 
 ghost use Rattle.std.specs.Prelude.{◌≡◌, ◌<◌, ◌≤◌, length, Ok, IfOk, IfErr, slice_get, slice_index, Some};
 ghost use Rattle.wq_items.specs.Building.{table_of};
@@ -45,11 +45,12 @@ impl<A: Allocator> Model for Groups<A> {
 }
 
 impl<A: Allocator + Copy> Groups<A> {
-    /// Reads the groups that the directives of a view declare for the items of its table. The table was read from this view.
+    /// Reads the groups that the directives of a view declare for the items of its
+    /// table. The table was read from this view.
     ///
-    /// The error is `GroupedTwice` (11), with the lowest `ordered` line that has a name twice, or one that is on an earlier
-    /// `ordered` line; or `OutOfMemory` (20), where a growth was refused. Nothing grows before all lines are judged, nor where
-    /// there is no item.
+    /// The error is `GroupedTwice` (11), with the lowest `ordered` line that has a name twice, or one that is on an
+    /// earlier `ordered` line; or `OutOfMemory` (20), where a growth was refused. Nothing grows before all lines are
+    /// judged, nor where there is no item.
     pub fn read(alloc: A, view: &DeclView<'_>, table: &ItemTable<'_, A>) -> Result<Self, GroupError>
         requires { table_of view.now ≡ Ok table.now }
         ensures groups { IfOk result (λ g. groups_of view.now table.now.names ≡ Ok g) }

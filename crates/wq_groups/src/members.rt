@@ -1,7 +1,8 @@
 //! The items of each group, one group after the other in one vector.
 //!
-//! Those of a group are in declaration order: "Items and groups" in docs/FORMAT.md. `wq_buckets` finds them, and nothing is
-//! compared. Making them takes time and memory in the number of items and groups. Those of a group are found in constant time.
+//! Those of a group are in declaration order: "Items and groups" in docs/FORMAT.md.
+//! `wq_buckets` finds them, and nothing is compared. Making them takes time and memory
+//! in the number of items and groups. Those of a group are found in constant time.
 
 ghost use Rattle.std.specs.Prelude.{◌≡◌, ◌<◌, ◌≤◌, length, map, slice_index_or, IfOk, IfErr, [], max};
 ghost use Rattle.std.specs.List.{All, range_with_len};

@@ -8,14 +8,16 @@ ghost use Rattle.wq_groups.specs.Numbering.{AreHeads, headed};
 use std::alloc::{AllocError, Allocator};
 use wq_items::ItemId;
 
-/// The number of each item's group, and how many groups there are, where the first-declared item of each item's group is known.
+/// The number of each item's group, and how many groups there are, where the
+/// first-declared item of each item's group is known.
 pub(crate) fn number<A: Allocator + Copy>(
     alloc: A,
     first: &[ItemId],
 ) -> Result<(Vec<u16, A>, u16), AllocError>
     requires few { length first.now ≤ 4096 }
     requires heads { AreHeads (length first.now) (slice_index first.now) }
-    ensures groups { IfOk result (λ r. record { group_of = r.0.items; groups = r.1 } ≡ headed (length first.now) (slice_index first.now)) }
+    ensures groups { IfOk result (λ r. record { group_of = r.0.items; groups = r.1 }
+        ≡ headed (length first.now) (slice_index first.now)) }
     ensures memory { IfErr result (λ _. 0 < length first.now) }
 {
     let mut group_of: Vec<u16, A> = Vec::with_capacity(alloc, first.len())?;

@@ -1,11 +1,12 @@
 //! Reading the `ordered` lines: for each item, the first-declared item of its group.
 //!
-//! The rules are those of "Items and groups" in docs/FORMAT.md. Where there is no `ordered` line, each item has a group of its
-//! own, and the lines aren't scanned. This takes time in the number of items. Otherwise each name of an `ordered` line is looked
-//! up once. This takes time in the length of the text. The notes about the items are on the stack, so no memory is taken before
-//! all lines are judged.
+//! The rules are those of "Items and groups" in docs/FORMAT.md. Where there is no `ordered` line, each item has a group
+//! of its own, and the lines aren't scanned. This takes time in the number of items. Otherwise each name of an
+//! `ordered` line is looked up once. This takes time in the length of the text. The notes about the items are on the
+//! stack, so no memory is taken before all lines are judged.
 
-ghost use Rattle.std.specs.Prelude.{◌≡◌, ◌≢◌, ◌↔◌, ◌++◌, ◌∷◌, ◌<◌, ◌==◌, [], ℕ, List, length, map, slice_index, Ok, IfOk, IfErr, IfSome, IsSome, OnSome, IsTrue, AllPairs, None, Some, if◌then◌else◌};
+ghost use Rattle.std.specs.Prelude.{◌≡◌, ◌≢◌, ◌↔◌, ◌++◌, ◌∷◌, ◌<◌, ◌==◌, [], ℕ, List, length, map, slice_index, Ok};
+ghost use Rattle.std.specs.Prelude.{IfOk, IfErr, IfSome, IsSome, OnSome, IsTrue, AllPairs, None, Some, if◌then◌else◌};
 ghost use Rattle.std.specs.List.{All, list_any};
 ghost use Rattle.wq_decl.specs.declared.directive.Directive.{Directive};
 ghost use Rattle.wq_decl.specs.declared.directive.Directive.TheVariants.{Ordered};
@@ -37,8 +38,8 @@ impl<'a> Guesses<'a> {
     }
 }
 
-/// Marks the items with these names and lists them in `items`, which is empty. It returns the first-declared of them, or `None`
-/// where one is marked already or is there twice. In that case those before it are marked.
+/// Marks the items with these names and lists them in `items`, which is empty. It returns the first-declared of them,
+/// or `None` where one is marked already or is there twice. In that case those before it are marked.
 fn mark<A: Allocator + Copy>(
     table: &ItemTable<'_, A>,
     ordered: &mut [bool],
@@ -51,8 +52,11 @@ fn mark<A: Allocator + Copy>(
     requires empty { items.old.items ≡ [] }
     requires known { IsSome (items_named table.now.names names) }
     ensures first { IfSome result (λ i. i ≡ lowest_of table.now.names (names_in names.entry)) }
-    ensures marked { (before : List (List ℕ)) → ordered.old ≡ marks_of table.now.names before → OnSome result (ordered.new ≡ marks_of table.now.names (before ++ names_in names.entry)) }
-    ensures apart { (before : List (List ℕ)) → ordered.old ≡ marks_of table.now.names before → AllPairs (λ (a b : List ℕ). a ≢ b) before → IsSome result ↔ AllPairs (λ (a b : List ℕ). a ≢ b) (before ++ names_in names.entry) }
+    ensures marked { (before : List (List ℕ)) → ordered.old ≡ marks_of table.now.names before
+        → OnSome result (ordered.new ≡ marks_of table.now.names (before ++ names_in names.entry)) }
+    ensures apart { (before : List (List ℕ)) → ordered.old ≡ marks_of table.now.names before
+        → AllPairs (λ (a b : List ℕ). a ≢ b) before
+        → IsSome result ↔ AllPairs (λ (a b : List ℕ). a ≢ b) (before ++ names_in names.entry) }
     ensures items { OnSome result (items_named table.now.names names.entry ≡ Some items.new.items) }
 {
     let mut lowest = table.len();
@@ -77,16 +81,18 @@ fn mark<A: Allocator + Copy>(
 fn set_first(first: &mut [ItemId], items: &[ItemId], lowest: ItemId)
     requires within { All (λ i. i < length first.old) items.now }
     ensures long { length first.new ≡ length first.old }
-    ensures first { (i : ℕ) → i < length first.old → slice_index first.new i ≡ (if list_any (λ item. i == item) items.now then lowest else slice_index first.old i) }
+    ensures first { (i : ℕ) → i < length first.old
+        → slice_index first.new i
+        ≡ (if list_any (λ item. i == item) items.now then lowest else slice_index first.old i) }
 {
     for item in items {
         first[usize::from(item.get())] = lowest;
     }
 }
 
-/// Puts the items with these names into one group, if none of them is in one already and none is there twice. Otherwise it
-/// returns `false`, and some items are marked that are in no group. What `items` holds is overwritten. It is handed in so that it
-/// is made only once.
+/// Puts the items with these names into one group, if none of them is in one already and none is there twice. Otherwise
+/// it returns `false`, and some items are marked that are in no group. What `items` holds is overwritten. It is handed
+/// in so that it is made only once.
 fn put_together<A: Allocator + Copy>(
     table: &ItemTable<'_, A>,
     first: &mut [ItemId],
@@ -99,8 +105,10 @@ fn put_together<A: Allocator + Copy>(
     requires items { length first.old ≡ length table.now.names }
     requires marks { length ordered.old ≡ length table.now.names }
     requires known { IsSome (items_named table.now.names names) }
-    ensures noted { (ds : List (ℕ × Directive)) (n : ℕ) → IsNoted ds table.now.names first.old ordered.old → IsTrue result → IsNoted (ds ++ ((n, Ordered names.entry) ∷ [])) table.now.names first.new ordered.new }
-    ensures apart { (ds : List (ℕ × Directive)) → IsNoted ds table.now.names first.old ordered.old → IsTrue result ↔ AllPairs (λ (a b : List ℕ). a ≢ b) (all_ordered ds ++ names_in names.entry) }
+    ensures noted { (ds : List (ℕ × Directive)) (n : ℕ) → IsNoted ds table.now.names first.old ordered.old
+        → IsTrue result → IsNoted (ds ++ ((n, Ordered names.entry) ∷ [])) table.now.names first.new ordered.new }
+    ensures apart { (ds : List (ℕ × Directive)) → IsNoted ds table.now.names first.old ordered.old
+        → IsTrue result ↔ AllPairs (λ (a b : List ℕ). a ≢ b) (all_ordered ds ++ names_in names.entry) }
 {
     items.clear();
     let Some(lowest) = mark(table, ordered, items, guesses, names) else {
@@ -110,8 +118,8 @@ fn put_together<A: Allocator + Copy>(
     true
 }
 
-/// For each item of a table, the first-declared item of its group. The table was read from this view. The guesses are those of
-/// `Groups::read_guessed`.
+/// For each item of a table, the first-declared item of its group. The table was read from this view. The guesses are
+/// those of `Groups::read_guessed`.
 ///
 /// The error is the `GroupedTwice` of `Groups::read`.
 pub(crate) fn first_members<A: Allocator + Copy>(

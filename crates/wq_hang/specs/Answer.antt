@@ -11,8 +11,8 @@ use Rattle.wq_hang.specs.declared.answer.Answer.TheVariants as answer
 use Rattle.wq_hang.specs.Shortest.{IsShortestHang}
 use Rattle.wq_hang.specs.Walk.{IsWalk, IsRoundOrFirst, run_of_walk}
 
--- a shortest run that ends stuck, and the walk whose run it is. A walk of 4 steps is that of the first flush that leads to
--- a bare lane, if there is one
+-- a shortest run that ends stuck, and the walk whose run it is. A walk of 4 steps is that of the first flush that leads
+-- to a bare lane, if there is one
 pub record IsHangOf (d : Declaration) (ws : Workqueues) (hops : List Hop) (steps : List Step) : Type 0 where
   pub assignment : IsAssignment d.groups ws.assignment
   pub shortest : IsShortestHang (wiring_of d ws) steps

@@ -1,5 +1,6 @@
 -- A search from one item: what it costs to come from it to the others, hop by hop.
-use Rattle.std.specs.Prelude.{◌≡◌, ◌≢◌, ℕ, ◌<◌, ◌≤◌, ◌+◌, ◌⊎◌, nat_lt, Bool, true, false, if◌then◌else◌, List, [], ◌∷◌, ◌++◌, length, fold, slice_index, slice_index_or, slice_set, Contains}
+use Rattle.std.specs.Prelude.{◌≡◌, ◌≢◌, ℕ, ◌<◌, ◌≤◌, ◌+◌, ◌⊎◌, nat_lt, Bool, true, false, if◌then◌else◌, List, [], ◌∷◌}
+use Rattle.std.specs.Prelude.{◌++◌, length, fold, slice_index, slice_index_or, slice_set, Contains}
 use Rattle.wq_items.specs.declared.target.Target.{Target}
 use Rattle.wq_core.specs.Wiring.{Wiring, HasRescuer, items, lane_of, declared_by}
 use Rattle.wq_hang.specs.declared.hop.Hop.{Hop}
@@ -53,11 +54,13 @@ reach_all near cost i t on s = fold (λ (r : Reach) (j : ℕ). reach near cost r
 
 -- to come to any item of lane q costs this
 abbrev pub with_lane_cost : ℕ → ℕ → Reach → Reach
-with_lane_cost q cost s = record { costs = s.costs; lane_costs = slice_set s.lane_costs q cost; by = s.by; near = s.near; far = s.far }
+with_lane_cost q cost s =
+    record { costs = s.costs; lane_costs = slice_set s.lane_costs q cost; by = s.by; near = s.near; far = s.far }
 
 -- the same, if to come to any item of lane q cost more before
 abbrev pub reach_lane : Bool → ℕ → ℕ → Target → ℕ → List ℕ → Reach → Reach
-reach_lane near cost i t q on s = if nat_lt cost (slice_index s.lane_costs q) then with_lane_cost q cost (reach_all near cost i t on s) else s
+reach_lane near cost i t q on s =
+    if nat_lt cost (slice_index s.lane_costs q) then with_lane_cost q cost (reach_all near cost i t on s) else s
 
 -- what it costs more to come to any item of the lane of the target
 abbrev pub lane_step : Target → ℕ
@@ -68,7 +71,9 @@ lane_step t = if t.whole then 3 else 4
 abbrev pub follow : Wiring → List (List ℕ) → ℕ → ℕ → Reach → Target → Reach
 follow w on i cost s t =
     if slice_index_or w.bare (lane_of w t.item) false then s
-    else reach_lane t.whole (cost + lane_step t) i t (lane_of w t.item) (slice_index_or on (lane_of w t.item) []) (reach true (cost + 3) s (hop_to i t t.item))
+    else reach_lane t.whole (cost
+    + lane_step t) i t (lane_of w t.item) (slice_index_or on (lane_of w t.item) [])
+    (reach true (cost + 3) s (hop_to i t t.item))
 
 -- all flushes of item i
 abbrev pub expand : Wiring → List (List ℕ) → ℕ → ℕ → Reach → Reach
@@ -100,7 +105,8 @@ pub record IsReach (w : Wiring) (first limit : ℕ) (s : Reach) : Type 0 where
   pub lanes_capped : (q : ℕ) → slice_index s.lane_costs q ≤ limit
   pub by_lane : (i : ℕ) → i < items w → slice_index s.costs i ≤ slice_index s.lane_costs (lane_of w i)
   pub todo : (i : ℕ) → IsTodo s i → (i < items w) × HasRescuer w (lane_of w i)
-  pub reached : (i : ℕ) (d : Hop) → i < items w → slice_index s.costs i < limit → IsReachedBy w first s i (slice_index_or s.by i d)
+  pub reached : (i : ℕ) (d : Hop) → i < items w → slice_index s.costs i < limit
+      → IsReachedBy w first s i (slice_index_or s.by i d)
 
 -- the flushes of item i lead on at no more than this cost and what each costs more
 abbrev pub IsFollowed : Wiring → Reach → ℕ → ℕ → Type 0
@@ -118,7 +124,8 @@ pub record IsGoing (w : Wiring) (first limit : ℕ) (s : Reach) : Type 0 where
 -- if it is less than the limit
 pub record IsSearched (w : Wiring) (first limit : ℕ) (s : Reach) : Type 0 where
   pub reach : IsReach w first limit s
-  pub least : (hops : List Hop) → 0 < length hops → IsPath w first hops first → slice_index s.costs first ≤ hops_cost hops
+  pub least : (hops : List Hop) → 0 < length hops → IsPath w first hops first
+      → slice_index s.costs first ≤ hops_cost hops
 
 -- item i is gone on from next, and is no longer to be
 pub record IsTaken (s : Reach) (i : ℕ) (r : Reach) : Type 0 where
@@ -136,7 +143,11 @@ pub record IsLeastRound (w : Wiring) (limit : ℕ) (hops : List Hop) : Type 0 wh
 -- each round passes one of these items: it can begin there, at the same cost
 abbrev pub ArePassed : Wiring → List ℕ → Type 0
 ArePassed w passed = (hops : List Hop) → IsRound w hops
-    → (i : ℕ) × Contains passed i × (turned : List Hop) × (0 < length turned) × IsPath w i turned i × (hops_cost turned ≡ hops_cost hops)
+    → (i : ℕ)
+    × Contains passed i
+    × (turned : List Hop) × (0 < length turned)
+    × IsPath w i turned i
+    × (hops_cost turned ≡ hops_cost hops)
 
 -- a round from the item costs at most this, which is less than the least so far; and none from it costs less
 pub record IsBetter (w : Wiring) (first least cost : ℕ) (hops : List Hop) : Type 0 where
@@ -154,13 +165,15 @@ IsNoBetter w first least = (hops : List Hop) → 0 < length hops → IsPath w fi
 -- by these numbers of lanes, each lane is marked to which a flush leads from a lane that has a rescuer and whose number
 -- isn't lower
 abbrev pub AreMarked : Wiring → List ℕ → List Bool → Type 0
-AreMarked w numbers marks = (h : Hop) → IsHop w h → slice_index numbers (lane_of w h.flush.item) ≤ slice_index numbers (lane_of w h.item)
+AreMarked w numbers marks =
+    (h : Hop) → IsHop w h → slice_index numbers (lane_of w h.flush.item) ≤ slice_index numbers (lane_of w h.item)
     → slice_index_or marks (lane_of w h.flush.item) false ≡ true
 
 -- the items on those of these lanes that are marked, and no others
 pub record AreMarkedOf (on : List (List ℕ)) (marks : List Bool) (lanes items : List ℕ) : Type 0 where
   pub within : (i : ℕ) → Contains items i → (q : ℕ) × Contains (slice_index_or on q []) i
-  pub all : (q i : ℕ) → Contains lanes q → slice_index_or marks q false ≡ true → Contains (slice_index_or on q []) i → Contains items i
+  pub all : (q i : ℕ) → Contains lanes q → slice_index_or marks q false ≡ true → Contains (slice_index_or on q []) i
+      → Contains items i
 
 -- what is made of a wiring once: the items on each lane, and marks of lanes by some numbers
 pub record AreMade (w : Wiring) (on : List (List ℕ)) (marks : List Bool) : Type 0 where

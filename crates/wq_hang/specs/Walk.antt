@@ -1,6 +1,7 @@
 -- Walks: waits that hold one another up, from lane to lane. They are about flushes and lanes alone, and no run is
 -- spoken of.
-use Rattle.std.specs.Prelude.{◌≡◌, ℕ, ◌<◌, ◌≤◌, ◌+◌, ◌*◌, ◌==◌, ◌||◌, if◌then◌else◌, ◌⊎◌, List, [], ◌∷◌, ◌++◌, length, map, flat_map, Contains}
+use Rattle.std.specs.Prelude.{◌≡◌, ℕ, ◌<◌, ◌≤◌, ◌+◌, ◌*◌, ◌==◌, ◌||◌, if◌then◌else◌, ◌⊎◌, List, [], ◌∷◌, ◌++◌, length}
+use Rattle.std.specs.Prelude.{map, flat_map, Contains}
 use Rattle.wq_core.specs.declared.step.Step.{Step}
 use Rattle.wq_core.specs.declared.step.Step.TheVariants.{Queue, Start}
 use Rattle.wq_core.specs.Wiring.{Wiring, HasRescuer, lane_of, declared_by}
@@ -15,7 +16,8 @@ pub record IsHop (w : Wiring) (h : Hop) : Type 0 where
 -- each item waits for an item on the lane of the next one; the first is i, and j comes after the last
 abbrev pub IsPath : Wiring → ℕ → List Hop → ℕ → Type 0
 IsPath w i [] j = i ≡ j
-IsPath w i (h ∷ hops) j = (h.item ≡ i) × IsHop w h × (lane_of w h.next ≡ lane_of w h.flush.item) × IsPath w h.next hops j
+IsPath w i (h ∷ hops) j =
+    (h.item ≡ i) × IsHop w h × (lane_of w h.next ≡ lane_of w h.flush.item) × IsPath w h.next hops j
 
 -- at least one item, and the first comes after the last
 pub record IsRound (w : Wiring) (hops : List Hop) : Type 0 where
@@ -33,7 +35,8 @@ GoesRound w hops beside = IsRound w hops × (beside ≡ flat_map target_beside h
 
 -- a walk from a lane that has a rescuer to a bare lane
 abbrev pub LeadsToBare : Wiring → List Hop → List ℕ → Type 0
-LeadsToBare w hops beside = (h : Hop) × IsHop w h × (¬ HasRescuer w (lane_of w h.flush.item)) × (hops ≡ h ∷ []) × (beside ≡ h.flush.item ∷ [])
+LeadsToBare w hops beside =
+    (h : Hop) × IsHop w h × (¬ HasRescuer w (lane_of w h.flush.item)) × (hops ≡ h ∷ []) × (beside ≡ h.flush.item ∷ [])
 
 -- a walk: it leads round, or to a bare lane
 abbrev pub IsWalk : Wiring → List Hop → List ℕ → Type 0
@@ -58,7 +61,8 @@ pub record IsRoundOn (w : Wiring) (lanes : List ℕ) (hops : List Hop) : Type 0 
 -- no round on these lanes costs less
 pub record IsLeastRoundOn (w : Wiring) (lanes : List ℕ) (hops : List Hop) : Type 0 where
   pub stays : IsRoundOn w lanes hops
-  pub least : (others : List Hop) → IsRoundOn w lanes others → walk_cost hops (flat_map target_beside hops) ≤ walk_cost others (flat_map target_beside others)
+  pub least : (others : List Hop) → IsRoundOn w lanes others
+      → walk_cost hops (flat_map target_beside hops) ≤ walk_cost others (flat_map target_beside others)
 
 -- ---- hops to a bare lane
 

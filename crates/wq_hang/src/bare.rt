@@ -1,7 +1,7 @@
 //! Flushes that lead to a bare lane.
 //!
-//! Where an item whose lane has a rescuer waits for one whose lane has none, nothing guarantees that the wait is ever over.
-//! It takes time in the number of items and flushes.
+//! Where an item whose lane has a rescuer waits for one whose lane has none, nothing guarantees that the wait is ever
+//! over. It takes time in the number of items and flushes.
 
 ghost use Rattle.std.specs.Prelude.{◌≡◌, ◌<◌, ◌≤◌, ◌+◌, ◌⊎◌, Some, IfSome, IfNone};
 ghost use Rattle.wq_core.specs.Wiring.{HasRescuer, items, lane_of};
@@ -51,7 +51,8 @@ fn first_with<A: Allocator>(waits: &Waits<'_, A>, item: ItemId, found: Option<Ho
 /// Of the flushes that lead from a lane that has a rescuer to a bare lane the one that is declared first.
 pub(crate) fn first_to_bare<A: Allocator>(waits: &Waits<'_, A>) -> Option<Hop>
     ensures some { IfSome result (IsFirstToBare waits.now) }
-    ensures none { IfNone result ((h : Hop) → IsHop waits.now h → HasRescuer waits.now (lane_of waits.now h.flush.item)) }
+    ensures none { IfNone result ((h : Hop) → IsHop waits.now h
+        → HasRescuer waits.now (lane_of waits.now h.flush.item)) }
 {
     let mut first = None;
     for i in 0..waits.items() as u16 {

@@ -46,7 +46,8 @@ fn least_of_all<A: Allocator + Copy>(
     requires numbers { length numbers.now ≡ waits.now.lanes }
     requires low { limit ≤ 16388 }
     ensures some { IfOk result (λ found. IfSome found (λ hops. IsLeastRound waits.now limit hops.items)) }
-    ensures none { IfOk result (λ found. IfNone found ((hops : List Hop) → IsRound waits.now hops → limit ≤ hops_cost hops)) }
+    ensures none { IfOk result (λ found.
+        IfNone found ((hops : List Hop) → IsRound waits.now hops → limit ≤ hops_cost hops)) }
 {
     let on = items_on_lanes(alloc, waits)?;
     let marks = marked_lanes(alloc, waits, numbers)?;

@@ -20,6 +20,8 @@ pub fn a_stuck_run_has_a_walk()
 pub fn a_least_walk_has_a_shortest_run()
     ensures shortest { (w : Wiring) (hops : List Hop) (beside : List ℕ) → IsWiring w → IsLeastWalk w hops beside →
         IsShortestHang w (run_of_walk w hops beside) }
-    ensures as_long { (w : Wiring) (hops : List Hop) (beside : List ℕ) → length (run_of_walk w hops beside) ≡ walk_cost hops beside }
-    ensures safe { (w : Wiring) → IsWiring w → ((hops : List Hop) (beside : List ℕ) → ¬ IsWalk w hops beside) → IsSafe w }
+    ensures as_long { (w : Wiring) (hops : List Hop) (beside : List ℕ) →
+        length (run_of_walk w hops beside) ≡ walk_cost hops beside }
+    ensures safe { (w : Wiring) → IsWiring w → ((hops : List Hop) (beside : List ℕ) → ¬ IsWalk w hops beside) →
+        IsSafe w }
 {}

@@ -58,7 +58,8 @@ fn better_round<A: Allocator + Copy>(
     requires on { AreItemsOn waits.now on.now }
     requires first { first < items waits.now }
     requires low { least ≤ 16388 }
-    ensures some { IfOk result (λ found. IfSome found (λ better. IsBetter waits.now first least better.0 better.1.items)) }
+    ensures some { IfOk result (λ found.
+        IfSome found (λ better. IsBetter waits.now first least better.0 better.1.items)) }
     ensures none { IfOk result (λ found. IfNone found (IsNoBetter waits.now first least)) }
 {
     // Each hop costs 3.
@@ -92,7 +93,8 @@ pub(crate) fn least_round<A: Allocator + Copy>(
     requires passed { ArePassed waits.now passed.now }
     requires low { limit ≤ 16388 }
     ensures some { IfOk result (λ found. IfSome found (λ hops. IsLeastRound waits.now limit hops.items)) }
-    ensures none { IfOk result (λ found. IfNone found ((hops : List Hop) → IsRound waits.now hops → limit ≤ hops_cost hops)) }
+    ensures none { IfOk result (λ found.
+        IfNone found ((hops : List Hop) → IsRound waits.now hops → limit ≤ hops_cost hops)) }
 {
     let _items = waits.items();
     let mut least = limit;

@@ -107,7 +107,8 @@ impl<A: Allocator> Model for Numbering<A> {
 
     ghost Value = { Given };
 
-    ghost view = { λ s. record { numbers = s.numbers.items; next = s.next; left = s.left.items; ready = s.ready.items } };
+    ghost view = { λ s.
+        record { numbers = s.numbers.items; next = s.next; left = s.left.items; ready = s.ready.items } };
 }
 
 /// Counts the arcs that lead to each vertex.

@@ -2,7 +2,8 @@
 //!
 //! It takes time and memory in the number of items and lanes.
 
-ghost use Rattle.std.specs.Prelude.{◌≡◌, ◌<◌, ◌≤◌, length, map, slice_index_or, true, false, ℕ, IfOk, OnOk, IsTrue, Contains};
+ghost use Rattle.std.specs.Prelude.{◌≡◌, ◌<◌, ◌≤◌, length, map, slice_index_or, true, false, ℕ, IfOk, OnOk, IsTrue};
+ghost use Rattle.std.specs.Prelude.{Contains};
 ghost use Rattle.std.specs.List.{All, range_with_len};
 ghost use Rattle.wq_core.specs.Wiring.{items, lane_of};
 ghost use Rattle.wq_hang.specs.Search.{AreItemsOn, AreMarkedOf};

@@ -3,7 +3,8 @@
 //! What doesn't depend on the lanes is made once, and the memory of one search serves all. So each answer takes the
 //! time of a search for each item of its lanes, and memory for its own hops alone.
 
-ghost use Rattle.std.specs.Prelude.{◌≡◌, ◌<◌, ℕ, List, length, replicate, slice_index_or, true, false, Contains, ◌↔◌, IfOk, OnOk, IfSome, IfNone};
+ghost use Rattle.std.specs.Prelude.{◌≡◌, ◌<◌, ℕ, List, length, replicate, slice_index_or, true, false, Contains, ◌↔◌};
+ghost use Rattle.std.specs.Prelude.{IfOk, OnOk, IfSome, IfNone};
 ghost use Rattle.wq_groups.specs.Declaration.{declaration_of};
 ghost use Rattle.wq_core.specs.Wiring.{HasRescuer};
 ghost use Rattle.wq_core.specs.Workqueues.{wiring_of, with_bare};
@@ -62,7 +63,8 @@ fn leave_others_out<A: Allocator>(
     bare: &mut Vec<bool, A>,
 ) -> Result<(), AllocError>
     ensures { OnOk result ((q : ℕ) → q < core.now.wiring.lanes →
-        (HasRescuer (with_bare core.now.wiring bare.new.items) q ↔ (HasRescuer core.now.wiring q × Contains lanes.now q))) }
+        (HasRescuer (with_bare core.now.wiring bare.new.items) q
+        ↔ (HasRescuer core.now.wiring q × Contains lanes.now q))) }
 {
     let count = core.lanes();
     leave_all_out(bare, count)?;

@@ -7,7 +7,8 @@
 //! out, so what it costs in the end is the cheapest way round. What costs as much as the limit isn't gone on from. It
 //! takes time in the number of items, lanes and flushes.
 
-ghost use Rattle.std.specs.Prelude.{◌≡◌, ◌<◌, ◌≤◌, ◌⊎◌, [], false, length, replicate, slice_index, slice_index_or, IfOk, OnOk, IfSome, IfNone, IsTrue};
+ghost use Rattle.std.specs.Prelude.{◌≡◌, ◌<◌, ◌≤◌, ◌⊎◌, [], false, length, replicate, slice_index, slice_index_or};
+ghost use Rattle.std.specs.Prelude.{IfOk, OnOk, IfSome, IfNone, IsTrue};
 ghost use Rattle.std.specs.List.{All};
 ghost use Rattle.wq_core.specs.Wiring.{HasRescuer, items, lane_of};
 ghost use Rattle.wq_hang.specs.declared.hop.Hop.{Hop};
@@ -36,7 +37,14 @@ impl<A: Allocator> Model for Search<A> {
 
     ghost Value = { Reach };
 
-    ghost view = { λ s. record { costs = s.costs.items; lane_costs = s.lane_costs.items; by = s.by.items; near = s.near.items; far = s.far.items } };
+    ghost view = { λ s.
+        record {
+          costs = s.costs.items;
+          lane_costs = s.lane_costs.items;
+          by = s.by.items;
+          near = s.near.items;
+          far = s.far.items;
+        } };
 }
 
 /// Makes a list this long, each number of which is this one.

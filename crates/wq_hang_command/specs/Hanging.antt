@@ -18,8 +18,8 @@ use Rattle.wq_commands.specs.Deadlocking.{safe_text}
 use Rattle.wq_commands.specs.Declaration.{Declared, declaration}
 use Rattle.wq_commands.specs.Why.{SaysAssigned}
 
--- the steps are printed of a shortest run of these workqueues that ends stuck. It is the run of a walk, and where that has 4
--- steps, of the first flush that leads to a bare lane, if there is one
+-- the steps are printed of a shortest run of these workqueues that ends stuck. It is the run of a walk, and where that
+-- has 4 steps, of the first flush that leads to a bare lane, if there is one
 pub record PrintsHang (s : Declared) (ws : Workqueues) (out : List ℕ) : Type 0 where
   pub steps : List Step
   pub assignment : IsAssignment s.partition.groups ws.assignment
@@ -33,19 +33,24 @@ pub record PrintsHang (s : Declared) (ws : Workqueues) (out : List ℕ) : Type 0
 
 -- the answer to workqueues of a declaration's groups: `safe` if no run ends stuck, else a shortest run that does
 abbrev pub HangsAssigned : Declared → Workqueues → End → List ℕ → Type 0
-HangsAssigned s ws Good out = IsAssignment s.partition.groups ws.assignment × IsSafe (wiring_of (declared_waits s) ws) × (out ≡ safe_text)
+HangsAssigned s ws Good out =
+    IsAssignment s.partition.groups ws.assignment × IsSafe (wiring_of (declared_waits s) ws) × (out ≡ safe_text)
 HangsAssigned s ws Bad out = PrintsHang s ws out
 HangsAssigned s ws Refused out = ⊥
 
 -- the answer to the text of an assignment of a declaration, or its refusal
 abbrev pub HangsDeclared : Declared → List ℕ → End → List ℕ → Type 0
 HangsDeclared s text end out =
-    MatchResult (workqueues_of_text s.table.names s.partition text) (λ ws. HangsAssigned s ws end out) (λ fault. PrintsRefusal (cert_refusal fault) end out)
+    MatchResult (workqueues_of_text s.table.names s.partition text)
+    (λ ws. HangsAssigned s ws end out)
+    (λ fault. PrintsRefusal (cert_refusal fault) end out)
 
 -- the answer to the texts of a declaration and an assignment: a refusal of the declaration comes first
 abbrev pub Hangs : List ℕ → List ℕ → End → List ℕ → Type 0
-Hangs declared text end out = MatchResult (declaration declared) (λ s. HangsDeclared s text end out) (λ r. PrintsRefusal r end out)
+Hangs declared text end out =
+    MatchResult (declaration declared) (λ s. HangsDeclared s text end out) (λ r. PrintsRefusal r end out)
 
 -- the answer of the command, and why
 abbrev pub HangsTexts : Given → Outcome → List ℕ → Type 0
-HangsTexts texts outcome out = Hangs texts.first texts.second outcome.end out × SaysAssigned texts.first texts.second outcome.why
+HangsTexts texts outcome out =
+    Hangs texts.first texts.second outcome.end out × SaysAssigned texts.first texts.second outcome.why

@@ -1,7 +1,7 @@
 //! The command `hang`: from the bytes of a declaration and an assignment to the bytes of the answer.
 //!
-//! The declaration is read first and the assignment next, both before either is judged. The answer is built in full before the
-//! first byte is written. It takes the time of reading the texts, of the search and of writing the answer.
+//! The declaration is read first and the assignment next, both before either is judged. The answer is built in full
+//! before the first byte is written. It takes the time of reading the texts, of the search and of writing the answer.
 
 use crate::hanging::hang;
 use std::alloc::{AllocError, Allocator};

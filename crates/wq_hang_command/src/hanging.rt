@@ -1,7 +1,7 @@
 //! The answer to a declaration and an assignment, built in full in memory.
 //!
-//! The rule is that of "The command `hang`" in docs/FORMAT.md. It takes the time and the memory of reading the two texts and of the
-//! search for the shortest run.
+//! The rule is that of "The command `hang`" in docs/FORMAT.md. It takes the time and the memory of reading the two
+//! texts and of the search for the shortest run.
 
 ghost use Rattle.std.specs.Prelude.{◌≡◌, IfOk, None, length};
 ghost use Rattle.wq_groups.specs.Declaration.{declaration_of};
@@ -54,7 +54,8 @@ fn print_answer<A: Allocator + Copy>(
     requires grouped { length groups.now.group_of ≡ length table.now.names }
     requires assigned { AreWorkqueuesOf groups.now.groups workqueues.now }
     requires answer { IsAnswer (declaration_of table.now groups.now) workqueues.now answer.now }
-    ensures answer { IfOk result (λ a. HangsAssigned (record { table = table.now; partition = groups.now }) workqueues.now a.end a.text.items) }
+    ensures answer { IfOk result (λ a.
+        HangsAssigned (record { table = table.now; partition = groups.now }) workqueues.now a.end a.text.items) }
     ensures why { IfOk result (λ a. a.why ≡ None) }
 {
     match answer {
@@ -78,7 +79,8 @@ fn hang_assigned<A: Allocator + Copy>(
 ) -> Result<Answered<A>, AllocError>
     requires grouped { length groups.now.group_of ≡ length table.now.names }
     requires assigned { AreWorkqueuesOf groups.now.groups workqueues.now }
-    ensures answer { IfOk result (λ a. HangsAssigned (record { table = table.now; partition = groups.now }) workqueues.now a.end a.text.items) }
+    ensures answer { IfOk result (λ a.
+        HangsAssigned (record { table = table.now; partition = groups.now }) workqueues.now a.end a.text.items) }
     ensures why { IfOk result (λ a. a.why ≡ None) }
 {
     let answer = shortest_hang(alloc, table, groups, workqueues)?;
@@ -93,8 +95,10 @@ fn hang_declared<A: Allocator + Copy>(
     text: &[u8],
 ) -> Result<Answered<A>, AllocError>
     requires { length groups.now.group_of ≡ length table.now.names }
-    ensures answer { IfOk result (λ a. HangsDeclared (record { table = table.now; partition = groups.now }) text.now a.end a.text.items) }
-    ensures why { IfOk result (λ a. SaysFault Certificate (workqueues_of_text table.now.names groups.now text.now) a.why) }
+    ensures answer { IfOk result (λ a.
+        HangsDeclared (record { table = table.now; partition = groups.now }) text.now a.end a.text.items) }
+    ensures why { IfOk result (λ a.
+        SaysFault Certificate (workqueues_of_text table.now.names groups.now text.now) a.why) }
 {
     // What holds of all groups.
     let _groups = groups.len();

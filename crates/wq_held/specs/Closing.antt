@@ -14,21 +14,26 @@ use Rattle.wq_history.specs.Book.{BookView, state, IsBook}
 abbrev pub SumsSeats : List (List ℕ) → List ℕ → Type 0
 SumsSeats seats counts = (p : ℕ) → slice_index counts p ≡ sum_by (λ (seat : List ℕ). slice_index seat p) seats
 
--- every count is the number of the rows that it counts: for each item, kind and answer, and for each lane, kind and answer
+-- every count is the number of the rows that it counts: for each item, kind and
+-- answer, and for each lane, kind and answer
 abbrev pub Agrees : Wiring → BookView → List ℕ → Type 0
-Agrees w book counts = ((i : ℕ) (kind : Kind) (said : Bool) → i < items w → made counts i kind said ≡ tally book.rows i kind said)
-    × ((q : ℕ) (kind : LaneKind) (said : Bool) → q < w.lanes → made_lane counts q kind said ≡ tally_lane book.rows q kind said)
+Agrees w book counts =
+    ((i : ℕ) (kind : Kind) (said : Bool) → i < items w → made counts i kind said ≡ tally book.rows i kind said)
+    × ((q : ℕ) (kind : LaneKind) (said : Bool) → q < w.lanes
+    → made_lane counts q kind said ≡ tally_lane book.rows q kind said)
 
--- a runtime with this wiring and this many rows was closed with these seats: its book is idle and a legal history; each caller
--- who was to wait was told, item by item and lane by lane; the counts are the sums over the seats, and add up to the number of
--- the book's counted rows; and `agree` says whether each count is the number of the rows that it counts
-pub record IsClosed (w : Wiring) (rows : ℕ) (seats : List (List ℕ)) (book : BookView) (counts : List ℕ) (agree : Bool) : Type 0 where
+-- a runtime with this wiring and this many rows was closed with these seats: its book is idle and a legal history; each
+-- caller who was to wait was told, item by item and lane by lane; the counts are the sums over the seats, and add up to
+-- the number of the book's counted rows; and `agree` says whether each count is the number of the rows that it counts
+pub record IsClosed (w : Wiring) (rows : ℕ) (seats : List (List ℕ)) (book : BookView) (counts : List ℕ) (agree : Bool)
+    : Type 0 where
   pub of_wiring : book.wiring ≡ w
   pub of_rows : book.room ≡ rows
   pub legal : IsBook book
   pub idle : ¬ HasUnfinished (state book)
   pub told : (i : ℕ) → count_by (ends_a_wait (OfItem i)) book.rows ≡ count_by (begins_to_wait (OfItem i)) book.rows
-  pub told_lanes : (q : ℕ) → count_by (ends_a_wait (OfLane q)) book.rows ≡ count_by (begins_to_wait (OfLane q)) book.rows
+  pub told_lanes : (q : ℕ)
+      → count_by (ends_a_wait (OfLane q)) book.rows ≡ count_by (begins_to_wait (OfLane q)) book.rows
   pub sums : SumsSeats seats counts
   pub total : sum counts ≡ counted_rows book.rows
   pub agrees : IsTrue agree ↔ Agrees w book counts

@@ -1,7 +1,8 @@
 -- The errors of a runtime: their numbers.
 use Rattle.std.specs.Prelude.{ℕ}
 use Rattle.wq_held.specs.declared.fault.NewError.{NewError}
-use Rattle.wq_held.specs.declared.fault.NewError.TheVariants.{TooManyLanes, TooManyRows, TooManyHelpers, NotSafe, OutOfMemory as NewOutOfMemory}
+use Rattle.wq_held.specs.declared.fault.NewError.TheVariants.{TooManyLanes, TooManyRows, TooManyHelpers, NotSafe}
+use Rattle.wq_held.specs.declared.fault.NewError.TheVariants.{OutOfMemory as NewOutOfMemory}
 use Rattle.wq_held.specs.declared.fault.SeatError.{SeatError}
 use Rattle.wq_held.specs.declared.fault.SeatError.TheVariants.{TooManySeats, OutOfMemory}
 use Rattle.wq_held.specs.declared.fault.CloseWhy.{CloseWhy}

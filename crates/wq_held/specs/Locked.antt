@@ -20,16 +20,18 @@ pub record HeldView : Type 0 where
 abbrev pub max_runtime_lanes : ℕ
 max_runtime_lanes = 256
 
--- how many slots of counts a runtime has: as many as items or lanes, whichever are more. Slot n holds the counts of item n and
--- those of lane n
+-- how many slots of counts a runtime has: as many as items or lanes, whichever are
+-- more. Slot n holds the counts of item n and those of lane n
 abbrev pub slots : Wiring → ℕ
 slots w = max (items w) w.lanes
 
--- for a runtime with this wiring, this many rows and this many parts of its ledger: the book is of this wiring and has room for
--- this many rows; there are at most 256 lanes with at most 8 helpers each, and no run of the assignment ends stuck; the tallies are
--- those of the book's rows, and add up to the number of its counted rows; the room for the sums is kept empty. Each part of the
--- ledger was given to a seat or is left; at least one is left, and those that are left have no amount
-pub record IsProtected (w : Wiring) (rows parts : ℕ) (book : BookView) (tallies sums : List ℕ) (seats parts_left amount_left : ℕ) : Type 0 where
+-- for a runtime with this wiring, this many rows and this many parts of its ledger: the book is of
+-- this wiring and has room for this many rows; there are at most 256 lanes with at most 8 helpers
+-- each, and no run of the assignment ends stuck; the tallies are those of the book's rows, and add
+-- up to the number of its counted rows; the room for the sums is kept empty. Each part of the ledger
+-- was given to a seat or is left; at least one is left, and those that are left have no amount
+pub record IsProtected (w : Wiring) (rows parts : ℕ) (book : BookView) (tallies sums : List ℕ)
+    (seats parts_left amount_left : ℕ) : Type 0 where
   pub of_wiring : book.wiring ≡ w
   pub of_rows : book.room ≡ rows
   pub few_lanes : w.lanes ≤ max_runtime_lanes
@@ -55,9 +57,9 @@ pub record IsLedgered (w : Wiring) (tallies : List ℕ) (total : ℕ) : Type 0 w
   pub a_count_each : HasCountsOf (slots w) tallies
   pub total_is : total ≡ sum tallies
 
--- whenever the lock is taken, the book is of this wiring and has room for this many rows; its rows are a legal history whose
--- replay is its state, and rows are kept for what is to come; each lane has at most 8 helpers; no run of the assignment ends stuck,
--- whatever helpers there are, and so its state isn't stuck
+-- whenever the lock is taken, the book is of this wiring and has room for this many rows; its rows are a legal history
+-- whose replay is its state, and rows are kept for what is to come; each lane has at most 8 helpers; no run of the
+-- assignment ends stuck, whatever helpers there are, and so its state isn't stuck
 pub record Holds (w : Wiring) (rows : ℕ) (b : BookView) : Type 0 where
   pub of_wiring : b.wiring ≡ w
   pub of_rows : b.room ≡ rows

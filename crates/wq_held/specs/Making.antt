@@ -4,7 +4,8 @@ use Rattle.wq_core.specs.Wiring.{Wiring, max_helpers}
 use Rattle.wq_core.specs.Deadlock.{IsSafe}
 use Rattle.wq_rows.specs.Stored.{max_rows}
 use Rattle.wq_held.specs.declared.fault.NewError.{NewError}
-use Rattle.wq_held.specs.declared.fault.NewError.TheVariants.{TooManyLanes, TooManyRows, TooManyHelpers, NotSafe, OutOfMemory}
+use Rattle.wq_held.specs.declared.fault.NewError.TheVariants.{TooManyLanes, TooManyRows, TooManyHelpers, NotSafe}
+use Rattle.wq_held.specs.declared.fault.NewError.TheVariants.{OutOfMemory}
 use Rattle.wq_held.specs.Locked.{max_runtime_lanes}
 
 -- making a runtime of a wiring with this many rows: too many lanes; too many rows; too many helpers, which can't be if

@@ -1,8 +1,8 @@
 //! What is handed back when a runtime is closed: its history, and the sums of all that its callers counted.
 //!
-//! Where the sums agree with the tallies of the history, all callers together counted, for each item or lane, kind and answer, as
-//! many rows as were written. Starts aren't counted. Closing takes time in the number of all counts, which are 22 for each seat and
-//! slot (there are as many slots as items or lanes, whichever are more), and no memory.
+//! Where the sums agree with the tallies of the history, all callers together counted, for each item or lane, kind and
+//! answer, as many rows as were written. Starts aren't counted. Closing takes time in the number of all counts, which
+//! are 22 for each seat and slot (there are as many slots as items or lanes, whichever are more), and no memory.
 
 ghost use Rattle.std.specs.Prelude.{◌≡◌, ◌+◌, ◌<◌, ◌*◌, sum, replicate, vec_len, IfOk, IfErr};
 ghost use Rattle.wq_counts.specs.Counting.{counts_each, HasCountsOf};

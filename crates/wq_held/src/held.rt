@@ -3,7 +3,8 @@
 //! Whoever calls holds the lock. Each call takes constant time and no memory, but `new` and `seat`: they take time and
 //! memory in the number of items or lanes, whichever are more, 352 and 176 bytes for each.
 
-ghost use Rattle.std.specs.Prelude.{◌≡◌, ◌+◌, ◌<◌, ◌≤◌, [], sum, replicate, ◌*◌, IfOk, IfErr, OnOk, OnErr, IfSome, IfNone};
+ghost use Rattle.std.specs.Prelude.{◌≡◌, ◌+◌, ◌<◌, ◌≤◌, [], sum, replicate, ◌*◌, IfOk, IfErr, OnOk, OnErr, IfSome};
+ghost use Rattle.std.specs.Prelude.{IfNone};
 ghost use Rattle.wq_core.specs.Wiring.{items, max_helpers, helpers_of};
 ghost use Rattle.wq_core.specs.Deadlock.{IsSafe};
 ghost use Rattle.wq_counts.specs.Counting.{counts_each, counted_rows};
@@ -44,7 +45,8 @@ impl<N: Naming, A: Allocator> Model for Held<N, A> {
 
     ghost view = { λ h. record { book = h.book; seats = N.parts - h.rest.parts } };
 
-    ghost invariant = { λ h. IsProtected N.wiring N.rows N.parts h.book h.tallies h.sums h.seats h.rest.parts h.rest.amount };
+    ghost invariant = { λ h.
+        IsProtected N.wiring N.rows N.parts h.book h.tallies h.sums h.seats h.rest.parts h.rest.amount };
 }
 
 /// How many slots of counts there are for a book: as many as items or lanes, whichever are more.
@@ -54,13 +56,14 @@ fn slots_of<A: Allocator>(book: &Book<A>) -> usize
     book.items().max(book.lanes())
 }
 
-/// The counts for the tallies and those for the sums, all 0. The only error is out of memory, which can't occur where there is
-/// no slot.
+/// The counts for the tallies and those for the sums, all 0. The only error is out
+/// of memory, which can't occur where there is no slot.
 fn two_counts<A: Allocator + Copy>(
     alloc: A,
     slots: usize,
 ) -> Result<(Counts<A>, Counts<A>), AllocError>
-    ensures counts { IfOk result (λ both. (both.0 ≡ replicate (counts_each * slots) 0) × (both.1 ≡ replicate (counts_each * slots) 0)) }
+    ensures counts { IfOk result (λ both. (both.0 ≡ replicate (counts_each * slots) 0)
+        × (both.1 ≡ replicate (counts_each * slots) 0)) }
     ensures memory { OnErr result (0 < slots) }
 {
     let tallies = Counts::new(alloc, slots)?;
@@ -69,7 +72,8 @@ fn two_counts<A: Allocator + Copy>(
 }
 
 impl<N: Naming, A: Allocator + Copy> Held<N, A> {
-    /// Starts with a book in which nothing has happened, of the runtime that this blank ledger belongs to. No seat is made.
+    /// Starts with a book in which nothing has happened, of the runtime that this
+    /// blank ledger belongs to. No seat is made.
     ///
     /// The only error is out of memory (20), which can't occur where there are no items and no lanes.
     pub fn new(alloc: A, blank: Blank, book: Book<A>) -> Result<Self, AllocError>
@@ -98,11 +102,12 @@ impl<N: Naming, A: Allocator + Copy> Held<N, A> {
 
     /// Makes a seat, with no counts.
     ///
-    /// The error is `TooManySeats` (70) exactly where 65,535 were made. Otherwise it is out of memory (20), which can't occur
-    /// where there are no items and no lanes. After an error nothing is changed, and no seat counts as made.
+    /// The error is `TooManySeats` (70) exactly where 65,535 were made. Otherwise it is out of memory (20), which can't
+    /// occur where there are no items and no lanes. After an error nothing is changed, and no seat counts as made.
     pub fn seat(&mut self, alloc: A) -> Result<Seat<N, A>, SeatError>
         ensures seat { IfOk result (λ s. s ≡ replicate (counts_each * slots N.wiring) 0) }
-        ensures made { OnOk result ((self.old.seats < 65535) × (self.new ≡ record self.old { seats = self.old.seats + 1 })) }
+        ensures made { OnOk result ((self.old.seats < 65535)
+            × (self.new ≡ record self.old { seats = self.old.seats + 1 })) }
         ensures refused { IfErr result (λ e. self.new ≡ self.old) }
         ensures limit { result ≡ Err TooManySeats → self.old.seats ≡ 65535 }
         ensures memory { result ≡ Err SeatOutOfMemory → (self.old.seats < 65535) × (0 < slots N.wiring) }
@@ -158,8 +163,8 @@ impl<N: Naming, A: Allocator> Held<N, A> {
 
     /// Whether the runtime can be closed with this many seats.
     ///
-    /// The error is `NotIdle` (71) exactly where an entry is unfinished or a caller waits. Otherwise it is `SeatsMissing` (72),
-    /// exactly where not this many seats were made.
+    /// The error is `NotIdle` (71) exactly where an entry is unfinished or a caller waits. Otherwise it is
+    /// `SeatsMissing` (72), exactly where not this many seats were made.
     pub fn closable(&self, seats: usize) -> Result<(), CloseWhy>
         ensures closes { OnOk result (Closes self.now seats) }
         ensures refused { IfErr result (RefusesClose self.now seats) }

@@ -1,9 +1,10 @@
-//! What the lock of a runtime protects: the book, and the counts of what each caller did, which add up to those of its rows.
-//! The code calls a workqueue a lane.
+//! What the lock of a runtime protects: the book, and the counts of what each caller did, which add up to those of its
+//! rows. The code calls a workqueue a lane.
 //!
-//! What the layer above relies on: whenever the lock is taken, the rows are a legal history under the runtime's assignment, which
-//! is safe. Each call under the lock writes at most one row, or those of an ask and a cancellation, and counts them in its caller's
-//! seat, except for starts. All seats together count as many rows as the history has, starts left out.
+//! What the layer above relies on: whenever the lock is taken, the rows are a legal history
+//! under the runtime's assignment, which is safe. Each call under the lock writes at most one
+//! row, or those of an ask and a cancellation, and counts them in its caller's seat, except
+//! for starts. All seats together count as many rows as the history has, starts left out.
 #![tactic(auto)]
 
 mod closing;

@@ -1,7 +1,7 @@
 //! What the lock of a new runtime protects.
 //!
-//! It takes time and memory for the counts of the items, for the machine, and for the wait graph of the workqueues with its ranks; and
-//! 12 bytes for each row.
+//! It takes time and memory for the counts of the items, for the machine, and for the wait graph of the workqueues with
+//! its ranks; and 12 bytes for each row.
 
 ghost use Rattle.std.specs.Prelude.{◌≡◌, [], false, length, IfOk, OnOk, IfErr};
 ghost use Rattle.wq_groups.specs.Declaration.{declaration_of};
@@ -22,13 +22,13 @@ use wq_items::ItemTable;
 /// The most workqueues that a runtime has: 256.
 pub const MAX_LANES: u16 = 256;
 
-/// Makes what the lock of a runtime protects, for the runtime of a table, the groups of its items and an assignment, which gives each
-/// group a workqueue, with room for `rows` rows and this many helpers for each workqueue that isn't ordered. The blank ledger has
-/// 65,536 parts, and its name says what the runtime is made of.
+/// Makes what the lock of a runtime protects, for the runtime of a table, the groups of its items and an assignment,
+/// which gives each group a workqueue, with room for `rows` rows and this many helpers for each workqueue that isn't
+/// ordered. The blank ledger has 65,536 parts, and its name says what the runtime is made of.
 ///
-/// The error is the first of these that holds: `TooManyLanes` (69), more than 256 workqueues; `TooManyRows` (68), more than
-/// 16,777,216; `TooManyHelpers` (74), more than 8; `NotSafe` (67), some run of the assignment ends stuck. Out of memory (20) may come
-/// in place of the last, or where none holds.
+/// The error is the first of these that holds: `TooManyLanes` (69), more than 256 workqueues; `TooManyRows` (68), more
+/// than 16,777,216; `TooManyHelpers` (74), more than 8; `NotSafe` (67), some run of the assignment ends stuck. Out of
+/// memory (20) may come in place of the last, or where none holds.
 #[tactic(auto, using(crate::proofs::RefusedMaking::book_refused, crate::proofs::RefusedMaking::some_lanes, crate::proofs::RefusedMaking::safe_with))]
 pub fn new_held<N: Naming, A: Allocator + Copy>(
     alloc: A,
@@ -47,7 +47,8 @@ pub fn new_held<N: Naming, A: Allocator + Copy>(
     requires of_wiring { N.wiring ≡ with_helpers (wiring (declaration_of table.now groups.now) assignment.now) helpers }
     requires of_rows { N.rows ≡ rows }
     ensures made { OnOk result (MakesRuntime N.wiring rows) }
-    ensures fresh { IfOk result (λ held. held ≡ record { book = record { wiring = N.wiring; rows = []; room = rows; closed = false }; seats = 0 }) }
+    ensures fresh { IfOk result (λ held. held
+        ≡ record { book = record { wiring = N.wiring; rows = []; room = rows; closed = false }; seats = 0 }) }
     ensures refused { IfErr result (RefusesRuntime N.wiring rows) }
 {
     if assignment.lanes() > MAX_LANES {

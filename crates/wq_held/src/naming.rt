@@ -1,12 +1,14 @@
 //! Which runtime a value belongs to.
 //!
-//! What a lock protects is known by its type alone. So the type of a runtime, of its seats and of `Closed` names the runtime: what it
-//! was made of, and the ledger in which its seats count. The names occur in proofs only; no code runs here.
+//! What a lock protects is known by its type alone. So the type of a runtime, of its
+//! seats and of `Closed` names the runtime: what it was made of, and the ledger in
+//! which its seats count. The names occur in proofs only; no code runs here.
 
 use std::marker::Brand;
 use std::sync::ledger::Ledger;
 
-/// The name of one runtime: its ledger, the wiring of its declaration and assignment, and how many rows it has room for.
+/// The name of one runtime: its ledger, the wiring of its declaration and
+/// assignment, and how many rows it has room for.
 ///
 /// A caller writes its code for every `N: Naming`. At one call it names one runtime, by `Brand`.
 pub trait Naming: Ledger {

@@ -1,7 +1,7 @@
 //! Seats: the counts of what the calls of one thread did.
 //!
-//! A seat belongs to one caller at a time, who lends it to each of its calls. It holds one part of the runtime's ledger. So what
-//! all seats count together is known when they come back. Every call takes constant time.
+//! A seat belongs to one caller at a time, who lends it to each of its calls. It holds one part of the runtime's
+//! ledger. So what all seats count together is known when they come back. Every call takes constant time.
 
 ghost use Rattle.std.specs.Prelude.{◌≡◌, ℕ, ◌<◌, ◌≤◌, ◌↔◌, sum, true, IsTrue};
 ghost use Rattle.wq_counts.specs.Counting.{HasCountsOf, made, asked_lane, told_lane};
@@ -40,21 +40,24 @@ impl<N: Naming, A: Allocator> Model for Seat<N, A> {
 }
 
 impl<N: Naming, A: Allocator> Seat<N, A> {
-    /// How many rows of an item and a kind, with this answer, its holder's calls made; 0 for an item that doesn't exist.
+    /// How many rows of an item and a kind, with this answer, its holder's calls
+    /// made; 0 for an item that doesn't exist.
     pub fn made(&self, item: ItemId, kind: Kind, yes: bool) -> u64
         ensures { result ≡ made self.now item kind yes }
     {
         self.counts.made(item, kind, yes)
     }
 
-    /// How many asks about a whole workqueue, with this answer, its holder's calls made; 0 for a workqueue that doesn't exist.
+    /// How many asks about a whole workqueue, with this answer, its holder's calls
+    /// made; 0 for a workqueue that doesn't exist.
     pub fn asked_lane(&self, q: LaneId, yes: bool) -> u64
         ensures { result ≡ asked_lane self.now q yes }
     {
         self.counts.asked_lane(q, yes)
     }
 
-    /// How many times its holder was told that its wait for a whole workqueue is over; 0 for a workqueue that doesn't exist.
+    /// How many times its holder was told that its wait for a whole workqueue is
+    /// over; 0 for a workqueue that doesn't exist.
     pub fn told_lane(&self, q: LaneId) -> u64
         ensures { result ≡ told_lane self.now q }
     {

@@ -1,7 +1,7 @@
 //! The tallies of the history, and the ledger in which all seats count.
 //!
-//! Each counted row is counted twice: here, for the history, and in the seat of the caller whose call wrote it. The ledger
-//! shows that both grow by one together. A count takes constant time and no memory.
+//! Each counted row is counted twice: here, for the history, and in the seat of the caller whose call wrote it. The
+//! ledger shows that both grow by one together. A count takes constant time and no memory.
 
 ghost use Rattle.std.specs.Prelude.{◌≡◌, ◌+◌, ◌<◌, ◌≤◌, sum, Ok};
 ghost use Rattle.wq_counts.specs.Counting.{noted};

@@ -11,8 +11,10 @@ ghost use Rattle.wq_core.specs.Wiring.{items, lane_of};
 ghost use Rattle.wq_history.specs.Events.{subject_in};
 ghost use Rattle.wq_history.specs.History.{IsThere};
 ghost use Rattle.wq_history.specs.Book.{IsBook};
-ghost use Rattle.wq_history.specs.Calls.{IsEarly, subject_of, waiters_for, sleepers_of, woken_by_done, woken_by_refusal};
-ghost use Rattle.wq_history.specs.Waits.{WakesBy, WakesByDeed, WakesIfEnded, WakesIfPending, WakesWaiters, WakesByStart, WakesByFinish};
+ghost use Rattle.wq_history.specs.Calls.{IsEarly, subject_of, waiters_for, sleepers_of, woken_by_done};
+ghost use Rattle.wq_history.specs.Calls.{woken_by_refusal};
+ghost use Rattle.wq_history.specs.Waits.{WakesBy, WakesByDeed, WakesIfEnded, WakesIfPending, WakesWaiters};
+ghost use Rattle.wq_history.specs.Waits.{WakesByStart, WakesByFinish};
 ghost use Rattle.wq_rows.specs.declared.event.Event.TheVariants.{Queue as QueueEvent, Cancel as CancelEvent};
 
 use std::alloc::Allocator;

@@ -1,5 +1,6 @@
 -- Books: a history with room for a given number of rows, and what each call answers.
-use Rattle.std.specs.Prelude.{◌≡◌, ℕ, zero, suc, ◌+◌, ◌<◌, ◌≤◌, ◌⊎◌, List, ◌∷◌, [], ◌++◌, length, Some, None, Bool, true, false, ⊤}
+use Rattle.std.specs.Prelude.{◌≡◌, ℕ, zero, suc, ◌+◌, ◌<◌, ◌≤◌, ◌⊎◌, List, ◌∷◌, [], ◌++◌, length, Some, None, Bool}
+use Rattle.std.specs.Prelude.{true, false, ⊤}
 use Rattle.wq_items.specs.Table.{ItemWaitsBy}
 use Rattle.wq_core.specs.declared.entry.Entry.{Entry}
 use Rattle.wq_core.specs.declared.entry.Waiting.{Waiting}
@@ -12,12 +13,13 @@ use Rattle.wq_rows.specs.declared.event.Event.TheVariants.{Queue, AskLane}
 use Rattle.wq_rows.specs.declared.event.Row.{Row}
 use Rattle.wq_rows.specs.Stored.{max_rows}
 use Rattle.wq_history.specs.declared.fault.BookError.{BookError}
-use Rattle.wq_history.specs.declared.fault.BookError.TheVariants.{HistoryFull, Closed, Undeclared, TooManyWaits, WrongLane, NoItem, TooManyRows, OutOfMemory}
+use Rattle.wq_history.specs.declared.fault.BookError.TheVariants.{HistoryFull, Closed, Undeclared, TooManyWaits}
+use Rattle.wq_history.specs.declared.fault.BookError.TheVariants.{WrongLane, NoItem, TooManyRows, OutOfMemory}
 use Rattle.wq_history.specs.History.{state_after, MayCome, IsLegal}
 use Rattle.wq_history.specs.Reserve.{reserved, free_rows, rows_needed}
 
--- a book: the wiring of its machine, the rows so far, how many there is room for, and whether it is closed. Its state is the
--- replay of the rows
+-- a book: the wiring of its machine, the rows so far, how many there is room for,
+-- and whether it is closed. Its state is the replay of the rows
 pub record BookView : Type 0 where
   pub wiring : Wiring
   pub rows : List Row
@@ -32,16 +34,16 @@ state b = state_after b.wiring b.rows
 abbrev pub free : BookView → ℕ
 free b = free_rows b.wiring b.room b.rows
 
--- what holds for every book: its wiring is sound, its rows are a legal history, it has no more room than a history may have,
--- and there is room for the rows that are written and for those that are kept
+-- what holds for every book: its wiring is sound, its rows are a legal history, it has no more room than a history may
+-- have, and there is room for the rows that are written and for those that are kept
 pub record IsBook (b : BookView) : Type 0 where
   pub wiring : IsWiring b.wiring
   pub legal : IsLegal b.wiring b.rows
   pub limit : b.room ≤ max_rows
   pub enough : length b.rows + reserved b.wiring b.rows ≤ b.room
 
--- exactly one row is appended, which may follow those before it; at least as many rows were free as its event needs; nothing
--- else is changed
+-- exactly one row is appended, which may follow those before it; at least as many
+-- rows were free as its event needs; nothing else is changed
 pub record Appends (old new : BookView) (event : Event) (said : Bool) (number : ℕ) : Type 0 where
   pub may : MayCome old.wiring old.rows event said number
   pub room : rows_needed old.wiring event said ≤ free old
@@ -53,7 +55,8 @@ AppendsOne old new event said = (n : ℕ) × Appends old new event said n
 
 -- a row of this event may follow, but fewer rows are free than it needs
 abbrev pub LacksRows : BookView → Event → Type 0
-LacksRows b event = (said : Bool) × (n : ℕ) × MayCome b.wiring b.rows event said n × (free b < rows_needed b.wiring event said)
+LacksRows b event =
+    (said : Bool) × (n : ℕ) × MayCome b.wiring b.rows event said n × (free b < rows_needed b.wiring event said)
 
 -- ---- lanes of a book, and their contexts: 0 is the rescuer, and the others are the helpers
 
@@ -69,8 +72,8 @@ IsAwake b q c r = LaneRuns b q c r × (r.waiting ≡ None)
 abbrev pub IsWaiting : BookView → ℕ → ℕ → Waiting → Type 0
 IsWaiting b q c f = (r : Running) × LaneRuns b q c r × (r.waiting ≡ Some f)
 
--- context c of lane q runs an entry that waits for this, by a wait of this kind: for the whole lane of the target, or for the
--- target alone
+-- context c of lane q runs an entry that waits for this, by a wait of this kind: for
+-- the whole lane of the target, or for the target alone
 abbrev pub IsWaitingBy : BookView → ℕ → ℕ → Bool → Waiting → Type 0
 IsWaitingBy b q c whole f = IsWaiting b q c f × (f.whole ≡ whole)
 
@@ -134,21 +137,24 @@ RefusesLane wrong _ = ⊥
 abbrev pub IsWrongToStart : BookView → ℕ → ℕ → Type 0
 IsWrongToStart b q c = (¬ HasContext b.wiring q c) ⊎ ((r : Running) × LaneRuns b q c r)
 
--- `wait`, `wait_all` and `finish` of context c of lane q are wrong: there is no such lane or no such context, it runs nothing, or
--- its entry waits
+-- `wait`, `wait_all` and `finish` of context c of lane q are wrong: there is no such
+-- lane or no such context, it runs nothing, or its entry waits
 abbrev pub IsNotAwake : BookView → ℕ → ℕ → Type 0
 IsNotAwake b q c = (r : Running) → ¬ IsAwake b q c r
 
--- `over` of context c of lane q is wrong: there is no such lane or no such context, it runs nothing, or its entry doesn't wait
+-- `over` of context c of lane q is wrong: there is no such lane or no such context,
+-- it runs nothing, or its entry doesn't wait
 abbrev pub IsNotWaiting : BookView → ℕ → ℕ → Type 0
 IsNotWaiting b q c = (f : Waiting) → ¬ IsWaiting b q c f
 
--- `wait` of context c of lane q for a target, or `wait_all` for its whole lane: the wrong lane or context; what runs declares no
--- such flush; it has made as many waits as its item declares flushes, of both kinds
+-- `wait` of context c of lane q for a target, or `wait_all` for its whole lane: the wrong lane or context; what runs
+-- declares no such flush; it has made as many waits as its item declares flushes, of both kinds
 abbrev pub RefusesWait : BookView → ℕ → ℕ → Bool → ℕ → BookError → Type 0
 RefusesWait b q c whole target WrongLane = IsNotAwake b q c
-RefusesWait b q c whole target Undeclared = (r : Running) × IsAwake b q c r × (¬ ItemWaitsBy b.wiring.waits whole r.entry.item target)
-RefusesWait b q c whole target TooManyWaits = (r : Running) × IsAwake b q c r × ItemWaitsBy b.wiring.waits whole r.entry.item target
+RefusesWait b q c whole target Undeclared =
+    (r : Running) × IsAwake b q c r × (¬ ItemWaitsBy b.wiring.waits whole r.entry.item target)
+RefusesWait b q c whole target TooManyWaits =
+    (r : Running) × IsAwake b q c r × ItemWaitsBy b.wiring.waits whole r.entry.item target
     × (length (declared_by b.wiring r.entry.item) ≤ r.made)
 RefusesWait b q c whole target NoItem = ⊥
 RefusesWait b q c whole target HistoryFull = ⊥
@@ -165,9 +171,11 @@ RefusesHelp (suc h) cause e = cause e
 
 -- context c of lane q has nothing to start: it exists and runs nothing, and nothing is pending whose item isn't running
 abbrev pub HasNothingToStart : BookView → ℕ → ℕ → Type 0
-HasNothingToStart b q c = HasContext b.wiring q c × (run_by (lane_at (state b) q) c ≡ None) × (next_of (lane_at (state b) q) ≡ None)
+HasNothingToStart b q c =
+    HasContext b.wiring q c × (run_by (lane_at (state b) q) c ≡ None) × (next_of (lane_at (state b) q) ≡ None)
 
--- the wait of context c of lane q isn't over: an unfinished entry of its target, or of the whole lane of that, holds it back
+-- the wait of context c of lane q isn't over: an unfinished entry of its target, or
+-- of the whole lane of that, holds it back
 abbrev pub WaitGoesOn : BookView → ℕ → ℕ → Type 0
 WaitGoesOn b q c = (f : Waiting) × IsWaiting b q c f × IsHeldBack b.wiring (state b) f.whole f.target f.mark
 

@@ -24,14 +24,16 @@ pub record AskView : Type 0 where
 abbrev pub CountsAll : AskView → Type 0
 CountsAll asks = sum asks.counts ≡ asks.all
 
--- the counts are those of these rows: for each item, for each lane and in all, the asks that wait and those that were told add up
--- to those that were answered with yes
+-- the counts are those of these rows: for each item, for each lane and in all, the asks that wait and those that were
+-- told add up to those that were answered with yes
 pub record CountsAsks (rows : List Row) (asks : AskView) : Type 0 where
-  pub each : (x : Subject) → slice_index asks.counts (ask_place x) + count_by (ends_a_wait x) rows ≡ count_by (begins_to_wait x) rows
-  pub in_all : asks.all + count_by (λ (row : Row). is_told row.event) rows ≡ count_by (λ (row : Row). is_ask row.event && row.yes) rows
+  pub each : (x : Subject)
+      → slice_index asks.counts (ask_place x) + count_by (ends_a_wait x) rows ≡ count_by (begins_to_wait x) rows
+  pub in_all : asks.all + count_by (λ (row : Row). is_told row.event) rows
+      ≡ count_by (λ (row : Row). is_ask row.event && row.yes) rows
 
--- a machine is the replay of rows: they are legal, the asks that wait are counted, each item and each lane has a count, and no
--- more numbers were given than there are rows
+-- a machine is the replay of rows: they are legal, the asks that wait are counted, each item and each lane has a count,
+-- and no more numbers were given than there are rows
 pub record Replays (machine : Machine) (rows : List Row) (asks : AskView) : Type 0 where
   pub machine_is : IsMachine machine
   pub replay : machine.state ≡ state_after machine.wiring rows
@@ -40,8 +42,8 @@ pub record Replays (machine : Machine) (rows : List Row) (asks : AskView) : Type
   pub asked : CountsAsks rows asks
   pub numbers : machine.state.next ≤ length rows
 
--- what holds for the parts of a book: its machine is the replay of its rows, the work that is left is counted, and rows are
--- kept for it and for the asks that wait
+-- what holds for the parts of a book: its machine is the replay of its rows, the work that is left is counted, and rows
+-- are kept for it and for the asks that wait
 pub record HoldsBook (machine : Machine) (rows : List Row) (room : ℕ) (asks : AskView) (work : ℕ) : Type 0 where
   pub replays : Replays machine rows asks
   pub work_is : work ≡ work_left machine.wiring machine.state

@@ -1,9 +1,13 @@
 -- The errors of calls, and of the named calls of a book.
 use Rattle.std.specs.Prelude.{ℕ, Option, Some, None}
 use Rattle.wq_history.specs.declared.fault.BookError.{BookError}
-use Rattle.wq_history.specs.declared.fault.BookError.TheVariants.{HistoryFull as BookFull, Closed as BookClosed, Undeclared as BookUndeclared, TooManyWaits as BookTooManyWaits, WrongLane as BookWrongLane, NoItem as BookNoItem}
+use Rattle.wq_history.specs.declared.fault.BookError.TheVariants.{HistoryFull as BookFull, Closed as BookClosed}
+use Rattle.wq_history.specs.declared.fault.BookError.TheVariants.{Undeclared as BookUndeclared}
+use Rattle.wq_history.specs.declared.fault.BookError.TheVariants.{TooManyWaits as BookTooManyWaits}
+use Rattle.wq_history.specs.declared.fault.BookError.TheVariants.{WrongLane as BookWrongLane, NoItem as BookNoItem}
 use Rattle.wq_history.specs.declared.fault.CallError.{CallError}
-use Rattle.wq_history.specs.declared.fault.CallError.TheVariants.{HistoryFull, Closed, Undeclared, TooManyWaits, WrongLane, NotAsked, NoItem}
+use Rattle.wq_history.specs.declared.fault.CallError.TheVariants.{HistoryFull, Closed, Undeclared, TooManyWaits}
+use Rattle.wq_history.specs.declared.fault.CallError.TheVariants.{WrongLane, NotAsked, NoItem}
 
 -- the number of a refusal
 abbrev pub call_code : CallError → ℕ

@@ -2,15 +2,20 @@
 use Rattle.std.specs.Prelude.{◌≡◌, ℕ, ◌-◌, ◌<◌, List, take, slice_get, Some, Bool, true, MatchBool, ◌&&◌, IsTrue, ◌↔◌}
 use Rattle.std.specs.List.{count_by}
 use Rattle.wq_core.specs.declared.step.Step.{Step}
-use Rattle.wq_core.specs.declared.step.Step.TheVariants.{Queue as QueueStep, Cancel as CancelStep, Start as StartStep, Wait as WaitStep, Over as OverStep, WaitAll as WaitAllStep, OverAll as OverAllStep, Finish as FinishStep, Help as HelperStep}
+use Rattle.wq_core.specs.declared.step.Step.TheVariants.{Queue as QueueStep, Cancel as CancelStep, Start as StartStep}
+use Rattle.wq_core.specs.declared.step.Step.TheVariants.{Wait as WaitStep, Over as OverStep, WaitAll as WaitAllStep}
+use Rattle.wq_core.specs.declared.step.Step.TheVariants.{OverAll as OverAllStep, Finish as FinishStep}
+use Rattle.wq_core.specs.declared.step.Step.TheVariants.{Help as HelperStep}
 use Rattle.wq_core.specs.declared.step.HelpStep.{HelpStep}
-use Rattle.wq_core.specs.declared.step.HelpStep.TheVariants.{Start as DoStart, Wait as DoWait, WaitAll as DoWaitAll, Over as DoOver, OverAll as DoOverAll, Finish as DoFinish}
+use Rattle.wq_core.specs.declared.step.HelpStep.TheVariants.{Start as DoStart, Wait as DoWait, WaitAll as DoWaitAll}
+use Rattle.wq_core.specs.declared.step.HelpStep.TheVariants.{Over as DoOver, OverAll as DoOverAll, Finish as DoFinish}
 use Rattle.wq_core.specs.Wiring.{Wiring, items, lane_of}
 use Rattle.wq_core.specs.State.{State, lane_at, HasPending, HasUnfinishedOf, HasUnfinishedBelow, IsBusy, IsBusyBelow}
 use Rattle.wq_core.specs.Rules.{Lawful, Gives}
 use Rattle.wq_core.specs.Runs.{end_of}
 use Rattle.wq_rows.specs.declared.event.Event.{Event}
-use Rattle.wq_rows.specs.declared.event.Event.TheVariants.{Queue, Cancel, Start, Wait, Over, Finish, Ask, Told, WaitAll, OverAll, AskLane, ToldLane, Help}
+use Rattle.wq_rows.specs.declared.event.Event.TheVariants.{Queue, Cancel, Start, Wait, Over, Finish, Ask, Told, WaitAll}
+use Rattle.wq_rows.specs.declared.event.Event.TheVariants.{OverAll, AskLane, ToldLane, Help}
 use Rattle.wq_rows.specs.declared.event.Row.{Row}
 use Rattle.wq_history.specs.declared.asking.Subject.{Subject}
 use Rattle.wq_history.specs.declared.asking.Subject.TheVariants.{Item as OfItem, Lane as OfLane}
@@ -26,7 +31,8 @@ asks_waiting x rows = count_by (begins_to_wait x) rows - count_by (ends_a_wait x
 
 -- how many asks are waiting in all, about items and about lanes
 abbrev pub all_asks_waiting : List Row → ℕ
-all_asks_waiting rows = count_by (λ (row : Row). is_ask row.event && row.yes) rows - count_by (λ (row : Row). is_told row.event) rows
+all_asks_waiting rows =
+    count_by (λ (row : Row). is_ask row.event && row.yes) rows - count_by (λ (row : Row). is_told row.event) rows
 
 -- the step is lawful in the state, and gives this number
 abbrev pub Makes : Wiring → State → Step → ℕ → Type 0
@@ -45,7 +51,8 @@ abbrev pub SaysUnfinishedOf : State → Subject → Bool → Type 0
 SaysUnfinishedOf s (OfItem i) said = SaysUnfinished s i said
 SaysUnfinishedOf s (OfLane q) said = SaysBusy s q said
 
--- `said` is the answer of a deed: for a wait it says whether the item, or its whole lane, has an unfinished entry; any other has yes
+-- `said` is the answer of a deed: for a wait it says whether the item, or its whole
+-- lane, has an unfinished entry; any other has yes
 abbrev pub Says : Wiring → State → HelpStep → Bool → Type 0
 Says w s (DoStart i) said = said ≡ true
 Says w s (DoWait b) said = SaysUnfinished s b said
@@ -59,15 +66,17 @@ abbrev pub IsThere : Wiring → Subject → Type 0
 IsThere w (OfItem i) = i < items w
 IsThere w (OfLane q) = q < w.lanes
 
--- in a state in which this many asks about its subject wait, an event may come with this `yes` and this number. A queueing is
--- accepted exactly if the item isn't pending; a cancellation removes an entry exactly if one is pending; a wait and an ask say
--- whether the item, or the lane, has an unfinished entry; and a caller is told only if an ask about the subject waits, and no
--- entry of it below the number is unfinished. All other events have yes. The number is that of the step; for an ask it is the
--- next number; and if nothing is queued or removed, it is 0. The lanes and items of legal histories exist, since their steps are
--- lawful and callers are told only of what was asked about
+-- in a state in which this many asks about its subject wait, an event may come with this `yes` and this number. A
+-- queueing is accepted exactly if the item isn't pending; a cancellation removes an entry exactly if one is pending; a
+-- wait and an ask say whether the item, or the lane, has an unfinished entry; and a caller is told only if an ask about
+-- the subject waits, and no entry of it below the number is unfinished. All other events have yes. The number is that
+-- of the step; for an ask it is the next number; and if nothing is queued or removed, it is 0. The lanes and items of
+-- legal histories exist, since their steps are lawful and callers are told only of what was asked about
 abbrev pub MayComeIn : Wiring → State → ℕ → Event → Bool → ℕ → Type 0
-MayComeIn w s waiting (Queue i) said n = (i < items w) × MatchBool said (Makes w s (QueueStep i) n) (HasPending s i × (n ≡ 0))
-MayComeIn w s waiting (Cancel i) said n = (i < items w) × MatchBool said (Makes w s (CancelStep i) n) ((¬ HasPending s i) × (n ≡ 0))
+MayComeIn w s waiting (Queue i) said n =
+    (i < items w) × MatchBool said (Makes w s (QueueStep i) n) (HasPending s i × (n ≡ 0))
+MayComeIn w s waiting (Cancel i) said n =
+    (i < items w) × MatchBool said (Makes w s (CancelStep i) n) ((¬ HasPending s i) × (n ≡ 0))
 MayComeIn w s waiting (Start q i) said n = (said ≡ true) × Makes w s (StartStep q i) n
 MayComeIn w s waiting (Wait q b) said n = SaysUnfinished s b said × Makes w s (WaitStep q b) n
 MayComeIn w s waiting (Over q b) said n = (said ≡ true) × Makes w s (OverStep q b) n

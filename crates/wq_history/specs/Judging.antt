@@ -1,10 +1,12 @@
 -- Judging a history: what its bytes say about a machine on which nothing has happened.
-use Rattle.std.specs.Prelude.{◌≡◌, ℕ, ◌+◌, ◌-◌, ◌<◌, ◌⊎◌, List, ◌++◌, length, take, slice_index, slice_set, Option, Some, None, Bool, true, false}
+use Rattle.std.specs.Prelude.{◌≡◌, ℕ, ◌+◌, ◌-◌, ◌<◌, ◌⊎◌, List, ◌++◌, length, take, slice_index, slice_set, Option}
+use Rattle.std.specs.Prelude.{Some, None, Bool, true, false}
 use Rattle.wq_core.specs.declared.step.Step.{Step}
 use Rattle.wq_core.specs.Wiring.{items}
 use Rattle.wq_core.specs.Held.{Machine, machine_after}
 use Rattle.wq_rows.specs.declared.event.Event.{Event}
-use Rattle.wq_rows.specs.declared.event.Event.TheVariants.{Queue, Cancel, Start, Wait, Over, Finish, Ask, Told, WaitAll, OverAll, AskLane, ToldLane, Help}
+use Rattle.wq_rows.specs.declared.event.Event.TheVariants.{Queue, Cancel, Start, Wait, Over, Finish, Ask, Told, WaitAll}
+use Rattle.wq_rows.specs.declared.event.Event.TheVariants.{OverAll, AskLane, ToldLane, Help}
 use Rattle.wq_rows.specs.declared.event.Row.{Row}
 use Rattle.wq_rows.specs.Packing.{IsPackedRow}
 use Rattle.wq_rows.specs.Stored.{IsStored}
@@ -15,7 +17,8 @@ use Rattle.wq_history.specs.declared.row_error.RowFault.TheVariants.{BadRow, Not
 use Rattle.wq_history.specs.History.{state_after, MayFollow, IsLegal}
 use Rattle.wq_history.specs.Counts.{AskView, ask_place}
 
--- the bytes hold these rows, they are a legal history of the machine, and the machine, which was new, is now their replay
+-- the bytes hold these rows, they are a legal history of the machine, and the
+-- machine, which was new, is now their replay
 pub record IsJudged (old : Machine) (bytes : List ℕ) (rows : List Row) (new : Machine) : Type 0 where
   pub stored : IsStored bytes rows
   pub legal : IsLegal old.wiring rows
@@ -31,11 +34,14 @@ pub record IsJudgedUpTo (old : Machine) (bytes : List ℕ) (at : ℕ) (new : Mac
   pub some_left : 0 < length left
   pub at_is : at ≡ length rows + 1
 
--- why bytes aren't a legal history: the next 12 of them, or those that are left if they are fewer, aren't a row; they are a row
--- that may not follow; out of memory, which comes before any row, and only if there are items or lanes
+-- why bytes aren't a legal history: the next 12 of them, or those that are left if they are fewer, aren't a row; they
+-- are a row that may not follow; out of memory, which comes before any row, and only if there are items or lanes
 abbrev pub IsFaultAt : Machine → List ℕ → ℕ → Machine → RowFault → Type 0
-IsFaultAt old bytes at new BadRow = (place : IsJudgedUpTo old bytes at new) × ((row : Row) → ¬ IsPackedRow (take 12 place.left) row)
-IsFaultAt old bytes at new NotLegal = (place : IsJudgedUpTo old bytes at new) × ((row : Row) × IsPackedRow (take 12 place.left) row × (¬ MayFollow old.wiring place.rows row))
+IsFaultAt old bytes at new BadRow =
+    (place : IsJudgedUpTo old bytes at new) × ((row : Row) → ¬ IsPackedRow (take 12 place.left) row)
+IsFaultAt old bytes at new NotLegal =
+    (place : IsJudgedUpTo old bytes at new)
+    × ((row : Row) × IsPackedRow (take 12 place.left) row × (¬ MayFollow old.wiring place.rows row))
 IsFaultAt old bytes at new OutOfMemory = (at ≡ 0) × (new ≡ old) × ((0 < items old.wiring) ⊎ (0 < old.wiring.lanes))
 
 -- ---- one more row
@@ -47,11 +53,19 @@ stepped m (Some step) = machine_after m step
 
 -- one more ask about this waits
 abbrev pub with_ask : Subject → AskView → AskView
-with_ask x asks = record { counts = slice_set asks.counts (ask_place x) (slice_index asks.counts (ask_place x) + 1); all = asks.all + 1 }
+with_ask x asks =
+    record {
+      counts = slice_set asks.counts (ask_place x) (slice_index asks.counts (ask_place x) + 1);
+      all = asks.all + 1;
+    }
 
 -- one ask about this waits no longer
 abbrev pub without_ask : Subject → AskView → AskView
-without_ask x asks = record { counts = slice_set asks.counts (ask_place x) (slice_index asks.counts (ask_place x) - 1); all = asks.all - 1 }
+without_ask x asks =
+    record {
+      counts = slice_set asks.counts (ask_place x) (slice_index asks.counts (ask_place x) - 1);
+      all = asks.all - 1;
+    }
 
 -- the counts of the asks that wait after an event with this `yes`
 abbrev pub counted : AskView → Event → Bool → AskView

@@ -3,7 +3,8 @@ use Rattle.std.specs.Prelude.{ℕ, ◌+◌, ◌-◌, List, length, Bool, true, f
 use Rattle.wq_core.specs.Wiring.{Wiring}
 use Rattle.wq_core.specs.Work.{whole_work, work_left}
 use Rattle.wq_rows.specs.declared.event.Event.{Event}
-use Rattle.wq_rows.specs.declared.event.Event.TheVariants.{Queue, Cancel, Start, Wait, Over, Finish, Ask, Told, WaitAll, OverAll, AskLane, ToldLane, Help}
+use Rattle.wq_rows.specs.declared.event.Event.TheVariants.{Queue, Cancel, Start, Wait, Over, Finish, Ask, Told, WaitAll}
+use Rattle.wq_rows.specs.declared.event.Event.TheVariants.{OverAll, AskLane, ToldLane, Help}
 use Rattle.wq_rows.specs.declared.event.Row.{Row}
 use Rattle.wq_history.specs.History.{state_after, all_asks_waiting}
 
@@ -15,9 +16,9 @@ reserved w rows = work_left w (state_after w rows) + all_asks_waiting rows
 abbrev pub free_rows : Wiring → ℕ → List Row → ℕ
 free_rows w room rows = room - (length rows + reserved w rows)
 
--- how many free rows an event with this `yes` needs: an accepted queueing needs its own and those of the execution; an ask that
--- waits, its own and that of its end; an event that comes to nothing, its own. A cancellation that removes an entry writes one
--- of the rows kept for it, and rescuers, helpers and callers who are told write theirs
+-- how many free rows an event with this `yes` needs: an accepted queueing needs its own and those of the execution; an
+-- ask that waits, its own and that of its end; an event that comes to nothing, its own. A cancellation that removes an
+-- entry writes one of the rows kept for it, and rescuers, helpers and callers who are told write theirs
 abbrev pub rows_needed : Wiring → Event → Bool → ℕ
 rows_needed w (Queue i) true = 1 + whole_work w i
 rows_needed w (Queue i) false = 1

@@ -3,11 +3,14 @@ use Rattle.std.specs.Prelude.{◌≡◌, ℕ, ◌+◌, ◌≤◌, ◌⊎◌, not
 use Rattle.std.specs.List.{count_by}
 use Rattle.wq_core.specs.declared.entry.Entry.{Entry}
 use Rattle.wq_core.specs.declared.step.HelpStep.{HelpStep}
-use Rattle.wq_core.specs.declared.step.HelpStep.TheVariants.{Start as DoStart, Wait as DoWait, WaitAll as DoWaitAll, Over as DoOver, OverAll as DoOverAll, Finish as DoFinish}
+use Rattle.wq_core.specs.declared.step.HelpStep.TheVariants.{Start as DoStart, Wait as DoWait, WaitAll as DoWaitAll}
+use Rattle.wq_core.specs.declared.step.HelpStep.TheVariants.{Over as DoOver, OverAll as DoOverAll, Finish as DoFinish}
 use Rattle.wq_core.specs.Wiring.{Wiring, lane_of}
-use Rattle.wq_core.specs.State.{Lane, State, lane_at, is_running, next_of, HasPending, HasUnfinished, HasUnfinishedBelow, IsBusyBelow}
+use Rattle.wq_core.specs.State.{Lane, State, lane_at, is_running, next_of, HasPending, HasUnfinished}
+use Rattle.wq_core.specs.State.{HasUnfinishedBelow, IsBusyBelow}
 use Rattle.wq_rows.specs.declared.event.Event.{Event}
-use Rattle.wq_rows.specs.declared.event.Event.TheVariants.{Queue, Cancel, Start, Wait, Over, Finish, Ask, Told, WaitAll, OverAll, AskLane, ToldLane, Help}
+use Rattle.wq_rows.specs.declared.event.Event.TheVariants.{Queue, Cancel, Start, Wait, Over, Finish, Ask, Told, WaitAll}
+use Rattle.wq_rows.specs.declared.event.Event.TheVariants.{OverAll, AskLane, ToldLane, Help}
 use Rattle.wq_history.specs.declared.sleepers.Sleepers.{Sleepers}
 use Rattle.wq_history.specs.declared.sleepers.Sleepers.TheVariants.{Contexts, ItemWaiters, LaneWaiters, Destroyers}
 use Rattle.wq_history.specs.declared.sleepers.WokenContexts.{WokenContexts}
@@ -17,8 +20,8 @@ use Rattle.wq_history.specs.Book.{BookView, state}
 
 -- ---- who waits for what
 
--- a condition for which somebody sleeps: that an entry of a lane may be started; that a lane has ended; that an item, or a lane,
--- is done below a mark; that all is done
+-- a condition for which somebody sleeps: that an entry of a lane may be started; that a lane has ended; that an item,
+-- or a lane, is done below a mark; that all is done
 pub data Condition : Type 0 where
   WorkOn : (q : ℕ) → Condition
   EndOf : (q : ℕ) → Condition
@@ -26,9 +29,9 @@ pub data Condition : Type 0 where
   LaneDone : (q mark : ℕ) → Condition
   AllDone : Condition
 
--- the condition is met in this state, if this says whether the book is closed. An entry may be started if it is pending and its item
--- isn't running. A lane has ended if the book is closed and nothing is pending on the lane. An item, a lane or all is done if no
--- entry of it is unfinished, below the mark if there is one
+-- the condition is met in this state, if this says whether the book is closed. An entry may be started if it is pending
+-- and its item isn't running. A lane has ended if the book is closed and nothing is pending on the lane. An item, a
+-- lane or all is done if no entry of it is unfinished, below the mark if there is one
 abbrev pub IsMetIn : State → Bool → Condition → Type 0
 IsMetIn s closed (WorkOn q) = (e : Entry) × (next_of (lane_at s q) ≡ Some e)
 IsMetIn s closed (EndOf q) = (closed ≡ true) × ((lane_at s q).pending ≡ [])
@@ -40,8 +43,8 @@ IsMetIn s closed AllDone = ¬ HasUnfinished s
 abbrev pub IsMet : BookView → Condition → Type 0
 IsMet b c = IsMetIn (state b) b.closed c
 
--- who sleeps for it: a context that runs nothing sleeps until its lane has work or has ended; a flush, a cancellation that waits,
--- and the wait of what runs, sleep until an item or a lane is done; and `destroy` until all is done
+-- who sleeps for it: a context that runs nothing sleeps until its lane has work or has ended; a flush, a cancellation
+-- that waits, and the wait of what runs, sleep until an item or a lane is done; and `destroy` until all is done
 abbrev pub sleepers_for : Condition → Sleepers
 sleepers_for (WorkOn q) = Contexts q
 sleepers_for (EndOf q) = Contexts q
@@ -111,8 +114,8 @@ abbrev pub LetsAllGo : Condition → Type 0
 LetsAllGo (WorkOn q) = ⊥
 LetsAllGo _ = Unit {0}
 
--- enough are woken: all who sleep for a condition that has become true; and, for each entry more of a lane that may be started,
--- one of its contexts, but never for more than one entry
+-- enough are woken: all who sleep for a condition that has become true; and, for each entry more of a lane that may be
+-- started, one of its contexts, but never for more than one entry
 pub record WakesEnough (old new : BookView) (wake : Wake) : Type 0 where
   pub all : (c : Condition) → LetsAllGo c → BecomesMet old new c → WakesAll wake (sleepers_for c)
   pub one_each : (q : ℕ) → (startable (lane_at (state new) q) ≤ startable (lane_at (state old) q))
@@ -126,16 +129,19 @@ WakesIfEnded b q woken = (IsMet b (EndOf q) × (woken ≡ AllOf q)) ⊎ ((¬ IsM
 
 -- one context of lane q, if an entry of item i is pending, and else no context
 abbrev pub WakesIfPending : BookView → ℕ → ℕ → WokenContexts → Type 0
-WakesIfPending b q i woken = (HasPending (state b) i × (woken ≡ One q)) ⊎ ((¬ HasPending (state b) i) × (woken ≡ Nobody))
+WakesIfPending b q i woken =
+    (HasPending (state b) i × (woken ≡ One q)) ⊎ ((¬ HasPending (state b) i) × (woken ≡ Nobody))
 
--- of lane q an entry of item i has ended: those who wait for the item, those who wait for the lane, and those who wait for all, if
--- all is done
+-- of lane q an entry of item i has ended: those who wait for the item, those who
+-- wait for the lane, and those who wait for all, if all is done
 abbrev pub WakesWaiters : BookView → ℕ → ℕ → Wake → Type 0
-WakesWaiters b q i wake = (wake.item_waiters ≡ Some i) × (wake.lane_waiters ≡ Some q) × (IsTrue wake.destroyers ↔ IsMet b AllDone)
+WakesWaiters b q i wake =
+    (wake.item_waiters ≡ Some i) × (wake.lane_waiters ≡ Some q) × (IsTrue wake.destroyers ↔ IsMet b AllDone)
 
 -- a start of a lane's last pending entry in a closed book ends the lane
 abbrev pub WakesByStart : BookView → ℕ → Wake → Type 0
-WakesByStart b q wake = WakesIfEnded b q wake.contexts × (wake.item_waiters ≡ None) × (wake.lane_waiters ≡ None) × (wake.destroyers ≡ false)
+WakesByStart b q wake =
+    WakesIfEnded b q wake.contexts × (wake.item_waiters ≡ None) × (wake.lane_waiters ≡ None) × (wake.destroyers ≡ false)
 
 -- a finish of item i on lane q: if the next entry of i is pending, a context may start it
 abbrev pub WakesByFinish : BookView → ℕ → ℕ → Wake → Type 0
@@ -151,8 +157,8 @@ WakesByDeed b q (DoStart i) wake = WakesByStart b q wake
 WakesByDeed b q (DoFinish i) wake = WakesByFinish b q i wake
 WakesByDeed b q _ wake = wake ≡ nobody
 
--- an event that came with this `yes`: a queueing wakes one context of its lane. Asks and those who are told wake nobody, nor does
--- what came to nothing
+-- an event that came with this `yes`: a queueing wakes one context of its lane. Asks and those who are told wake
+-- nobody, nor does what came to nothing
 abbrev pub WakesBy : BookView → Event → Bool → Wake → Type 0
 WakesBy b (Queue i) true wake = wake ≡ one_context (lane_of b.wiring i)
 WakesBy b (Queue i) false wake = wake ≡ nobody

@@ -1,13 +1,14 @@
 //! What a book answers to a call, one function for each.
 //!
-//! All of it is said by one relation, `Answers` of `specs/Calls`. A call takes the time of the step that it makes, and no
-//! memory. Whoever calls under a lock calls `answer`; the named calls of `book` are made of it.
+//! All of it is said by one relation, `Answers` of `specs/Calls`. A call takes the time of the step that it makes, and
+//! no memory. Whoever calls under a lock calls `answer`; the named calls of `book` are made of it.
 
 ghost use Rattle.std.specs.Prelude.{◌≡◌, ◌<◌, ◌↔◌, IsTrue, IfErr, IfSome, IfNone, OnOk};
 ghost use Rattle.wq_core.specs.declared.entry.Waiting.{Waiting};
 ghost use Rattle.wq_core.specs.Wiring.{items, HasContext};
 ghost use Rattle.wq_rows.specs.declared.event.Event.TheVariants.{Cancel as CancelEvent};
-ghost use Rattle.wq_history.specs.declared.call.Call.TheVariants.{Queue, Cancel, Ask, Told, CancelSync, Start, Wait, Over, Finish};
+ghost use Rattle.wq_history.specs.declared.call.Call.TheVariants.{Queue, Cancel, Ask, Told, CancelSync, Start, Wait};
+ghost use Rattle.wq_history.specs.declared.call.Call.TheVariants.{Over, Finish};
 ghost use Rattle.wq_history.specs.Events.{ask_event};
 ghost use Rattle.wq_history.specs.History.{IsThere};
 ghost use Rattle.wq_history.specs.Book.{LacksRows, IsWaitingBy, WaitsFor};
@@ -29,7 +30,8 @@ impl<A: Allocator> Book<A> {
     /// by a refusal. Only a row that was written, and `Close`, change the book.
     ///
     /// An ask that is told is named by its subject and its mark alone, which anybody may make up: whoever uses `answer`
-    /// tells each ask once, with the mark that its own row has. `told` and `told_lane` take an ask that can't be copied.
+    /// tells each ask once, with the mark that its own row has. `told` and
+    /// `told_lane` take an ask that can't be copied.
     pub fn answer(&mut self, call: Call) -> Result<Reply, CallError>
         ensures { Answers self.old call result self.new }
     {

@@ -1,9 +1,10 @@
 //! How many asks are waiting, for each item, for each lane, and in total.
 //!
-//! The counts of an item and of the lane with the same number stand side by side. Every call takes constant time. Only `new` takes
-//! memory: two counts for each item or each lane, whichever are more.
+//! The counts of an item and of the lane with the same number stand side by side. Every call takes constant time. Only
+//! `new` takes memory: two counts for each item or each lane, whichever are more.
 
-ghost use Rattle.std.specs.Prelude.{◌≡◌, ℕ, ◌+◌, ◌-◌, ◌*◌, ◌<◌, ◌≤◌, ◌⊎◌, max, length, replicate, slice_index, slice_set, IfOk, OnErr};
+ghost use Rattle.std.specs.Prelude.{◌≡◌, ℕ, ◌+◌, ◌-◌, ◌*◌, ◌<◌, ◌≤◌, ◌⊎◌, max, length, replicate, slice_index};
+ghost use Rattle.std.specs.Prelude.{slice_set, IfOk, OnErr};
 ghost use Rattle.wq_history.specs.Counts.{AskView, CountsAll, ask_place};
 
 use crate::asking::Subject;
@@ -38,8 +39,8 @@ fn place(subject: Subject) -> usize
 }
 
 impl<A: Allocator> AskCounts<A> {
-    /// Counts for this many items and lanes; no ask is waiting. The only error is out of memory (20), which can't occur where there
-    /// is no item and no lane.
+    /// Counts for this many items and lanes; no ask is waiting. The only error is out of memory (20), which can't occur
+    /// where there is no item and no lane.
     pub fn new(alloc: A, items: usize, lanes: usize) -> Result<Self, AllocError>
         requires items { items ≤ 65536 }
         requires lanes { lanes ≤ 65536 }
@@ -75,7 +76,8 @@ impl<A: Allocator> AskCounts<A> {
     pub fn add(&mut self, subject: Subject)
         requires place { ask_place subject < length self.old.counts }
         requires few { self.old.all < 4294967295 }
-        ensures counts { self.new.counts ≡ slice_set self.old.counts (ask_place subject) (slice_index self.old.counts (ask_place subject) + 1) }
+        ensures counts { self.new.counts
+            ≡ slice_set self.old.counts (ask_place subject) (slice_index self.old.counts (ask_place subject) + 1) }
         ensures all { self.new.all ≡ self.old.all + 1 }
     {
         self.counts[place(subject)] += 1;
@@ -85,7 +87,8 @@ impl<A: Allocator> AskCounts<A> {
     /// Counts that one of the asks about an item or a lane waits no longer.
     pub fn take_off(&mut self, subject: Subject)
         requires { 0 < slice_index self.old.counts (ask_place subject) }
-        ensures counts { self.new.counts ≡ slice_set self.old.counts (ask_place subject) (slice_index self.old.counts (ask_place subject) - 1) }
+        ensures counts { self.new.counts
+            ≡ slice_set self.old.counts (ask_place subject) (slice_index self.old.counts (ask_place subject) - 1) }
         ensures all { self.new.all ≡ self.old.all - 1 }
         ensures some { 0 < self.old.all }
     {

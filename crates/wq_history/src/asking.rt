@@ -61,8 +61,8 @@ impl Subject {
     }
 }
 
-/// An ask about an item that waits. It can't be copied, and isn't dropped by itself: it ends when the book says that the wait is
-/// over, or when its holder gives it up.
+/// An ask about an item that waits. It can't be copied, and isn't dropped by itself: it ends when the book says that
+/// the wait is over, or when its holder gives it up.
 pub struct Asked {
     item: ItemId,
     mark: u32,
@@ -84,15 +84,16 @@ impl Asked {
         self.item
     }
 
-    /// The number that the next queueing would have got when the ask came. The caller waits for entries with lower numbers.
+    /// The number that the next queueing would have got when the ask came. The
+    /// caller waits for entries with lower numbers.
     pub fn mark(&self) -> u32
         ensures { result ≡ self.now.mark }
     {
         self.mark
     }
 
-    /// Ends the ask although its wait isn't over. The book keeps a row for it, and counts it as one that waits, for good: what holds
-    /// such a book can't be closed (71).
+    /// Ends the ask although its wait isn't over. The book keeps a row for it, and counts it as one that waits, for
+    /// good: what holds such a book can't be closed (71).
     pub fn give_up(self) {
         let Asked { item: _, mark: _ } = self;
     }
@@ -112,12 +113,13 @@ pub enum Told {
     Done,
     /// An entry that is waited for is unfinished.
     NotYet(Asked),
-    /// No ask about this item waits in this book (65). This occurs only where an ask of another book is, or was, told here.
+    /// No ask about this item waits in this book (65). This occurs only where an ask
+    /// of another book is, or was, told here.
     NotAsked(Asked),
 }
 
-/// An ask about a whole lane that waits. It can't be copied, and isn't dropped by itself: it ends when the book says that the wait
-/// is over, or when its holder gives it up.
+/// An ask about a whole lane that waits. It can't be copied, and isn't dropped by itself: it ends when the book says
+/// that the wait is over, or when its holder gives it up.
 pub struct LaneAsked {
     lane: LaneId,
     mark: u32,
@@ -139,15 +141,16 @@ impl LaneAsked {
         self.lane
     }
 
-    /// The number that the next queueing would have got when the ask came. The caller waits for entries with lower numbers.
+    /// The number that the next queueing would have got when the ask came. The
+    /// caller waits for entries with lower numbers.
     pub fn mark(&self) -> u32
         ensures { result ≡ self.now.mark }
     {
         self.mark
     }
 
-    /// Ends the ask although its wait isn't over. The book keeps a row for it, and counts it as one that waits, for good: what holds
-    /// such a book can't be closed (71).
+    /// Ends the ask although its wait isn't over. The book keeps a row for it, and counts it as one that waits, for
+    /// good: what holds such a book can't be closed (71).
     pub fn give_up(self) {
         let LaneAsked { lane: _, mark: _ } = self;
     }
@@ -167,6 +170,7 @@ pub enum LaneTold {
     Done,
     /// An entry that is waited for is unfinished.
     NotYet(LaneAsked),
-    /// No ask about this lane waits in this book (65). This occurs only where an ask of another book is, or was, told here.
+    /// No ask about this lane waits in this book (65). This occurs only where an ask
+    /// of another book is, or was, told here.
     NotAsked(LaneAsked),
 }

@@ -1,11 +1,13 @@
 //! The book: it answers events, and writes one row or none for each.
 //!
-//! A book holds a machine, which may have helpers, and the history of all that happened to it. Its rules are those of "Histories"
-//! in the specs of this crate; the rows that it keeps free are those of "Reserve". An event takes the time of the step that it
-//! makes, and nothing that grows with the number of rows, of lanes or of asks. An ask about a lane takes constant time. Only
-//! `new` takes memory: 12 bytes for each row, and two counts for each item or each lane, whichever are more.
+//! A book holds a machine, which may have helpers, and the history of all that happened to it. Its
+//! rules are those of "Histories" in the specs of this crate; the rows that it keeps free are those
+//! of "Reserve". An event takes the time of the step that it makes, and nothing that grows with the
+//! number of rows, of lanes or of asks. An ask about a lane takes constant time. Only `new` takes
+//! memory: 12 bytes for each row, and two counts for each item or each lane, whichever are more.
 
-ghost use Rattle.std.specs.Prelude.{◌≡◌, ℕ, ◌+◌, ◌<◌, ◌≤◌, ◌↔◌, [], Some, None, true, false, IfOk, IfErr, OnOk, IfSome, IfNone, IsTrue, MatchBool};
+ghost use Rattle.std.specs.Prelude.{◌≡◌, ℕ, ◌+◌, ◌<◌, ◌≤◌, ◌↔◌, [], Some, None, true, false, IfOk, IfErr, OnOk, IfSome};
+ghost use Rattle.std.specs.Prelude.{IfNone, IsTrue, MatchBool};
 ghost use Rattle.std.specs.List.{count_by};
 ghost use Rattle.wq_core.specs.declared.entry.Running.{Running};
 ghost use Rattle.wq_core.specs.declared.entry.Waiting.{Waiting};
@@ -16,11 +18,17 @@ ghost use Rattle.wq_rows.specs.declared.event.Event.TheVariants.{Queue, Cancel, 
 ghost use Rattle.wq_rows.specs.Packing.{packed_rows};
 ghost use Rattle.wq_rows.specs.Stored.{max_rows};
 ghost use Rattle.wq_history.specs.declared.asking.Subject.{Subject as SubjectValue};
-ghost use Rattle.wq_history.specs.Events.{step_of, event_in, wait_event, finish_event, ask_event, told_event, begins_to_wait, ends_a_wait};
-ghost use Rattle.wq_history.specs.History.{asks_waiting, all_asks_waiting, MayCome, Says, SaysUnfinished, SaysBusy, SaysUnfinishedOf};
+ghost use Rattle.wq_history.specs.Events.{step_of, event_in, wait_event, finish_event, ask_event, told_event};
+ghost use Rattle.wq_history.specs.Events.{begins_to_wait, ends_a_wait};
+ghost use Rattle.wq_history.specs.History.{asks_waiting, all_asks_waiting, MayCome, Says, SaysUnfinished, SaysBusy};
+ghost use Rattle.wq_history.specs.History.{SaysUnfinishedOf};
 ghost use Rattle.wq_history.specs.Reserve.{rows_needed};
-ghost use Rattle.wq_history.specs.Book.{BookView, state, free, IsBook, AppendsOne, LaneRuns, IsAwake, IsWaiting, IsWaitingBy, HelperRuns, HelperWaitsBy, HasPendingOn, IsNotWaiting, IsNotAwake, IsWrongToStart, RefusesNew, RefusesQueue, RefusesItem, RefusesAskLane, RefusesLane, RefusesWait, RefusesHelp};
-ghost use Rattle.wq_history.specs.Answers.{AnswersAsk, AnswersTold, AnswersAskLane, AnswersToldLane, AnswersStart, AnswersOver};
+ghost use Rattle.wq_history.specs.Book.{BookView, state, free, IsBook, AppendsOne, LaneRuns, IsAwake, IsWaiting};
+ghost use Rattle.wq_history.specs.Book.{IsWaitingBy, HelperRuns, HelperWaitsBy, HasPendingOn, IsNotWaiting, IsNotAwake};
+ghost use Rattle.wq_history.specs.Book.{IsWrongToStart, RefusesNew, RefusesQueue, RefusesItem, RefusesAskLane};
+ghost use Rattle.wq_history.specs.Book.{RefusesLane, RefusesWait, RefusesHelp};
+ghost use Rattle.wq_history.specs.Answers.{AnswersAsk, AnswersTold, AnswersAskLane, AnswersToldLane, AnswersStart};
+ghost use Rattle.wq_history.specs.Answers.{AnswersOver};
 ghost use Rattle.wq_history.specs.declared.call.Reply.TheVariants.{Wrote};
 ghost use Rattle.wq_history.specs.Calls.{IsUnfinishedBelow, AlwaysWrites, Writes, Replies, RefusesAs};
 
@@ -36,8 +44,8 @@ use wq_groups::LaneId;
 use wq_items::ItemId;
 use wq_rows::{Event, History, MAX_ROWS, Row, Rows};
 
-/// The book. Contracts see the wiring of its machine, its rows, how many rows there is room for, and whether it is closed. Its
-/// state is the replay of its rows.
+/// The book. Contracts see the wiring of its machine, its rows, how many rows there is room for, and whether it is
+/// closed. Its state is the replay of its rows.
 #[derive(Drop)]
 pub struct Book<A: Allocator> {
     pub(crate) core: Core<A>,
@@ -53,17 +61,18 @@ impl<A: Allocator> Model for Book<A> {
 
     ghost Value = { BookView };
 
-    ghost view = { λ b. record { wiring = b.core.wiring; rows = b.history.rows; room = b.history.room; closed = b.closed } };
+    ghost view = { λ b.
+        record { wiring = b.core.wiring; rows = b.history.rows; room = b.history.room; closed = b.closed } };
 
     ghost invariant = { λ b. HoldsBook b.core b.history.rows b.history.room b.asks b.work };
 }
 
 impl<A: Allocator + Copy> Book<A> {
-    /// Makes the book of a machine on which nothing has happened, with room for this many rows. Its lanes have the helpers of the
-    /// machine.
+    /// Makes the book of a machine on which nothing has happened, with room for this
+    /// many rows. Its lanes have the helpers of the machine.
     ///
-    /// The error is `TooManyRows` (68) exactly where there are more than 16,777,216 rows. Otherwise it is out of memory (20),
-    /// which can't occur where there are no rows, no items and no lanes.
+    /// The error is `TooManyRows` (68) exactly where there are more than 16,777,216 rows. Otherwise it is out of memory
+    /// (20), which can't occur where there are no rows, no items and no lanes.
     pub fn new(alloc: A, core: Core<A>, rows: u32) -> Result<Self, BookError>
         requires { core.state ≡ empty_state core.wiring }
         ensures book { IfOk result (λ b. b ≡ record { wiring = core.wiring; rows = []; room = rows; closed = false }) }
@@ -249,7 +258,8 @@ impl<A: Allocator> Book<A> {
     /// Whether what a context waits for isn't done.
     pub(crate) fn is_held_back(&self, q: LaneId, helper: u8, flush: &Waiting) -> bool
         requires { IsWaiting self.now q helper flush.now }
-        ensures { IsTrue result ↔ IsHeldBack self.now.wiring (state self.now) flush.now.whole flush.now.target flush.now.mark }
+        ensures { IsTrue result
+            ↔ IsHeldBack self.now.wiring (state self.now) flush.now.whole flush.now.target flush.now.mark }
     {
         self.core
             .is_held_back(flush.whole, flush.target, flush.mark)
@@ -264,8 +274,8 @@ impl<A: Allocator> Book<A> {
         self.core.running_in(q, helper)
     }
 
-    /// The first pending entry of a lane whose item isn't running; none where there is no such entry, or no such lane. It is of an
-    /// item of this lane.
+    /// The first pending entry of a lane whose item isn't running; none where there is no such entry, or no such lane.
+    /// It is of an item of this lane.
     pub(crate) fn next_on(&self, q: LaneId) -> Option<Entry>
         ensures next { result ≡ next_of (lane_at (state self.now) q) }
         ensures known { IfSome result (λ e. (e.item < items self.now.wiring) × (lane_of self.now.wiring e.item ≡ q)) }
@@ -333,8 +343,8 @@ impl<A: Allocator> Book<A> {
 
     /// Queues an item: true where it is accepted, false where it is pending already.
     ///
-    /// The error is the first of these that holds: `NoItem` (66), `Closed` (61), `HistoryFull` (60). After an error nothing is
-    /// changed.
+    /// The error is the first of these that holds: `NoItem` (66), `Closed` (61),
+    /// `HistoryFull` (60). After an error nothing is changed.
     #[tactic(auto, using(crate::proofs::Answered::queue_refused, crate::proofs::CallRows::appends_queue))]
     pub fn queue(&mut self, item: ItemId) -> Result<bool, BookError>
         ensures row { IfOk result (λ accepted. AppendsOne self.old self.new (Queue item) accepted) }
@@ -347,8 +357,8 @@ impl<A: Allocator> Book<A> {
 
     /// Removes the pending entry of an item: true where there is one.
     ///
-    /// The error is `NoItem` (66), or else `HistoryFull` (60), which occurs only where none is pending. After an error nothing is
-    /// changed.
+    /// The error is `NoItem` (66), or else `HistoryFull` (60), which occurs only
+    /// where none is pending. After an error nothing is changed.
     #[tactic(auto, using(crate::proofs::Answered::cancel_refused, crate::proofs::CallRows::appends_cancel))]
     pub fn cancel(&mut self, item: ItemId) -> Result<bool, BookError>
         ensures row { IfOk result (λ taken. AppendsOne self.old self.new (Cancel item) taken) }
@@ -358,8 +368,8 @@ impl<A: Allocator> Book<A> {
         Ok(row.yes)
     }
 
-    /// Asks whether an item has an unfinished entry. Where it has, the caller waits for it. This takes two of the free rows at
-    /// most.
+    /// Asks whether an item has an unfinished entry. Where it has, the caller waits
+    /// for it. This takes two of the free rows at most.
     ///
     /// The error is `NoItem` (66), or else `HistoryFull` (60). After an error nothing is changed.
     #[tactic(auto, using(crate::proofs::Answered::ask_refused, crate::proofs::Answered::ask_idle, crate::proofs::Answered::ask_waits))]
@@ -376,9 +386,9 @@ impl<A: Allocator> Book<A> {
         }
     }
 
-    /// Tells a waiting caller whether its wait is over. The answer is `NotAsked` (65) exactly where no ask about its item waits,
-    /// and otherwise `NotYet` exactly where an unfinished entry of the item has a number below the mark. In both cases nothing is
-    /// changed, and the ask is given back.
+    /// Tells a waiting caller whether its wait is over. The answer is `NotAsked` (65) exactly where no ask about its
+    /// item waits, and otherwise `NotYet` exactly where an unfinished entry of the item has a number below the mark. In
+    /// both cases nothing is changed, and the ask is given back.
     #[tactic(auto, using(crate::proofs::Answered::told_done, crate::proofs::Answered::told_not_yet))]
     pub fn told(&mut self, asked: Asked) -> Told
         ensures { AnswersTold self.old self.new asked result }
@@ -395,10 +405,11 @@ impl<A: Allocator> Book<A> {
         }
     }
 
-    /// Asks whether a lane has an unfinished entry. Where it has, the caller waits for the whole lane. This takes two of the free
-    /// rows at most.
+    /// Asks whether a lane has an unfinished entry. Where it has, the caller waits
+    /// for the whole lane. This takes two of the free rows at most.
     ///
-    /// The error is `WrongLane` (64), where there is no such lane, or else `HistoryFull` (60). After an error nothing is changed.
+    /// The error is `WrongLane` (64), where there is no such lane, or else
+    /// `HistoryFull` (60). After an error nothing is changed.
     #[tactic(auto, using(crate::proofs::Answered::ask_lane_refused, crate::proofs::Answered::ask_lane_idle, crate::proofs::Answered::ask_lane_waits))]
     pub fn ask_lane(&mut self, q: LaneId) -> Result<LaneAsk, BookError>
         ensures row { IfOk result (λ answer. AnswersAskLane self.old self.new q answer) }
@@ -413,9 +424,9 @@ impl<A: Allocator> Book<A> {
         }
     }
 
-    /// Tells a caller who waits for a whole lane whether its wait is over. The answer is `NotAsked` (65) exactly where no ask about
-    /// its lane waits, and otherwise `NotYet` exactly where an unfinished entry of the lane has a number below the mark. In both
-    /// cases nothing is changed, and the ask is given back.
+    /// Tells a caller who waits for a whole lane whether its wait is over. The answer is `NotAsked` (65) exactly where
+    /// no ask about its lane waits, and otherwise `NotYet` exactly where an unfinished entry of the lane has a number
+    /// below the mark. In both cases nothing is changed, and the ask is given back.
     #[tactic(auto, using(crate::proofs::Answered::told_lane_done, crate::proofs::Answered::told_lane_not_yet))]
     pub fn told_lane(&mut self, asked: LaneAsked) -> LaneTold
         ensures { AnswersToldLane self.old self.new asked result }
@@ -432,11 +443,11 @@ impl<A: Allocator> Book<A> {
         }
     }
 
-    /// Starts the first pending entry of a lane whose item isn't running, in this context, and gives its item, which is one of this
-    /// lane. Where there is none it gives nothing, and nothing is changed.
+    /// Starts the first pending entry of a lane whose item isn't running, in this context, and gives its item, which is
+    /// one of this lane. Where there is none it gives nothing, and nothing is changed.
     ///
-    /// The error is `WrongLane` (64), exactly where there is no such lane or no such context, or it runs an entry. After an error
-    /// nothing is changed.
+    /// The error is `WrongLane` (64), exactly where there is no such lane or no such context, or it runs an entry.
+    /// After an error nothing is changed.
     #[tactic(auto, using(crate::proofs::Answered::start_some, crate::proofs::Answered::start_none, crate::proofs::Answered::start_later, crate::proofs::Answered::lane_refused, crate::proofs::Answered::lane_of_book))]
     fn start_in(&mut self, q: LaneId, helper: u8) -> Result<Option<ItemId>, BookError>
         ensures row { IfOk result (λ answer. AnswersStart self.old self.new q helper answer) }
@@ -455,8 +466,8 @@ impl<A: Allocator> Book<A> {
         }
     }
 
-    /// Makes what a context runs begin to wait for an item, as `wait`, or for the whole lane of the item, as `wait_all`: true where
-    /// that has an unfinished entry. The errors are theirs.
+    /// Makes what a context runs begin to wait for an item, as `wait`, or for the whole lane of the item, as
+    /// `wait_all`: true where that has an unfinished entry. The errors are theirs.
     #[tactic(auto, using(crate::proofs::Answered::wait_refused, crate::proofs::Answered::wait_row))]
     fn wait_in(
         &mut self,
@@ -475,11 +486,11 @@ impl<A: Allocator> Book<A> {
         Ok(row.yes)
     }
 
-    /// Lets what a context runs go on, where its wait is over, for an item or for a whole lane. It gives false where the wait isn't
-    /// over; then nothing is changed.
+    /// Lets what a context runs go on, where its wait is over, for an item or for a whole lane. It gives false where
+    /// the wait isn't over; then nothing is changed.
     ///
-    /// The error is `WrongLane` (64), exactly where there is no such lane or no such context, it runs nothing, or its entry doesn't
-    /// wait. After an error nothing is changed.
+    /// The error is `WrongLane` (64), exactly where there is no such lane or no such context, it runs nothing, or its
+    /// entry doesn't wait. After an error nothing is changed.
     #[tactic(auto, using(crate::proofs::Answered::over_true, crate::proofs::Answered::over_false, crate::proofs::Answered::over_not_refused))]
     fn over_in(&mut self, q: LaneId, helper: u8) -> Result<bool, BookError>
         ensures row { IfOk result (λ answer. AnswersOver self.old self.new q helper answer) }
@@ -504,8 +515,8 @@ impl<A: Allocator> Book<A> {
 
     /// Finishes what a context runs.
     ///
-    /// The error is `WrongLane` (64), exactly where there is no such lane or no such context, it runs nothing, or its entry waits.
-    /// After an error nothing is changed.
+    /// The error is `WrongLane` (64), exactly where there is no such lane or no such context, it runs nothing, or its
+    /// entry waits. After an error nothing is changed.
     #[tactic(auto, using(crate::proofs::Answered::finish_done, crate::proofs::Answered::finish_refused, crate::proofs::Answered::not_awake))]
     fn finish_in(&mut self, q: LaneId, helper: u8) -> Result<(), BookError>
         ensures row { IfOk result (λ _. (r : Running) × LaneRuns self.old q helper r
@@ -520,14 +531,15 @@ impl<A: Allocator> Book<A> {
         Ok(())
     }
 
-    /// Starts the first pending entry of a lane whose item isn't running, in its rescuer, and gives its item, which is one of this
-    /// lane. Where there is none it gives nothing, and nothing is changed.
+    /// Starts the first pending entry of a lane whose item isn't running, in its rescuer, and gives its item, which is
+    /// one of this lane. Where there is none it gives nothing, and nothing is changed.
     ///
-    /// The error is `WrongLane` (64), exactly where there is no such lane or its rescuer runs an entry. After an error nothing is
-    /// changed.
+    /// The error is `WrongLane` (64), exactly where there is no such lane or its
+    /// rescuer runs an entry. After an error nothing is changed.
     pub fn start(&mut self, q: LaneId) -> Result<Option<ItemId>, BookError>
         ensures row { IfOk result (λ answer. AnswersStart self.old self.new q 0 answer) }
-        ensures known { IfOk result (λ answer. IfSome answer (λ item. (item < items self.old.wiring) × (lane_of self.old.wiring item ≡ q))) }
+        ensures known { IfOk result (λ answer.
+            IfSome answer (λ item. (item < items self.old.wiring) × (lane_of self.old.wiring item ≡ q))) }
         ensures refused { IfErr result (λ e. RefusesLane (IsWrongToStart self.old q 0) e × (self.new ≡ self.old)) }
     {
         self.start_in(q, 0)
@@ -535,9 +547,9 @@ impl<A: Allocator> Book<A> {
 
     /// Makes what a lane's rescuer runs begin to wait for an item: true where that item has an unfinished entry.
     ///
-    /// The error is the first of these that holds: `WrongLane` (64), where there is no such lane, its rescuer runs nothing, or what
-    /// it runs waits; `Undeclared` (62), where what runs declares no flush of the item alone; `TooManyWaits` (63). After an error
-    /// nothing is changed.
+    /// The error is the first of these that holds: `WrongLane` (64), where there is no such lane, its rescuer runs
+    /// nothing, or what it runs waits; `Undeclared` (62), where what runs declares no flush of the item alone;
+    /// `TooManyWaits` (63). After an error nothing is changed.
     pub fn wait(&mut self, q: LaneId, target: ItemId) -> Result<bool, BookError>
         ensures row { IfOk result (λ unfinished. AppendsOne self.old self.new (Wait q target) unfinished) }
         ensures refused { IfErr result (λ e. RefusesWait self.old q 0 false target e × (self.new ≡ self.old)) }
@@ -545,11 +557,12 @@ impl<A: Allocator> Book<A> {
         self.wait_in(q, 0, false, target)
     }
 
-    /// Makes what a lane's rescuer runs begin to wait for the whole lane of an item: true where that lane has an unfinished entry.
+    /// Makes what a lane's rescuer runs begin to wait for the whole lane of an item:
+    /// true where that lane has an unfinished entry.
     ///
-    /// The error is the first of these that holds: `WrongLane` (64), where there is no such lane, its rescuer runs nothing, or what
-    /// it runs waits; `Undeclared` (62), where what runs declares no flush of the whole lane of the item; `TooManyWaits` (63). After
-    /// an error nothing is changed.
+    /// The error is the first of these that holds: `WrongLane` (64), where there is no such lane, its rescuer runs
+    /// nothing, or what it runs waits; `Undeclared` (62), where what runs declares no flush of the whole lane of the
+    /// item; `TooManyWaits` (63). After an error nothing is changed.
     pub fn wait_all(&mut self, q: LaneId, target: ItemId) -> Result<bool, BookError>
         ensures row { IfOk result (λ unfinished. AppendsOne self.old self.new (WaitAll q target) unfinished) }
         ensures refused { IfErr result (λ e. RefusesWait self.old q 0 true target e × (self.new ≡ self.old)) }
@@ -557,11 +570,11 @@ impl<A: Allocator> Book<A> {
         self.wait_in(q, 0, true, target)
     }
 
-    /// Lets what a lane's rescuer runs go on, where its wait is over, for an item or for a whole lane. It gives false where the wait
-    /// isn't over; then nothing is changed.
+    /// Lets what a lane's rescuer runs go on, where its wait is over, for an item or for a whole lane. It gives false
+    /// where the wait isn't over; then nothing is changed.
     ///
-    /// The error is `WrongLane` (64), exactly where there is no such lane, its rescuer runs nothing, or what it runs doesn't wait.
-    /// After an error nothing is changed.
+    /// The error is `WrongLane` (64), exactly where there is no such lane, its rescuer runs nothing, or what it runs
+    /// doesn't wait. After an error nothing is changed.
     pub fn over(&mut self, q: LaneId) -> Result<bool, BookError>
         ensures row { IfOk result (λ answer. AnswersOver self.old self.new q 0 answer) }
         ensures refused { IfErr result (λ e. RefusesLane (IsNotWaiting self.old q 0) e × (self.new ≡ self.old)) }
@@ -571,24 +584,28 @@ impl<A: Allocator> Book<A> {
 
     /// Finishes what a lane's rescuer runs.
     ///
-    /// The error is `WrongLane` (64), exactly where there is no such lane, its rescuer runs nothing, or what it runs waits. After an
-    /// error nothing is changed.
+    /// The error is `WrongLane` (64), exactly where there is no such lane, its rescuer runs nothing, or what it runs
+    /// waits. After an error nothing is changed.
     pub fn finish(&mut self, q: LaneId) -> Result<(), BookError>
-        ensures row { IfOk result (λ _. (r : Running) × LaneRuns self.old q 0 r × AppendsOne self.old self.new (Finish q r.entry.item) true) }
+        ensures row { IfOk result (λ _. (r : Running)
+            × LaneRuns self.old q 0 r
+            × AppendsOne self.old self.new (Finish q r.entry.item) true) }
         ensures refused { IfErr result (λ e. RefusesLane (IsNotAwake self.old q 0) e × (self.new ≡ self.old)) }
     {
         self.finish_in(q, 0)
     }
 
-    /// Starts the first pending entry of a lane whose item isn't running, in a helper, and gives its item, which is one of this
-    /// lane. Where there is none it gives nothing, and nothing is changed.
+    /// Starts the first pending entry of a lane whose item isn't running, in a helper, and gives its item, which is one
+    /// of this lane. Where there is none it gives nothing, and nothing is changed.
     ///
-    /// The error is `WrongLane` (64), exactly where there is no such lane, it has no such helper, or the helper runs an entry. After
-    /// an error nothing is changed.
+    /// The error is `WrongLane` (64), exactly where there is no such lane, it has no such helper, or the helper runs an
+    /// entry. After an error nothing is changed.
     pub fn help_start(&mut self, q: LaneId, h: u8) -> Result<Option<ItemId>, BookError>
         ensures row { IfOk result (λ answer. (0 < h) × AnswersStart self.old self.new q h answer) }
-        ensures known { IfOk result (λ answer. IfSome answer (λ item. (item < items self.old.wiring) × (lane_of self.old.wiring item ≡ q))) }
-        ensures refused { IfErr result (λ e. RefusesHelp h (RefusesLane (IsWrongToStart self.old q h)) e × (self.new ≡ self.old)) }
+        ensures known { IfOk result (λ answer.
+            IfSome answer (λ item. (item < items self.old.wiring) × (lane_of self.old.wiring item ≡ q))) }
+        ensures refused { IfErr result (λ e. RefusesHelp h (RefusesLane (IsWrongToStart self.old q h)) e
+            × (self.new ≡ self.old)) }
     {
         if h == 0 {
             return Err(BookError::WrongLane);
@@ -598,12 +615,14 @@ impl<A: Allocator> Book<A> {
 
     /// Makes what a helper runs begin to wait for an item: true where that item has an unfinished entry.
     ///
-    /// The error is the first of these that holds: `WrongLane` (64), where there is no such lane, it has no such helper, the helper
-    /// runs nothing, or what it runs waits; `Undeclared` (62), where what runs declares no flush of the item alone; `TooManyWaits`
-    /// (63). After an error nothing is changed.
+    /// The error is the first of these that holds: `WrongLane` (64), where there is no such lane, it has no such
+    /// helper, the helper runs nothing, or what it runs waits; `Undeclared` (62), where what runs declares no flush of
+    /// the item alone; `TooManyWaits` (63). After an error nothing is changed.
     pub fn help_wait(&mut self, q: LaneId, h: u8, target: ItemId) -> Result<bool, BookError>
-        ensures row { IfOk result (λ unfinished. (0 < h) × AppendsOne self.old self.new (wait_event false q h target) unfinished) }
-        ensures refused { IfErr result (λ e. RefusesHelp h (RefusesWait self.old q h false target) e × (self.new ≡ self.old)) }
+        ensures row { IfOk result (λ unfinished. (0 < h)
+            × AppendsOne self.old self.new (wait_event false q h target) unfinished) }
+        ensures refused { IfErr result (λ e. RefusesHelp h (RefusesWait self.old q h false target) e
+            × (self.new ≡ self.old)) }
     {
         if h == 0 {
             return Err(BookError::WrongLane);
@@ -611,14 +630,17 @@ impl<A: Allocator> Book<A> {
         self.wait_in(q, h, false, target)
     }
 
-    /// Makes what a helper runs begin to wait for the whole lane of an item: true where that lane has an unfinished entry.
+    /// Makes what a helper runs begin to wait for the whole lane of an item: true
+    /// where that lane has an unfinished entry.
     ///
-    /// The error is the first of these that holds: `WrongLane` (64), where there is no such lane, it has no such helper, the helper
-    /// runs nothing, or what it runs waits; `Undeclared` (62), where what runs declares no flush of the whole lane of the item;
-    /// `TooManyWaits` (63). After an error nothing is changed.
+    /// The error is the first of these that holds: `WrongLane` (64), where there is no such lane, it has no such
+    /// helper, the helper runs nothing, or what it runs waits; `Undeclared` (62), where what runs declares no flush of
+    /// the whole lane of the item; `TooManyWaits` (63). After an error nothing is changed.
     pub fn help_wait_all(&mut self, q: LaneId, h: u8, target: ItemId) -> Result<bool, BookError>
-        ensures row { IfOk result (λ unfinished. (0 < h) × AppendsOne self.old self.new (wait_event true q h target) unfinished) }
-        ensures refused { IfErr result (λ e. RefusesHelp h (RefusesWait self.old q h true target) e × (self.new ≡ self.old)) }
+        ensures row { IfOk result (λ unfinished. (0 < h)
+            × AppendsOne self.old self.new (wait_event true q h target) unfinished) }
+        ensures refused { IfErr result (λ e. RefusesHelp h (RefusesWait self.old q h true target) e
+            × (self.new ≡ self.old)) }
     {
         if h == 0 {
             return Err(BookError::WrongLane);
@@ -626,14 +648,15 @@ impl<A: Allocator> Book<A> {
         self.wait_in(q, h, true, target)
     }
 
-    /// Lets what a helper runs go on, where its wait is over, for an item or for a whole lane. It gives false where the wait isn't
-    /// over; then nothing is changed.
+    /// Lets what a helper runs go on, where its wait is over, for an item or for a whole lane. It gives false where the
+    /// wait isn't over; then nothing is changed.
     ///
-    /// The error is `WrongLane` (64), exactly where there is no such lane, it has no such helper, the helper runs nothing, or what it
-    /// runs doesn't wait. After an error nothing is changed.
+    /// The error is `WrongLane` (64), exactly where there is no such lane, it has no such helper, the helper runs
+    /// nothing, or what it runs doesn't wait. After an error nothing is changed.
     pub fn help_over(&mut self, q: LaneId, h: u8) -> Result<bool, BookError>
         ensures row { IfOk result (λ answer. (0 < h) × AnswersOver self.old self.new q h answer) }
-        ensures refused { IfErr result (λ e. RefusesHelp h (RefusesLane (IsNotWaiting self.old q h)) e × (self.new ≡ self.old)) }
+        ensures refused { IfErr result (λ e. RefusesHelp h (RefusesLane (IsNotWaiting self.old q h)) e
+            × (self.new ≡ self.old)) }
     {
         if h == 0 {
             return Err(BookError::WrongLane);
@@ -643,12 +666,13 @@ impl<A: Allocator> Book<A> {
 
     /// Finishes what a helper runs.
     ///
-    /// The error is `WrongLane` (64), exactly where there is no such lane, it has no such helper, the helper runs nothing, or what it
-    /// runs waits. After an error nothing is changed.
+    /// The error is `WrongLane` (64), exactly where there is no such lane, it has no such helper, the helper runs
+    /// nothing, or what it runs waits. After an error nothing is changed.
     pub fn help_finish(&mut self, q: LaneId, h: u8) -> Result<(), BookError>
         ensures row { IfOk result (λ _. (r : Running) × HelperRuns self.old q h r
             × AppendsOne self.old self.new (finish_event q h r.entry.item) true) }
-        ensures refused { IfErr result (λ e. RefusesHelp h (RefusesLane (IsNotAwake self.old q h)) e × (self.new ≡ self.old)) }
+        ensures refused { IfErr result (λ e. RefusesHelp h (RefusesLane (IsNotAwake self.old q h)) e
+            × (self.new ≡ self.old)) }
     {
         if h == 0 {
             return Err(BookError::WrongLane);
@@ -677,11 +701,12 @@ impl<A: Allocator> Book<A> {
         self.work == 0
     }
 
-    /// Whether some ask is waiting. Where none is, for each item and each lane as many callers were told as asked about it with
-    /// `yes`.
+    /// Whether some ask is waiting. Where none is, for each item and each lane as
+    /// many callers were told as asked about it with `yes`.
     pub fn has_waiting_asks(&self) -> bool
         ensures some { IsTrue result ↔ (0 < all_asks_waiting self.now.rows) }
-        ensures none { result ≡ false → (x : SubjectValue) → count_by (ends_a_wait x) self.now.rows ≡ count_by (begins_to_wait x) self.now.rows }
+        ensures none { result ≡ false → (x : SubjectValue)
+            → count_by (ends_a_wait x) self.now.rows ≡ count_by (begins_to_wait x) self.now.rows }
     {
         self.asks.all() > 0
     }
@@ -710,8 +735,8 @@ impl<A: Allocator> Book<A> {
         Some(running.entry.item)
     }
 
-    /// The target of the wait of a context, where it waits for an item alone, as `waiting`, or where it waits for a whole lane, as
-    /// `waiting_all`.
+    /// The target of the wait of a context, where it waits for an item alone, as `waiting`, or where it waits for a
+    /// whole lane, as `waiting_all`.
     pub fn waiting_in(&self, q: LaneId, helper: u8, whole: bool) -> Option<ItemId>
         ensures some { IfSome result (λ target. (f : Waiting) × IsWaitingBy self.now q helper whole f
             × (f.target ≡ target)) }
@@ -736,17 +761,19 @@ impl<A: Allocator> Book<A> {
         self.running_in(q, 0)
     }
 
-    /// The item that a lane's rescuer waits for, where it waits for an item alone; nothing where it waits for a whole lane, doesn't
-    /// wait, runs none, or where there is no such lane.
+    /// The item that a lane's rescuer waits for, where it waits for an item alone; nothing where it waits for a whole
+    /// lane, doesn't wait, runs none, or where there is no such lane.
     pub fn waiting(&self, q: LaneId) -> Option<ItemId>
-        ensures some { IfSome result (λ target. (f : Waiting) × IsWaitingBy self.now q 0 false f × (f.target ≡ target)) }
+        ensures some { IfSome result (λ target. (f : Waiting)
+            × IsWaitingBy self.now q 0 false f
+            × (f.target ≡ target)) }
         ensures none { IfNone result ((f : Waiting) → ¬ IsWaitingBy self.now q 0 false f) }
     {
         self.waiting_in(q, 0, false)
     }
 
-    /// The item for whose whole lane a lane's rescuer waits; nothing where it waits for an item alone, doesn't wait, runs none, or
-    /// where there is no such lane.
+    /// The item for whose whole lane a lane's rescuer waits; nothing where it waits for an item alone, doesn't wait,
+    /// runs none, or where there is no such lane.
     pub fn waiting_all(&self, q: LaneId) -> Option<ItemId>
         ensures some { IfSome result (λ target. (f : Waiting) × IsWaitingBy self.now q 0 true f × (f.target ≡ target)) }
         ensures none { IfNone result ((f : Waiting) → ¬ IsWaitingBy self.now q 0 true f) }
@@ -766,10 +793,12 @@ impl<A: Allocator> Book<A> {
         self.running_in(q, h)
     }
 
-    /// The item that a helper waits for, where it waits for an item alone; nothing where it waits for a whole lane, doesn't wait,
-    /// runs none, or where there is no such lane or no such helper.
+    /// The item that a helper waits for, where it waits for an item alone; nothing where it waits for a whole lane,
+    /// doesn't wait, runs none, or where there is no such lane or no such helper.
     pub fn help_waiting(&self, q: LaneId, h: u8) -> Option<ItemId>
-        ensures some { IfSome result (λ target. (f : Waiting) × HelperWaitsBy self.now q h false f × (f.target ≡ target)) }
+        ensures some { IfSome result (λ target. (f : Waiting)
+            × HelperWaitsBy self.now q h false f
+            × (f.target ≡ target)) }
         ensures none { IfNone result ((f : Waiting) → ¬ HelperWaitsBy self.now q h false f) }
     {
         if h == 0 {
@@ -778,10 +807,12 @@ impl<A: Allocator> Book<A> {
         self.waiting_in(q, h, false)
     }
 
-    /// The item for whose whole lane a helper waits; nothing where it waits for an item alone, doesn't wait, runs none, or where
-    /// there is no such lane or no such helper.
+    /// The item for whose whole lane a helper waits; nothing where it waits for an item alone, doesn't wait, runs none,
+    /// or where there is no such lane or no such helper.
     pub fn help_waiting_all(&self, q: LaneId, h: u8) -> Option<ItemId>
-        ensures some { IfSome result (λ target. (f : Waiting) × HelperWaitsBy self.now q h true f × (f.target ≡ target)) }
+        ensures some { IfSome result (λ target. (f : Waiting)
+            × HelperWaitsBy self.now q h true f
+            × (f.target ≡ target)) }
         ensures none { IfNone result ((f : Waiting) → ¬ HelperWaitsBy self.now q h true f) }
     {
         if h == 0 {

@@ -99,7 +99,8 @@ pub enum CallError {
     /// There is no such workqueue, the item belongs to another, or the workqueue can't make this step (64).
     #[error("the workqueue can't do this")]
     WrongLane,
-    /// No ask about the item, or about the workqueue, is waiting (65). A runtime hands in only the mark of the call's own ask.
+    /// No ask about the item, or about the workqueue, is waiting (65). A runtime
+    /// hands in only the mark of the call's own ask.
     #[error("no caller waits for the item, or for the workqueue")]
     NotAsked,
     /// No such item (66).

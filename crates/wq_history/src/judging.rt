@@ -1,8 +1,8 @@
 //! Judging a history, row by row, from nothing but its bytes and a machine on which nothing has happened.
 //!
-//! A row may follow those before it by the rules of "History" in the specs of this crate. Each row takes the time of the step
-//! that it records; the row of an ask about a lane takes constant time. Memory is taken before any row: two counts for each item or
-//! each lane, whichever are more.
+//! A row may follow those before it by the rules of "History" in the specs of this crate. Each row takes the time of
+//! the step that it records; the row of an ask about a lane takes constant time. Memory is taken before any row: two
+//! counts for each item or each lane, whichever are more.
 
 ghost use Rattle.std.specs.Prelude.{◌≡◌, ◌<◌, ◌≤◌, ◌*◌, ◌↔◌, List, length, slice_index, IfOk, IfErr, IfSome, IsTrue};
 ghost use Rattle.wq_core.specs.Rules.{Lawful, deed_item};
@@ -104,7 +104,8 @@ fn may_help<A: Allocator>(
 /// Whether a row may come next, where this many asks about its item or its lane are waiting.
 fn may_come<A: Allocator>(core: &Core<A>, waiting: u32, row: &Row) -> bool
     requires { core.now.state.next < 4294967295 }
-    ensures { IsTrue result ↔ MayComeIn core.now.wiring core.now.state waiting row.now.event row.now.yes row.now.number }
+    ensures { IsTrue result
+        ↔ MayComeIn core.now.wiring core.now.state waiting row.now.event row.now.yes row.now.number }
 {
     let yes = row.yes;
     let number = row.number;
@@ -202,13 +203,13 @@ fn count<A: Allocator>(asks: &mut AskCounts<A>, event: &Event, yes: bool)
     }
 }
 
-/// Judges the rows that bytes hold, on a machine on which nothing has happened. Where they are a legal history, it gives how many
-/// rows there are, and the machine is then their replay.
+/// Judges the rows that bytes hold, on a machine on which nothing has happened. Where they are a legal history, it
+/// gives how many rows there are, and the machine is then their replay.
 ///
-/// The error has the place of the lowest row at fault, from 1, and the cause: `BadRow` (75), where the bytes there are fewer than
-/// 12 or hold no row, or `NotLegal` (76), where the row may not follow those before it. The machine is then the replay of the
-/// rows before it. Or the error is `OutOfMemory` (20) at 0, which comes before any row and can't occur where there are no items and
-/// no lanes.
+/// The error has the place of the lowest row at fault, from 1, and the cause: `BadRow` (75), where the bytes there are
+/// fewer than 12 or hold no row, or `NotLegal` (76), where the row may not follow those before it. The machine is then
+/// the replay of the rows before it. Or the error is `OutOfMemory` (20) at 0, which comes before any row and can't
+/// occur where there are no items and no lanes.
 pub fn check_rows<A: Allocator + Copy>(
     alloc: A,
     core: &mut Core<A>,
@@ -216,7 +217,9 @@ pub fn check_rows<A: Allocator + Copy>(
 ) -> Result<u32, RowError>
     requires new { core.old.state ≡ empty_state core.old.wiring }
     requires few { length packed.now ≤ 12 * max_rows }
-    ensures legal { IfOk result (λ n. (rows : List RowValue) × IsJudged core.old packed.now rows core.new × (n ≡ length rows)) }
+    ensures legal { IfOk result (λ n. (rows : List RowValue)
+        × IsJudged core.old packed.now rows core.new
+        × (n ≡ length rows)) }
     ensures refused { IfErr result (λ e. IsFaultAt core.old packed.now e.at core.new e.why) }
 {
     let Ok(mut asks) = AskCounts::new(alloc, core.items(), core.lanes()) else {

@@ -2,7 +2,8 @@
 //!
 //! They are about rows and books alone, whatever code wrote these.
 
-ghost use Rattle.std.specs.Prelude.{◌≡◌, ℕ, ◌+◌, ◌<◌, ◌≤◌, ◌↔◌, ◌⊎◌, List, [], ◌∷◌, ◌++◌, length, Bool, true, false, ◌&&◌, Result};
+ghost use Rattle.std.specs.Prelude.{◌≡◌, ℕ, ◌+◌, ◌<◌, ◌≤◌, ◌↔◌, ◌⊎◌, List, [], ◌∷◌, ◌++◌, length, Bool, true, false};
+ghost use Rattle.std.specs.Prelude.{◌&&◌, Result};
 ghost use Rattle.std.specs.List.{All, count_by};
 ghost use Rattle.wq_core.specs.declared.step.Context.{Context};
 ghost use Rattle.wq_core.specs.Wiring.{Wiring, IsWiring, items, lane_of, max_helpers, HasContext};
@@ -29,7 +30,8 @@ ghost use Rattle.wq_history.specs.declared.call.Reply.{Reply};
 ghost use Rattle.wq_history.specs.declared.call.Reply.TheVariants.{Wrote};
 ghost use Rattle.wq_history.specs.Book.{BookView, free, IsBook, Appends};
 ghost use Rattle.wq_history.specs.Calls.{IsRowOf, Writes, IsEarly, Replies, Answers, WakesAfter, Awaits, sleepers_of};
-ghost use Rattle.wq_history.specs.Waits.{Condition, IsMet, BecomesMet, WakesBy, WakesEnough, WakesOne, sleepers_for, every_context};
+ghost use Rattle.wq_history.specs.Waits.{Condition, IsMet, BecomesMet, WakesBy, WakesEnough, WakesOne, sleepers_for};
+ghost use Rattle.wq_history.specs.Waits.{every_context};
 ghost use Rattle.wq_history.specs.Sleeping.{Crew, Moves, IsCovered};
 
 /// A history is legal exactly where it is legal without its last row, and that row may follow the others.
@@ -44,22 +46,23 @@ pub fn the_steps_of_a_legal_history_are_a_run()
     ensures { (w : Wiring) (rows : List Row) → IsLegal w rows → IsRun w (steps_of rows) }
 {}
 
-/// Where an assignment is safe, the state that a legal history leaves isn't stuck, with at most 8 helpers for each lane.
+/// Where an assignment is safe, the state that a legal history leaves isn't stuck,
+/// with at most 8 helpers for each lane.
 pub fn a_legal_history_under_a_safe_assignment_is_not_stuck()
     ensures { (w : Wiring) (rows : List Row) → IsSafe w → w.helpers ≤ max_helpers → IsLegal w rows →
         ¬ IsStuck w (state_after w rows) }
 {}
 
-/// Where nothing more is queued after a legal history, rescuers and helpers make at most as many steps as there is work left,
-/// whatever the order, and whatever is cancelled in between.
+/// Where nothing more is queued after a legal history, rescuers and helpers make at most as many steps as there is work
+/// left, whatever the order, and whatever is cancelled in between.
 pub fn rescuer_steps_after_a_legal_history_are_bounded()
     ensures { (w : Wiring) (rows : List Row) (more : List Step) → IsLegal w rows →
         All (λ (step : Step). IsRescuerStep step ⊎ IsCancel step) more → IsRunFrom w (state_after w rows) more →
         count_by is_rescuer_step more ≤ work_left w (state_after w rows) }
 {}
 
-/// Some rows need no free row: those of rescuers and helpers, of cancellations that remove an entry, and of callers who are told.
-/// Where a history goes on with such rows, there are no more of them than rows are kept.
+/// Some rows need no free row: those of rescuers and helpers, of cancellations that remove an entry, and of callers who
+/// are told. Where a history goes on with such rows, there are no more of them than rows are kept.
 pub fn rows_are_kept_for_all_that_needs_none()
     ensures { (w : Wiring) (rows more : List Row) → IsLegal w (rows ++ more) →
         All (λ (row : Row). rows_needed w row.event row.yes ≡ 0) more → length more ≤ reserved w rows }
@@ -71,8 +74,8 @@ pub fn an_event_but_told_has_one_answer()
         is_told event ≡ false → MayCome w rows event said n → MayCome w rows event other m → (said ≡ other) × (n ≡ m) }
 {}
 
-/// A caller is told with `yes` while an ask about the item, or the lane, waits, and with exactly those numbers below which no entry
-/// of it is unfinished.
+/// A caller is told with `yes` while an ask about the item, or the lane, waits, and with exactly those numbers below
+/// which no entry of it is unfinished.
 pub fn a_caller_is_told_where_nothing_below_is_unfinished()
     ensures of_an_item { (w : Wiring) (rows : List Row) (i n : ℕ) (said : Bool) → MayCome w rows (Told i) said n
         ↔ ((said ≡ true) × (0 < asks_waiting (OfItem i) rows) × (¬ HasUnfinishedBelow (state_after w rows) i n)) }
@@ -80,7 +83,8 @@ pub fn a_caller_is_told_where_nothing_below_is_unfinished()
         ↔ ((said ≡ true) × (0 < asks_waiting (OfLane q) rows) × (¬ IsBusyBelow (lane_at (state_after w rows) q) n)) }
 {}
 
-/// The items and the lanes of legal rows exist. (AskLane and ToldLane have no item, and what they are about is their lane.)
+/// The items and the lanes of legal rows exist. (AskLane and ToldLane have no item,
+/// and what they are about is their lane.)
 pub fn items_and_lanes_of_legal_rows_exist()
     ensures { (w : Wiring) (rows : List Row) (event : Event) (said : Bool) (n : ℕ) → IsWiring w → IsLegal w rows →
         MayCome w rows event said n → IsThere w (subject_in event) × (lane_in event < w.lanes) }
@@ -94,11 +98,12 @@ pub fn no_more_are_told_than_asked()
         count_by (λ (row : Row). is_told row.event) rows ≤ count_by (λ (row : Row). is_ask row.event && row.yes) rows }
 {}
 
-/// Whom an event wakes, and whom the closing of a book wakes, is enough: each who sleeps for a condition that becomes true, and one
-/// context for each entry more that it may start.
+/// Whom an event wakes, and whom the closing of a book wakes, is enough: each who sleeps for a condition that becomes
+/// true, and one context for each entry more that it may start.
 pub fn an_event_wakes_enough()
     ensures event { (old new : BookView) (event : Event) (said : Bool) (n : ℕ) (wake : Wake) → IsBook old →
-        old.wiring.helpers ≤ max_helpers → Appends old new event said n → WakesBy new event said wake → WakesEnough old new wake }
+        old.wiring.helpers ≤ max_helpers → Appends old new event said n → WakesBy new event said wake →
+        WakesEnough old new wake }
     ensures closing { (old : BookView) → WakesEnough old (record old { closed = true }) every_context }
 {}
 
@@ -108,15 +113,17 @@ pub fn whoever_can_go_on_is_woken()
         WakesOne wake (sleepers_for c) }
 {}
 
-/// Whatever happens to the contexts of a lane: nobody sleeps, or for each entry that may be started somebody was woken and hasn't
-/// looked, or will be woken. So once all were woken and have looked, nobody sleeps beside an entry that may be started.
+/// Whatever happens to the contexts of a lane: nobody sleeps, or for each entry that
+/// may be started somebody was woken and hasn't looked, or will be woken. So once all
+/// were woken and have looked, nobody sleeps beside an entry that may be started.
 pub fn no_wake_up_of_a_context_is_lost()
     ensures { (old new : Crew) → Moves old new → IsCovered old → IsCovered new }
 {}
 
 /// A book writes one row for a call, at most: the call and the book say which.
 pub fn a_call_writes_one_row()
-    ensures { (b new next : BookView) (call : Call) (row other : Row) → IsBook b → IsRowOf b call row → Writes b row new →
+    ensures { (b new next : BookView) (call : Call) (row other : Row) → IsBook b → IsRowOf b call row →
+        Writes b row new →
         IsRowOf b call other → Writes b other next → row ≡ other }
 {}
 
@@ -139,26 +146,34 @@ pub fn an_answer_wakes_enough()
         WakesEnough old new wake }
 {}
 
-/// A call that is early waits for something that isn't so yet, and its caller sleeps among those who are woken once it is.
+/// A call that is early waits for something that isn't so yet, and its caller sleeps
+/// among those who are woken once it is.
 pub fn an_early_call_sleeps_among_its_own()
     ensures { (b : BookView) (call : Call) (condition : Condition) → IsEarly b call → Awaits b call condition →
         (¬ IsMet b condition) × (sleepers_for condition ≡ sleepers_of b.wiring call) }
 {}
 
-/// The context whose call writes a row exists, and so does the item that is started, waited for or finished. What is started or
-/// finished is on the lane of the context.
+/// The context whose call writes a row exists, and so does the item that is started, waited for or finished. What is
+/// started or finished is on the lane of the context.
 pub fn what_is_answered_exists()
-    ensures started { (old new : BookView) (c : Context) (row : Row) → IsBook old → Replies old (Start c) (Wrote row) new →
-        HasContext old.wiring c.lane c.helper × (item_in row.event < items old.wiring) × (lane_of old.wiring (item_in row.event) ≡ c.lane) }
-    ensures waits { (old new : BookView) (c : Context) (f : Flush) (row : Row) → IsBook old → Replies old (Wait c f) (Wrote row) new →
+    ensures started { (old new : BookView) (c : Context) (row : Row) → IsBook old →
+        Replies old (Start c) (Wrote row) new →
+        HasContext old.wiring c.lane c.helper
+        × (item_in row.event < items old.wiring)
+        × (lane_of old.wiring (item_in row.event) ≡ c.lane) }
+    ensures waits { (old new : BookView) (c : Context) (f : Flush) (row : Row) → IsBook old →
+        Replies old (Wait c f) (Wrote row) new →
         HasContext old.wiring c.lane c.helper × (f.target < items old.wiring) }
-    ensures over { (old new : BookView) (c : Context) (f : Flush) (row : Row) → IsBook old → Replies old (Over c f) (Wrote row) new →
+    ensures over { (old new : BookView) (c : Context) (f : Flush) (row : Row) → IsBook old →
+        Replies old (Over c f) (Wrote row) new →
         HasContext old.wiring c.lane c.helper × (f.target < items old.wiring) }
-    ensures finished { (old new : BookView) (c : Context) (i : ℕ) (row : Row) → IsBook old → Replies old (Finish c i) (Wrote row) new →
+    ensures finished { (old new : BookView) (c : Context) (i : ℕ) (row : Row) → IsBook old →
+        Replies old (Finish c i) (Wrote row) new →
         HasContext old.wiring c.lane c.helper × (i < items old.wiring) × (lane_of old.wiring i ≡ c.lane) }
 {}
 
 /// An ask takes two of the free rows, at most.
 pub fn an_ask_takes_two_rows_at_most()
-    ensures { (old new : BookView) (x : Subject) (row : Row) → Replies old (Ask x) (Wrote row) new → free old ≤ free new + 2 }
+    ensures { (old new : BookView) (x : Subject) (row : Row) → Replies old (Ask x) (Wrote row) new →
+        free old ≤ free new + 2 }
 {}

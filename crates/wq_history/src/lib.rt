@@ -1,9 +1,10 @@
 //! The book: what happened to the items of a machine, one row for each event.
 //!
-//! What the layer above relies on: the rows of a book are a legal history, and its replay is the state that the book holds. Each
-//! event that takes place appends exactly one row. A refusal appends none, nor does an answer that nothing has happened yet.
-//! Neither a rescuer, nor a helper, nor a waiting caller ever lacks a row for what comes next, since rows are kept free for them.
-//! Whoever has the bytes of a history and its machine can judge the history, row by row, from these alone.
+//! What the layer above relies on: the rows of a book are a legal history, and its replay is the
+//! state that the book holds. Each event that takes place appends exactly one row. A refusal appends
+//! none, nor does an answer that nothing has happened yet. Neither a rescuer, nor a helper, nor a
+//! waiting caller ever lacks a row for what comes next, since rows are kept free for them. Whoever
+//! has the bytes of a history and its machine can judge the history, row by row, from these alone.
 #![tactic(auto)]
 
 mod answering;

@@ -1,7 +1,7 @@
 //! Those who sleep until something has happened to a book, and whom an event wakes.
 //!
-//! Those for whom the same events count are a group: they sleep on one condition variable. Nothing is computed here, and each call
-//! takes constant time.
+//! Those for whom the same events count are a group: they sleep on one condition variable. Nothing is computed here,
+//! and each call takes constant time.
 
 ghost use Rattle.std.specs.Prelude.{◌≡◌};
 ghost use Rattle.wq_history.specs.Waits.{nobody, one_context, every_context};

@@ -1,5 +1,5 @@
-//! What contexts do, as events; and waits by their kind: for an item alone, as `flush_work` waits, or for the whole lane of an
-//! item, as `flush_workqueue` does.
+//! What contexts do, as events; and waits by their kind: for an item alone, as `flush_work` waits, or for the whole
+//! lane of an item, as `flush_workqueue` does.
 //!
 //! A context of a lane is its rescuer or one of its helpers. Each call takes constant time.
 

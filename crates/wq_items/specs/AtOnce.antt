@@ -27,8 +27,8 @@ flushwq_unjudged (name ∷ []) = None
 flushwq_unjudged (name ∷ target ∷ []) = Some (Some (FlushWq name target))
 flushwq_unjudged (name ∷ target ∷ extra ∷ others) = None
 
--- the words after the keyword as a directive, whatever they are and even if there are too few; no answer if they can't be those
--- of a directive
+-- the words after the keyword as a directive, whatever they are and even if there
+-- are too few; no answer if they can't be those of a directive
 abbrev pub unjudged_after : Option Keyword → List WordView → Option (Option Directive)
 unjudged_after None words = None
 unjudged_after (Some keyword.Item) words = item_unjudged words
@@ -50,8 +50,10 @@ is_whole (FlushWq name target) = are_names (name ∷ target ∷ [])
 is_whole (Ordered []) = false
 is_whole (Ordered (name ∷ others)) = are_names (name ∷ others)
 
--- what the words of a line seem to say and what the line says: the same if the directive is whole; otherwise it has a fault
+-- what the words of a line seem to say and what the line says: the same if the
+-- directive is whole; otherwise it has a fault
 abbrev pub Foretells : Option (Option Directive) → Result (Option Directive) DeclError → Type 0
 Foretells None said = ¬ IsOk said
 Foretells (Some None) said = said ≡ Ok None
-Foretells (Some (Some directive)) said = (IsTrue (is_whole directive) → said ≡ Ok (Some directive)) × (IsOk said → IsTrue (is_whole directive))
+Foretells (Some (Some directive)) said =
+    (IsTrue (is_whole directive) → said ≡ Ok (Some directive)) × (IsOk said → IsTrue (is_whole directive))

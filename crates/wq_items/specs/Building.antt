@@ -1,5 +1,6 @@
 -- Building: how the directives of a declaration make its table, one after the other, or what the first fault is.
-use Rattle.std.specs.Prelude.{◌≡◌, Bool, true, false, ℕ, ◌+◌, nat_le, nat_lt, if◌then◌else◌, List, [], ◌∷◌, ◌++◌, length, slice_set, Option, Some, None, Result, Ok, Err, is_some}
+use Rattle.std.specs.Prelude.{◌≡◌, Bool, true, false, ℕ, ◌+◌, nat_le, nat_lt, if◌then◌else◌, List, [], ◌∷◌, ◌++◌}
+use Rattle.std.specs.Prelude.{length, slice_set, Option, Some, None, Result, Ok, Err, is_some}
 use Rattle.wq_text.specs.declared.span.Span.{Span}
 use Rattle.wq_text.specs.Words.{WordView}
 use Rattle.wq_text.specs.Refusal.{Refusal}
@@ -7,7 +8,8 @@ use Rattle.wq_decl.specs.declared.directive.Directive.{Directive}
 use Rattle.wq_decl.specs.declared.directive.Directive.TheVariants.{Item, Flush, FlushWq, Ordered}
 use Rattle.wq_items.specs.declared.target.Target.{Target}
 use Rattle.wq_items.specs.declared.fault.ItemError.{ItemError}
-use Rattle.wq_items.specs.declared.fault.ItemError.TheVariants.{ItemTwice, UnknownItem, TooManyItems, TooManyFlushes, OutOfMemory}
+use Rattle.wq_items.specs.declared.fault.ItemError.TheVariants.{ItemTwice, UnknownItem, TooManyItems, TooManyFlushes}
+use Rattle.wq_items.specs.declared.fault.ItemError.TheVariants.{OutOfMemory}
 use Rattle.wq_items.specs.Table.{Table, item_named, targets_of, flush_count, max_items, max_flushes}
 
 -- no item
@@ -21,16 +23,22 @@ span_of word = record { start = word.start; end = word.start + length word.bytes
 -- the table with one more item, which flushes nothing
 abbrev pub with_item : Table → WordView → Table
 with_item t name =
-    record { names = t.names ++ (name.bytes ∷ []); spans = t.spans ++ (span_of name ∷ []); waits = t.waits ++ ([] ∷ []) }
+    record {
+      names = t.names ++ (name.bytes ∷ []);
+      spans = t.spans ++ (span_of name ∷ []);
+      waits = t.waits ++ ([] ∷ []);
+    }
 
 -- targets of one kind, the first of which is at this place
 abbrev pub targets_from : Bool → ℕ → List ℕ → List Target
 targets_from whole place [] = []
-targets_from whole place (item ∷ items) = record { item = item; whole = whole; place = place } ∷ targets_from whole (place + 1) items
+targets_from whole place (item ∷ items) =
+    record { item = item; whole = whole; place = place } ∷ targets_from whole (place + 1) items
 
 -- the table in which item i flushes these items too, or their whole workqueues, at the next places
 abbrev pub with_flushes : Table → Bool → ℕ → List ℕ → Table
-with_flushes t whole i items = record t { waits = slice_set t.waits i (targets_of t.waits i ++ targets_from whole (flush_count t.waits) items) }
+with_flushes t whole i items =
+    record t { waits = slice_set t.waits i (targets_of t.waits i ++ targets_from whole (flush_count t.waits) items) }
 
 -- an item before the others, if all are known
 abbrev pub and_item : Option ℕ → Option (List ℕ) → Option (List ℕ)
@@ -49,15 +57,18 @@ item_declared t n name =
     if is_some (item_named t.names name.bytes) then Err (ItemTwice n)
     else (if nat_le max_items (length t.names) then Err (TooManyItems n) else Ok (with_item t name))
 
--- line n declares that the first of these items flushes the others, or their whole workqueues, if all names on it are known
+-- line n declares that the first of these items flushes the others, or their whole
+-- workqueues, if all names on it are known
 abbrev pub flushes_declared : Table → ℕ → Bool → Option (List ℕ) → Result Table ItemError
 flushes_declared t n whole None = Err (UnknownItem n)
 flushes_declared t n whole (Some []) = Ok t
 flushes_declared t n whole (Some (i ∷ items)) =
-    if nat_lt max_flushes (flush_count t.waits + length items) then Err (TooManyFlushes n) else Ok (with_flushes t whole i items)
+    if nat_lt max_flushes (flush_count t.waits + length items) then Err (TooManyFlushes n)
+    else Ok (with_flushes t whole i items)
 
 -- the whole workqueue of the item with one name was added to the targets of the item with another, at this place
-pub record AddsWhole (names : List (List ℕ)) (old : List (List Target)) (name target : List ℕ) (place : ℕ) (new : List (List Target)) : Type 0 where
+pub record AddsWhole (names : List (List ℕ)) (old : List (List Target)) (name target : List ℕ) (place : ℕ)
+    (new : List (List Target)) : Type 0 where
   pub item : ℕ
   pub other : ℕ
   pub first : item_named names name ≡ Some item

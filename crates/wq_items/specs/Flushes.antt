@@ -1,5 +1,6 @@
 -- Flushes: what the lines of a declaration say, each by itself: the items and the flushes that they declare.
-use Rattle.std.specs.Prelude.{ℕ, Bool, true, false, if◌then◌else◌, List, [], ◌∷◌, map, flat_map, filter_map, slice_index_or, Option, Some, None, option_map, bytes_eq}
+use Rattle.std.specs.Prelude.{ℕ, Bool, true, false, if◌then◌else◌, List, [], ◌∷◌, map, flat_map, filter_map}
+use Rattle.std.specs.Prelude.{slice_index_or, Option, Some, None, option_map, bytes_eq}
 use Rattle.wq_text.specs.declared.span.Span.{Span}
 use Rattle.wq_text.specs.Words.{WordView}
 use Rattle.wq_decl.specs.declared.directive.Directive.{Directive}
@@ -23,7 +24,8 @@ item_name d = option_map (λ (name : WordView). name.bytes) (item_word d)
 abbrev pub item_span : ℕ × Directive → Option Span
 item_span d = option_map span_of (item_word d)
 
--- the flushes that a line declares: for each, the name of the item, whether it is of a whole workqueue, and the name of the target
+-- the flushes that a line declares: for each, the name of the item, whether it is of
+-- a whole workqueue, and the name of the target
 abbrev pub line_flushes : ℕ × Directive → List (List ℕ × (Bool × List ℕ))
 line_flushes (n, Item name) = []
 line_flushes (n, Flush name targets) = map (λ (target : WordView). (name.bytes, (false, target.bytes))) targets
@@ -36,11 +38,15 @@ flushes ds = flat_map line_flushes ds
 
 -- of numbered flushes, those of the item with this name: for each, its kind, the name of the target and the number
 abbrev pub flushes_of : List ℕ → List (ℕ × (List ℕ × (Bool × List ℕ))) → List ((Bool × List ℕ) × ℕ)
-flushes_of name numbered = filter_map (λ (f : ℕ × (List ℕ × (Bool × List ℕ))). if bytes_eq f.1.0 name then Some (f.1.1, f.0) else None) numbered
+flushes_of name numbered =
+    filter_map (λ (f : ℕ × (List ℕ × (Bool × List ℕ))). if bytes_eq f.1.0 name then Some (f.1.1, f.0)
+    else None) numbered
 
 -- the targets of item i: for each, the kind of the flush, the name of the target and the place of the flush
 abbrev pub named_targets : Table → ℕ → List ((Bool × List ℕ) × ℕ)
-named_targets t i = map (λ (target : Target). ((target.whole, slice_index_or t.names target.item []), target.place)) (targets_of t.waits i)
+named_targets t i =
+    map (λ (target : Target). ((target.whole, slice_index_or t.names target.item []), target.place))
+    (targets_of t.waits i)
 
 -- the names on a `flush`, a `flushwq` or an `ordered` line
 abbrev pub names_used : ℕ × Directive → List (List ℕ)

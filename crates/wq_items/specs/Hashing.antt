@@ -11,7 +11,8 @@ use Rattle.wq_items.specs.Table.{max_items}
 
 -- the hash of a name: the hasher takes the seed, the name, and the seed again
 abbrev pub hash_of : Seeded → List ℕ → ℕ
-hash_of hasher name = folding.finish (fold folding.write (fold folding.write hasher.begun (taken name)) (fed.u64 hasher.seed))
+hash_of hasher name =
+    folding.finish (fold folding.write (fold folding.write hasher.begun (taken name)) (fed.u64 hasher.seed))
 
 -- each name brings its own hash
 abbrev pub AreHashed : Seeded → List Name → Type 0
@@ -31,13 +32,15 @@ pub record EndsAfterLast (keys : List ℕ) (k bound end : ℕ) : Type 0 where
   pub last : (p : ℕ) → p < bound → slice_index keys p ≡ k → p < end
   pub of_key : (p : ℕ) → end ≡ p + 1 → slice_index keys p ≡ k
 
--- of the first n places: for each key the last place with it, and for each of the places the last one before it with the same key
+-- of the first n places: for each key the last place with it, and for each of the
+-- places the last one before it with the same key
 pub record AreLinked (keys : List ℕ) (n : ℕ) (lasts befores : List ℕ) : Type 0 where
   pub one_each : length befores ≡ n
   pub lasts_lead : (k : ℕ) → k < length lasts → EndsAfterLast keys k n (slice_index lasts k)
   pub befores_lead : (p : ℕ) → p < n → EndsAfterLast keys (slice_index keys p) p (slice_index befores p)
 
--- at most 4,096 names, which differ and bring their hashes, and their places by key, of which there is one if there is a name
+-- at most 4,096 names, which differ and bring their hashes, and their places by key,
+-- of which there is one if there is a name
 pub record AreFound (hasher : Seeded) (names : List Name) (lasts befores : List ℕ) : Type 0 where
   pub few : length names ≤ max_items
   pub hashed : AreHashed hasher names

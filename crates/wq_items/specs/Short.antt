@@ -1,5 +1,7 @@
--- Short names: their first four bytes and their last four are all of them. Of tiny names the first byte, the middle one and the last are all.
-use Rattle.std.specs.Prelude.{ℕ, ◌+◌, ◌-◌, ◌*◌, ◌/◌, ◌^◌, ◌&&◌, nat_le, Bool, List, [], ◌∷◌, length, take, drop, slice_index, if◌then◌else◌}
+-- Short names: their first four bytes and their last four are all of them. Of tiny
+-- names the first byte, the middle one and the last are all.
+use Rattle.std.specs.Prelude.{ℕ, ◌+◌, ◌-◌, ◌*◌, ◌/◌, ◌^◌, ◌&&◌, nat_le, Bool, List, [], ◌∷◌, length, take, drop}
+use Rattle.std.specs.Prelude.{slice_index, if◌then◌else◌}
 use Rattle.std.specs.Int.{w32, from_le_bytes}
 use Rattle.std.specs.Hash.{HashWrites, u64}
 
@@ -21,8 +23,10 @@ is_tiny name = nat_le 1 (length name) && nat_le (length name) 3
 
 -- the first byte, the middle one and the last as one number
 abbrev pub tiny_number : List ℕ → ℕ
-tiny_number name = slice_index name 0 * 2 ^ 16 + slice_index name (length name / 2) * 2 ^ 8 + slice_index name (length name - 1)
+tiny_number name =
+    slice_index name 0 * 2 ^ 16 + slice_index name (length name / 2) * 2 ^ 8 + slice_index name (length name - 1)
 
 -- what of a name a hasher takes: the number of a short or tiny one, else all bytes
 abbrev pub taken : List ℕ → HashWrites
-taken name = if is_short name then u64 (short_number name) else if is_tiny name then u64 (tiny_number name) else name ∷ []
+taken name =
+    if is_short name then u64 (short_number name) else if is_tiny name then u64 (tiny_number name) else name ∷ []

@@ -1,23 +1,29 @@
 //! The table of a text in one pass, where the text has no fault.
 //!
-//! `DeclView::new` and `ItemTable::read` scan a declaration one after the other, since the faults of the first pass come before those
-//! of the second. Here both passes are made at once. The words of a line are cut once. A word that is found in the table isn't
-//! judged, since the table holds only names; the name on an `item` line is. Which fault a text has isn't asked: where there is one,
-//! there is no answer, and whoever wants to know it reads the text by the two passes.
+//! `DeclView::new` and `ItemTable::read` scan a declaration one after the other, since the faults
+//! of the first pass come before those of the second. Here both passes are made at once. The words
+//! of a line are cut once. A word that is found in the table isn't judged, since the table holds
+//! only names; the name on an `item` line is. Which fault a text has isn't asked: where there is
+//! one, there is no answer, and whoever wants to know it reads the text by the two passes.
 //!
-//! The view of the directives knows where the `ordered` lines are, so that the groups are read without a look at most other lines. The
-//! items that these lines name are noted and handed out, so that the groups needn't look most of them up again.
+//! The view of the directives knows where the `ordered` lines are, so that the groups
+//! are read without a look at most other lines. The items that these lines name are
+//! noted and handed out, so that the groups needn't look most of them up again.
 //!
-//! It takes time in the length of the text, on average, and memory in the number of items and flushes: each name is looked up once.
+//! It takes time in the length of the text, on average, and memory in the number of
+//! items and flushes: each name is looked up once.
 
-ghost use Rattle.std.specs.Prelude.{◌≡◌, ◌∷◌, [], ℕ, ◌-◌, ◌<◌, ◌≤◌, ◌^◌, ◌||◌, length, option_map, Ok, IsOk, IfSome, IfNone, IsTrue, None, Some, true, false};
+ghost use Rattle.std.specs.Prelude.{◌≡◌, ◌∷◌, [], ℕ, ◌-◌, ◌<◌, ◌≤◌, ◌^◌, ◌||◌, length, option_map, Ok, IsOk, IfSome};
+ghost use Rattle.std.specs.Prelude.{IfNone, IsTrue, None, Some, true, false};
 ghost use Rattle.wq_text.specs.Lines.{lines_of};
 ghost use Rattle.wq_text.specs.Words.{words_of};
 ghost use Rattle.wq_decl.specs.declared.directive.Directive.TheVariants.{Item, Flush, FlushWq, Ordered};
 ghost use Rattle.wq_decl.specs.Reading.{reading, directives, first_fault};
-ghost use Rattle.wq_items.specs.AtOnce.{item_unjudged, flush_unjudged, flushwq_unjudged, unjudged_after, unjudged, is_whole, Foretells};
+ghost use Rattle.wq_items.specs.AtOnce.{item_unjudged, flush_unjudged, flushwq_unjudged, unjudged_after, unjudged};
+ghost use Rattle.wq_items.specs.AtOnce.{is_whole, Foretells};
 ghost use Rattle.wq_items.specs.Table.{IsTable};
-ghost use Rattle.wq_items.specs.Building.{empty_table, table_of, declared, item_declared, flushes_declared, items_ordered, items_named};
+ghost use Rattle.wq_items.specs.Building.{empty_table, table_of, declared, item_declared, flushes_declared};
+ghost use Rattle.wq_items.specs.Building.{items_ordered, items_named};
 ghost use Rattle.wq_items.specs.FirstFault.{RanOut, DeclaresMore};
 
 use crate::flush::Flushes;
@@ -86,16 +92,16 @@ fn words_unjudged<'a>(line: &Line<'a>) -> Option<Option<Directive<'a>>>
     }
 }
 
-/// What a line says, if its words are enough and names: nothing where no word stands before its comment, else a directive.
-/// There is no answer where it has a fault, whatever its words are.
+/// What a line says, if its words are enough and names: nothing where no word stands before its comment, else a
+/// directive. There is no answer where it has a fault, whatever its words are.
 fn line_unjudged<'a>(line: &Line<'a>) -> Option<Option<Directive<'a>>>
     ensures { Foretells result (reading line.now) }
 {
     words_unjudged(line)
 }
 
-/// The parts of a table while its lines are read. Contracts see what they see of a table, but the parts needn't make one:
-/// where a growth is refused, some have grown and others haven't.
+/// The parts of a table while its lines are read. Contracts see what they see of a table, but the parts needn't make
+/// one: where a growth is refused, some have grown and others haven't.
 #[derive(Drop)]
 struct Parts<'a, A: Allocator> {
     names: Names<'a, A>,
@@ -126,12 +132,14 @@ impl<'a, A: Allocator + Copy> Parts<'a, A> {
         }
     }
 
-    /// Adds what a line declares, if its directive is whole. Where there is no answer, the parts are of no use any more.
+    /// Adds what a line declares, if its directive is whole. Where there is no
+    /// answer, the parts are of no use any more.
     fn take(&mut self, directive: Directive<'a>) -> Option<()>
         requires { IsTable self.old }
         ensures table { IfSome result (λ _. (n : ℕ) → declared self.old n directive.entry ≡ Ok self.new) }
         ensures whole { IfSome result (λ _. IsTrue (is_whole directive.entry)) }
-        ensures memory { IfNone result ((n : ℕ) → IsTrue (is_whole directive.entry) → IsOk (declared self.old n directive.entry) → DeclaresMore (n, directive.entry)) }
+        ensures memory { IfNone result ((n : ℕ) → IsTrue (is_whole directive.entry)
+            → IsOk (declared self.old n directive.entry) → DeclaresMore (n, directive.entry)) }
     {
         match directive {
             Directive::Item(name) => self.take_item(name),
@@ -161,7 +169,9 @@ impl<'a, A: Allocator + Copy> Parts<'a, A> {
     /// Adds the flushes that one item declares, if there are some.
     fn take_flushes(&mut self, name: Word<'a>, targets: Words<'a>) -> Option<()>
         requires { IsTable self.old }
-        ensures table { IfSome result (λ _. (n : ℕ) → flushes_declared self.old n false (items_named self.old.names (name.entry ∷ targets.entry)) ≡ Ok self.new) }
+        ensures table { IfSome result (λ _. (n : ℕ)
+            → flushes_declared self.old n false (items_named self.old.names (name.entry ∷ targets.entry))
+            ≡ Ok self.new) }
         ensures whole { IfSome result (λ _. IsTrue (is_whole (Flush name.entry targets.entry))) }
     {
         let item = self.names.find(name.bytes())?;
@@ -176,7 +186,9 @@ impl<'a, A: Allocator + Copy> Parts<'a, A> {
     /// Adds the flush of a whole workqueue.
     fn take_whole(&mut self, name: Word<'a>, target: Word<'a>) -> Option<()>
         requires { IsTable self.old }
-        ensures table { IfSome result (λ _. (n : ℕ) → flushes_declared self.old n true (items_named self.old.names (name.entry ∷ target.entry ∷ [])) ≡ Ok self.new) }
+        ensures table { IfSome result (λ _. (n : ℕ)
+            → flushes_declared self.old n true (items_named self.old.names (name.entry ∷ target.entry ∷ []))
+            ≡ Ok self.new) }
         ensures whole { IfSome result (λ _. IsTrue (is_whole (FlushWq name.entry target.entry))) }
     {
         let place = self.waits.len() as u32;
@@ -186,9 +198,11 @@ impl<'a, A: Allocator + Copy> Parts<'a, A> {
     /// Adds nothing, if there are words and each of them names an item.
     fn take_order(&mut self, names: Words<'a>) -> Option<()>
         requires { IsTable self.old }
-        ensures table { IfSome result (λ _. (n : ℕ) → items_ordered self.old n (items_named self.old.names names.entry) ≡ Ok self.new) }
+        ensures table { IfSome result (λ _. (n : ℕ)
+            → items_ordered self.old n (items_named self.old.names names.entry) ≡ Ok self.new) }
         ensures whole { IfSome result (λ _. IsTrue (is_whole (Ordered names.entry))) }
-        ensures none { IfNone result ((n : ℕ) → IsTrue (is_whole (Ordered names.entry)) → ¬ IsOk (items_ordered self.old n (items_named self.old.names names.entry))) }
+        ensures none { IfNone result ((n : ℕ) → IsTrue (is_whole (Ordered names.entry))
+            → ¬ IsOk (items_ordered self.old n (items_named self.old.names names.entry))) }
     {
         if note_known(&self.names, &mut self.noted, names.again())? == 0 {
             return None;
@@ -213,8 +227,8 @@ impl<'a, A: Allocator + Copy> Parts<'a, A> {
     }
 }
 
-/// Notes an item that an `ordered` line names, if there is memory for it. Of more names than a table has items one is there twice, so
-/// no more are noted.
+/// Notes an item that an `ordered` line names, if there is memory for it. Of more names than a table has items one is
+/// there twice, so no more are noted.
 fn note<A: Allocator>(noted: &mut Vec<ItemId, A>, item: ItemId) {
     if noted.len() < MAX_ITEMS {
         noted.push(item).ok();
@@ -270,7 +284,8 @@ impl<'a> Orders<'a> {
         ensures other { is_ordered ≡ false → self.new ≡ self.old }
         ensures first { is_ordered ≡ true → self.old.any ≡ false → self.new.lines ≡ here.now }
         ensures later { self.old.any ≡ true → self.new.lines ≡ self.old.lines }
-        ensures count { is_ordered ≡ true → (n : ℕ) → self.new.count ≡ Some n → (0 < n) × (self.old.count ≡ Some (n - 1)) }
+        ensures count { is_ordered ≡ true → (n : ℕ) → self.new.count ≡ Some n
+            → (0 < n) × (self.old.count ≡ Some (n - 1)) }
     {
         if is_ordered {
             if !self.any {
@@ -285,11 +300,11 @@ impl<'a> Orders<'a> {
 /// The directives of a text and the table that they declare, if no line has a fault: what `DeclView::new` and
 /// `ItemTable::read_seeded` answer, in one pass. The names are hashed with this seed, on which no answer depends.
 ///
-/// The items that the `ordered` lines name are handed out, too, in turn: a guess for each name that `Groups::read_guessed` looks
-/// up. Nothing is promised of them.
+/// The items that the `ordered` lines name are handed out, too, in turn: a guess for each name that
+/// `Groups::read_guessed` looks up. Nothing is promised of them.
 ///
-/// There is no answer where some line has a fault, of the grammar or of the items; or where a growth was refused, at a line
-/// that declares an item or a flush.
+/// There is no answer where some line has a fault, of the grammar or of the items; or where a growth was refused, at a
+/// line that declares an item or a flush.
 pub fn read_at_once<'a, A: Allocator + Copy>(
     alloc: A,
     seed: u64,
@@ -298,7 +313,8 @@ pub fn read_at_once<'a, A: Allocator + Copy>(
     ensures faultless { IfSome result (λ _. first_fault (lines_of text.now) ≡ None) }
     ensures view { IfSome result (λ r. r.0 ≡ directives (lines_of text.now)) }
     ensures table { IfSome result (λ r. table_of (directives (lines_of text.now)) ≡ Ok r.1) }
-    ensures memory { IfNone result (first_fault (lines_of text.now) ≡ None → IsOk (table_of (directives (lines_of text.now)))
+    ensures memory { IfNone result (first_fault (lines_of text.now) ≡ None
+        → IsOk (table_of (directives (lines_of text.now)))
         → RanOut (directives (lines_of text.now))) }
 {
     let mut parts = Parts::new(alloc, seed);

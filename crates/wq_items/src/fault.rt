@@ -1,7 +1,7 @@
 //! Why directives don't make a table.
 //!
-//! The faults are those of the pass over the items in the table of refusals in docs/FORMAT.md. The rules that they break are in
-//! its "Items and groups" and "Limits". Each answer takes constant time.
+//! The faults are those of the pass over the items in the table of refusals in docs/FORMAT.md. The rules that they
+//! break are in its "Items and groups" and "Limits". Each answer takes constant time.
 
 ghost use Rattle.std.specs.Prelude.{◌≡◌};
 ghost use Rattle.wq_items.specs.Building.{item_refusal};
@@ -10,8 +10,8 @@ ghost use Rattle.wq_items.specs.declared.fault.ItemError.TheVariants.{OutOfMemor
 use std::alloc::{AllocError, AllocFailed};
 use thiserror::Error;
 
-/// The first fault of the directives, or out of memory. The rows of the table of refusals in docs/FORMAT.md say which fault of a
-/// line is the first.
+/// The first fault of the directives, or out of memory. The rows of the table of refusals in docs/FORMAT.md say which
+/// fault of a line is the first.
 #[derive(Clone, Copy, Debug, PartialEq, Eq, Error)]
 pub enum ItemError {
     /// The item is already declared (7).

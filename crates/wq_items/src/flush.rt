@@ -1,7 +1,7 @@
 //! The flushes that a declaration declares, in order of place, while its lines are read.
 //!
-//! They are those of "Items and groups" in docs/FORMAT.md. All flushes of all items are in one vector. Each call takes constant
-//! time, on average for a push, except for `by_item`, which takes time in the number of items and flushes.
+//! They are those of "Items and groups" in docs/FORMAT.md. All flushes of all items are in one vector. Each call takes
+//! constant time, on average for a push, except for `by_item`, which takes time in the number of items and flushes.
 
 ghost use Rattle.std.specs.Prelude.{◌≡◌, ◌<◌, ◌++◌, ◌∷◌, [], length, slice_set, OnOk, OnErr, IfOk, IfErr};
 ghost use Rattle.wq_items.specs.Table.{targets_of, flush_count};
@@ -37,7 +37,8 @@ impl<A: Allocator> Model for Flushes<A> {
 
     ghost view = { λ f. waits_of f.flushes.items f.items };
 
-    ghost invariant = { λ f. All (λ (x : Flush). x.item < f.items) f.flushes.items × (length f.flushes.items ≡ flush_count (waits_of f.flushes.items f.items)) };
+    ghost invariant = { λ f. All (λ (x : Flush). x.item < f.items) f.flushes.items
+        × (length f.flushes.items ≡ flush_count (waits_of f.flushes.items f.items)) };
 }
 
 impl<A: Allocator + Copy> Flushes<A> {
@@ -81,8 +82,8 @@ impl<A: Allocator + Copy> Flushes<A> {
         Ok(())
     }
 
-    /// Makes room for four times as many flushes where there is none for another, so that few growths move them all. If this memory is
-    /// refused, the next flush that is added asks for less.
+    /// Makes room for four times as many flushes where there is none for another, so that few growths move them all. If
+    /// this memory is refused, the next flush that is added asks for less.
     fn make_room(&mut self)
         ensures { self.new ≡ self.old }
     {

@@ -1,11 +1,12 @@
 //! Names as keys of a map, and how they are hashed.
 //!
-//! Names come from a stranger's text. Whoever knows how they are hashed can choose thousands that have the same hash, and each of
-//! them is then found only after all the others. So a hash depends on a seed, which the program chooses. No answer depends on the
-//! seed: what a map finds is defined without its hashes.
+//! Names come from a stranger's text. Whoever knows how they are hashed can choose thousands that have the same hash,
+//! and each of them is then found only after all the others. So a hash depends on a seed, which the program chooses. No
+//! answer depends on the seed: what a map finds is defined without its hashes.
 //!
-//! A name is hashed in time in its length, in one pass. Most names have at most eight bytes: of these a number is hashed and
-//! compared that stands for all of their bytes (`short`). A name keeps its hash, so that a map doesn't hash it again.
+//! A name is hashed in time in its length, in one pass. Most names have at most eight
+//! bytes: of these a number is hashed and compared that stands for all of their bytes
+//! (`short`). A name keeps its hash, so that a map doesn't hash it again.
 
 ghost use Rattle.std.specs.Prelude.{◌≡◌, ◌==◌, ◌&&◌, List, ℕ, if◌then◌else◌, bytes_eq};
 ghost use Rattle.std.specs.Hash as fed;

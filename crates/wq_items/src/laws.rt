@@ -2,7 +2,8 @@
 //!
 //! `Building` makes the table of a declaration line by line. The laws say what that means for the whole list of lines.
 
-ghost use Rattle.std.specs.Prelude.{◌≡◌, ◌↔◌, ℕ, List, length, map, Ok, Err, IsOk, slice_get, slice_range, filter_map, Some};
+ghost use Rattle.std.specs.Prelude.{◌≡◌, ◌↔◌, ℕ, List, length, map, Ok, Err, IsOk, slice_get, slice_range, filter_map};
+ghost use Rattle.std.specs.Prelude.{Some};
 ghost use Rattle.std.specs.List.{AllByRecursion, enumerate_from};
 ghost use Rattle.wq_text.specs.declared.span.Span.{Span};
 ghost use Rattle.wq_text.specs.Lines.{lines_of};
@@ -22,11 +23,15 @@ pub fn items_are_those_of_the_item_lines()
 
 /// The names of a text's table are slices of the text: each is where its span says.
 pub fn names_are_slices_of_the_text()
-    ensures each { (text : List ℕ) (t : Table) (i : ℕ) (name : List ℕ) (span : Span) → table_of (directives (lines_of text)) ≡ Ok t → slice_get t.names i ≡ Some name → slice_get t.spans i ≡ Some span → slice_range text span.start span.end ≡ name }
-    ensures all { (text : List ℕ) (t : Table) → table_of (directives (lines_of text)) ≡ Ok t → t.names ≡ map (λ (span : Span). slice_range text span.start span.end) t.spans }
+    ensures each { (text : List ℕ) (t : Table) (i : ℕ) (name : List ℕ) (span : Span) →
+        table_of (directives (lines_of text)) ≡ Ok t → slice_get t.names i ≡ Some name →
+        slice_get t.spans i ≡ Some span → slice_range text span.start span.end ≡ name }
+    ensures all { (text : List ℕ) (t : Table) → table_of (directives (lines_of text)) ≡ Ok t →
+        t.names ≡ map (λ (span : Span). slice_range text span.start span.end) t.spans }
 {}
 
-/// Directives make a table exactly where they are faultless. Otherwise the fault is that of the first one after faultless ones.
+/// Directives make a table exactly where they are faultless. Otherwise the fault is
+/// that of the first one after faultless ones.
 pub fn faults_without_tables()
     ensures none { (ds : List (ℕ × Directive)) → IsOk (table_of ds) ↔ IsFaultless ds }
     ensures lowest { (ds : List (ℕ × Directive)) (e : ItemError) → (table_of ds ≡ Err e) ↔ IsLowestItemFault ds e }
@@ -34,12 +39,15 @@ pub fn faults_without_tables()
 
 /// What holds of every table holds of the one that directives with names declare.
 pub fn tables_are_sound()
-    ensures { (ds : List (ℕ × Directive)) (t : Table) → AllByRecursion (λ (d : ℕ × Directive). HasNames d.1) ds → table_of ds ≡ Ok t → IsTable t }
+    ensures { (ds : List (ℕ × Directive)) (t : Table) → AllByRecursion (λ (d : ℕ × Directive). HasNames d.1) ds →
+        table_of ds ≡ Ok t → IsTable t }
 {}
 
-/// The targets of an item are the flushes of the whole text, numbered from 0, that name it: each by its kind and the name of the
-/// target, with its number as its place. There is one target for each flush.
+/// The targets of an item are the flushes of the whole text, numbered from 0, that name it: each by its kind and the
+/// name of the target, with its number as its place. There is one target for each flush.
 pub fn targets_are_those_of_the_flush_lines()
-    ensures count { (ds : List (ℕ × Directive)) (t : Table) → table_of ds ≡ Ok t → flush_count t.waits ≡ length (flushes ds) }
-    ensures targets { (ds : List (ℕ × Directive)) (t : Table) (i : ℕ) (name : List ℕ) → table_of ds ≡ Ok t → slice_get t.names i ≡ Some name → named_targets t i ≡ flushes_of name (enumerate_from 0 (flushes ds)) }
+    ensures count { (ds : List (ℕ × Directive)) (t : Table) → table_of ds ≡ Ok t →
+        flush_count t.waits ≡ length (flushes ds) }
+    ensures targets { (ds : List (ℕ × Directive)) (t : Table) (i : ℕ) (name : List ℕ) → table_of ds ≡ Ok t →
+        slice_get t.names i ≡ Some name → named_targets t i ≡ flushes_of name (enumerate_from 0 (flushes ds)) }
 {}

@@ -1,11 +1,11 @@
 //! The items of a declaration and the flushes that they declare: the third pass.
 //!
-//! What the layer above relies on: items and waits are those that the directives declare, or else the error is the first fault;
-//! and what holds of every table, above all its limits (`IsTable`). The rules are those of "Items and groups" in docs/FORMAT.md.
-//! An item stands for a `struct work_struct`, a flush for `flush_work` in its function, or for `flush_workqueue` where it is of a
-//! whole workqueue (Documentation/core-api/workqueue.rst; kernel/workqueue.c). Of the items that share one ordered workqueue, only
-//! the names are looked up here. Reading a table takes time in the length of the text, on average. Questions to a table take
-//! constant time.
+//! What the layer above relies on: items and waits are those that the directives declare, or else the error is the
+//! first fault; and what holds of every table, above all its limits (`IsTable`). The rules are those of "Items and
+//! groups" in docs/FORMAT.md. An item stands for a `struct work_struct`, a flush for `flush_work` in its function, or
+//! for `flush_workqueue` where it is of a whole workqueue (Documentation/core-api/workqueue.rst; kernel/workqueue.c).
+//! Of the items that share one ordered workqueue, only the names are looked up here. Reading a table takes time in the
+//! length of the text, on average. Questions to a table take constant time.
 #![tactic(auto)]
 
 mod at_once;

@@ -1,11 +1,11 @@
 //! The names of a finished table, each with its number.
 //!
-//! While a table is read, `Names` numbers its names by a map. A map can take more names, and the library that it comes from is
-//! large. So a finished table keeps its names in a vector, and finds them by key: some bits of the hash that each name brings.
-//! Of each key it knows the last place, and of each place the one before it that has the same key. There are at least four keys
-//! for each name. So making this takes time and memory in the number of names, without hashing or comparing one; and a name
-//! is found in constant time on average: it is hashed once, and compared with hardly any other. The names themselves stay in the
-//! text.
+//! While a table is read, `Names` numbers its names by a map. A map can take more names, and the library that it comes
+//! from is large. So a finished table keeps its names in a vector, and finds them by key: some bits of the hash that
+//! each name brings. Of each key it knows the last place, and of each place the one before it that has the same key.
+//! There are at least four keys for each name. So making this takes time and memory in the number of names, without
+//! hashing or comparing one; and a name is found in constant time on average: it is hashed once, and compared with
+//! hardly any other. The names themselves stay in the text.
 
 ghost use Rattle.std.specs.Prelude.{◌≡◌, ◌≢◌, ◌-◌, ◌<◌, ◌≤◌, ℕ, List, length, Some, slice_get, IfOk, IfErr, AllPairs};
 ghost use Rattle.std.specs.Int.Bits.{bit_and};
@@ -68,7 +68,9 @@ impl<A: Allocator + Copy> Places<A> {
         requires some { 0 < length names.now }
         requires few { length names.now ≤ 4096 }
         ensures keyed { IfOk result (λ places. 0 < length places.lasts.items) }
-        ensures linked { IfOk result (λ places. AreLinked (keys_of (length places.lasts.items - 1) names.now) (length names.now) places.lasts.items places.befores.items) }
+        ensures linked { IfOk result (λ places.
+            AreLinked (keys_of (length places.lasts.items - 1) names.now)
+            (length names.now) places.lasts.items places.befores.items) }
     {
         let count = keys_for(names.len());
         let mut lasts = vec![in alloc; 0u16; count]?;

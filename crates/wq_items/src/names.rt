@@ -1,9 +1,10 @@
 //! Names, each with its number.
 //!
-//! No name is declared twice, by "Items and groups" in docs/FORMAT.md. A name is found in constant time on average, by its hash,
-//! which depends on a seed. The names themselves stay in the text. `find` and `add` hash their name once.
+//! No name is declared twice, by "Items and groups" in docs/FORMAT.md. A name is found in constant time on average, by
+//! its hash, which depends on a seed. The names themselves stay in the text. `find` and `add` hash their name once.
 
-ghost use Rattle.std.specs.Prelude.{◌≡◌, ◌≢◌, ◌<◌, ◌≤◌, ◌++◌, ◌∷◌, [], List, ℕ, length, is_some, not, false, AllPairs, IfOk, IfErr, OnErr, if◌then◌else◌};
+ghost use Rattle.std.specs.Prelude.{◌≡◌, ◌≢◌, ◌<◌, ◌≤◌, ◌++◌, ◌∷◌, [], List, ℕ, length, is_some, not, false, AllPairs};
+ghost use Rattle.std.specs.Prelude.{IfOk, IfErr, OnErr, if◌then◌else◌};
 ghost use Rattle.wq_items.specs.Table.{item_named};
 
 use crate::hashing::{Brought, Name, Seeded};
@@ -66,8 +67,8 @@ impl<'a, A: Allocator + Copy> Names<'a, A> {
         Ok(added)
     }
 
-    /// Makes room for eight times as many names where there is none for another, so that few growths move them all. If this memory
-    /// is refused, the next name that is added asks for less.
+    /// Makes room for eight times as many names where there is none for another, so that few growths move them all. If
+    /// this memory is refused, the next name that is added asks for less.
     fn make_room(&mut self)
         ensures { self.new ≡ self.old }
     {
@@ -77,7 +78,8 @@ impl<'a, A: Allocator + Copy> Names<'a, A> {
         }
     }
 
-    /// The names with their numbers, without the map. The only error is out of memory, which can't occur where there is no name.
+    /// The names with their numbers, without the map. The only error is out of
+    /// memory, which can't occur where there is no name.
     pub(crate) fn finish(self, alloc: A) -> Result<Named<'a, A>, AllocError>
         requires few { length self ≤ 4096 }
         requires distinct { AllPairs (λ (a b : List ℕ). a ≢ b) self }

@@ -1,7 +1,8 @@
 //! Short names, of four to eight bytes, and tiny ones, of one to three.
 //!
-//! The first four bytes of a short name and its last four, which may overlap, are all of them. So it is read as two numbers of four
-//! bytes, whatever its length. Of a tiny name the first byte, the middle one and the last are all. Each call takes constant time.
+//! The first four bytes of a short name and its last four, which may overlap, are all of
+//! them. So it is read as two numbers of four bytes, whatever its length. Of a tiny name
+//! the first byte, the middle one and the last are all. Each call takes constant time.
 
 ghost use Rattle.std.specs.Prelude.{◌≡◌, ◌≤◌, length, take, IsTrue, bytes_eq};
 ghost use Rattle.wq_items.specs.Short.{is_short, last_four, short_number, is_tiny, tiny_number};

@@ -1,20 +1,23 @@
 //! The table of items: names, where they are, and what each item flushes.
 //!
-//! The rules are those of "Items and groups" in docs/FORMAT.md. Of an `ordered` line only the names are looked up here; it
-//! changes nothing in the table.
+//! The rules are those of "Items and groups" in docs/FORMAT.md. Of an `ordered` line only the names are looked up here;
+//! it changes nothing in the table.
 //!
-//! Reading takes time in the length of the names and words of the declaration, on average, and memory in the number of items and
-//! flushes. Each name is looked up once, and once more on a line that is refused. While the lines are read, all flushes are in
-//! one vector, in order of place (`Building`). At the end they are sorted by their items. Afterwards each question is answered in
-//! constant time, except for `find`, which takes the time to hash a name.
+//! Reading takes time in the length of the names and words of the declaration, on average, and memory in the number of
+//! items and flushes. Each name is looked up once, and once more on a line that is refused. While the lines are read,
+//! all flushes are in one vector, in order of place (`Building`). At the end they are sorted by their items. Afterwards
+//! each question is answered in constant time, except for `find`, which takes the time to hash a name.
 
-ghost use Rattle.std.specs.Prelude.{◌≡◌, ◌+◌, ◌^◌, ◌<◌, ◌≤◌, ℕ, [], true, false, length, Ok, Err, IfOk, IfErr, IfSome, IfNone, OnErr, IsOk, slice_get, slice_set, Some, IsTrue, ◌↔◌, ◌∷◌, ◌++◌, option_map};
+ghost use Rattle.std.specs.Prelude.{◌≡◌, ◌+◌, ◌^◌, ◌<◌, ◌≤◌, ℕ, [], true, false, length, Ok, Err, IfOk, IfErr, IfSome};
+ghost use Rattle.std.specs.Prelude.{IfNone, OnErr, IsOk, slice_get, slice_set, Some, IsTrue, ◌↔◌, ◌∷◌, ◌++◌};
+ghost use Rattle.std.specs.Prelude.{option_map};
 ghost use Rattle.wq_decl.specs.Names.{is_name};
 ghost use Rattle.wq_decl.specs.Reading.{HasNames};
 ghost use Rattle.wq_items.specs.Table.{Table, IsTable, item_named, targets_of, flush_count};
 ghost use Rattle.wq_items.specs.declared.fault.ItemError.TheVariants.{OutOfMemory};
 ghost use Rattle.wq_items.specs.FirstFault.{RanOut, DeclaresMore};
-ghost use Rattle.wq_items.specs.Building.{table_of, declared, item_declared, flushes_declared, items_ordered, items_named, and_item, targets_from, empty_table, IsFaultOf, AddsWhole};
+ghost use Rattle.wq_items.specs.Building.{table_of, declared, item_declared, flushes_declared, items_ordered};
+ghost use Rattle.wq_items.specs.Building.{items_named, and_item, targets_from, empty_table, IsFaultOf, AddsWhole};
 
 use crate::fault::ItemError;
 use crate::flush::Flushes;
@@ -54,7 +57,8 @@ impl<'a, A: Allocator> Model for ItemTable<'a, A> {
 
     ghost view = { λ t. record { names = t.names; spans = t.spans.items; waits = t.waits } };
 
-    ghost invariant = { λ t. IsTable (record { names = t.names; spans = t.spans.items; waits = t.waits }) × (t.flushes ≡ flush_count t.waits) };
+    ghost invariant = { λ t. IsTable (record { names = t.names; spans = t.spans.items; waits = t.waits })
+        × (t.flushes ≡ flush_count t.waits) };
 }
 
 /// A table whose lines are being read. Contracts see what they see of a table.
@@ -74,7 +78,8 @@ impl<'a, A: Allocator> Model for Building<'a, A> {
 
     ghost view = { λ t. record { names = t.names; spans = t.spans.items; waits = t.waits } };
 
-    ghost invariant = { λ t. IsTable (record { names = t.names; spans = t.spans.items; waits = t.waits }) × (t.flushes ≡ flush_count t.waits) };
+    ghost invariant = { λ t. IsTable (record { names = t.names; spans = t.spans.items; waits = t.waits })
+        × (t.flushes ≡ flush_count t.waits) };
 }
 
 /// How many words there are, if each names an item.
@@ -90,8 +95,8 @@ fn count_known<'a, A: Allocator + Copy>(names: &Names<'a, A>, words: Words<'a>) 
     Some(count)
 }
 
-/// Adds targets of one item, at the places from `place` on, and returns the place after them. It returns nothing where a name is
-/// unknown, where there are too many flushes, or where memory ran out; `refusal` says which it is.
+/// Adds targets of one item, at the places from `place` on, and returns the place after them. It returns nothing where
+/// a name is unknown, where there are too many flushes, or where memory ran out; `refusal` says which it is.
 #[inline(always)]
 pub(crate) fn push_targets<'a, A: Allocator + Copy>(
     names: &Names<'a, A>,
@@ -103,7 +108,9 @@ pub(crate) fn push_targets<'a, A: Allocator + Copy>(
     requires item { item < length waits.old }
     requires items { length names.now ≤ 4096 }
     requires room { place ≤ 16384 }
-    ensures next { IfSome result (λ next. option_map (λ items. place + length items) (items_named names.now targets.entry) ≡ Some next) }
+    ensures next { IfSome result (λ next.
+        option_map (λ items. place + length items) (items_named names.now targets.entry)
+        ≡ Some next) }
     ensures room { IfSome result (λ next. next ≤ 16384) }
     ensures added { IfSome result (λ _. IfSome (items_named names.now targets.entry) (λ items.
         waits.new ≡ slice_set waits.old item (targets_of waits.old item ++ targets_from false place items))) }
@@ -126,8 +133,9 @@ pub(crate) fn push_targets<'a, A: Allocator + Copy>(
     Some(next)
 }
 
-/// Adds the whole workqueue of the item with one name to the targets of the item with another, at this place. It returns nothing
-/// where a name is unknown, where there are too many flushes, or where memory ran out; `refusal_of_whole` says which it is.
+/// Adds the whole workqueue of the item with one name to the targets of the item with another, at this place. It
+/// returns nothing where a name is unknown, where there are too many flushes, or where memory ran out;
+/// `refusal_of_whole` says which it is.
 pub(crate) fn push_whole<'a, A: Allocator + Copy>(
     names: &Names<'a, A>,
     waits: &mut Flushes<A>,
@@ -138,7 +146,8 @@ pub(crate) fn push_whole<'a, A: Allocator + Copy>(
     requires each { length waits.old ≡ length names.now }
     requires items { length names.now ≤ 4096 }
     ensures room { IfSome result (λ _. place < 16384) }
-    ensures added { IfSome result (λ _. AddsWhole names.now waits.old name.entry.bytes target.entry.bytes place waits.new) }
+    ensures added { IfSome result (λ _.
+        AddsWhole names.now waits.old name.entry.bytes target.entry.bytes place waits.new) }
 {
     let item = names.find(name.bytes())?;
     let other = names.find(target.bytes())?;
@@ -288,9 +297,15 @@ impl<'a, A: Allocator + Copy> Building<'a, A> {
         name: Word<'a>,
         targets: Words<'a>,
     ) -> Result<Self, ItemError>
-        ensures table { IfOk result (λ t. flushes_declared self.entry line false (items_named self.entry.names (name.entry ∷ targets.entry)) ≡ Ok t) }
-        ensures fault { IfErr result (λ e. IsFaultOf e (flushes_declared self.entry line false (items_named self.entry.names (name.entry ∷ targets.entry)))) }
-        ensures memory { IfErr result (λ e. e ≡ OutOfMemory → IsOk (flushes_declared self.entry line false (items_named self.entry.names (name.entry ∷ targets.entry)))) }
+        ensures table { IfOk result (λ t.
+            flushes_declared self.entry line false (items_named self.entry.names (name.entry ∷ targets.entry))
+            ≡ Ok t) }
+        ensures fault { IfErr result (λ e.
+            IsFaultOf e
+            (flushes_declared self.entry line false (items_named self.entry.names (name.entry ∷ targets.entry)))) }
+        ensures memory { IfErr result (λ e. e ≡ OutOfMemory
+            → IsOk
+            (flushes_declared self.entry line false (items_named self.entry.names (name.entry ∷ targets.entry)))) }
         ensures grows { IfErr result (λ e. e ≡ OutOfMemory → 0 < length targets.entry) }
     {
         let Some(item) = self.names.find(name.bytes()) else {
@@ -315,9 +330,17 @@ impl<'a, A: Allocator + Copy> Building<'a, A> {
 
     /// The table with a flush of the whole workqueue of an item.
     fn declare_whole(self, line: u32, name: Word<'a>, target: Word<'a>) -> Result<Self, ItemError>
-        ensures table { IfOk result (λ t. flushes_declared self.entry line true (items_named self.entry.names (name.entry ∷ target.entry ∷ [])) ≡ Ok t) }
-        ensures fault { IfErr result (λ e. IsFaultOf e (flushes_declared self.entry line true (items_named self.entry.names (name.entry ∷ target.entry ∷ [])))) }
-        ensures memory { IfErr result (λ e. e ≡ OutOfMemory → IsOk (flushes_declared self.entry line true (items_named self.entry.names (name.entry ∷ target.entry ∷ [])))) }
+        ensures table { IfOk result (λ t.
+            flushes_declared self.entry line true (items_named self.entry.names (name.entry ∷ target.entry ∷ []))
+            ≡ Ok t) }
+        ensures fault { IfErr result (λ e.
+            IsFaultOf e
+            (flushes_declared self.entry line true
+            (items_named self.entry.names (name.entry ∷ target.entry ∷ [])))) }
+        ensures memory { IfErr result (λ e. e ≡ OutOfMemory
+            → IsOk
+            (flushes_declared self.entry line true
+            (items_named self.entry.names (name.entry ∷ target.entry ∷ [])))) }
     {
         let Building {
             names,
@@ -338,8 +361,10 @@ impl<'a, A: Allocator + Copy> Building<'a, A> {
 
     /// The table as it is, if each of these words names an item.
     fn declare_order(self, line: u32, names: Words<'a>) -> Result<Self, ItemError>
-        ensures table { IfOk result (λ t. items_ordered self.entry line (items_named self.entry.names names.entry) ≡ Ok t) }
-        ensures fault { IfErr result (λ e. items_ordered self.entry line (items_named self.entry.names names.entry) ≡ Err e) }
+        ensures table { IfOk result (λ t. items_ordered self.entry line (items_named self.entry.names names.entry)
+            ≡ Ok t) }
+        ensures fault { IfErr result (λ e. items_ordered self.entry line (items_named self.entry.names names.entry)
+            ≡ Err e) }
     {
         if count_known(&self.names, names.again()).is_none() {
             return Err(ItemError::UnknownItem { line });
@@ -371,12 +396,12 @@ impl<'a, A: Allocator + Copy> Building<'a, A> {
 impl<'a, A: Allocator + Copy> ItemTable<'a, A> {
     /// Reads the table that the directives of a view declare.
     ///
-    /// Each target of a `flush` line is a flush of its own. An `ordered` line adds nothing, but each name on it must be declared
-    /// by an earlier `item` line, like each name on a `flush` line.
+    /// Each target of a `flush` line is a flush of its own. An `ordered` line adds nothing, but each name on it must be
+    /// declared by an earlier `item` line, like each name on a `flush` line.
     ///
-    /// The error is the first fault, of the lowest line that has one: `ItemTwice` (7), `TooManyItems` (9), `UnknownItem` (8) or
-    /// `TooManyFlushes` (10), in this order in a line; or `OutOfMemory` (20), where a growth was refused before it, at a line
-    /// that declares an item or a flush.
+    /// The error is the first fault, of the lowest line that has one: `ItemTwice` (7), `TooManyItems` (9),
+    /// `UnknownItem` (8) or `TooManyFlushes` (10), in this order in a line; or `OutOfMemory` (20), where a growth was
+    /// refused before it, at a line that declares an item or a flush.
     pub fn read(alloc: A, view: &DeclView<'a>) -> Result<Self, ItemError>
         ensures table { IfOk result (λ t. table_of view.now ≡ Ok t) }
         ensures fault { IfErr result (λ e. IsFaultOf e (table_of view.now)) }
@@ -387,8 +412,8 @@ impl<'a, A: Allocator + Copy> ItemTable<'a, A> {
 
     /// Reads the same table, with a seed for the hashes of names.
     ///
-    /// The answer doesn't depend on the seed, but the time of reading does. With a seed that is chosen at random, whoever wrote
-    /// the text can't know which names have the same hash.
+    /// The answer doesn't depend on the seed, but the time of reading does. With a seed that is chosen at random,
+    /// whoever wrote the text can't know which names have the same hash.
     pub fn read_seeded(alloc: A, seed: u64, view: &DeclView<'a>) -> Result<Self, ItemError>
         ensures table { IfOk result (λ t. table_of view.now ≡ Ok t) }
         ensures fault { IfErr result (λ e. IsFaultOf e (table_of view.now)) }

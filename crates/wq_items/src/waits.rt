@@ -1,8 +1,8 @@
 //! The targets of each item, in order of place, in one vector.
 //!
-//! They are the waits of "Items and groups" in docs/FORMAT.md. The targets of item 0 come first, and for each item it is known
-//! where its targets begin. `wq_buckets` finds the flushes of each item, and nothing is compared. Making them takes time and
-//! memory in the number of items and flushes. The targets of an item are found in constant time.
+//! They are the waits of "Items and groups" in docs/FORMAT.md. The targets of item 0 come first, and for each item it
+//! is known where its targets begin. `wq_buckets` finds the flushes of each item, and nothing is compared. Making them
+//! takes time and memory in the number of items and flushes. The targets of an item are found in constant time.
 
 ghost use Rattle.std.specs.Prelude.{◌≡◌, ◌<◌, ◌++◌, length, map, get_or, IfOk, IfErr};
 ghost use Rattle.std.specs.List.{All};
@@ -56,7 +56,8 @@ fn targets_at<A: Allocator + Copy>(
     places: &[u32],
 ) -> Result<Vec<Target, A>, AllocError>
     requires { All (λ p. p < length flushes.now) places.now }
-    ensures { IfOk result (λ targets. (d : Flush) → targets.items ≡ map (λ p. (get_or flushes.now p d).target) places.now) }
+    ensures { IfOk result (λ targets. (d : Flush)
+        → targets.items ≡ map (λ p. (get_or flushes.now p d).target) places.now) }
 {
     let mut targets = Vec::with_capacity(alloc, places.len())?;
     for place in places {

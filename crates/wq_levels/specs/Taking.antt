@@ -1,6 +1,7 @@
--- Removing vertices from a wait graph: a vertex is removed once all of its arcs are gone, and the arcs that lead to it go with
--- it.
-use Rattle.std.specs.Prelude.{◌≡◌, ◌↔◌, ℕ, ◌+◌, ◌-◌, ◌<◌, ◌==◌, cond, max, List, [], ◌∷◌, ◌++◌, length, map, flat_map, replicate, fold, count_by, slice_index, slice_index_or, slice_set, Contains}
+-- Removing vertices from a wait graph: a vertex is removed once all of its arcs are
+-- gone, and the arcs that lead to it go with it.
+use Rattle.std.specs.Prelude.{◌≡◌, ◌↔◌, ℕ, ◌+◌, ◌-◌, ◌<◌, ◌==◌, cond, max, List, [], ◌∷◌, ◌++◌, length, map, flat_map}
+use Rattle.std.specs.Prelude.{replicate, fold, count_by, slice_index, slice_index_or, slice_set, Contains}
 use Rattle.std.specs.List.{range_with_len}
 use Rattle.wq_buckets.specs.Places.{places_of}
 use Rattle.wq_items.specs.Chain.{IsRank, Repeats}
@@ -37,12 +38,13 @@ tails_of graph = flat_map (λ v. replicate (length (arcs_at graph v)) v) (range_
 
 -- for each vertex in turn, the vertices from which arcs lead to it
 abbrev pub tails_by_head : List (List WaitArc) → List (List ℕ)
-tails_by_head graph = map (λ w. map (slice_index (tails_of graph)) (places_of (heads_of graph) w)) (range_with_len 0 (length graph))
+tails_by_head graph =
+    map (λ w. map (slice_index (tails_of graph)) (places_of (heads_of graph) w)) (range_with_len 0 (length graph))
 
 -- ---- under way
 
--- for each vertex, how many of its arcs aren't gone, and its rank by those that are; and the vertices whose arcs are all gone,
--- in the order in which that happened
+-- for each vertex, how many of its arcs aren't gone, and its rank by those that are; and the vertices whose arcs are
+-- all gone, in the order in which that happened
 pub record Taking : Type 0 where
   pub remaining : List ℕ
   pub ranks : List ℕ

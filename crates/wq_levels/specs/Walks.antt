@@ -1,12 +1,13 @@
 -- Walks along arcs of a wait graph, and the circle that is answered if there is one.
-use Rattle.std.specs.Prelude.{◌≡◌, ◌≢◌, ◌↔◌, ℕ, ◌+◌, ◌-◌, ◌<◌, ◌≤◌, List, [], ◌∷◌, ◌++◌, length, slice_index, slice_index_or, SomeIndex, Contains, AllPairs}
+use Rattle.std.specs.Prelude.{◌≡◌, ◌≢◌, ◌↔◌, ℕ, ◌+◌, ◌-◌, ◌<◌, ◌≤◌, List, [], ◌∷◌, ◌++◌, length, slice_index}
+use Rattle.std.specs.Prelude.{slice_index_or, SomeIndex, Contains, AllPairs}
 use Rattle.std.specs.List.{All}
 use Rattle.wq_items.specs.Chain.{BeginsChain}
 use Rattle.wq_graph.specs.declared.arc.WaitArc.{WaitArc}
 use Rattle.wq_graph.specs.Graph.{HasArc, arcs_at}
 
--- a chain that is one vertex longer than the graph has vertices begins at v: so v stays, however often the vertices without an
--- arc into what is left are removed
+-- a chain that is one vertex longer than the graph has vertices begins at v: so v stays, however often the vertices
+-- without an arc into what is left are removed
 abbrev pub Remains : List (List WaitArc) → ℕ → Type 0
 Remains graph v = (v < length graph) × BeginsChain (HasArc graph) v (length graph + 1)
 
@@ -37,9 +38,9 @@ abbrev pub vertices_walked : ℕ → List WaitArc → List ℕ
 vertices_walked v [] = []
 vertices_walked v (a ∷ arcs) = v ∷ vertices_walked a.head arcs
 
--- the circle of the walk from the least remaining vertex. The walk leads to the entry of the circle, and then round it and back
--- to the entry. Until then it leaves no vertex twice, so the entry is the first vertex that repeats. What leads to the entry
--- isn't part of the circle
+-- the circle of the walk from the least remaining vertex. The walk leads to the entry of the circle, and then round it
+-- and back to the entry. Until then it leaves no vertex twice, so the entry is the first vertex that repeats. What
+-- leads to the entry isn't part of the circle
 pub record IsWalkedCircle (graph : List (List WaitArc)) (circle : List WaitArc) : Type 0 where
   pub start : ℕ
   pub least : IsLeastRemaining graph start
@@ -50,13 +51,16 @@ pub record IsWalkedCircle (graph : List (List WaitArc)) (circle : List WaitArc) 
   pub some : circle ≢ []
   pub once : AllPairs (λ (v w : ℕ). v ≢ w) (vertices_walked start (lead_in ++ circle))
 
--- arcs of the graph, at least one, that lead round a circle: `left` has the vertex that each of them leaves; each leads to the
--- vertex that the next one leaves, and the last leads to the vertex that the first one leaves; no vertex is left twice
+-- arcs of the graph, at least one, that lead round a circle: `left` has the vertex
+-- that each of them leaves; each leads to the vertex that the next one leaves, and
+-- the last leads to the vertex that the first one leaves; no vertex is left twice
 pub record LeadsRound (graph : List (List WaitArc)) (circle : List WaitArc) : Type 0 where
   pub some : circle ≢ []
   pub left : List ℕ
   pub one_each : length left ≡ length circle
-  pub leaves : (k : ℕ) (d : WaitArc) → k < length circle → Contains (arcs_at graph (slice_index left k)) (slice_index_or circle k d)
-  pub joined : (k : ℕ) (d : WaitArc) → k + 1 < length circle → (slice_index_or circle k d).head ≡ slice_index left (k + 1)
+  pub leaves : (k : ℕ) (d : WaitArc) → k < length circle
+      → Contains (arcs_at graph (slice_index left k)) (slice_index_or circle k d)
+  pub joined : (k : ℕ) (d : WaitArc) → k + 1 < length circle
+      → (slice_index_or circle k d).head ≡ slice_index left (k + 1)
   pub closes : (d : WaitArc) → (slice_index_or circle (length circle - 1) d).head ≡ slice_index left 0
   pub once : AllPairs (λ (v w : ℕ). v ≢ w) left

@@ -1,7 +1,7 @@
 //! The arcs of a wait graph by the vertices that they lead to: those that go when a vertex is removed (`ranking.rt`).
 //!
-//! All arcs are taken in turn, vertex by vertex, and `wq_buckets` finds the places of those that lead to each vertex. So there
-//! are a few vectors, and none for each vertex. It takes time and memory in the number of vertices and arcs.
+//! All arcs are taken in turn, vertex by vertex, and `wq_buckets` finds the places of those that lead to each vertex.
+//! So there are a few vectors, and none for each vertex. It takes time and memory in the number of vertices and arcs.
 
 ghost use Rattle.std.specs.Prelude.{◌≡◌, ◌++◌, length, map, replicate, IfOk};
 ghost use Rattle.wq_buckets.specs.Places.{buckets_of};

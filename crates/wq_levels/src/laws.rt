@@ -27,8 +27,8 @@ pub fn the_ranks_are_the_only_ones()
         AreRanks graph one → AreRanks graph other → one ≡ other }
 {}
 
-/// The rank of a vertex is one above the highest of those that its arcs lead to, or 0 where it has no arc. It is below the number
-/// of vertices.
+/// The rank of a vertex is one above the highest of those that its arcs lead to, or
+/// 0 where it has no arc. It is below the number of vertices.
 pub fn ranks_fall_along_arcs()
     ensures fall { (graph : List (List WaitArc)) (ranks : List ℕ) (v w : ℕ) → IsGraph graph → AreRanks graph ranks →
         v < length graph → HasArc graph v w → slice_index ranks w < slice_index ranks v }

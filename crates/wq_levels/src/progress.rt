@@ -1,5 +1,5 @@
-//! How far the removal of the vertices has come: for each vertex, its arcs that haven't gone and its rank so far; and the
-//! vertices that wait to be removed.
+//! How far the removal of the vertices has come: for each vertex, its arcs that haven't gone and its rank so far; and
+//! the vertices that wait to be removed.
 //!
 //! Removing an arc takes constant time. Making the record takes time and memory in the number of vertices.
 
@@ -114,7 +114,9 @@ impl<A: Allocator + Copy> Progress<A> {
         requires places { All (λ p. p < length tails.now) places.now }
         requires some { (v : ℕ) → times (map (slice_index tails.now) places.now) v ≤ slice_index self.old.remaining v }
         ensures { IfOk result (λ _.
-            self.new ≡ with_arcs_gone (slice_index self.old.ranks vertex) self.old (map (slice_index tails.now) places.now)) }
+            self.new
+            ≡ with_arcs_gone (slice_index self.old.ranks vertex) self.old
+            (map (slice_index tails.now) places.now)) }
     {
         let rank = self.ranks[usize::from(vertex)];
         for place in places {

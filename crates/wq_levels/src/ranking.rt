@@ -1,9 +1,10 @@
 //! The rank of each vertex, or the circle that leaves some vertices without one.
 //!
-//! A vertex is removed once all of its arcs have gone, and then the arcs that lead to it go. So each vertex comes after those
-//! that it waits for (A. B. Kahn, "Topological sorting of large networks", Communications of the ACM 5, 1962). Where all are
-//! removed, their ranks are found: the workqueues of "Plan texts" in docs/FORMAT.md. Otherwise some remain, and the walk from the
-//! lowest-numbered of them finds the circle of "Circle texts". It takes time and memory in the number of vertices and arcs.
+//! A vertex is removed once all of its arcs have gone, and then the arcs that lead to it go. So each vertex comes after
+//! those that it waits for (A. B. Kahn, "Topological sorting of large networks", Communications of the ACM 5, 1962).
+//! Where all are removed, their ranks are found: the workqueues of "Plan texts" in docs/FORMAT.md. Otherwise some
+//! remain, and the walk from the lowest-numbered of them finds the circle of "Circle texts". It takes time and memory
+//! in the number of vertices and arcs.
 
 ghost use Rattle.std.specs.Prelude.{◌≡◌, ◌<◌, ◌↔◌, length, IfOk, OnErr, IsTrue};
 ghost use Rattle.std.specs.List.{Any};
@@ -52,8 +53,8 @@ fn is_any_left(remaining: &[usize]) -> bool
 
 /// The ranks of a wait graph that has no circle, or else the circle of its walk.
 ///
-/// The only error is out of memory (20), which can't occur for a graph without vertices; any other answer is a list that takes
-/// memory.
+/// The only error is out of memory (20), which can't occur for a graph without
+/// vertices; any other answer is a list that takes memory.
 pub fn rank<A: Allocator + Copy>(alloc: A, graph: &WaitGraph<A>) -> Result<Ranked<A>, AllocError>
     ensures ranking { IfOk result (IsRanking graph.now) }
     ensures memory { OnErr result (0 < length graph.now) }

@@ -1,9 +1,9 @@
 //! The circle that is the answer for a wait graph where vertices remain.
 //!
-//! The walk begins at the lowest-numbered vertex that remains. It leaves each vertex by the first of its arcs, in order of place,
-//! that leads to a remaining vertex, until it comes to a vertex that it has left before. The arcs from there on are the circle;
-//! what leads in to it is left out: "Circle texts" in docs/FORMAT.md. It takes time in the number of vertices and of the arcs of
-//! those that it leaves, each of which it leaves once.
+//! The walk begins at the lowest-numbered vertex that remains. It leaves each vertex by the first of its arcs, in order
+//! of place, that leads to a remaining vertex, until it comes to a vertex that it has left before. The arcs from there
+//! on are the circle; what leads in to it is left out: "Circle texts" in docs/FORMAT.md. It takes time in the number of
+//! vertices and of the arcs of those that it leaves, each of which it leaves once.
 ghost use Rattle.std.specs.Prelude.{◌≡◌, ◌<◌, ◌==◌, length, slice_index, IfOk};
 ghost use Rattle.std.specs.List.{All, find, position};
 ghost use Rattle.std.specs.Option.{option_copied};

@@ -7,7 +7,8 @@ abbrev pub IsInput : Option (List ℕ) → List ℕ → Type 0
 IsInput known text = IfSome known (λ bytes. text ≡ bytes)
 
 -- a reader had this text, and gave it up to the first byte past the limit
-pub record GivesText {R : Type 0} (remaining : R → Option (List ℕ)) (old new : Meter R) (limit : ℕ) (text : List ℕ) : Type 0 where
+pub record GivesText {R : Type 0} (remaining : R → Option (List ℕ)) (old new : Meter R) (limit : ℕ) (text : List ℕ)
+    : Type 0 where
   pub input : IsInput (remaining old.device) text
   pub taken : TakesPrefix remaining old new (limit + 1) text
 
@@ -18,7 +19,8 @@ pub record HasGiven {R : Type 0} (remaining : R → Option (List ℕ)) (old new 
   pub none_failed : new.failures ≡ old.failures
 
 -- a reader has given a text, and these are the bytes that came
-pub record HasGivenBytes {R : Type 0} (remaining : R → Option (List ℕ)) (old new : Meter R) (limit : ℕ) (bytes : List ℕ) : Type 0 where
+pub record HasGivenBytes {R : Type 0} (remaining : R → Option (List ℕ)) (old new : Meter R) (limit : ℕ) (bytes : List ℕ)
+    : Type 0 where
   pub given : HasGiven remaining old new limit
   pub prefix : bytes ≡ take (limit + 1) given.text
 

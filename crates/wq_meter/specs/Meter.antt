@@ -28,8 +28,10 @@ pub record LosesPrefix {R : Type 0} (remaining : R → Option (List ℕ)) (old n
   pub consumed : Consumes (remaining old.device) (remaining new.device) lost
   pub counted : new.bytes ≡ count_after old.bytes (length lost)
 
--- a reader gave a prefix of a text, up to `most` bytes, and they were counted; each call except the last gave at least one
-pub record TakesPrefix {R : Type 0} (remaining : R → Option (List ℕ)) (old new : Meter R) (most : ℕ) (text : List ℕ) : Type 0 where
+-- a reader gave a prefix of a text, up to `most` bytes, and they were counted; each
+-- call except the last gave at least one
+pub record TakesPrefix {R : Type 0} (remaining : R → Option (List ℕ)) (old new : Meter R) (most : ℕ) (text : List ℕ)
+    : Type 0 where
   pub consumed : Consumes (remaining old.device) (remaining new.device) (take most text)
   pub counted : new.bytes ≡ count_after old.bytes (length (take most text))
   pub few_calls : new.calls ≤ old.calls + (length (take most text) + 1)
@@ -40,7 +42,8 @@ pub record WritesWhole {W : Type 0} (contents : W → Option (List ℕ)) (old ne
   pub counted : new.bytes ≡ count_after old.bytes (length text)
   pub few_calls : new.calls ≤ old.calls + length text
 
--- a writer took a prefix of a text, but not all of it, and the bytes were counted; each call except the last took at least one
+-- a writer took a prefix of a text, but not all of it, and the bytes were counted;
+-- each call except the last took at least one
 pub record WritesPrefix {W : Type 0} (contents : W → Option (List ℕ)) (old new : Meter W) (text : List ℕ) : Type 0 where
   pub written : ℕ
   pub short : written < length text

@@ -15,7 +15,8 @@ pub record Given : Type 0 where
 -- they are stored one after another
 abbrev pub given_code : Coded Given
 given_code =
-    code_by (List ℕ × (List ℕ × List ℕ)) (coded× (coded_list coded_ℕ) (coded× (coded_list coded_ℕ) (coded_list coded_ℕ)))
+    code_by (List ℕ
+    × (List ℕ × List ℕ)) (coded× (coded_list coded_ℕ) (coded× (coded_list coded_ℕ) (coded_list coded_ℕ)))
     (λ t. (t.first, (t.second, t.third)))
     (λ p. record { first = p.0; second = p.1.0; third = p.1.1 }) (λ _. refl)
 
@@ -67,7 +68,8 @@ abbrev pub AreFrom : (List ℕ → Type 0) → (List ℕ → Type 0) → (List �
 AreFrom First Second Third texts = First texts.first × Second texts.second × Third texts.third
 
 -- readers had these texts; this is the answer to what is kept of them; these bytes of it are written, and this is said
-pub record IsAnswered (limits : Limits) (From : Given → Type 0) (Answers : Given → List ℕ → Type 0) (IsWritten : List ℕ → Type 0) (IsTold : Given → Type 0) : Type 0 where
+pub record IsAnswered (limits : Limits) (From : Given → Type 0) (Answers : Given → List ℕ → Type 0)
+    (IsWritten : List ℕ → Type 0) (IsTold : Given → Type 0) : Type 0 where
   pub texts : Given
   pub from : From texts
   pub out : List ℕ
@@ -81,18 +83,21 @@ pub record IsUnanswered (limits : Limits) (From : Given → Type 0) (Stops : Giv
   pub from : From texts
   pub stops : Stops (kept limits texts)
 
--- this is said: all of it, and no write fails; or a prefix of it, because a write fails; or nothing, if there is nothing to say
+-- this is said: all of it, and no write fails; or a prefix of it, because a write
+-- fails; or nothing, if there is nothing to say
 abbrev pub TellsOf : {W : Type 0} → (W → Option (List ℕ)) → Meter W → Meter W → Option (List ℕ) → Type 0
 TellsOf contents old new None = new ≡ old
 TellsOf contents old new (Some text) =
-    (WritesWhole contents old new text × (new.failures ≡ old.failures)) ⊎ (WritesPrefix contents old new text × HasFailed old new)
+    (WritesWhole contents old new text × (new.failures ≡ old.failures))
+    ⊎ (WritesPrefix contents old new text × HasFailed old new)
 
 -- what there is to say is said, or nothing if memory for it runs out; no definition tells when it does
 abbrev pub Tells : {W : Type 0} → (W → Option (List ℕ)) → Meter W → Meter W → (Option (List ℕ) → Type 0) → Type 0
 Tells contents old new Says = (new ≡ old) ⊎ ((said : Option (List ℕ)) × Says said × TellsOf contents old new said)
 
 -- these bytes came: those of a text that a reader had, as far as they are kept
-pub record Came {R : Type 0} (remaining : R → Option (List ℕ)) (old new : Meter R) (limit : Option ℕ) (bytes : List ℕ) : Type 0 where
+pub record Came {R : Type 0} (remaining : R → Option (List ℕ)) (old new : Meter R) (limit : Option ℕ) (bytes : List ℕ)
+    : Type 0 where
   pub text : List ℕ
   pub gives : GivesIf remaining old new limit text
   pub prefix : bytes ≡ kept_text limit text
@@ -119,7 +124,8 @@ IsTextIf None known text = text ≡ []
 IsTextIf (Some limit) known text = known ≡ Some text
 
 -- the readers that a call found are known to have these texts
-abbrev pub FindsTexts : {D S T W E : Type 0} → (D → Option (List ℕ)) → (S → Option (List ℕ)) → (T → Option (List ℕ)) → Limits → Call D S T W E → Given → Type 0
+abbrev pub FindsTexts : {D S T W E : Type 0} → (D → Option (List ℕ)) → (S → Option (List ℕ)) → (T → Option (List ℕ))
+    → Limits → Call D S T W E → Given → Type 0
 FindsTexts first_known second_known third_known limits call texts =
     (first_known call.first.device ≡ Some texts.first)
     × IsTextIf limits.second (second_known call.second.device) texts.second
@@ -127,4 +133,6 @@ FindsTexts first_known second_known third_known limits call texts =
 
 -- a command has one answer to its texts at most: one end, and one text that is written
 abbrev pub HasOneAnswer : {E : Type 0} → (Given → E → List ℕ → Type 0) → Type 0
-HasOneAnswer {E} Answers = (texts : Given) (end other : E) (out printed : List ℕ) → Answers texts end out → Answers texts other printed → (end ≡ other) × (out ≡ printed)
+HasOneAnswer {E} Answers =
+    (texts : Given) (end other : E) (out printed : List ℕ) → Answers texts end out → Answers texts other printed
+    → (end ≡ other) × (out ≡ printed)

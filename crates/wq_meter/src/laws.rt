@@ -8,9 +8,9 @@ use crate::shell::{Command, Voice};
 use std::alloc::Allocator;
 use std::io::{Read, Write};
 
-/// What is said changes neither the end nor the answer. Of two calls of `carry_out`, each says in its clause `answered` how it
-/// ended. If both carry out the same command, whose readers have the same texts, then they end in the same way and write the same
-/// bytes, whatever the two voices say, and whatever the two second writers do.
+/// What is said changes neither the end nor the answer. Of two calls of `carry_out`, each says in its clause `answered`
+/// how it ended. If both carry out the same command, whose readers have the same texts, then they end in the same way
+/// and write the same bytes, whatever the two voices say, and whatever the two second writers do.
 ///
 /// The command is one that has one answer at most.
 pub fn what_is_said_changes_no_answer<
@@ -25,7 +25,8 @@ pub fn what_is_said_changes_no_answer<
     F: Write,
     A: Allocator,
 >()
-    ensures { (command : C) (voice : V) (other_voice : U) (end other_end : C.End) (texts : Given) (one : Call D S T W E) (other : Call D S T W F) →
+    ensures { (command : C) (voice : V) (other_voice : U) (end other_end : C.End) (texts : Given) (one : Call D S T W E)
+        (other : Call D S T W F) →
         HasOneAnswer (C.answers command) →
         FindsTexts D.remaining S.remaining T.remaining (C.limits command) one texts →
         FindsTexts D.remaining S.remaining T.remaining (C.limits command) other texts →

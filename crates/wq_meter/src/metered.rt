@@ -1,5 +1,6 @@
-//! A reader or a writer whose calls are counted, so that a bound on the work that a command asks of the outside can be stated and
-//! kept. Each method makes one call of the device, and tries nothing twice. Apart from that call, each takes constant time.
+//! A reader or a writer whose calls are counted, so that a bound on the work that a
+//! command asks of the outside can be stated and kept. Each method makes one call of
+//! the device, and tries nothing twice. Apart from that call, each takes constant time.
 ghost use Rattle.std.specs.Prelude.{◌≡◌, ◌<◌, ◌≤◌, length, IfOk, OnOk, OnErr, IsOkUnless};
 ghost use Rattle.std.specs.Result.{result_unwrap_or};
 ghost use Rattle.std.specs.Io.KnownBytes.{ReadConsumes, WriteAppends};
@@ -73,8 +74,8 @@ impl<D> Metered<D> {
 }
 
 impl<R: Read> Metered<R> {
-    /// Reads once to the front of `buffer`, and returns how many bytes arrived. That is 0 only at the end of the input, or where
-    /// `buffer` is empty.
+    /// Reads once to the front of `buffer`, and returns how many bytes arrived. That
+    /// is 0 only at the end of the input, or where `buffer` is empty.
     ///
     /// The only error is `Fault::Read`, where the reader failed. A call that was interrupted failed too.
     pub fn read(&mut self, buffer: &mut [u8]) -> Result<usize, Fault>
@@ -104,8 +105,8 @@ impl<R: Read> Metered<R> {
 impl<W: Write> Metered<W> {
     /// Writes once from the front of `bytes`, and returns how many were taken: at least one, if there is one.
     ///
-    /// The only error is `Fault::Write`, where the writer failed or took none of the bytes, though there were some. Then nothing
-    /// was written. A call that was interrupted failed too.
+    /// The only error is `Fault::Write`, where the writer failed or took none of the bytes, though there were some.
+    /// Then nothing was written. A call that was interrupted failed too.
     pub fn write(&mut self, bytes: &[u8]) -> Result<usize, Fault>
         ensures within { IfOk result (λ count. count ≤ length bytes.now) }
         ensures some { IfOk result (λ count. 0 < length bytes.now → 0 < count) }

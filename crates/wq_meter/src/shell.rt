@@ -1,14 +1,15 @@
-//! The shell of every command: it reads the texts of a command in their order, asks the command, writes its answer, and then says
-//! what there is to be said of it.
+//! The shell of every command: it reads the texts of a command in their order, asks the command, writes its answer, and
+//! then says what there is to be said of it.
 //!
-//! A command is one function from the bytes of its texts to the bytes of its answer. All that is promised of readers and writers
-//! is promised here, once for all commands. What is said, mostly on standard error, changes neither the answer nor the end. The
-//! time is that of reading the texts, of the answer, of what is said, and of writing both.
+//! A command is one function from the bytes of its texts to the bytes of its answer. All that is promised of readers
+//! and writers is promised here, once for all commands. What is said, mostly on standard error, changes neither the
+//! answer nor the end. The time is that of reading the texts, of the answer, of what is said, and of writing both.
 
 ghost use Rattle.std.specs.Prelude.{◌≡◌, ◌≢◌, ◌≤◌, ◌+◌, ◌⊎◌, ℕ, List, Err, Some, IfOk, IfErr, OnErr, option_map};
 ghost use Rattle.wq_meter.specs.Input.{HasFailed, HasGiven};
 ghost use Rattle.wq_meter.specs.Meter.{count_after, LosesPrefix, WritesPrefix, WritesWhole};
-ghost use Rattle.wq_meter.specs.Shell.{AfterIf, AreFrom, Came, GivesIf, HasFailedIf, HasGivenIf, IsAnswered, IsUnanswered, Tells, most};
+ghost use Rattle.wq_meter.specs.Shell.{AfterIf, AreFrom, Came, GivesIf, HasFailedIf, HasGivenIf, IsAnswered};
+ghost use Rattle.wq_meter.specs.Shell.{IsUnanswered, Tells, most};
 ghost use Rattle.wq_meter.specs.Stopped.{IfFaulted, IfUnanswered};
 ghost use Rattle.wq_meter.specs.declared.shell.Stopped.TheVariants.{Faulted};
 
@@ -145,15 +146,20 @@ fn read_texts<D: Read, S: Read, T: Read, A: Allocator + Copy>(
         × AfterIf D.remaining first.old first.new (Some limits.first) third.old third.new
         × AfterIf S.remaining second.old second.new limits.second third.old third.new }
     ensures reads { (first.new.calls ≤ first.old.calls + most (Some limits.first))
-        × (second.new.calls ≤ second.old.calls + most limits.second) × (third.new.calls ≤ third.old.calls + most limits.third) }
+        × (second.new.calls ≤ second.old.calls + most limits.second)
+        × (third.new.calls ≤ third.old.calls + most limits.third) }
     ensures bytes_read { (first.new.bytes ≤ first.old.bytes + most (Some limits.first))
-        × (second.new.bytes ≤ second.old.bytes + most limits.second) × (third.new.bytes ≤ third.old.bytes + most limits.third) }
+        × (second.new.bytes ≤ second.old.bytes + most limits.second)
+        × (third.new.bytes ≤ third.old.bytes + most limits.third) }
 
     // Which fault it is, and which reader's.
     ensures read_failed { result ≡ Err Fault.Read →
         (HasFailed first.old first.new × (second.new ≡ second.old) × (third.new ≡ third.old))
-        ⊎ (HasGiven D.remaining first.old first.new limits.first × HasFailedIf second.old second.new limits.second × (third.new ≡ third.old))
-        ⊎ (HasGiven D.remaining first.old first.new limits.first × HasGivenIf S.remaining second.old second.new limits.second
+        ⊎ (HasGiven D.remaining first.old first.new limits.first
+        × HasFailedIf second.old second.new limits.second
+        × (third.new ≡ third.old))
+        ⊎ (HasGiven D.remaining first.old first.new limits.first
+        × HasGivenIf S.remaining second.old second.new limits.second
         × HasFailedIf third.old third.new limits.third) }
     ensures no_read_failed { result ≢ Err Fault.Read → (first.new.failures ≡ first.old.failures)
         × (second.new.failures ≡ second.old.failures) × (third.new.failures ≡ third.old.failures) }
@@ -174,12 +180,14 @@ fn write_answer<C: Command<A>, W: Write, A: Allocator + Copy>(
 ) -> Result<C::End, Stopped<C::Stop>>
     ensures answered { IfOk result (λ end. (out : List ℕ) × C.answers command.now texts.now end out
         × WritesWhole W.contents writer.old writer.new out) }
-    ensures prefix { result ≡ Err (Faulted Fault.Write) → (end : C.End) × (out : List ℕ) × C.answers command.now texts.now end out
+    ensures prefix { result ≡ Err (Faulted Fault.Write)
+        → (end : C.End) × (out : List ℕ) × C.answers command.now texts.now end out
         × WritesPrefix W.contents writer.old writer.new out }
     ensures unanswered { IfErr result (IfUnanswered (C.stops command.now texts.now)) }
     ensures untouched { IfErr result (λ stopped. stopped ≢ Faulted Fault.Write → writer.new ≡ writer.old) }
     ensures only_writes { IfErr result (IfFaulted (λ fault. fault ≡ Fault.Write)) }
-    ensures write_failed { result ≡ Err (Faulted Fault.Write) → writer.new.failures ≡ count_after writer.old.failures 1 }
+    ensures write_failed { result ≡ Err (Faulted Fault.Write)
+        → writer.new.failures ≡ count_after writer.old.failures 1 }
     ensures no_write_failed { result ≢ Err (Faulted Fault.Write) → writer.new.failures ≡ writer.old.failures }
 {
     match command.answer(alloc, texts) {
@@ -216,14 +224,17 @@ fn respond<C: Command<A>, V: Voice<A, C::End>, W: Write, E: Write, A: Allocator 
     teller: &mut Metered<E>,
 ) -> Result<C::End, Stopped<C::Stop>>
     ensures answered { IfOk result (λ end. (out : List ℕ) × C.answers command.now texts.now end out
-        × WritesWhole W.contents writer.old writer.new out × Tells E.contents teller.old teller.new (V.says voice.now texts.now end)) }
-    ensures prefix { result ≡ Err (Faulted Fault.Write) → (end : C.End) × (out : List ℕ) × C.answers command.now texts.now end out
+        × WritesWhole W.contents writer.old writer.new out
+        × Tells E.contents teller.old teller.new (V.says voice.now texts.now end)) }
+    ensures prefix { result ≡ Err (Faulted Fault.Write)
+        → (end : C.End) × (out : List ℕ) × C.answers command.now texts.now end out
         × WritesPrefix W.contents writer.old writer.new out }
     ensures unanswered { IfErr result (IfUnanswered (C.stops command.now texts.now)) }
     ensures untouched { IfErr result (λ stopped. stopped ≢ Faulted Fault.Write → writer.new ≡ writer.old) }
     ensures only_writes { IfErr result (IfFaulted (λ fault. fault ≡ Fault.Write)) }
     ensures unsaid { OnErr result (teller.new ≡ teller.old) }
-    ensures write_failed { result ≡ Err (Faulted Fault.Write) → writer.new.failures ≡ count_after writer.old.failures 1 }
+    ensures write_failed { result ≡ Err (Faulted Fault.Write)
+        → writer.new.failures ≡ count_after writer.old.failures 1 }
     ensures no_write_failed { result ≢ Err (Faulted Fault.Write) → writer.new.failures ≡ writer.old.failures }
 {
     let end = write_answer(alloc, command, texts, writer)?;
@@ -231,16 +242,18 @@ fn respond<C: Command<A>, V: Voice<A, C::End>, W: Write, E: Write, A: Allocator 
     Ok(end)
 }
 
-/// Carries out a command: reads its texts to their ends, asks it, writes its answer, and then says what there is to be said.
+/// Carries out a command: reads its texts to their ends, asks it, writes its answer,
+/// and then says what there is to be said.
 ///
-/// Each text is read only after those before it, and at most to the first byte past its limit, in at most as many calls. A text
-/// that the command doesn't have isn't asked for. All texts are read before the command is asked, and the answer is whole before
-/// its first byte is written. The errors are `Fault::Read`, where a read failed, `Fault::Memory`, where memory for a text ran out,
-/// `Fault::Write`, where a write of the answer failed or took no byte, and the reason why the command has no answer. After
-/// `Fault::Write` a prefix of the answer is written, and after the others nothing.
+/// Each text is read only after those before it, and at most to the first byte past its limit, in at
+/// most as many calls. A text that the command doesn't have isn't asked for. All texts are read before
+/// the command is asked, and the answer is whole before its first byte is written. The errors are
+/// `Fault::Read`, where a read failed, `Fault::Memory`, where memory for a text ran out,
+/// `Fault::Write`, where a write of the answer failed or took no byte, and the reason why the command
+/// has no answer. After `Fault::Write` a prefix of the answer is written, and after the others nothing.
 ///
-/// Something is said only after the whole answer is written. Where memory for it runs out, nothing is said, and where a write of it
-/// fails, no more. Neither changes the answer or the end.
+/// Something is said only after the whole answer is written. Where memory for it runs out, nothing is said, and where a
+/// write of it fails, no more. Neither changes the answer or the end.
 pub fn carry_out<
     C: Command<A>,
     V: Voice<A, C::End>,
@@ -260,7 +273,8 @@ pub fn carry_out<
     writer: &mut Metered<W>,
     teller: &mut Metered<E>,
 ) -> Result<C::End, Stopped<C::Stop>>
-    // The answer to the texts that the readers had is written, and nothing else; then it is said what there is to be said.
+    // The answer to the texts that the readers had is written, and nothing else;
+    // then it is said what there is to be said.
     ensures answered { IfOk result (λ end. IsAnswered (C.limits command.now)
         (AreFrom (GivesIf D.remaining first.old first.new (Some (C.limits command.now).first))
         (GivesIf S.remaining second.old second.new (C.limits command.now).second)
@@ -309,7 +323,8 @@ pub fn carry_out<
         × HasFailedIf third.old third.new (C.limits command.now).third) }
     ensures no_read_failed { result ≢ Err (Faulted Fault.Read) → (first.new.failures ≡ first.old.failures)
         × (second.new.failures ≡ second.old.failures) × (third.new.failures ≡ third.old.failures) }
-    ensures write_failed { result ≡ Err (Faulted Fault.Write) → writer.new.failures ≡ count_after writer.old.failures 1 }
+    ensures write_failed { result ≡ Err (Faulted Fault.Write)
+        → writer.new.failures ≡ count_after writer.old.failures 1 }
     ensures no_write_failed { result ≢ Err (Faulted Fault.Write) → writer.new.failures ≡ writer.old.failures }
 {
     let texts = read_texts(alloc, command.limits(), first, second, third)?;

@@ -1,5 +1,6 @@
 -- Names of workqueues: how the comments of an assignment text call them.
-use Rattle.std.specs.Prelude.{ℕ, ◌-◌, ◌==◌, ◌&&◌, ◌||◌, nat_le, cond, Bool, List, [], length, map, filter, take, slice_index_or, codes}
+use Rattle.std.specs.Prelude.{ℕ, ◌-◌, ◌==◌, ◌&&◌, ◌||◌, nat_le, cond, Bool, List, [], length, map, filter, take}
+use Rattle.std.specs.Prelude.{slice_index_or, codes}
 use Rattle.std.specs.List.{before_first, list_all, suffix_len}
 use Rattle.wq_text.specs.Lines.{LineView, lines_of}
 use Rattle.wq_text.specs.Words.{is_blank, words_of}
@@ -33,7 +34,8 @@ name_on bytes = cond (is_name (called bytes)) (called bytes) []
 
 -- the line of a workqueue: its first word is `wq` or `norescuer`
 abbrev pub is_workqueue_line : LineView → Bool
-is_workqueue_line line = begins_with (codes "wq") (bytes_of (words_of line)) || begins_with (codes "norescuer") (bytes_of (words_of line))
+is_workqueue_line line =
+    begins_with (codes "wq") (bytes_of (words_of line)) || begins_with (codes "norescuer") (bytes_of (words_of line))
 
 -- the names of the workqueues in the text of an assignment, from workqueue 0 on; no byte for one that has none
 abbrev pub names_of : List ℕ → List (List ℕ)

@@ -34,8 +34,8 @@ fn without_lead(bytes: &[u8]) -> &[u8]
     bytes.split_at(lead(bytes)).1
 }
 
-/// What the comment of a line says: what follows its first `#`, from the first byte on that is neither a `#` nor a blank. No byte if
-/// the line has no comment.
+/// What the comment of a line says: what follows its first `#`, from the first byte on that is neither a `#` nor a
+/// blank. No byte if the line has no comment.
 pub fn comment_body<'a>(line: &Line<'a>) -> &'a [u8]
     ensures { result.now ≡ comment_body line.now.bytes }
 {

@@ -1,8 +1,8 @@
 //! Names of workqueues: how the comments of an assignment text call them.
 //!
-//! What the layers above rely on: the name of a workqueue is what the comment of its line says up to its first comma, if that can be
-//! a name. The rule is that of "Names of workqueues" in docs/FORMAT.md. Names are for people: no verdict depends on them. Reading
-//! them takes time in the length of the text, and memory in the number of workqueues.
+//! What the layers above rely on: the name of a workqueue is what the comment of its line says up to its first comma,
+//! if that can be a name. The rule is that of "Names of workqueues" in docs/FORMAT.md. Names are for people: no verdict
+//! depends on them. Reading them takes time in the length of the text, and memory in the number of workqueues.
 #![tactic(auto)]
 
 mod comment;

@@ -1,7 +1,7 @@
 //! The names of the workqueues in the text of an assignment.
 //!
-//! The rule is that of "Names of workqueues" in docs/FORMAT.md. It takes time in the length of the text, and memory in the number of
-//! workqueues: the bytes stay where they are.
+//! The rule is that of "Names of workqueues" in docs/FORMAT.md. It takes time in the length of the text, and memory in
+//! the number of workqueues: the bytes stay where they are.
 
 ghost use Rattle.std.specs.Prelude.{◌≡◌, ◌==◌, [], IfOk, None, filter, map, slice_index_or};
 ghost use Rattle.std.specs.List.{before_first, list_all};
@@ -93,8 +93,8 @@ fn names_on<'a, A: Allocator>(alloc: A, lines: Lines<'a>) -> Result<Vec<&'a [u8]
     Ok(names)
 }
 
-/// The names of the workqueues in the text of an assignment, from workqueue 0 on, which have no byte where a workqueue has no name. A
-/// text above the limits of a certificate has no workqueues. The only error is out of memory.
+/// The names of the workqueues in the text of an assignment, from workqueue 0 on, which have no byte where a workqueue
+/// has no name. A text above the limits of a certificate has no workqueues. The only error is out of memory.
 pub fn workqueue_names<A: Allocator>(alloc: A, text: &[u8]) -> Result<Vec<&[u8], A>, AllocError>
     ensures { limit_fault max_certificate max_certificate_line text.now ≡ None
         → IfOk result (λ names. map (λ n. n.now) names.items ≡ names_of text.now) }

@@ -9,8 +9,8 @@ use Rattle.wq_graph.specs.Graph.{IsArc}
 abbrev pub tail_of : Declaration → WaitArc → ℕ
 tail_of d arc = slice_index d.group_of arc.src
 
--- declared flushes, at least one; each leaves the group that the one before it led to, and the first leaves the group that the
--- last one leads to; no group is left twice
+-- declared flushes, at least one; each leaves the group that the one before it led to, and the first leaves the group
+-- that the last one leads to; no group is left twice
 pub record IsCircleOfGroups (d : Declaration) (circle : List WaitArc) : Type 0 where
   pub declared : All (IsArc d.waits d.group_of) circle
   pub joined : AllAdjacentBelow (λ (x y : WaitArc). slice_index d.group_of x.dst ≡ tail_of d y) circle (length circle)

@@ -17,10 +17,11 @@ pub record IsStepDown (d : Declaration) (a : Assignment) (arc : WaitArc) : Type 
 abbrev pub IsFirstOnLast : Assignment → ℕ → Type 0
 IsFirstOnLast a g = (group_lane a g + 1 ≡ a.lanes) × ((h : ℕ) → h < g → group_lane a h < group_lane a g)
 
--- one arc fewer than there are lanes, and none if there is no lane; each leaves the group that the one before it led to; the
--- first leaves the lowest-numbered group on the last lane
+-- one arc fewer than there are lanes, and none if there is no lane; each leaves the group that the one before it led
+-- to; the first leaves the lowest-numbered group on the last lane
 pub record IsLongestChain (d : Declaration) (a : Assignment) (chain : List WaitArc) : Type 0 where
   pub count : length chain ≡ a.lanes - 1
   pub arcs : All (IsStepDown d a) chain
-  pub joined : AllAdjacentBelow (λ (x y : WaitArc). slice_index d.group_of x.dst ≡ slice_index d.group_of y.src) chain (length chain)
+  pub joined : AllAdjacentBelow (λ (x y : WaitArc). slice_index d.group_of x.dst
+      ≡ slice_index d.group_of y.src) chain (length chain)
   pub begins : IfSome (slice_get chain 0) (λ (arc : WaitArc). IsFirstOnLast a (slice_index d.group_of arc.src))

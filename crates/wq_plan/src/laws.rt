@@ -39,8 +39,8 @@ pub fn a_plan_is_safe()
     ensures { (d : Declaration) (a : Assignment) → IsDeclaration d → IsPlan d a → IsSafe (wiring d a) }
 {}
 
-/// Every assignment of the groups to fewer workqueues than a plan has deadlocks: it has a run that ends stuck, with each item
-/// queued once and flushing as declared.
+/// Every assignment of the groups to fewer workqueues than a plan has deadlocks: it has a run that ends stuck, with
+/// each item queued once and flushing as declared.
 pub fn a_plan_is_least()
     ensures { (d : Declaration) (a : Assignment) → IsDeclaration d → IsPlan d a → IsLeast d a }
 {}

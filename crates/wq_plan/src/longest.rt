@@ -1,8 +1,8 @@
 //! How many lanes ranks take, and the longest waiting chain that is printed.
 //!
-//! The rule is that of "Plan texts" in docs/FORMAT.md: the chain begins at the lowest-numbered group on the last lane, and leaves
-//! each group by its first arc, in order of place, that leads to the next lane. An arc may be declared by any item of its group.
-//! It takes time in the number of groups and of the arcs of those on the chain.
+//! The rule is that of "Plan texts" in docs/FORMAT.md: the chain begins at the lowest-numbered group on the last lane,
+//! and leaves each group by its first arc, in order of place, that leads to the next lane. An arc may be declared by
+//! any item of its group. It takes time in the number of groups and of the arcs of those on the chain.
 ghost use Rattle.std.specs.Prelude.{◌≡◌, ◌+◌, ◌-◌, ◌<◌, ◌≤◌, ◌==◌, ◌^◌, ℕ, length, slice_index, IfOk, OnErr};
 ghost use Rattle.std.specs.List.{All, find, position};
 ghost use Rattle.std.specs.Option.{option_copied};
@@ -41,8 +41,8 @@ fn first_on<'g>(arcs: &'g [WaitArc], lane: &[u16], on: u16) -> Option<&'g WaitAr
     arcs.iter().find(|a| lane[usize::from(a.head)] == on)
 }
 
-/// The arcs from a vertex that has `below` lanes below it. They end early only where some vertex has no arc to the next lane. No
-/// vertex of a plan is like that.
+/// The arcs from a vertex that has `below` lanes below it. They end early only where some vertex has no arc to the next
+/// lane. No vertex of a plan is like that.
 fn follow<A: Allocator + Copy>(
     alloc: A,
     graph: &WaitGraph<A>,

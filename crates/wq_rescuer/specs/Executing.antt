@@ -1,5 +1,6 @@
 -- Executing: what bodies run, what the seats of their contexts count, and why they are refused.
-use Rattle.std.specs.Prelude.{◌≡◌, ◌≢◌, ℕ, ◌+◌, ◌*◌, ◌<◌, ◌≤◌, ◌⊎◌, List, [], ◌∷◌, length, replicate, Some, Result, Ok, Err, true, sum}
+use Rattle.std.specs.Prelude.{◌≡◌, ◌≢◌, ℕ, ◌+◌, ◌*◌, ◌<◌, ◌≤◌, ◌⊎◌, List, [], ◌∷◌, length, replicate, Some, Result, Ok}
+use Rattle.std.specs.Prelude.{Err, true, sum}
 use Rattle.std.specs.List.{sum_by, range_with_len}
 use Rattle.wq_core.specs.Wiring.{Wiring, items, HasContext}
 use Rattle.wq_counts.specs.declared.kind.Kind.TheVariants.{Finish}
@@ -47,7 +48,8 @@ CountsRuns old new runs = (i : ℕ) → finished_of new i ≡ finished_of old i 
 
 -- for each item, at most as many more as ran, and no fewer than before
 abbrev pub CountsAtMost : List ℕ → List ℕ → (ℕ → ℕ) → Type 0
-CountsAtMost old new runs = (i : ℕ) → (finished_of old i ≤ finished_of new i) × (finished_of new i ≤ finished_of old i + runs i)
+CountsAtMost old new runs =
+    (i : ℕ) → (finished_of old i ≤ finished_of new i) × (finished_of new i ≤ finished_of old i + runs i)
 
 -- how many of one execution ended with a fault: its body answered, or it gave up
 abbrev pub faults_of : Result (Unit {0}) BodyFault → ℕ
@@ -113,16 +115,16 @@ Executes may old new (Err e) = HasStopped may old new
 
 -- ---- refusals
 
--- a body that queues item i, through a seat with these counts: no such item; the seat is full (60); the runtime is closed; the
--- history is full
+-- a body that queues item i, through a seat with these counts: no such item; the
+-- seat is full (60); the runtime is closed; the history is full
 abbrev pub RefusesQueueByBody : Wiring → List ℕ → ℕ → CallError → Type 0
 RefusesQueueByBody w counts i NoItem = items w ≤ i
 RefusesQueueByBody w counts i Closed = (i < items w) × SeatHasRoom counts
 RefusesQueueByBody w counts i HistoryFull = i < items w
 RefusesQueueByBody w counts i _ = ⊥
 
--- a rescuer of lane q, whose seat has these counts when it ends: 64, where there is no such lane or another caller drove it; or else
--- 60, where there is such a lane and the seat is full
+-- a rescuer of lane q, whose seat has these counts when it ends: 64, where there is no such lane or another caller
+-- drove it; or else 60, where there is such a lane and the seat is full
 abbrev pub RefusesRescue : Wiring → ℕ → List ℕ → CallError → Type 0
 RefusesRescue w q seat e = call_code e ≢ 64 → (call_code e ≡ 60) × (q < w.lanes) × (seat_rows ≤ sum seat)
 

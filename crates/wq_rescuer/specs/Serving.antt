@@ -1,5 +1,6 @@
 -- Serving: what a context hands back, a rescuer or a helper, and what all threads together do.
-use Rattle.std.specs.Prelude.{◌≡◌, ◌≢◌, ℕ, ◌+◌, ◌*◌, ◌<◌, ◌≤◌, ◌⊎◌, List, [], ◌∷◌, length, replicate, take, slice_get, Some, Result, Ok, Err}
+use Rattle.std.specs.Prelude.{◌≡◌, ◌≢◌, ℕ, ◌+◌, ◌*◌, ◌<◌, ◌≤◌, ◌⊎◌, List, [], ◌∷◌, length, replicate, take, slice_get}
+use Rattle.std.specs.Prelude.{Some, Result, Ok, Err}
 use Rattle.std.specs.Result.{ForOk, ForErr}
 use Rattle.std.specs.List.{All, sum_by}
 use Rattle.wq_core.specs.declared.step.Context.{Context}
@@ -12,12 +13,17 @@ use Rattle.wq_rescuer.specs.declared.running.RunWhy.TheVariants.{BodiesDiffer, T
 use Rattle.wq_rescuer.specs.Executing.{RanOnly, RefusesServe, finished_of, finished_in_all}
 use Rattle.wq_rescuer.specs.Contexts.{contexts_of}
 
--- a context, whose seat had no counts, and whose body had run nothing: only items of its lane ran; for each item, the seat counts as
--- finished what the body ran, and in all, what the context says; after a refusal, which has its cause, no more than the body ran
-pub record IsServed (w : Wiring) (context : Context) (seat : List ℕ) (runs : ℕ → ℕ) (answer : Result Rescued CallError) : Type 0 where
+-- a context, whose seat had no counts, and whose body had run nothing: only items of its
+-- lane ran; for each item, the seat counts as finished what the body ran, and in all,
+-- what the context says; after a refusal, which has its cause, no more than the body ran
+pub record IsServed (w : Wiring) (context : Context) (seat : List ℕ) (runs : ℕ → ℕ) (answer : Result Rescued CallError)
+    : Type 0 where
   pub own : RanOnly w context.lane runs
-  pub counts : ForOk answer (λ (rescued : Rescued). ((i : ℕ) → finished_of seat i ≡ runs i) × (rescued.finished ≡ finished_in_all (items w) seat) × (rescued.faults ≤ rescued.finished))
-  pub refused : ForErr answer (λ (e : CallError). RefusesServe w context.lane context.helper seat e × ((i : ℕ) → finished_of seat i ≤ runs i))
+  pub counts : ForOk answer (λ (rescued : Rescued). ((i : ℕ) → finished_of seat i ≡ runs i)
+      × (rescued.finished ≡ finished_in_all (items w) seat)
+      × (rescued.faults ≤ rescued.finished))
+  pub refused : ForErr answer (λ (e : CallError). RefusesServe w context.lane context.helper seat e
+      × ((i : ℕ) → finished_of seat i ≤ runs i))
 
 -- how many executions a context finished, if it wasn't refused
 abbrev pub finished_by : Result Rescued CallError → ℕ
@@ -29,18 +35,22 @@ abbrev pub faults_by : Result Rescued CallError → ℕ
 faults_by (Ok rescued) = rescued.faults
 faults_by (Err e) = 0
 
--- what these contexts hand back, one after the other: each one's answer is true of its lane, of its seat and of what its body ran
-pub record AreServed (w : Wiring) (served_by : List Context) (seats : List (List ℕ)) (runs : List (ℕ → ℕ)) (rescued : List (Result Rescued CallError)) : Type 0 where
+-- what these contexts hand back, one after the other: each one's answer is true of
+-- its lane, of its seat and of what its body ran
+pub record AreServed (w : Wiring) (served_by : List Context) (seats : List (List ℕ)) (runs : List (ℕ → ℕ))
+    (rescued : List (Result Rescued CallError)) : Type 0 where
   pub a_seat_each : length seats ≡ length served_by
   pub a_body_each : length runs ≡ length served_by
   pub an_answer_each : length rescued ≡ length served_by
-  pub served : (n : ℕ) (context : Context) (seat : List ℕ) (ran : ℕ → ℕ) (answer : Result Rescued CallError) → slice_get served_by n ≡ Some context → slice_get seats n ≡ Some seat
+  pub served : (n : ℕ) (context : Context) (seat : List ℕ) (ran : ℕ → ℕ) (answer : Result Rescued CallError)
+      → slice_get served_by n ≡ Some context → slice_get seats n ≡ Some seat
       → slice_get runs n ≡ Some ran → slice_get rescued n ≡ Some answer → IsServed w context seat ran answer
 
--- everything was run, with this wiring, and this many callers: there is a seat for each context and then for each caller; what the
--- contexts hand back is true; each caller answered; and the numbers of executions and faults are the sums over the contexts that
--- weren't refused
-pub record IsRan (w : Wiring) (callers : ℕ) (seats : List (List ℕ)) (runs : List (ℕ → ℕ)) (handed_back results : ℕ) (rescued : List (Result Rescued CallError)) (finished faults : ℕ) : Type 0 where
+-- everything was run, with this wiring, and this many callers: there is a seat for each context and then for each
+-- caller; what the contexts hand back is true; each caller answered; and the numbers of executions and faults are the
+-- sums over the contexts that weren't refused
+pub record IsRan (w : Wiring) (callers : ℕ) (seats : List (List ℕ)) (runs : List (ℕ → ℕ)) (handed_back results : ℕ)
+    (rescued : List (Result Rescued CallError)) (finished faults : ℕ) : Type 0 where
   pub a_seat_each : length seats ≡ length (contexts_of w) + callers
   pub served : AreServed w (contexts_of w) (take (length (contexts_of w)) seats) runs rescued
   pub callers_back : handed_back ≡ callers
@@ -81,8 +91,8 @@ IsOneLost contexts callers contexts_left callers_left =
     ((contexts_left + 1 ≡ contexts) × (callers_left ≡ callers))
     ⊎ ((contexts_left ≡ contexts) × (callers_left + 1 ≡ callers))
 
--- why not everything was run: there isn't a body for each of this many contexts; or there is, but a seat, memory or a thread is
--- lacking
+-- why not everything was run: there isn't a body for each of this many contexts; or
+-- there is, but a seat, memory or a thread is lacking
 abbrev pub RefusesRun : ℕ → ℕ → RunWhy → Type 0
 RefusesRun needed bodies BodiesDiffer = bodies ≢ needed
 RefusesRun needed bodies TooManySeats = bodies ≡ needed
@@ -95,7 +105,8 @@ HasRoomFor count length capacity = (length ≡ 0) × (count ≤ capacity)
 
 -- the seats that were made before a thread starts: fewer than this many, and none of them has counted anything
 abbrev pub AreFirstSeats : ℕ → ℕ → List (List ℕ) → Type 0
-AreFirstSeats slots wanted seats = (length seats < wanted) × All (λ seat. seat ≡ replicate (counts_each * slots) 0) seats
+AreFirstSeats slots wanted seats =
+    (length seats < wanted) × All (λ seat. seat ≡ replicate (counts_each * slots) 0) seats
 
 -- seats or memory were lacking, before any thread was started
 abbrev pub IsNoSeat : RunWhy → Type 0

@@ -1,6 +1,7 @@
 //! The jobs of all threads, and what the threads hand back.
 //!
-//! Making the jobs takes time in the number of contexts and callers. It takes no memory, since room for them was made before.
+//! Making the jobs takes time in the number of contexts and callers. It takes no
+//! memory, since room for them was made before.
 
 ghost use Rattle.std.specs.Prelude.{◌≡◌, ℕ, ◌+◌, ◌<◌, ◌≤◌, [], map, reverse, vec_len, vec_capacity, IfOk, OnErr};
 ghost use Rattle.std.specs.List.{All};
@@ -26,10 +27,11 @@ pub(crate) struct Jobs<J: Drop, E: Drop, A: Allocator> {
 }
 
 impl<J: Drop, E: Drop, A: Allocator + Copy> Jobs<J, E, A> {
-    /// Room for this many jobs, of which there is none yet. The only error is out of memory (20), and never where there is to be
-    /// no job.
+    /// Room for this many jobs, of which there is none yet. The only error is out of
+    /// memory (20), and never where there is to be no job.
     pub(crate) fn new(alloc: A, count: usize) -> Result<Self, AllocError>
-        ensures room { IfOk result (λ r. HasRoomFor count (vec_len r.waiting) (vec_capacity r.waiting) × HasRoomFor count (vec_len r.ends) (vec_capacity r.ends)) }
+        ensures room { IfOk result (λ r. HasRoomFor count (vec_len r.waiting) (vec_capacity r.waiting)
+            × HasRoomFor count (vec_len r.ends) (vec_capacity r.ends)) }
         ensures memory { OnErr result (0 < count) }
     {
         Ok(Jobs {
@@ -47,12 +49,14 @@ pub(crate) struct Board<N: Naming, A: Allocator, B: Body + Drop, C: Caller + Dro
 }
 
 impl<N: Naming, A: Allocator + Copy, B: Body + Drop, C: Caller + Drop> Board<N, A, B, C> {
-    /// Room for the jobs of this many contexts and callers, of which there is none yet. The only error is out of memory (20), and
-    /// never where there is to be no job.
+    /// Room for the jobs of this many contexts and callers, of which there is none yet. The only error is out of memory
+    /// (20), and never where there is to be no job.
     pub(crate) fn new(alloc: A, contexts: usize, callers: usize) -> Result<Self, AllocError>
-        ensures contexts { IfOk result (λ r. HasRoomFor contexts (vec_len r.contexts.waiting) (vec_capacity r.contexts.waiting)
+        ensures contexts { IfOk result (λ r.
+            HasRoomFor contexts (vec_len r.contexts.waiting) (vec_capacity r.contexts.waiting)
             × HasRoomFor contexts (vec_len r.contexts.ends) (vec_capacity r.contexts.ends)) }
-        ensures callers { IfOk result (λ r. HasRoomFor callers (vec_len r.callers.waiting) (vec_capacity r.callers.waiting)
+        ensures callers { IfOk result (λ r.
+            HasRoomFor callers (vec_len r.callers.waiting) (vec_capacity r.callers.waiting)
             × HasRoomFor callers (vec_len r.callers.ends) (vec_capacity r.callers.ends)) }
         ensures memory { OnErr result (0 < contexts + callers) }
     {
@@ -105,7 +109,8 @@ pub(crate) fn add_contexts<N: Naming, A: Allocator, B: Body + Drop>(
     }
 }
 
-/// Makes the jobs of the callers, that of the first caller last. Each job takes the last seat that is left. No caller is left.
+/// Makes the jobs of the callers, that of the first caller last. Each job takes the
+/// last seat that is left. No caller is left.
 pub(crate) fn add_callers<N: Naming, A: Allocator, C: Caller + Drop>(
     jobs: &mut Vec<CallerJob<N, A, C>, A>,
     seats: &mut Vec<Seat<N, A>, A>,

@@ -1,7 +1,8 @@
 //! What runs when an item is executed.
 //!
-//! A body belongs to one context, a rescuer or a helper, which calls it for each item of its workqueue that it executes (`work_func_t`
-//! in include/linux/workqueue.h). The body counts its runs, and the context's seat is compared with these counts.
+//! A body belongs to one context, a rescuer or a helper, which calls it for each item
+//! of its workqueue that it executes (`work_func_t` in include/linux/workqueue.h).
+//! The body counts its runs, and the context's seat is compared with these counts.
 
 ghost use Rattle.std.specs.Prelude.{◌≡◌, ◌<◌};
 ghost use Rattle.wq_rescuer.specs.Executing.{RanOnce, SameFinished};

@@ -1,6 +1,7 @@
 //! The contexts of a runtime: workqueue by workqueue, the rescuer and then its helpers.
 //!
-//! To count or to list them takes time in the number of workqueues and contexts. The list takes memory in the number of contexts.
+//! To count or to list them takes time in the number of workqueues and contexts. The
+//! list takes memory in the number of contexts.
 
 ghost use Rattle.std.specs.Prelude.{◌≡◌, ℕ, ◌<◌, ◌≤◌, ◌∷◌, ◌++◌, length, map, IfOk, OnOk, OnErr};
 ghost use Rattle.std.specs.List.{range_with_len};
@@ -29,7 +30,8 @@ fn add_contexts_on<A: Allocator>(
     lane: LaneId,
     helpers: u8,
 ) -> Result<(), AllocError>
-    ensures { OnOk result (contexts.new.items ≡ contexts.old.items ++ (context_at lane 0 ∷ map (context_at lane) (range_with_len 1 helpers))) }
+    ensures { OnOk result (contexts.new.items
+        ≡ contexts.old.items ++ (context_at lane 0 ∷ map (context_at lane) (range_with_len 1 helpers))) }
 {
     contexts.push(Context { lane, helper: 0 })?;
     for h in 0..helpers {
@@ -41,8 +43,8 @@ fn add_contexts_on<A: Allocator>(
     Ok(())
 }
 
-/// Lists the contexts of a runtime, workqueue by workqueue: the rescuer, then its helpers. The only error is out of memory (20), and
-/// never where there is none.
+/// Lists the contexts of a runtime, workqueue by workqueue: the rescuer, then its helpers. The only error is out of
+/// memory (20), and never where there is none.
 pub fn contexts_of<N: Naming, A: Allocator>(
     alloc: A,
     runtime: &WqRuntime<N, A>,

@@ -1,8 +1,11 @@
-//! Puts together what the threads leave: seats, bodies and answers in the order of the contexts and callers, and the sums.
+//! Puts together what the threads leave: seats, bodies and answers in the order of
+//! the contexts and callers, and the sums.
 //!
-//! It takes time in the number of contexts and callers. It takes no memory, since room for all was made before any thread started.
+//! It takes time in the number of contexts and callers. It takes no memory, since
+//! room for all was made before any thread started.
 
-ghost use Rattle.std.specs.Prelude.{◌≡◌, ℕ, ◌+◌, ◌<◌, ◌≤◌, [], ◌++◌, length, map, reverse, take, drop, vec_len, vec_capacity};
+ghost use Rattle.std.specs.Prelude.{◌≡◌, ℕ, ◌+◌, ◌<◌, ◌≤◌, [], ◌++◌, length, map, reverse, take, drop, vec_len};
+ghost use Rattle.std.specs.Prelude.{vec_capacity};
 ghost use Rattle.std.specs.List.{sum_by};
 ghost use Rattle.wq_rescuer.specs.Contexts.{contexts_of};
 ghost use Rattle.wq_rescuer.specs.Serving.{AreServed, HasRoomFor, IsRan, finished_by, faults_by};
@@ -17,7 +20,8 @@ use crate::running::{Ran, RunFault, RunWhy};
 use std::alloc::Allocator;
 use wq_api::{CallError, Naming, Seat};
 
-/// Lists for what comes back. They are empty while the threads run. Those of the bodies and callers are the ones that were handed in.
+/// Lists for what comes back. They are empty while the threads run. Those of the
+/// bodies and callers are the ones that were handed in.
 #[derive(Drop)]
 pub(crate) struct Back<N: Naming, A: Allocator, B: Body + Drop, C: Caller + Drop> {
     pub(crate) seats: Vec<Seat<N, A>, A>,
@@ -107,7 +111,8 @@ fn gather_contexts<N: Naming, A: Allocator, B: Body + Drop>(
     }
 }
 
-/// Takes back the callers, the first one, which is last in the list, first. Their seats come after those of the contexts.
+/// Takes back the callers, the first one, which is last in the list, first. Their
+/// seats come after those of the contexts.
 fn gather_callers<N: Naming, A: Allocator, C: Caller + Drop>(
     mut ends: Vec<CallerEnd<N, A, C>, A>,
     seats: &mut Vec<Seat<N, A>, A>,
@@ -145,12 +150,14 @@ pub(crate) fn gather<N: Naming, A: Allocator, B: Body + Drop, C: Caller + Drop>(
 ) -> Ran<N, A, B, C>
     requires few { vec_len board.contexts.ends ≤ 65536 }
     requires in_order { map (λ end. end.context) board.contexts.ends.items ≡ reverse (contexts_of N.wiring) }
-    requires seats { HasRoomFor (vec_len board.contexts.ends + vec_len board.callers.ends) (vec_len back.seats) (vec_capacity back.seats) }
+    requires seats { HasRoomFor (vec_len board.contexts.ends
+        + vec_len board.callers.ends) (vec_len back.seats) (vec_capacity back.seats) }
     requires bodies { HasRoomFor (vec_len board.contexts.ends) (vec_len back.bodies) (vec_capacity back.bodies) }
     requires callers { HasRoomFor (vec_len board.callers.ends) (vec_len back.callers) (vec_capacity back.callers) }
     requires rescued { HasRoomFor (vec_len board.contexts.ends) (vec_len back.rescued) (vec_capacity back.rescued) }
     requires results { HasRoomFor (vec_len board.callers.ends) (vec_len back.results) (vec_capacity back.results) }
-    ensures ran { IsRan N.wiring (vec_len board.callers.ends) result.seats.items (map B.runs result.bodies.items) (vec_len result.callers) (vec_len result.results) result.rescued.items result.finished result.faults }
+    ensures ran { IsRan N.wiring (vec_len board.callers.ends) result.seats.items (map B.runs result.bodies.items)
+        (vec_len result.callers) (vec_len result.results) result.rescued.items result.finished result.faults }
     ensures first_seats { take (length (contexts_of N.wiring)) result.seats.items
         ≡ reverse (map (λ end. end.seat) board.contexts.ends.items) }
     ensures rescued { result.rescued.items ≡ reverse (map (λ end. end.rescued) board.contexts.ends.items) }
@@ -247,7 +254,8 @@ fn hand_back_callers<N: Naming, A: Allocator, C: Caller + Drop>(
     }
 }
 
-/// Hands back, where a thread couldn't be made, what came back and the jobs that no thread took. There is room for all of it.
+/// Hands back, where a thread couldn't be made, what came back and the jobs that no
+/// thread took. There is room for all of it.
 pub(crate) fn hand_back<N: Naming, A: Allocator, B: Body + Drop, C: Caller + Drop>(
     board: Board<N, A, B, C>,
     back: Back<N, A, B, C>,

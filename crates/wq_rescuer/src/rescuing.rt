@@ -1,8 +1,9 @@
-//! The loop of a context of a workqueue, its rescuer or one of its helpers: it starts the next entry of the workqueue that it can
-//! start, runs the body, and finishes the entry (`rescuer_thread`, `worker_thread` and `process_one_work` in kernel/workqueue.c).
+//! The loop of a context of a workqueue, its rescuer or one of its helpers: it starts the
+//! next entry of the workqueue that it can start, runs the body, and finishes the entry
+//! (`rescuer_thread`, `worker_thread` and `process_one_work` in kernel/workqueue.c).
 //!
-//! The loop ends when the runtime is closed and nothing is pending on the workqueue. It takes no memory. Apart from the bodies
-//! and what it waits for, it takes the time of the runtime's calls.
+//! The loop ends when the runtime is closed and nothing is pending on the workqueue. It takes no memory. Apart from the
+//! bodies and what it waits for, it takes the time of the runtime's calls.
 
 ghost use Rattle.std.specs.Prelude.{◌≡◌, ℕ, ◌+◌, ◌<◌, ◌≤◌, List, Result, IfOk, OnOk, IfErr, OnErr};
 ghost use Rattle.wq_core.specs.Wiring.{items, HasContext};
@@ -10,7 +11,9 @@ ghost use Rattle.wq_history.specs.declared.fault.CallError.TheVariants.{WrongLan
 ghost use Rattle.wq_held.specs.Locked.{IsOnLane};
 ghost use Rattle.wq_api.specs.WaitingCalls.{IsHelper};
 ghost use Rattle.wq_rescuer.specs.declared.body.BodyFault.{BodyFault as Fault};
-ghost use Rattle.wq_rescuer.specs.Executing.{NeverRan, RanOnce, RanOnly, SameFinished, CountsRuns, CountsAtMost, HasExecuted, HasStopped, finished_in_all, faults_of, RefusesRescue, RefusesServe, RefusesHelper, WasDrivenIn};
+ghost use Rattle.wq_rescuer.specs.Executing.{NeverRan, RanOnce, RanOnly, SameFinished, CountsRuns, CountsAtMost};
+ghost use Rattle.wq_rescuer.specs.Executing.{HasExecuted, HasStopped, finished_in_all, faults_of, RefusesRescue};
+ghost use Rattle.wq_rescuer.specs.Executing.{RefusesServe, RefusesHelper, WasDrivenIn};
 
 use crate::body::{Body, BodyFault};
 use crate::work::Work;
@@ -92,7 +95,8 @@ pub fn serve<N: Naming, A: Allocator, R: Wait, B: Body>(
     requires width { items N.wiring ≤ B.width body.old }
     requires never_ran { NeverRan (B.runs body.old) }
     ensures ran { OnOk result (CountsRuns seat.old seat.new (B.runs body.new)) }
-    ensures finished { IfOk result (λ r. finished_in_all (items N.wiring) seat.old + r.finished ≡ finished_in_all (items N.wiring) seat.new) }
+    ensures finished { IfOk result (λ r. finished_in_all (items N.wiring) seat.old + r.finished
+        ≡ finished_in_all (items N.wiring) seat.new) }
     ensures faults { IfOk result (λ r. r.faults ≤ r.finished) }
     ensures context { OnOk result (HasContext N.wiring q helper) }
     ensures own { RanOnly N.wiring q (B.runs body.new) }
@@ -126,12 +130,13 @@ pub fn serve<N: Naming, A: Allocator, R: Wait, B: Body>(
     unreachable!()
 }
 
-/// Serves a workqueue, as its rescuer, until the runtime is closed and nothing is pending on it. For each item, what the seat counts
-/// as finished has risen by what the body ran.
+/// Serves a workqueue, as its rescuer, until the runtime is closed and nothing is pending on it. For each item, what
+/// the seat counts as finished has risen by what the body ran.
 ///
-/// The body has run nothing before, and can count each item. It runs only items of this workqueue. The error is `WrongLane` (64),
-/// where there is no such workqueue, or `HistoryFull` (60), where the seat is full, or `WrongLane` (64), where another caller drove
-/// the same rescuer. Then what the seat counts as finished has risen by no more than what the body ran.
+/// The body has run nothing before, and can count each item. It runs only items of this
+/// workqueue. The error is `WrongLane` (64), where there is no such workqueue, or `HistoryFull`
+/// (60), where the seat is full, or `WrongLane` (64), where another caller drove the same
+/// rescuer. Then what the seat counts as finished has risen by no more than what the body ran.
 pub fn rescue<N: Naming, A: Allocator, R: Wait, B: Body>(
     rt: &R,
     runtime: &WqRuntime<N, A>,
@@ -142,7 +147,8 @@ pub fn rescue<N: Naming, A: Allocator, R: Wait, B: Body>(
     requires width { items N.wiring ≤ B.width body.old }
     requires never_ran { NeverRan (B.runs body.old) }
     ensures ran { OnOk result (CountsRuns seat.old seat.new (B.runs body.new)) }
-    ensures finished { IfOk result (λ r. finished_in_all (items N.wiring) seat.old + r.finished ≡ finished_in_all (items N.wiring) seat.new) }
+    ensures finished { IfOk result (λ r. finished_in_all (items N.wiring) seat.old + r.finished
+        ≡ finished_in_all (items N.wiring) seat.new) }
     ensures faults { IfOk result (λ r. r.faults ≤ r.finished) }
     ensures lane { OnOk result (q < N.wiring.lanes) }
     ensures own { RanOnly N.wiring q (B.runs body.new) }
@@ -156,12 +162,13 @@ pub fn rescue<N: Naming, A: Allocator, R: Wait, B: Body>(
     serve(rt, runtime, q, 0, seat, body)
 }
 
-/// Serves a workqueue, as its helper `h`, until the runtime is closed and nothing is pending on the workqueue. It does for a helper
-/// what `rescue` does for the rescuer.
+/// Serves a workqueue, as its helper `h`, until the runtime is closed and nothing is pending on the workqueue. It does
+/// for a helper what `rescue` does for the rescuer.
 ///
-/// The body has run nothing before, and can count each item. It runs only items of this workqueue. The error is `WrongLane` (64),
-/// where the workqueue has no helper `h`, or `HistoryFull` (60), where the seat is full, or `WrongLane` (64), where another caller
-/// drove the same helper. Then what the seat counts as finished has risen by no more than what the body ran.
+/// The body has run nothing before, and can count each item. It runs only items of this workqueue.
+/// The error is `WrongLane` (64), where the workqueue has no helper `h`, or `HistoryFull` (60),
+/// where the seat is full, or `WrongLane` (64), where another caller drove the same helper. Then
+/// what the seat counts as finished has risen by no more than what the body ran.
 pub fn help<N: Naming, A: Allocator, R: Wait, B: Body>(
     rt: &R,
     runtime: &WqRuntime<N, A>,
@@ -173,7 +180,8 @@ pub fn help<N: Naming, A: Allocator, R: Wait, B: Body>(
     requires width { items N.wiring ≤ B.width body.old }
     requires never_ran { NeverRan (B.runs body.old) }
     ensures ran { OnOk result (CountsRuns seat.old seat.new (B.runs body.new)) }
-    ensures finished { IfOk result (λ r. finished_in_all (items N.wiring) seat.old + r.finished ≡ finished_in_all (items N.wiring) seat.new) }
+    ensures finished { IfOk result (λ r. finished_in_all (items N.wiring) seat.old + r.finished
+        ≡ finished_in_all (items N.wiring) seat.new) }
     ensures faults { IfOk result (λ r. r.faults ≤ r.finished) }
     ensures helper { OnOk result (IsHelper N.wiring q h) }
     ensures own { RanOnly N.wiring q (B.runs body.new) }

@@ -1,15 +1,17 @@
-//! Running everything: a thread for each context, rescuer or helper, and one for each caller, until the callers have made their
-//! calls and all work is done.
+//! Running everything: a thread for each context, rescuer or helper, and one for each caller, until the callers have
+//! made their calls and all work is done.
 //!
 //! All memory is taken, and all seats are made, before any thread starts.
 
-ghost use Rattle.std.specs.Prelude.{◌≡◌, ◌≢◌, ℕ, ◌+◌, ◌<◌, ◌≤◌, [], length, map, reverse, take, drop, vec_len, vec_capacity, IfOk, IfErr};
+ghost use Rattle.std.specs.Prelude.{◌≡◌, ◌≢◌, ℕ, ◌+◌, ◌<◌, ◌≤◌, [], length, map, reverse, take, drop, vec_len};
+ghost use Rattle.std.specs.Prelude.{vec_capacity, IfOk, IfErr};
 ghost use Rattle.std.specs.List.{All};
 ghost use Rattle.wq_core.specs.Wiring.{items};
 ghost use Rattle.wq_held.specs.Locked.{slots};
 ghost use Rattle.wq_rescuer.specs.Executing.{NeverRan, Executes, no_counts};
 ghost use Rattle.wq_rescuer.specs.Contexts.{contexts_of};
-ghost use Rattle.wq_rescuer.specs.Serving.{AreFirstSeats, HasRoomFor, HaveCalled, HaveServed, IsNoSeat, IsOneLost, IsRan, RefusesRun, run_code};
+ghost use Rattle.wq_rescuer.specs.Serving.{AreFirstSeats, HasRoomFor, HaveCalled, HaveServed, IsNoSeat, IsOneLost};
+ghost use Rattle.wq_rescuer.specs.Serving.{IsRan, RefusesRun, run_code};
 ghost use Rattle.wq_rescuer.specs.declared.running.RunWhy.TheVariants.{BodiesDiffer, OutOfMemory, NoThread};
 
 use crate::board::{Unstarted, add_callers, add_contexts};
@@ -145,19 +147,21 @@ fn make_jobs<N: Naming, A: Allocator, B: Body + Drop, C: Caller + Drop>(
     (Unstarted { board }, back)
 }
 
-/// Runs everything: makes a seat for each context and each caller, starts a thread for each context, which serves its workqueue, and
-/// then a thread that makes the calls of each caller, waits for the callers, closes the runtime by `destroy`, and waits for the
-/// threads of the contexts. The contexts are, workqueue by workqueue, its rescuer and then its helpers, and so are the bodies.
+/// Runs everything: makes a seat for each context and each caller, starts a thread for each context, which serves its
+/// workqueue, and then a thread that makes the calls of each caller, waits for the callers, closes the runtime by
+/// `destroy`, and waits for the threads of the contexts. The contexts are, workqueue by workqueue, its rescuer and then
+/// its helpers, and so are the bodies.
 ///
-/// No body has run anything yet, and each can count all items. The error is the first of these that holds: `BodiesDiffer` (73),
-/// where there isn't one body for each context; `TooManySeats` (70) or `OutOfMemory` (20), before any thread starts; `NoThread`
-/// (22), where a thread can't be made. Then no further thread is started, and those that run are ended as above. All bodies and
-/// callers are handed back, except that after `NoThread` what that thread was to take is lost: its seat, so that
-/// `WqRuntime::close` refuses from then on (72), and its body or its caller.
+/// No body has run anything yet, and each can count all items. The error is the first of these that holds:
+/// `BodiesDiffer` (73), where there isn't one body for each context; `TooManySeats` (70) or `OutOfMemory` (20), before
+/// any thread starts; `NoThread` (22), where a thread can't be made. Then no further thread is started, and those that
+/// run are ended as above. All bodies and callers are handed back, except that after `NoThread` what that thread was to
+/// take is lost: its seat, so that `WqRuntime::close` refuses from then on (72), and its body or its caller.
 ///
-/// Nobody serves a workqueue whose contexts were all refused or couldn't be started. If something is pending on it, the call waits
-/// forever. That can't be in a runtime that nobody else uses and on which nothing was pending before, if besides no caller and no body
-/// calls `next`, `wait_for`, `wait_all_for` or `finish_work`, or what helpers call in place of these.
+/// Nobody serves a workqueue whose contexts were all refused or couldn't be started. If
+/// something is pending on it, the call waits forever. That can't be in a runtime that nobody
+/// else uses and on which nothing was pending before, if besides no caller and no body calls
+/// `next`, `wait_for`, `wait_all_for` or `finish_work`, or what helpers call in place of these.
 pub fn run_all<
     N: Naming + Send + Sync,
     A: Allocator + Copy + Send + Sync,
@@ -173,7 +177,9 @@ pub fn run_all<
 ) -> Result<Ran<N, A, B, C>, RunFault<N, A, B, C>>
     requires width { All (λ body. items N.wiring ≤ B.width body) bodies.items }
     requires never_ran { All (λ body. NeverRan (B.runs body)) bodies.items }
-    ensures ran { IfOk result (λ r. (vec_len bodies ≡ length (contexts_of N.wiring)) × IsRan N.wiring (vec_len callers) r.seats.items (map B.runs r.bodies.items) (vec_len r.callers) (vec_len r.results) r.rescued.items r.finished r.faults) }
+    ensures ran { IfOk result (λ r. (vec_len bodies ≡ length (contexts_of N.wiring))
+        × IsRan N.wiring (vec_len callers) r.seats.items (map B.runs r.bodies.items) (vec_len r.callers)
+        (vec_len r.results) r.rescued.items r.finished r.faults) }
     ensures served { IfOk result (λ r. HaveServed
         (λ body seat answer. Executes (B.may N.wiring body) (no_counts N.wiring) seat answer) bodies.items
         (take (length (contexts_of N.wiring)) r.seats.items) r.rescued.items) }
@@ -182,9 +188,11 @@ pub fn run_all<
         r.callers.items r.results.items (drop (length (contexts_of N.wiring)) r.seats.items)) }
     ensures refused { IfErr result (λ f. RefusesRun (length (contexts_of N.wiring)) (vec_len bodies) f.why) }
     ensures no_seats { IfErr result (λ f. f.why ≡ BodiesDiffer → f.seats.items ≡ []) }
-    ensures made { IfErr result (λ f. IsNoSeat f.why → AreFirstSeats (slots N.wiring) (vec_len bodies + vec_len callers) f.seats.items) }
+    ensures made { IfErr result (λ f. IsNoSeat f.why
+        → AreFirstSeats (slots N.wiring) (vec_len bodies + vec_len callers) f.seats.items) }
     ensures memory { IfErr result (λ f. f.why ≡ OutOfMemory → 0 < vec_len bodies + vec_len callers) }
-    ensures kept { IfErr result (λ f. f.why ≢ NoThread → (f.bodies.items ≡ bodies.items) × (f.callers.items ≡ callers.items)) }
+    ensures kept { IfErr result (λ f. f.why ≢ NoThread
+        → (f.bodies.items ≡ bodies.items) × (f.callers.items ≡ callers.items)) }
     ensures lost { IfErr result (λ f. f.why ≡ NoThread
         → (vec_len f.seats ≡ vec_len f.bodies + vec_len f.callers)
         × IsOneLost (vec_len bodies) (vec_len callers) (vec_len f.bodies) (vec_len f.callers)) }

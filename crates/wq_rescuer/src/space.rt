@@ -1,10 +1,11 @@
-//! What a run takes before any thread starts: a list of the contexts, a seat for each of them and for each caller, and memory for
-//! their jobs, for what comes back of them and for their answers.
+//! What a run takes before any thread starts: a list of the contexts, a seat for each of them and for each caller, and
+//! memory for their jobs, for what comes back of them and for their answers.
 //!
-//! It takes time and memory in the number of seats times that of items or of workqueues, whichever is larger: for each of these a
-//! seat has 176 bytes of counts.
+//! It takes time and memory in the number of seats times that of items or of workqueues, whichever is larger: for each
+//! of these a seat has 176 bytes of counts.
 
-ghost use Rattle.std.specs.Prelude.{◌≡◌, ℕ, ◌+◌, ◌*◌, ◌<◌, ◌≤◌, ◌^◌, [], length, replicate, vec_len, vec_capacity, IfOk, OnOk, IfErr, OnErr};
+ghost use Rattle.std.specs.Prelude.{◌≡◌, ℕ, ◌+◌, ◌*◌, ◌<◌, ◌≤◌, ◌^◌, [], length, replicate, vec_len, vec_capacity};
+ghost use Rattle.std.specs.Prelude.{IfOk, OnOk, IfErr, OnErr};
 ghost use Rattle.std.specs.List.{All};
 ghost use Rattle.wq_counts.specs.Counting.{counts_each};
 ghost use Rattle.wq_held.specs.Locked.{slots};
@@ -41,15 +42,17 @@ pub(crate) struct NoSpace<N: Naming, A: Allocator> {
 }
 
 impl<N: Naming, A: Allocator + Copy, B: Body + Drop, C: Caller + Drop> Space<N, A, B, C> {
-    /// Room for these contexts and this many callers, without a seat. The only error is out of memory (20), and never where there
-    /// is neither a context nor a caller.
+    /// Room for these contexts and this many callers, without a seat. The only error is out of memory (20), and never
+    /// where there is neither a context nor a caller.
     fn new(alloc: A, contexts: Vec<Context, A>, callers: usize) -> Result<Self, AllocError>
         requires { vec_len contexts + callers < 2 ^ 64 }
         ensures all { IfOk result (λ r. r.contexts.items ≡ contexts.items) }
-        ensures contexts { IfOk result (λ r. HasRoomFor (vec_len contexts) (vec_len r.board.contexts.waiting) (vec_capacity r.board.contexts.waiting)
+        ensures contexts { IfOk result (λ r.
+            HasRoomFor (vec_len contexts) (vec_len r.board.contexts.waiting) (vec_capacity r.board.contexts.waiting)
             × HasRoomFor (vec_len contexts) (vec_len r.board.contexts.ends) (vec_capacity r.board.contexts.ends)
             × HasRoomFor (vec_len contexts) (vec_len r.rescued) (vec_capacity r.rescued)) }
-        ensures callers { IfOk result (λ r. HasRoomFor callers (vec_len r.board.callers.waiting) (vec_capacity r.board.callers.waiting)
+        ensures callers { IfOk result (λ r.
+            HasRoomFor callers (vec_len r.board.callers.waiting) (vec_capacity r.board.callers.waiting)
             × HasRoomFor callers (vec_len r.board.callers.ends) (vec_capacity r.board.callers.ends)
             × HasRoomFor callers (vec_len r.results) (vec_capacity r.results)) }
         ensures seats { IfOk result (λ r. (r.seats.items ≡ []) × (vec_len contexts + callers ≤ vec_capacity r.seats)) }
@@ -96,8 +99,8 @@ fn make_seats<N: Naming, A: Allocator + Copy, R: Wait>(
     Ok(())
 }
 
-/// Lists the contexts of a runtime, which are so many, and makes room for them and for this many callers. The only error is out of
-/// memory (20), and never where there is neither a context nor a caller.
+/// Lists the contexts of a runtime, which are so many, and makes room for them and for this many callers. The only
+/// error is out of memory (20), and never where there is neither a context nor a caller.
 fn take_room<N: Naming, A: Allocator + Copy, B: Body + Drop, C: Caller + Drop>(
     alloc: A,
     runtime: &WqRuntime<N, A>,
@@ -107,10 +110,12 @@ fn take_room<N: Naming, A: Allocator + Copy, B: Body + Drop, C: Caller + Drop>(
     requires all { count ≡ length (contexts_of N.wiring) }
     requires few { count + callers < 2 ^ 64 }
     ensures all { IfOk result (λ r. r.contexts.items ≡ contexts_of N.wiring) }
-    ensures contexts { IfOk result (λ r. HasRoomFor count (vec_len r.board.contexts.waiting) (vec_capacity r.board.contexts.waiting)
+    ensures contexts { IfOk result (λ r.
+        HasRoomFor count (vec_len r.board.contexts.waiting) (vec_capacity r.board.contexts.waiting)
         × HasRoomFor count (vec_len r.board.contexts.ends) (vec_capacity r.board.contexts.ends)
         × HasRoomFor count (vec_len r.rescued) (vec_capacity r.rescued)) }
-    ensures callers { IfOk result (λ r. HasRoomFor callers (vec_len r.board.callers.waiting) (vec_capacity r.board.callers.waiting)
+    ensures callers { IfOk result (λ r.
+        HasRoomFor callers (vec_len r.board.callers.waiting) (vec_capacity r.board.callers.waiting)
         × HasRoomFor callers (vec_len r.board.callers.ends) (vec_capacity r.board.callers.ends)
         × HasRoomFor callers (vec_len r.results) (vec_capacity r.results)) }
     ensures seats { IfOk result (λ r. (r.seats.items ≡ []) × (count + callers ≤ vec_capacity r.seats)) }
@@ -120,7 +125,8 @@ fn take_room<N: Naming, A: Allocator + Copy, B: Body + Drop, C: Caller + Drop>(
     Space::new(alloc, contexts, callers)
 }
 
-/// The contexts, seats and room for a run with this many bodies and callers. The error is that of `run_all`, up to the first thread.
+/// The contexts, seats and room for a run with this many bodies and callers. The
+/// error is that of `run_all`, up to the first thread.
 pub(crate) fn reserve<N: Naming, A: Allocator + Copy, R: Wait, B: Body + Drop, C: Caller + Drop>(
     rt: &R,
     alloc: A,
@@ -130,11 +136,14 @@ pub(crate) fn reserve<N: Naming, A: Allocator + Copy, R: Wait, B: Body + Drop, C
 ) -> Result<Space<N, A, B, C>, NoSpace<N, A>>
     requires { bodies + callers < 2 ^ 64 }
     ensures few { OnOk result (bodies ≤ 65536) }
-    ensures all { IfOk result (λ r. (bodies ≡ length (contexts_of N.wiring)) × (r.contexts.items ≡ contexts_of N.wiring)) }
-    ensures contexts { IfOk result (λ r. HasRoomFor bodies (vec_len r.board.contexts.waiting) (vec_capacity r.board.contexts.waiting)
+    ensures all { IfOk result (λ r. (bodies ≡ length (contexts_of N.wiring))
+        × (r.contexts.items ≡ contexts_of N.wiring)) }
+    ensures contexts { IfOk result (λ r.
+        HasRoomFor bodies (vec_len r.board.contexts.waiting) (vec_capacity r.board.contexts.waiting)
         × HasRoomFor bodies (vec_len r.board.contexts.ends) (vec_capacity r.board.contexts.ends)
         × HasRoomFor bodies (vec_len r.rescued) (vec_capacity r.rescued)) }
-    ensures callers { IfOk result (λ r. HasRoomFor callers (vec_len r.board.callers.waiting) (vec_capacity r.board.callers.waiting)
+    ensures callers { IfOk result (λ r.
+        HasRoomFor callers (vec_len r.board.callers.waiting) (vec_capacity r.board.callers.waiting)
         × HasRoomFor callers (vec_len r.board.callers.ends) (vec_capacity r.board.callers.ends)
         × HasRoomFor callers (vec_len r.results) (vec_capacity r.results)) }
     ensures seats { IfOk result (λ r. (vec_len r.seats ≡ bodies + callers) × (bodies + callers ≤ vec_capacity r.seats)
@@ -142,7 +151,8 @@ pub(crate) fn reserve<N: Naming, A: Allocator + Copy, R: Wait, B: Body + Drop, C
     ensures refused { IfErr result (λ e. RefusesRun (length (contexts_of N.wiring)) bodies e.why) }
     ensures unstarted { IfErr result (λ e. IsUnstarted e.why) }
     ensures no_seats { IfErr result (λ e. e.why ≡ BodiesDiffer → e.seats.items ≡ []) }
-    ensures made { IfErr result (λ e. IsNoSeat e.why → AreFirstSeats (slots N.wiring) (bodies + callers) e.seats.items) }
+    ensures made { IfErr result (λ e. IsNoSeat e.why
+        → AreFirstSeats (slots N.wiring) (bodies + callers) e.seats.items) }
     ensures memory { IfErr result (λ e. e.why ≡ OutOfMemory → 0 < bodies + callers) }
 {
     if bodies != count_contexts(runtime) {

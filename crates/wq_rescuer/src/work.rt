@@ -1,9 +1,9 @@
 //! What the body of a work item may do while it runs: queue, cancel and flush.
 //!
-//! A body runs outside the lock, in a context of its workqueue, which is its rescuer or a helper. What it does counts in the seat
-//! of that context. It may flush only what its item declares, items and whole workqueues, and no more often (`flush_work` and
-//! `flush_workqueue` in a work function, Documentation/core-api/workqueue.rst, "Guidelines"). Apart from what it waits for, a call
-//! takes the time of the runtime's own call.
+//! A body runs outside the lock, in a context of its workqueue, which is its rescuer or a helper. What it does counts
+//! in the seat of that context. It may flush only what its item declares, items and whole workqueues, and no more often
+//! (`flush_work` and `flush_workqueue` in a work function, Documentation/core-api/workqueue.rst, "Guidelines"). Apart
+//! from what it waits for, a call takes the time of the runtime's own call.
 
 ghost use Rattle.std.specs.Prelude.{◌≡◌, ◌<◌, true, false, IfOk, IfErr, OnOk};
 ghost use Rattle.wq_core.specs.Wiring.{items, HasContext};
@@ -57,7 +57,8 @@ impl<'a, N: Naming, A: Allocator> Work<'a, N, A> {
         }
     }
 
-    /// States what holds of the counts of its seat: there are 22 for each item, or for each workqueue where there are more of those.
+    /// States what holds of the counts of its seat: there are 22 for each item, or
+    /// for each workqueue where there are more of those.
     pub fn holds(&self)
         ensures { HasCountsOf (slots N.wiring) self.now.seat.now }
     {
@@ -73,14 +74,17 @@ impl<'a, N: Naming, A: Allocator> Work<'a, N, A> {
 
     /// Queues an item: true where it wasn't pending, false where it was.
     ///
-    /// The error is the first of these that holds: `NoItem` (66); `HistoryFull` (60), where the seat is full; `Closed` (61);
-    /// `HistoryFull` (60), where fewer rows are free than it needs: 1 where the item is pending, else 3, and 2 more for each flush
-    /// that it declares. After an error nothing is changed or counted.
+    /// The error is the first of these that holds: `NoItem` (66); `HistoryFull` (60), where the seat is full; `Closed`
+    /// (61); `HistoryFull` (60), where fewer rows are free than it needs: 1 where the item is pending, else 3, and 2
+    /// more for each flush that it declares. After an error nothing is changed or counted.
     pub fn queue<R: Wait>(&mut self, rt: &R, item: ItemId) -> Result<bool, CallError>
         ensures took { GivesYes
             (λ answer. ComesTo N.wiring N.rows self.old.seat.now (QueueCall item) answer self.new.seat.now) result }
-        ensures counted { IfOk result (λ accepted. (item < items N.wiring) × SeatHasRoom self.old.seat.now × (self.new.seat.now ≡ raised self.old.seat.now item Queue accepted)) }
-        ensures refused { IfErr result (λ e. RefusesQueueByBody N.wiring self.old.seat.now item e × (self.new.seat.now ≡ self.old.seat.now)) }
+        ensures counted { IfOk result (λ accepted. (item < items N.wiring)
+            × SeatHasRoom self.old.seat.now
+            × (self.new.seat.now ≡ raised self.old.seat.now item Queue accepted)) }
+        ensures refused { IfErr result (λ e. RefusesQueueByBody N.wiring self.old.seat.now item e
+            × (self.new.seat.now ≡ self.old.seat.now)) }
         ensures finished { SameFinished self.old.seat.now self.new.seat.now }
         ensures same_seat { self.new.seat.ghost_name ≡ self.old.seat.ghost_name }
         ensures context { self.new.context ≡ self.old.context }
@@ -91,13 +95,16 @@ impl<'a, N: Naming, A: Allocator> Work<'a, N, A> {
 
     /// Removes the pending entry of an item: true where one was pending.
     ///
-    /// The error is `NoItem` (66), or else `HistoryFull` (60), where the seat is full, or nothing is pending and no row is free.
-    /// After an error nothing is changed or counted.
+    /// The error is `NoItem` (66), or else `HistoryFull` (60), where the seat is full, or nothing is pending and no row
+    /// is free. After an error nothing is changed or counted.
     pub fn cancel<R: Wait>(&mut self, rt: &R, item: ItemId) -> Result<bool, CallError>
         ensures took { GivesYes
             (λ answer. ComesTo N.wiring N.rows self.old.seat.now (CancelCall item) answer self.new.seat.now) result }
-        ensures counted { IfOk result (λ taken. (item < items N.wiring) × SeatHasRoom self.old.seat.now × (self.new.seat.now ≡ raised self.old.seat.now item Cancel taken)) }
-        ensures refused { IfErr result (λ e. RefusesCancelWork N.wiring item e × (self.new.seat.now ≡ self.old.seat.now)) }
+        ensures counted { IfOk result (λ taken. (item < items N.wiring)
+            × SeatHasRoom self.old.seat.now
+            × (self.new.seat.now ≡ raised self.old.seat.now item Cancel taken)) }
+        ensures refused { IfErr result (λ e. RefusesCancelWork N.wiring item e
+            × (self.new.seat.now ≡ self.old.seat.now)) }
         ensures finished { SameFinished self.old.seat.now self.new.seat.now }
         ensures same_seat { self.new.seat.ghost_name ≡ self.old.seat.ghost_name }
         ensures context { self.new.context ≡ self.old.context }
@@ -106,16 +113,24 @@ impl<'a, N: Naming, A: Allocator> Work<'a, N, A> {
         self.runtime.cancel_work(rt, self.seat, item)
     }
 
-    /// Waits until none of an item's entries that were queued before the call is unfinished: true where one was when the wait began.
+    /// Waits until none of an item's entries that were queued before the call is
+    /// unfinished: true where one was when the wait began.
     ///
-    /// The error is the first of these that holds: `HistoryFull` (60), where the seat is full; `Undeclared` (62), where the
-    /// running item declares no flush of this one alone; `TooManyWaits` (63), where it has made as many as it declares, of both
-    /// kinds. Then nothing is changed or counted. `WrongLane` (64) comes only where another caller drives the same context. If
-    /// that happens during the wait, the wait stays counted.
+    /// The error is the first of these that holds: `HistoryFull` (60), where the seat is full; `Undeclared` (62), where
+    /// the running item declares no flush of this one alone; `TooManyWaits` (63), where it has made as many as it
+    /// declares, of both kinds. Then nothing is changed or counted. `WrongLane` (64) comes only where another caller
+    /// drives the same context. If that happens during the wait, the wait stays counted.
     pub fn flush<R: Wait>(&mut self, rt: &R, target: ItemId) -> Result<bool, CallError>
-        ensures counted { IfOk result (λ unfinished. HasContext N.wiring self.old.context.lane self.old.context.helper × (target < items N.wiring) × SeatHasRoom self.old.seat.now × (self.new.seat.now ≡ waited_for self.old.seat.now false target unfinished)) }
-        ensures refused { IfErr result (λ e. RefusesWaitIn N.wiring self.old.seat.now self.old.context.lane self.old.context.helper e × RefusedWaitIn N.wiring self.old.seat.now self.new.seat.now self.old.context.lane self.old.context.helper false target e) }
-        ensures waiter { HasContext N.wiring self.old.context.lane self.old.context.helper → SeatHasRoom self.old.seat.now → HasWaiter N.wiring self.old.context.lane false target result }
+        ensures counted { IfOk result (λ unfinished. HasContext N.wiring self.old.context.lane self.old.context.helper
+            × (target < items N.wiring)
+            × SeatHasRoom self.old.seat.now
+            × (self.new.seat.now ≡ waited_for self.old.seat.now false target unfinished)) }
+        ensures refused { IfErr result (λ e.
+            RefusesWaitIn N.wiring self.old.seat.now self.old.context.lane self.old.context.helper e
+            × RefusedWaitIn N.wiring self.old.seat.now self.new.seat.now self.old.context.lane self.old.context.helper
+            false target e) }
+        ensures waiter { HasContext N.wiring self.old.context.lane self.old.context.helper
+            → SeatHasRoom self.old.seat.now → HasWaiter N.wiring self.old.context.lane false target result }
         ensures took { Waits N.wiring N.rows self.old.seat.now
             (context_of self.old.context.lane self.old.context.helper)
             (flush_of false target) result self.new.seat.now }
@@ -131,17 +146,25 @@ impl<'a, N: Naming, A: Allocator> Work<'a, N, A> {
         self.flushed
     }
 
-    /// Waits until none of the entries that were queued before the call on an item's workqueue is unfinished: true where one was
-    /// when the wait began.
+    /// Waits until none of the entries that were queued before the call on an item's workqueue is unfinished: true
+    /// where one was when the wait began.
     ///
-    /// The error is the first of these that holds: `HistoryFull` (60), where the seat is full; `Undeclared` (62), where the
-    /// running item declares no flush of the whole workqueue of this very item; `TooManyWaits` (63), where it has made as many
-    /// flushes as it declares, of both kinds. Then nothing is changed or counted. `WrongLane` (64) comes only where another caller
+    /// The error is the first of these that holds: `HistoryFull` (60), where the seat is full;
+    /// `Undeclared` (62), where the running item declares no flush of the whole workqueue of this
+    /// very item; `TooManyWaits` (63), where it has made as many flushes as it declares, of both
+    /// kinds. Then nothing is changed or counted. `WrongLane` (64) comes only where another caller
     /// drives the same context as this body. If that happens during the wait, the wait stays counted.
     pub fn flush_wq<R: Wait>(&mut self, rt: &R, target: ItemId) -> Result<bool, CallError>
-        ensures counted { IfOk result (λ unfinished. HasContext N.wiring self.old.context.lane self.old.context.helper × (target < items N.wiring) × SeatHasRoom self.old.seat.now × (self.new.seat.now ≡ waited_for self.old.seat.now true target unfinished)) }
-        ensures refused { IfErr result (λ e. RefusesWaitIn N.wiring self.old.seat.now self.old.context.lane self.old.context.helper e × RefusedWaitIn N.wiring self.old.seat.now self.new.seat.now self.old.context.lane self.old.context.helper true target e) }
-        ensures waiter { HasContext N.wiring self.old.context.lane self.old.context.helper → SeatHasRoom self.old.seat.now → HasWaiter N.wiring self.old.context.lane true target result }
+        ensures counted { IfOk result (λ unfinished. HasContext N.wiring self.old.context.lane self.old.context.helper
+            × (target < items N.wiring)
+            × SeatHasRoom self.old.seat.now
+            × (self.new.seat.now ≡ waited_for self.old.seat.now true target unfinished)) }
+        ensures refused { IfErr result (λ e.
+            RefusesWaitIn N.wiring self.old.seat.now self.old.context.lane self.old.context.helper e
+            × RefusedWaitIn N.wiring self.old.seat.now self.new.seat.now self.old.context.lane self.old.context.helper
+            true target e) }
+        ensures waiter { HasContext N.wiring self.old.context.lane self.old.context.helper
+            → SeatHasRoom self.old.seat.now → HasWaiter N.wiring self.old.context.lane true target result }
         ensures took { Waits N.wiring N.rows self.old.seat.now
             (context_of self.old.context.lane self.old.context.helper) (flush_of true target) result self.new.seat.now }
         ensures finished { SameFinished self.old.seat.now self.new.seat.now }

@@ -1,17 +1,19 @@
 -- Packing: the 12 bytes that hold a row.
 --
--- Byte 0 is the kind of the event; byte 1 is 1 if the answer is yes, else 0; bytes 2 and 3 are the item, bytes 4 and 5 the lane,
--- byte 6 the helper, each 0 if the event has none; byte 7 is 0; bytes 8 to 11 are the number. The least significant byte of a
--- number comes first.
+-- Byte 0 is the kind of the event; byte 1 is 1 if the answer is yes, else 0; bytes 2 and 3 are the item, bytes 4 and 5
+-- the lane, byte 6 the helper, each 0 if the event has none; byte 7 is 0; bytes 8 to 11 are the number. The least
+-- significant byte of a number comes first.
 use Rattle.std.specs.Prelude.{◌≡◌, ℕ, ◌<◌, ◌≤◌, ◌^◌, ⊤, Bool, true, false, IsTrue, List, ◌∷◌, ◌++◌}
 use Rattle.std.specs.Int.{w16, w32, to_le_bytes}
 use Rattle.std.specs.List.{flat_map}
 use Rattle.wq_core.specs.declared.step.HelpStep.{HelpStep}
-use Rattle.wq_core.specs.declared.step.HelpStep.TheVariants.{Start as DoStart, Wait as DoWait, WaitAll as DoWaitAll, Over as DoOver, OverAll as DoOverAll, Finish as DoFinish}
+use Rattle.wq_core.specs.declared.step.HelpStep.TheVariants.{Start as DoStart, Wait as DoWait, WaitAll as DoWaitAll}
+use Rattle.wq_core.specs.declared.step.HelpStep.TheVariants.{Over as DoOver, OverAll as DoOverAll, Finish as DoFinish}
 use Rattle.wq_core.specs.Wiring.{max_helpers}
 use Rattle.wq_core.specs.Rules.{deed_item}
 use Rattle.wq_rows.specs.declared.event.Event.{Event}
-use Rattle.wq_rows.specs.declared.event.Event.TheVariants.{Queue, Cancel, Start, Wait, Over, Finish, Ask, Told, WaitAll, OverAll, AskLane, ToldLane, Help}
+use Rattle.wq_rows.specs.declared.event.Event.TheVariants.{Queue, Cancel, Start, Wait, Over, Finish, Ask, Told, WaitAll}
+use Rattle.wq_rows.specs.declared.event.Event.TheVariants.{OverAll, AskLane, ToldLane, Help}
 use Rattle.wq_rows.specs.declared.event.Row.{Row}
 
 -- the number of the kind of a helper's step: that of the same step of the rescuer
@@ -80,7 +82,9 @@ answer_byte false = 0
 -- the 12 bytes that hold a row
 abbrev pub packed : Row → List ℕ
 packed row =
-    kind_of row.event ∷ answer_byte row.yes ∷ (to_le_bytes w16 (item_in row.event) ++ (to_le_bytes w16 (lane_in row.event) ++ (helper_in row.event ∷ 0 ∷ to_le_bytes w32 row.number)))
+    kind_of row.event ∷ answer_byte row.yes
+    ∷ (to_le_bytes w16 (item_in row.event)
+    ++ (to_le_bytes w16 (lane_in row.event) ++ (helper_in row.event ∷ 0 ∷ to_le_bytes w32 row.number)))
 
 -- the bytes that hold some rows, one after the other
 abbrev pub packed_rows : List Row → List ℕ
@@ -103,8 +107,8 @@ HelpMayAnswer (DoOverAll target) said = IsTrue said
 HelpMayAnswer (DoFinish item) said = IsTrue said
 HelpMayAnswer _ said = ⊤
 
--- there may be such an event, with this answer: events that can't come to nothing always have yes, and a helper has a number
--- from 1 to 8
+-- there may be such an event, with this answer: events that can't come to nothing
+-- always have yes, and a helper has a number from 1 to 8
 abbrev pub MayAnswer : Event → Bool → Type 0
 MayAnswer (Start lane item) said = IsTrue said
 MayAnswer (Over lane target) said = IsTrue said

@@ -1,9 +1,9 @@
 //! Events, and the rows that record them.
 //!
-//! Queue, Cancel, Start, Wait, Over, WaitAll, OverAll, Finish and Help record steps of the machine, or that no step was due. Ask
-//! and Told record a flush of an item from outside a workqueue: a caller asks whether the item has an unfinished entry, and is told
-//! once each entry that it waits for is finished (`flush_work` in kernel/workqueue.c). AskLane and ToldLane record the same of a
-//! whole workqueue (`flush_workqueue` there). Nothing is computed here.
+//! Queue, Cancel, Start, Wait, Over, WaitAll, OverAll, Finish and Help record steps of the machine, or that no step was
+//! due. Ask and Told record a flush of an item from outside a workqueue: a caller asks whether the item has an
+//! unfinished entry, and is told once each entry that it waits for is finished (`flush_work` in kernel/workqueue.c).
+//! AskLane and ToldLane record the same of a whole workqueue (`flush_workqueue` there). Nothing is computed here.
 
 ghost use Rattle.std.specs.Prelude.{◌≡◌};
 ghost use Rattle.wq_rows.specs.Packing.{help_kind as help_kind_of, kind_of, item_in, lane_in, helper_in};
@@ -39,7 +39,8 @@ pub enum Event {
     AskLane(LaneId),
     /// A caller that waited for the whole lane was told that its wait is over.
     ToldLane(LaneId),
-    /// A helper of the lane made this step, with what it runs. The helpers of a lane are numbered from 1, and at most 8.
+    /// A helper of the lane made this step, with what it runs. The helpers of a lane
+    /// are numbered from 1, and at most 8.
     Help(LaneId, u8, HelpStep),
 }
 
@@ -48,12 +49,12 @@ pub enum Event {
 pub struct Row {
     /// What happened.
     pub event: Event,
-    /// For Queue, whether the item was accepted; for Cancel, whether an entry was removed; for Wait and Ask, whether the item had
-    /// an unfinished entry; for WaitAll, whether the lane of the item had one; for AskLane, whether the lane had one; for a
-    /// helper's step what it is for the rescuer's; for all others true.
+    /// For Queue, whether the item was accepted; for Cancel, whether an entry was removed; for Wait and Ask, whether
+    /// the item had an unfinished entry; for WaitAll, whether the lane of the item had one; for AskLane, whether the
+    /// lane had one; for a helper's step what it is for the rescuer's; for all others true.
     pub yes: bool,
-    /// The number of the entry that was queued, removed, started or finished; the mark of a wait or an ask. 0 where nothing was
-    /// queued or removed.
+    /// The number of the entry that was queued, removed, started or finished; the mark of a wait or an ask. 0 where
+    /// nothing was queued or removed.
     pub number: u32,
 }
 

@@ -1,7 +1,7 @@
 //! Histories: rows, packed one after the other.
 //!
-//! The bytes of a history are the packings of its rows, joined. Nothing comes before, between or after them. A history takes its
-//! memory once, 12 bytes for each row that there is room for. Each call takes constant time.
+//! The bytes of a history are the packings of its rows, joined. Nothing comes before, between or after them. A history
+//! takes its memory once, 12 bytes for each row that there is room for. Each call takes constant time.
 
 ghost use Rattle.std.specs.Prelude.{◌≡◌, ◌<◌, ◌≤◌, [], ◌∷◌, ◌++◌, length, IfOk, OnErr};
 ghost use Rattle.wq_rows.specs.Packing.{packed_rows, IsPackable};
@@ -35,8 +35,8 @@ impl<A: Allocator> Model for History<A> {
 }
 
 impl<A: Allocator> History<A> {
-    /// A history without rows, with room for this many. It takes memory once, 12 bytes for each of them (which is tested). The only
-    /// error is out of memory, which can't occur where there is room for none.
+    /// A history without rows, with room for this many. It takes memory once, 12 bytes for each of them (which is
+    /// tested). The only error is out of memory, which can't occur where there is room for none.
     pub fn new(alloc: A, room: u32) -> Result<Self, AllocError>
         requires { room ≤ max_rows }
         ensures history { IfOk result (λ h. h ≡ record { rows = []; room = room }) }

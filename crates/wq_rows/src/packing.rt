@@ -10,16 +10,18 @@
 //! | 7 | 0 |
 //! | 8 to 11 | the number of the row |
 //!
-//! The least significant byte of a number comes first. A wait on lane 1 for item 1 that was answered by no, with the mark 1, is
-//! 040001000100000001000000 in hexadecimal digits; with the digits 02 for the seventh byte it is the wait of helper 2. Each row
-//! is held by one run of 12 bytes, and each run of bytes holds one row at most. Both calls take constant time.
+//! The least significant byte of a number comes first. A wait on lane 1 for item 1 that was
+//! answered by no, with the mark 1, is 040001000100000001000000 in hexadecimal digits; with
+//! the digits 02 for the seventh byte it is the wait of helper 2. Each row is held by one run
+//! of 12 bytes, and each run of bytes holds one row at most. Both calls take constant time.
 
 ghost use Rattle.std.specs.Prelude.{◌≡◌, ◌<◌, ◌^◌, ℕ, IfSome, IfNone, Some, None, Bool};
 ghost use Rattle.wq_core.specs.declared.step.HelpStep.{HelpStep as HelpStepValue};
 ghost use Rattle.wq_core.specs.Rules.{deed_item};
 ghost use Rattle.wq_rows.specs.declared.event.Event.{Event as EventValue};
 ghost use Rattle.wq_rows.specs.declared.event.Row.{Row as RowValue};
-ghost use Rattle.wq_rows.specs.Packing.{help_kind, kind_of, item_in, lane_in, helper_in, answer_byte, packed, HelpMayAnswer, MayAnswer, IsPackable, IsRowInRange, IsPackedRow};
+ghost use Rattle.wq_rows.specs.Packing.{help_kind, kind_of, item_in, lane_in, helper_in, answer_byte, packed};
+ghost use Rattle.wq_rows.specs.Packing.{HelpMayAnswer, MayAnswer, IsPackable, IsRowInRange, IsPackedRow};
 
 use crate::event::{Event, Row};
 use wq_core::{HelpStep, MAX_HELPERS};
@@ -72,7 +74,8 @@ fn help_step_of(kind: u8, item: ItemId, yes: bool) -> Option<HelpStep>
     ensures kind { IfSome result (λ step. help_kind step ≡ kind) }
     ensures item { IfSome result (λ step. deed_item step ≡ item) }
     ensures answer { IfSome result (λ step. HelpMayAnswer step yes) }
-    ensures none { IfNone result ((step : HelpStepValue) → help_kind step ≡ kind → deed_item step ≡ item → ¬ HelpMayAnswer step yes) }
+    ensures none { IfNone result ((step : HelpStepValue) → help_kind step ≡ kind → deed_item step ≡ item
+        → ¬ HelpMayAnswer step yes) }
 {
     match kind {
         3 if yes => Some(HelpStep::Start(item)),
@@ -85,7 +88,8 @@ fn help_step_of(kind: u8, item: ItemId, yes: bool) -> Option<HelpStep>
     }
 }
 
-/// The event of a helper of this number, by its kind, its item and the number of its lane, where it may have this answer.
+/// The event of a helper of this number, by its kind, its item and the number of its
+/// lane, where it may have this answer.
 fn help_of(kind: u8, item: ItemId, lane: u16, helper: u8, yes: bool) -> Option<Event>
     requires { 0 < helper }
     ensures kind { IfSome result (λ event. kind_of event ≡ kind) }
@@ -93,7 +97,8 @@ fn help_of(kind: u8, item: ItemId, lane: u16, helper: u8, yes: bool) -> Option<E
     ensures lane { IfSome result (λ event. lane_in event ≡ lane) }
     ensures helper { IfSome result (λ event. helper_in event ≡ helper) }
     ensures answer { IfSome result (λ event. MayAnswer event yes) }
-    ensures none { IfNone result ((event : EventValue) → kind_of event ≡ kind → item_in event ≡ item → lane_in event ≡ lane
+    ensures none { IfNone result ((event : EventValue) → kind_of event ≡ kind → item_in event ≡ item
+        → lane_in event ≡ lane
         → helper_in event ≡ helper → ¬ MayAnswer event yes) }
 {
     if helper > MAX_HELPERS {
@@ -103,15 +108,16 @@ fn help_of(kind: u8, item: ItemId, lane: u16, helper: u8, yes: bool) -> Option<E
     Some(Event::Help(LaneId::new(lane), helper, step))
 }
 
-/// The event of a kind, an item and the number of a lane, which isn't a helper's, where it may have this answer. The item of an
-/// event that has none is 0, and so is its lane.
+/// The event of a kind, an item and the number of a lane, which isn't a helper's, where it may have this answer. The
+/// item of an event that has none is 0, and so is its lane.
 fn event_of(kind: u8, item: ItemId, lane: u16, yes: bool) -> Option<Event>
     ensures kind { IfSome result (λ event. kind_of event ≡ kind) }
     ensures item { IfSome result (λ event. item_in event ≡ item) }
     ensures lane { IfSome result (λ event. lane_in event ≡ lane) }
     ensures helper { IfSome result (λ event. helper_in event ≡ 0) }
     ensures answer { IfSome result (λ event. MayAnswer event yes) }
-    ensures none { IfNone result ((event : EventValue) → kind_of event ≡ kind → item_in event ≡ item → lane_in event ≡ lane
+    ensures none { IfNone result ((event : EventValue) → kind_of event ≡ kind → item_in event ≡ item
+        → lane_in event ≡ lane
         → helper_in event ≡ 0 → ¬ MayAnswer event yes) }
 {
     let on = LaneId::new(lane);
@@ -140,7 +146,8 @@ fn event_by(kind: u8, item: ItemId, lane: u16, helper: u8, yes: bool) -> Option<
     ensures lane { IfSome result (λ event. lane_in event ≡ lane) }
     ensures helper { IfSome result (λ event. helper_in event ≡ helper) }
     ensures answer { IfSome result (λ event. MayAnswer event yes) }
-    ensures none { IfNone result ((event : EventValue) → kind_of event ≡ kind → item_in event ≡ item → lane_in event ≡ lane
+    ensures none { IfNone result ((event : EventValue) → kind_of event ≡ kind → item_in event ≡ item
+        → lane_in event ≡ lane
         → helper_in event ≡ helper → ¬ MayAnswer event yes) }
 {
     if helper == 0 {

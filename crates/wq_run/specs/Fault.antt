@@ -7,7 +7,8 @@ use Rattle.wq_meter.specs.Fault.{fault_text}
 use Rattle.wq_commands.specs.declared.end.End.{End}
 use Rattle.wq_commands.specs.declared.why.Outcome.{Outcome}
 use Rattle.wq_rescuer.specs.declared.running.RunWhy.{RunWhy}
-use Rattle.wq_rescuer.specs.declared.running.RunWhy.TheVariants.{BodiesDiffer, TooManySeats, OutOfMemory as NoMemory, NoThread}
+use Rattle.wq_rescuer.specs.declared.running.RunWhy.TheVariants.{BodiesDiffer, TooManySeats, OutOfMemory as NoMemory}
+use Rattle.wq_rescuer.specs.declared.running.RunWhy.TheVariants.{NoThread}
 use Rattle.wq_run.specs.declared.fault.CommandFault.{CommandFault}
 use Rattle.wq_run.specs.declared.fault.CommandFault.TheVariants.{Common, Thread, Tally}
 use Rattle.wq_run.specs.declared.fault.RunStop.{RunStop}
@@ -33,8 +34,8 @@ fault_of_stop OutOfMemory = Common Memory
 fault_of_stop stop.Thread = Thread
 fault_of_stop stop.Tally = Tally
 
--- making the answer may stop for lack of memory, or, if there is a plan that a runtime can have, because of a thread or the
--- tallies
+-- making the answer may stop for lack of memory, or, if there is a plan that a
+-- runtime can have, because of a thread or the tallies
 abbrev pub Stops : Type 0 → RunStop → Type 0
 Stops runnable OutOfMemory = Unit {0}
 Stops runnable stop.Thread = runnable

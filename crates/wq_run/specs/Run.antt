@@ -8,9 +8,10 @@ use Rattle.wq_commands.specs.declared.why.Outcome.{Outcome}
 use Rattle.wq_commands.specs.Declaration.{max_declaration}
 use Rattle.wq_run.specs.Running.{RunsPlan, RunsTexts, IsRunnable}
 
--- this is the answer, with this many helpers, to the text that a reader had; the reader gave it up to the first byte past the
--- limit
-pub record RunsInput {R : Type 0} (helpers : ℕ) (remaining : R → Option (List ℕ)) (old new : Meter R) (end : End) (out : List ℕ) : Type 0 where
+-- this is the answer, with this many helpers, to the text that a reader had; the
+-- reader gave it up to the first byte past the limit
+pub record RunsInput {R : Type 0} (helpers : ℕ) (remaining : R → Option (List ℕ)) (old new : Meter R) (end : End)
+    (out : List ℕ) : Type 0 where
   pub text : List ℕ
   pub given : GivesText remaining old new max_declaration text
   pub answer : RunsPlan helpers text end out
@@ -25,9 +26,10 @@ pub record IsRunnableInput {R : Type 0} (remaining : R → Option (List ℕ)) (o
 abbrev pub only : List ℕ → Given
 only text = record { first = text; second = []; third = [] }
 
--- a reader had a text; this is the answer to it, with this many helpers, and why; these bytes of the answer are written, and this
--- is said of what was read of the text
-pub record IsAnsweredByRun {R : Type 0} (helpers : ℕ) (remaining : R → Option (List ℕ)) (old new : Meter R) (outcome : Outcome) (IsWritten : List ℕ → Type 0) (IsTold : Given → Type 0) : Type 0 where
+-- a reader had a text; this is the answer to it, with this many helpers, and why; these bytes of the answer are
+-- written, and this is said of what was read of the text
+pub record IsAnsweredByRun {R : Type 0} (helpers : ℕ) (remaining : R → Option (List ℕ)) (old new : Meter R)
+    (outcome : Outcome) (IsWritten : List ℕ → Type 0) (IsTold : Given → Type 0) : Type 0 where
   pub text : List ℕ
   pub given : GivesText remaining old new max_declaration text
   pub out : List ℕ

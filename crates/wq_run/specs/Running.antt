@@ -1,5 +1,6 @@
 -- The answer of `run` to a declaration text: what is printed, and how it ends.
-use Rattle.std.specs.Prelude.{◌≡◌, ℕ, ◌+◌, ◌*◌, ◌<◌, ◌≤◌, List, [], ◌∷◌, drop, length, true, Option, None, Result, MatchResult}
+use Rattle.std.specs.Prelude.{◌≡◌, ℕ, ◌+◌, ◌*◌, ◌<◌, ◌≤◌, List, [], ◌∷◌, drop, length, true, Option, None, Result}
+use Rattle.std.specs.Prelude.{MatchResult}
 use Rattle.wq_items.specs.Table.{flush_count}
 use Rattle.wq_groups.specs.Assignment.{Assignment}
 use Rattle.wq_core.specs.Wiring.{Wiring, wiring, with_helpers}
@@ -28,8 +29,8 @@ use Rattle.wq_commands.specs.Answer.{declared_waits, refusal_text, PrintsRefusal
 use Rattle.wq_commands.specs.Declaration.{Declared, declaration}
 use Rattle.wq_run.specs.Report.{report_text}
 
--- how many rows the history has room for: those that one queueing of each item, its flush by a caller and one execution with
--- all declared flushes write and reserve
+-- how many rows the history has room for: those that one queueing of each item, its flush by a caller and one execution
+-- with all declared flushes write and reserve
 abbrev pub rows_for : Declared → ℕ
 rows_for s = 5 * length s.table.names + 2 * flush_count s.table.waits
 
@@ -76,8 +77,8 @@ pub record IsTooWide (s : Declared) (out : List ℕ) : Type 0 where
   pub many : max_runtime_lanes < assignment.lanes
   pub text : out ≡ refusal_text (record { code = 69; line = 0 })
 
--- the answer to a declaration: its plan is run with this many helpers, or is too wide for a runtime; or its groups wait in a
--- circle, which is printed as `plan` prints it
+-- the answer to a declaration: its plan is run with this many helpers, or is too wide for a runtime; or its groups wait
+-- in a circle, which is printed as `plan` prints it
 abbrev pub RunsDeclared : ℕ → Declared → End → List ℕ → Type 0
 RunsDeclared helpers s Good out = PrintsRun helpers s out
 RunsDeclared helpers s Bad out = PrintsCircle s out
@@ -85,7 +86,8 @@ RunsDeclared helpers s Refused out = IsTooWide s out
 
 -- the answer to a text, with this many helpers: the answer to what it declares, or its refusal
 abbrev pub RunsPlan : ℕ → List ℕ → End → List ℕ → Type 0
-RunsPlan helpers text end out = MatchResult (declaration text) (λ s. RunsDeclared helpers s end out) (λ r. PrintsRefusal r end out)
+RunsPlan helpers text end out =
+    MatchResult (declaration text) (λ s. RunsDeclared helpers s end out) (λ r. PrintsRefusal r end out)
 
 -- the declaration has a plan that a runtime can have
 pub record HasRuntime (s : Declared) : Type 0 where
@@ -106,8 +108,10 @@ run_why _ = None
 
 -- why a text isn't run: it is refused, or its plan is
 abbrev pub SaysUnrun : List ℕ → End → Option Why → Type 0
-SaysUnrun text end why = MatchResult (declaration text) (λ _. why ≡ run_why end) (λ r. why ≡ refused_for which.Declaration r)
+SaysUnrun text end why =
+    MatchResult (declaration text) (λ _. why ≡ run_why end) (λ r. why ≡ refused_for which.Declaration r)
 
 -- the answer to the first of these texts, with this many helpers, and why
 abbrev pub RunsTexts : ℕ → Given → Outcome → List ℕ → Type 0
-RunsTexts helpers texts outcome out = RunsPlan helpers texts.first outcome.end out × SaysUnrun texts.first outcome.end outcome.why
+RunsTexts helpers texts outcome out =
+    RunsPlan helpers texts.first outcome.end out × SaysUnrun texts.first outcome.end outcome.why

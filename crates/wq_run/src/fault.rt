@@ -1,5 +1,5 @@
-//! What can go wrong outside the program: what stops any command, and what stops only `run`. The texts are the program's own.
-//! Every call takes constant time.
+//! What can go wrong outside the program: what stops any command, and what stops only `run`. The texts are the
+//! program's own. Every call takes constant time.
 
 ghost use Rattle.std.specs.Prelude.{◌≡◌, Some};
 ghost use Rattle.wq_run.specs.declared.fault.CommandFault.TheVariants.{Common};
@@ -78,8 +78,8 @@ impl From<AllocError> for RunStop {
 impl From<RunWhy> for RunStop {
     ghost from_gives = { λ why stop. stop ≡ stop_of_run why };
 
-    /// Why there is no answer where not everything was run. Each rescuer and each helper is given a body, and there are seats for
-    /// those of 256 workqueues and for two callers, so `BodiesDiffer` and `TooManySeats` never occur.
+    /// Why there is no answer where not everything was run. Each rescuer and each helper is given a body, and there are
+    /// seats for those of 256 workqueues and for two callers, so `BodiesDiffer` and `TooManySeats` never occur.
     fn from(why: RunWhy) -> RunStop {
         match why {
             RunWhy::OutOfMemory => RunStop::OutOfMemory,

@@ -6,10 +6,13 @@ ghost use Rattle.wq_commands.specs.declared.end.End.TheVariants.{Good, Bad, Refu
 ghost use Rattle.wq_commands.specs.Answer.{Answers};
 ghost use Rattle.wq_run.specs.Running.{IsRunnable, RunsPlan};
 
-/// A text has one end of `run`, whatever the number of helpers. Unless that is a plan that was run, one text is printed for it.
+/// A text has one end of `run`, whatever the number of helpers. Unless that is a
+/// plan that was run, one text is printed for it.
 pub fn a_text_has_one_end()
-    ensures end { (helpers others : ℕ) (text : List ℕ) (end other : End) (out printed : List ℕ) → RunsPlan helpers text end out → RunsPlan others text other printed → end ≡ other }
-    ensures out { (helpers others : ℕ) (text : List ℕ) (end : End) (out printed : List ℕ) → end ≢ Good → RunsPlan helpers text end out → RunsPlan others text end printed → out ≡ printed }
+    ensures end { (helpers others : ℕ) (text : List ℕ) (end other : End) (out printed : List ℕ) →
+        RunsPlan helpers text end out → RunsPlan others text other printed → end ≡ other }
+    ensures out { (helpers others : ℕ) (text : List ℕ) (end : End) (out printed : List ℕ) → end ≢ Good →
+        RunsPlan helpers text end out → RunsPlan others text end printed → out ≡ printed }
 {}
 
 /// A circle is printed where `plan` prints one, and as `plan` prints it.
@@ -24,6 +27,7 @@ pub fn a_refusal_is_printed_as_by_plan()
 
 /// A plan is run exactly where a text declares items whose plan a runtime can have: at most 256 workqueues.
 pub fn what_is_runnable_is_run()
-    ensures run { (helpers : ℕ) (text : List ℕ) (end : End) (out : List ℕ) → IsRunnable text → RunsPlan helpers text end out → end ≡ Good }
+    ensures run { (helpers : ℕ) (text : List ℕ) (end : End) (out : List ℕ) → IsRunnable text →
+        RunsPlan helpers text end out → end ≡ Good }
     ensures runnable { (helpers : ℕ) (text out : List ℕ) → RunsPlan helpers text Good out → IsRunnable text }
 {}

@@ -1,7 +1,7 @@
 //! What is printed about a plan that was run.
 //!
-//! The format is that of "The command `run`" in docs/FORMAT.md. It takes time and memory in the number of items and the length of
-//! their names.
+//! The format is that of "The command `run`" in docs/FORMAT.md. It takes time and
+//! memory in the number of items and the length of their names.
 
 ghost use Rattle.std.specs.Prelude.{◌≡◌, ◌++◌, ◌<◌, ℕ, length, true, OnOk, IfOk, decimal, flat_map};
 ghost use Rattle.wq_text.specs.LineText.{spaced, line_text};
@@ -35,7 +35,8 @@ fn put_counts<A: Allocator + Copy>(
     counts: &Counts<A>,
     item: ItemId,
 ) -> Result<(), AllocError>
-    ensures { OnOk result (out.new.items ≡ out.old.items ++ flat_map spaced (kind_count_words (λ kind. made counts.now item kind true))) }
+    ensures { OnOk result (out.new.items
+        ≡ out.old.items ++ flat_map spaced (kind_count_words (λ kind. made counts.now item kind true))) }
 {
     put_word(out, b"queued")?;
     put_count(out, counts.queued(item))?;
@@ -58,7 +59,9 @@ fn put_item_line<A: Allocator + Copy>(
     requires grouped { length groups.now.group_of ≡ length table.now.names }
     requires assigned { length assignment.now.lane_of_group ≡ groups.now.groups }
     ensures { OnOk result (out.new.items ≡ out.old.items
-        ++ line_text (item_line (record { table = table.now; partition = groups.now }) assignment.now (λ i kind. made counts.now i kind true) item)) }
+        ++ line_text
+        (item_line (record { table = table.now; partition = groups.now }) assignment.now (λ i kind.
+        made counts.now i kind true) item)) }
 {
     let lane = assignment.lane(groups.of(item));
     put(out, b"item")?;
@@ -78,12 +81,13 @@ fn put_faults_line<A: Allocator + Copy>(out: &mut Vec<u8, A>, faults: u64) -> Re
     put_end(out)
 }
 
-/// The report on a plan that was run, from the runtime that was closed and from what all threads left: how many workqueues the
-/// assignment has; for each item its workqueue, and how often it was queued, cancelled and finished, by the counts of the closed
-/// runtime; and how many executions ended with a fault. Nothing else decides on the text. The seats aren't looked at, so they may
-/// have been taken out to close the runtime with.
+/// The report on a plan that was run, from the runtime that was closed and from what all threads left: how many
+/// workqueues the assignment has; for each item its workqueue, and how often it was queued, cancelled and finished, by
+/// the counts of the closed runtime; and how many executions ended with a fault. Nothing else decides on the text. The
+/// seats aren't looked at, so they may have been taken out to close the runtime with.
 ///
-/// The groups are those of the table's items, and the assignment is one of these groups. The only error is out of memory (20).
+/// The groups are those of the table's items, and the assignment is one of these
+/// groups. The only error is out of memory (20).
 pub fn report_text<N: Naming, A: Allocator + Copy, B: Body + Drop, C: Caller + Drop>(
     alloc: A,
     table: &ItemTable<'_, A>,
@@ -95,7 +99,8 @@ pub fn report_text<N: Naming, A: Allocator + Copy, B: Body + Drop, C: Caller + D
     requires grouped { length groups.now.group_of ≡ length table.now.names }
     requires assigned { length assignment.now.lane_of_group ≡ groups.now.groups }
     ensures { IfOk result (λ text. text.items
-        ≡ report_text (record { table = table.now; partition = groups.now }) assignment.now (λ i kind. made closed.now.counts i kind true) ran.now.faults) }
+        ≡ report_text (record { table = table.now; partition = groups.now }) assignment.now (λ i kind.
+        made closed.now.counts i kind true) ran.now.faults) }
 {
     let mut out = Vec::new(alloc);
     put_workqueues_line(&mut out, assignment.lanes())?;

@@ -1,7 +1,7 @@
 //! The command `run`: from the bytes of a declaration to those of what its plan did when it was run.
 //!
-//! The answer is built in full before the first byte is written. It takes the time of reading the text, of planning it, of all
-//! executions and of writing the answer.
+//! The answer is built in full before the first byte is written. It takes the time of reading the text, of planning it,
+//! of all executions and of writing the answer.
 
 ghost use Rattle.std.specs.Prelude.{◌≡◌, ◌≢◌, ◌≤◌, ◌+◌, ℕ, List, Err, IfOk, IfErr, OnErr};
 ghost use Rattle.wq_core.specs.Wiring.{max_helpers};
@@ -66,7 +66,8 @@ fn write_answer<R: Threads + Wait + Sync, W: Write, A: Allocator + Copy + Send +
     requires few_helpers { helpers ≤ max_helpers }
     ensures answered { IfOk result (λ outcome. (out : List ℕ) × RunsTexts helpers texts.now outcome out
         × WritesWhole W.contents writer.old writer.new out) }
-    ensures prefix { result ≡ Err (Faulted WriteFault) → (outcome : Outcome) × (out : List ℕ) × RunsTexts helpers texts.now outcome out
+    ensures prefix { result ≡ Err (Faulted WriteFault)
+        → (outcome : Outcome) × (out : List ℕ) × RunsTexts helpers texts.now outcome out
         × WritesPrefix W.contents writer.old writer.new out }
     ensures unanswered { IfErr result (IfUnanswered (Stops (IsRunnable texts.now.first))) }
     ensures untouched { IfErr result (λ stopped. stopped ≢ Faulted WriteFault → writer.new ≡ writer.old) }
@@ -117,8 +118,10 @@ fn respond<
 ) -> Result<Outcome, Stopped<RunStop>>
     requires few_helpers { helpers ≤ max_helpers }
     ensures answered { IfOk result (λ outcome. (out : List ℕ) × RunsTexts helpers texts.now outcome out
-        × WritesWhole W.contents writer.old writer.new out × Tells E.contents teller.old teller.new (V.says voice.now texts.now outcome)) }
-    ensures prefix { result ≡ Err (Faulted WriteFault) → (outcome : Outcome) × (out : List ℕ) × RunsTexts helpers texts.now outcome out
+        × WritesWhole W.contents writer.old writer.new out
+        × Tells E.contents teller.old teller.new (V.says voice.now texts.now outcome)) }
+    ensures prefix { result ≡ Err (Faulted WriteFault)
+        → (outcome : Outcome) × (out : List ℕ) × RunsTexts helpers texts.now outcome out
         × WritesPrefix W.contents writer.old writer.new out }
     ensures unanswered { IfErr result (IfUnanswered (Stops (IsRunnable texts.now.first))) }
     ensures untouched { IfErr result (λ stopped. stopped ≢ Faulted WriteFault → writer.new ≡ writer.old) }
@@ -132,15 +135,16 @@ fn respond<
     Ok(outcome)
 }
 
-/// Carries out `run` as `carry_out` does the other commands: reads a declaration to its end, runs its plan, writes the answer, and
-/// then says what there is to be said. `run` is no `Command`: a method of a trait can't start threads that borrow what its type has.
-/// Each workqueue that isn't ordered has this many helpers beside its rescuer, at most 8.
+/// Carries out `run` as `carry_out` does the other commands: reads a declaration to its end, runs its plan, writes the
+/// answer, and then says what there is to be said. `run` is no `Command`: a method of a trait can't start threads that
+/// borrow what its type has. Each workqueue that isn't ordered has this many helpers beside its rescuer, at most 8.
 ///
-/// Of the declaration at most 1,048,577 bytes are read, in at most as many calls. The errors are `Fault::Read`, where the read
-/// failed, `Fault::Memory`, where memory for the text ran out, `Fault::Write`, where a write of the answer failed or took no byte,
-/// and the reason why there is no answer. After `Fault::Write` a prefix of the answer is written, and after the others nothing.
-/// Something is said only after the whole answer is written. Where memory for it runs out, nothing is said, and where a write of it
-/// fails, no more. Neither changes the answer or the end. It isn't promised that the calls of the threads ever return.
+/// Of the declaration at most 1,048,577 bytes are read, in at most as many calls. The errors are `Fault::Read`, where
+/// the read failed, `Fault::Memory`, where memory for the text ran out, `Fault::Write`, where a write of the answer
+/// failed or took no byte, and the reason why there is no answer. After `Fault::Write` a prefix of the answer is
+/// written, and after the others nothing. Something is said only after the whole answer is written. Where memory for it
+/// runs out, nothing is said, and where a write of it fails, no more. Neither changes the answer or the end. It isn't
+/// promised that the calls of the threads ever return.
 ///
 /// The names are hashed with `seed`. No answer depends on it.
 pub fn carry_out_run<
@@ -162,17 +166,21 @@ pub fn carry_out_run<
 ) -> Result<Outcome, Stopped<RunStop>>
     requires few_helpers { helpers ≤ max_helpers }
 
-    // The answer to the text that the reader had is written, and nothing else; then it is said what there is to be said.
-    ensures answered { IfOk result (λ outcome. IsAnsweredByRun helpers D.remaining declaration.old declaration.new outcome
+    // The answer to the text that the reader had is written, and nothing else; then
+    // it is said what there is to be said.
+    ensures answered { IfOk result (λ outcome.
+        IsAnsweredByRun helpers D.remaining declaration.old declaration.new outcome
         (WritesWhole W.contents writer.old writer.new)
         (λ texts. Tells E.contents teller.old teller.new (V.says voice.now texts outcome))) }
 
     // What a fault leaves.
-    ensures prefix { result ≡ Err (Faulted WriteFault) → (outcome : Outcome) × IsAnsweredByRun helpers D.remaining declaration.old declaration.new outcome
+    ensures prefix { result ≡ Err (Faulted WriteFault)
+        → (outcome : Outcome) × IsAnsweredByRun helpers D.remaining declaration.old declaration.new outcome
         (WritesPrefix W.contents writer.old writer.new)
         (λ _. teller.new ≡ teller.old) }
     ensures untouched { IfErr result (λ stopped. stopped ≢ Faulted WriteFault → writer.new ≡ writer.old) }
-    ensures unanswered { IfErr result (IfUnanswered (Stops (IsRunnableInput D.remaining declaration.old declaration.new))) }
+    ensures unanswered { IfErr result
+        (IfUnanswered (Stops (IsRunnableInput D.remaining declaration.old declaration.new))) }
     ensures unsaid { OnErr result (teller.new ≡ teller.old) }
 
     // What is asked of the reader, whatever the result.
@@ -221,16 +229,20 @@ pub fn run_cmd<R: Threads + Wait + Sync, D: Read, W: Write, A: Allocator + Copy 
     requires few_helpers { helpers ≤ max_helpers }
 
     // The answer to the text that the reader had is written, and nothing else.
-    ensures answered { IfOk result (λ end. (out : List ℕ) × RunsInput helpers D.remaining declaration.old declaration.new end out
+    ensures answered { IfOk result (λ end. (out : List ℕ)
+        × RunsInput helpers D.remaining declaration.old declaration.new end out
         × WritesWhole W.contents writer.old writer.new out) }
 
     // What a fault leaves.
-    ensures prefix { result ≡ Err (Common WriteFault) → (end : End) × (out : List ℕ) × RunsInput helpers D.remaining declaration.old declaration.new end out
+    ensures prefix { result ≡ Err (Common WriteFault)
+        → (end : End) × (out : List ℕ) × RunsInput helpers D.remaining declaration.old declaration.new end out
         × WritesPrefix W.contents writer.old writer.new out }
     ensures untouched { result ≡ Err (Common Memory) → writer.new ≡ writer.old }
     ensures unwritten { result ≡ Err (Common ReadFault) → writer.new ≡ writer.old }
-    ensures no_thread { result ≡ Err Thread → (writer.new ≡ writer.old) × IsRunnableInput D.remaining declaration.old declaration.new }
-    ensures no_tally { result ≡ Err Tally → (writer.new ≡ writer.old) × IsRunnableInput D.remaining declaration.old declaration.new }
+    ensures no_thread { result ≡ Err Thread
+        → (writer.new ≡ writer.old) × IsRunnableInput D.remaining declaration.old declaration.new }
+    ensures no_tally { result ≡ Err Tally
+        → (writer.new ≡ writer.old) × IsRunnableInput D.remaining declaration.old declaration.new }
 
     // What is asked of the reader, whatever the result.
     ensures lost { LosesPrefix D.remaining declaration.old declaration.new (max_declaration + 1) }
@@ -238,7 +250,8 @@ pub fn run_cmd<R: Threads + Wait + Sync, D: Read, W: Write, A: Allocator + Copy 
     ensures bytes_read { declaration.new.bytes ≤ declaration.old.bytes + (max_declaration + 1) }
 
     // Which fault it is.
-    ensures read_failed { result ≡ Err (Common ReadFault) → declaration.new.failures ≡ count_after declaration.old.failures 1 }
+    ensures read_failed { result ≡ Err (Common ReadFault)
+        → declaration.new.failures ≡ count_after declaration.old.failures 1 }
     ensures no_read_failed { result ≢ Err (Common ReadFault) → declaration.new.failures ≡ declaration.old.failures }
     ensures write_failed { result ≡ Err (Common WriteFault) → writer.new.failures ≡ count_after writer.old.failures 1 }
     ensures no_write_failed { result ≢ Err (Common WriteFault) → writer.new.failures ≡ writer.old.failures }

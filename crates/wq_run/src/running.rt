@@ -1,8 +1,8 @@
 //! The answer of `run` to a declaration text, built in full in memory: the declaration is planned, and its plan is run.
 //!
-//! The runtime is named here, in the call of the function that makes it and works with it. It takes the time of planning and of
-//! all executions, and memory in the number of rescuers and helpers times that of items, besides the rows of the history: for each
-//! item a seat has 176 bytes and a body 4.
+//! The runtime is named here, in the call of the function that makes it and works with it. It takes the time of
+//! planning and of all executions, and memory in the number of rescuers and helpers times that of items, besides the
+//! rows of the history: for each item a seat has 176 bytes and a body 4.
 
 ghost use Rattle.std.specs.Prelude.{◌≡◌, ◌≢◌, ◌≤◌, ◌+◌, ◌*◌, ℕ, IfOk, IfErr, length};
 ghost use Rattle.wq_groups.specs.Declaration.{declaration_of};
@@ -45,7 +45,8 @@ fn refuse_runtime<A: Allocator + Copy>(
     alloc: A,
     error: NewError,
 ) -> Result<(End, Vec<u8, A>), RunStop>
-    ensures refused { IfOk result (λ printed. (error ≢ NoMemory) × PrintsRefusal (record { code = new_code error; line = 0 }) printed.0 printed.1.items) }
+    ensures refused { IfOk result (λ printed. (error ≢ NoMemory)
+        × PrintsRefusal (record { code = new_code error; line = 0 }) printed.0 printed.1.items) }
     ensures stopped { IfErr result (λ stop. stop ≡ OutOfMemory) }
 {
     if error == NewError::OutOfMemory {
@@ -55,7 +56,8 @@ fn refuse_runtime<A: Allocator + Copy>(
     Ok(printed)
 }
 
-/// Runs a plan in the runtime of this name, which has this many helpers, or refuses it where a runtime can't have this many workqueues.
+/// Runs a plan in the runtime of this name, which has this many helpers, or refuses
+/// it where a runtime can't have this many workqueues.
 fn run_named<N: Naming + Send + Sync, A: Allocator + Copy + Send + Sync, R: Threads + Wait + Sync>(
     rt: &R,
     alloc: A,
@@ -75,7 +77,8 @@ fn run_named<N: Naming + Send + Sync, A: Allocator + Copy + Send + Sync, R: Thre
     requires few_helpers { helpers ≤ max_helpers }
     requires few_rows { rows ≡ rows_for (record { table = table.now; partition = groups.now }) }
     requires of_rows { N.rows ≡ rows }
-    ensures ran { IfOk result (λ printed. RunsDeclared helpers (record { table = table.now; partition = groups.now }) printed.0 printed.1.items) }
+    ensures ran { IfOk result (λ printed.
+        RunsDeclared helpers (record { table = table.now; partition = groups.now }) printed.0 printed.1.items) }
     ensures stopped { IfErr result (Stops (HasRuntime (record { table = table.now; partition = groups.now }))) }
 {
     // What holds of every table and of all groups.
@@ -102,7 +105,8 @@ fn run_plan<A: Allocator + Copy + Send + Sync, R: Threads + Wait + Sync>(
     requires grouped { length groups.now.group_of ≡ length table.now.names }
     requires plan { IsPlan (declaration_of table.now groups.now) assignment.now }
     requires few_helpers { helpers ≤ max_helpers }
-    ensures ran { IfOk result (λ printed. RunsDeclared helpers (record { table = table.now; partition = groups.now }) printed.0 printed.1.items) }
+    ensures ran { IfOk result (λ printed.
+        RunsDeclared helpers (record { table = table.now; partition = groups.now }) printed.0 printed.1.items) }
     ensures stopped { IfErr result (Stops (HasRuntime (record { table = table.now; partition = groups.now }))) }
 {
     let blank = Blank::new(65_536);
@@ -119,7 +123,9 @@ fn print_circle<A: Allocator + Copy>(
 ) -> Result<(End, Vec<u8, A>), RunStop>
     requires grouped { length groups.now.group_of ≡ length table.now.names }
     requires circled { IsCircled (declaration_of table.now groups.now) arcs.now }
-    ensures printed { (helpers : ℕ) → IfOk result (λ printed. RunsDeclared helpers (record { table = table.now; partition = groups.now }) printed.0 printed.1.items) }
+    ensures printed { (helpers : ℕ)
+        → IfOk result (λ printed.
+        RunsDeclared helpers (record { table = table.now; partition = groups.now }) printed.0 printed.1.items) }
     ensures stopped { IfErr result (Stops (HasRuntime (record { table = table.now; partition = groups.now }))) }
 {
     let text = text_of_circle(alloc, table, groups, arcs)?;
@@ -136,7 +142,8 @@ fn run_declared<A: Allocator + Copy + Send + Sync, R: Threads + Wait + Sync>(
 ) -> Result<(End, Vec<u8, A>), RunStop>
     requires grouped { length groups.now.group_of ≡ length table.now.names }
     requires few_helpers { helpers ≤ max_helpers }
-    ensures ran { IfOk result (λ printed. RunsDeclared helpers (record { table = table.now; partition = groups.now }) printed.0 printed.1.items) }
+    ensures ran { IfOk result (λ printed.
+        RunsDeclared helpers (record { table = table.now; partition = groups.now }) printed.0 printed.1.items) }
     ensures stopped { IfErr result (Stops (HasRuntime (record { table = table.now; partition = groups.now }))) }
 {
     let answer = solve(alloc, table, groups)?;
@@ -178,7 +185,8 @@ fn run_explained<A: Allocator + Copy + Send + Sync, R: Threads + Wait + Sync>(
 ) -> Result<Answered<A>, RunStop>
     requires grouped { length groups.now.group_of ≡ length table.now.names }
     requires few_helpers { helpers ≤ max_helpers }
-    ensures ran { IfOk result (λ a. RunsDeclared helpers (record { table = table.now; partition = groups.now }) a.end a.text.items) }
+    ensures ran { IfOk result (λ a.
+        RunsDeclared helpers (record { table = table.now; partition = groups.now }) a.end a.text.items) }
     ensures why { IfOk result (λ a. a.why ≡ run_why a.end) }
     ensures stopped { IfErr result (Stops (HasRuntime (record { table = table.now; partition = groups.now }))) }
 {

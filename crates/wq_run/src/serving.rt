@@ -1,7 +1,8 @@
 //! Running a plan on a runtime of it: its crew runs, the runtime is closed, and what happened is reported.
 //!
-//! The crew is that of `wq_script`: a body for each rescuer and each helper, which makes the declared flushes, and two callers. It
-//! takes the time of all executions and of writing the text, and time and memory in the number of bodies times that of items.
+//! The crew is that of `wq_script`: a body for each rescuer and each helper, which makes
+//! the declared flushes, and two callers. It takes the time of all executions and of
+//! writing the text, and time and memory in the number of bodies times that of items.
 
 ghost use Rattle.std.specs.Prelude.{◌≡◌, ◌≤◌, ℕ, List, length, map, drop, IfOk, IfErr, is_ok, IsTrue, true};
 ghost use Rattle.std.specs.List.{All};
@@ -88,7 +89,8 @@ fn run_crew<
     table: &'t ItemTable<'a, A>,
 ) -> Result<CrewRan<'t, 'a, N, A>, RunStop>
     requires items { items N.wiring ≡ length table.now.names }
-    ensures ran { IfOk result (λ r. IsRan N.wiring 2 r.seats.items (map runs_of r.bodies.items) 2 2 r.rescued.items r.finished r.faults) }
+    ensures ran { IfOk result (λ r.
+        IsRan N.wiring 2 r.seats.items (map runs_of r.bodies.items) 2 2 r.rescued.items r.finished r.faults) }
     ensures called { IfOk result (λ r. HaveMade N.wiring (shared_by_two (length table.now.names))
         (drop (length (contexts_of N.wiring)) r.seats.items)) }
 {
@@ -103,8 +105,8 @@ fn run_crew<
     Ok(ran)
 }
 
-/// Closes a runtime with all its seats, whose counts agree with its history. The error is `Tally`, where the runtime can't be
-/// closed or they don't agree; then all is dropped.
+/// Closes a runtime with all its seats, whose counts agree with its history. The error is `Tally`, where the runtime
+/// can't be closed or they don't agree; then all is dropped.
 fn close<N: Naming, A: Allocator>(
     runtime: WqRuntime<N, A>,
     seats: Vec<Seat<N, A>, A>,
@@ -137,8 +139,11 @@ fn conclude<N: Naming, A: Allocator + Copy, B: Body + Drop, C: Caller + Drop>(
 ) -> Result<Vec<u8, A>, RunStop>
     requires grouped { length groups.now.group_of ≡ length table.now.names }
     requires assigned { length assignment.now.lane_of_group ≡ groups.now.groups }
-    ensures reported { IfOk result (λ text. (book : BookView) × (counts : List ℕ) × IsClosed N.wiring N.rows ran.seats.items book counts true
-        × (text.items ≡ report_text (record { table = table.now; partition = groups.now }) assignment.now (λ i kind. made counts i kind true) ran.faults)) }
+    ensures reported { IfOk result (λ text. (book : BookView)
+        × (counts : List ℕ) × IsClosed N.wiring N.rows ran.seats.items book counts true
+        × (text.items
+        ≡ report_text (record { table = table.now; partition = groups.now }) assignment.now (λ i kind.
+        made counts i kind true) ran.faults)) }
 {
     let seats = mem::replace(&mut ran.seats, Vec::new(alloc));
     match close(runtime, seats) {
@@ -173,9 +178,11 @@ pub(crate) fn serve<
     requires plan { IsPlan (declaration_of table.now groups.now) assignment.now }
     requires few { assignment.now.lanes ≤ max_runtime_lanes }
     requires items { items N.wiring ≡ length table.now.names }
-    requires of_wiring { N.wiring ≡ with_helpers (wiring (declaration_of table.now groups.now) assignment.now) N.wiring.helpers }
+    requires of_wiring { N.wiring
+        ≡ with_helpers (wiring (declaration_of table.now groups.now) assignment.now) N.wiring.helpers }
     requires of_rows { N.rows ≡ rows_for (record { table = table.now; partition = groups.now }) }
-    ensures ran { IfOk result (λ text. PrintsRun N.wiring.helpers (record { table = table.now; partition = groups.now }) text.items) }
+    ensures ran { IfOk result (λ text.
+        PrintsRun N.wiring.helpers (record { table = table.now; partition = groups.now }) text.items) }
     ensures stopped { IfErr result (Stops (HasRuntime (record { table = table.now; partition = groups.now }))) }
 {
     match run_crew(rt, alloc, &runtime, table) {

@@ -5,7 +5,8 @@ use Rattle.wq_counts.specs.declared.kind.Kind.TheVariants.{Queue as QueueKind, C
 use Rattle.wq_counts.specs.Counting.{raised}
 use Rattle.wq_history.specs.declared.fault.CallError.{CallError}
 use Rattle.wq_api.specs.Refusals.{RefusesCancelWork}
-use Rattle.wq_api.specs.WaitingCalls.{RefusesFlushWork, flushed, flush_refused, CountsCancelSync, RefusedCancelSync, RefusesFlushWorkqueue, lane_flushed, lane_flush_refused}
+use Rattle.wq_api.specs.WaitingCalls.{RefusesFlushWork, flushed, flush_refused, CountsCancelSync, RefusedCancelSync}
+use Rattle.wq_api.specs.WaitingCalls.{RefusesFlushWorkqueue, lane_flushed, lane_flush_refused}
 use Rattle.wq_rescuer.specs.Executing.{RefusesQueueByBody}
 use Rattle.wq_script.specs.declared.acting.Act.{Act}
 use Rattle.wq_script.specs.declared.acting.Act.TheVariants.{Queue, Flush, FlushLane, Cancel, CancelSync}
@@ -18,8 +19,8 @@ CountsAct w old new (FlushLane q) = (q < w.lanes) × (waited : Bool) × (new ≡
 CountsAct w old new (Cancel i) = (i < items w) × (taken : Bool) × (new ≡ raised old i CancelKind taken)
 CountsAct w old new (CancelSync i) = (i < items w) × (taken : Bool) × CountsCancelSync old new i taken
 
--- counts after an act that was refused, and the cause of the refusal: queueing an item on its own lane is refused as it is to a
--- body
+-- counts after an act that was refused, and the cause of the refusal: queueing an
+-- item on its own lane is refused as it is to a body
 abbrev pub RefusedAct : Wiring → List ℕ → List ℕ → Act → CallError → Type 0
 RefusedAct w old new (Queue i) e = RefusesQueueByBody w old i e × (new ≡ old)
 RefusedAct w old new (Flush i) e = RefusesFlushWork w old i e × (new ≡ flush_refused old i e)

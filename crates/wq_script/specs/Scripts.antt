@@ -1,5 +1,6 @@
 -- Scripts: what a scripted body keeps, and what the seat of its rescuer counts of its flushes.
-use Rattle.std.specs.Prelude.{◌≡◌, ◌≢◌, ℕ, ◌+◌, ◌≤◌, ◌==◌, ◌&&◌, not, if◌then◌else◌, ◌⊎◌, List, Bool, Result, Ok, Err, length, take, slice_index, true, false}
+use Rattle.std.specs.Prelude.{◌≡◌, ◌≢◌, ℕ, ◌+◌, ◌≤◌, ◌==◌, ◌&&◌, not, if◌then◌else◌, ◌⊎◌, List, Bool, Result, Ok, Err}
+use Rattle.std.specs.Prelude.{length, take, slice_index, true, false}
 use Rattle.std.specs.List.{count_by}
 use Rattle.wq_items.specs.declared.target.Target.{Target}
 use Rattle.wq_counts.specs.Counting.{place, made, wait_kind, over_kind}
@@ -28,10 +29,11 @@ is_target whole b t = (if whole then t.whole else not t.whole) && (t.item == b)
 abbrev pub times_among : List Target → Bool → ℕ → ℕ
 times_among targets whole b = count_by (λ (t : Target). is_target whole b t) targets
 
--- for each item and each kind of wait, a seat counts one more wait for each time that the item is among these targets with this
--- kind
+-- for each item and each kind of wait, a seat counts one more wait for each time
+-- that the item is among these targets with this kind
 abbrev pub CountsWaits : List ℕ → List ℕ → List Target → Type 0
-CountsWaits old new targets = (b : ℕ) (whole : Bool) → counted_waits new whole b ≡ counted_waits old whole b + times_among targets whole b
+CountsWaits old new targets =
+    (b : ℕ) (whole : Bool) → counted_waits new whole b ≡ counted_waits old whole b + times_among targets whole b
 
 -- the same of the first n of these targets, for some n
 abbrev pub CountsFirstWaits : List ℕ → List ℕ → List Target → Type 0
@@ -39,7 +41,9 @@ CountsFirstWaits old new targets = (n : ℕ) × (n ≤ length targets) × Counts
 
 -- whatever else a seat counts is as before: no count is changed but those of waits and of their ends
 abbrev pub CountsOnlyWaits : List ℕ → List ℕ → Type 0
-CountsOnlyWaits old new = (p : ℕ) → ((b : ℕ) (whole said : Bool) → p ≢ place b (wait_kind whole) said) → ((b : ℕ) (whole : Bool) → p ≢ place b (over_kind whole) true)
+CountsOnlyWaits old new =
+    (p : ℕ) → ((b : ℕ) (whole said : Bool) → p ≢ place b (wait_kind whole) said)
+    → ((b : ℕ) (whole : Bool) → p ≢ place b (over_kind whole) true)
     → slice_index new p ≡ slice_index old p
 
 -- counts after a run of a body that is to flush these targets, with its answer: all were flushed, or, if it gave up,

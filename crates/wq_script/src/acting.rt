@@ -1,7 +1,7 @@
 //! Acts: the calls that a scripted caller makes, each with its item or its workqueue.
 //!
-//! They are the calls of kernel/workqueue.c that a driver makes outside its work functions. Each takes the time of the runtime's
-//! call, including what that waits for.
+//! They are the calls of kernel/workqueue.c that a driver makes outside its work functions. Each takes the time of the
+//! runtime's call, including what that waits for.
 
 ghost use Rattle.std.specs.Prelude.{◌≡◌, ◌<◌, IfOk, IfErr, OnOk};
 ghost use Rattle.wq_core.specs.Wiring.{items};
@@ -33,16 +33,17 @@ pub enum Act {
 
 /// Queues an item on its own workqueue: true where it wasn't pending, false where it was.
 ///
-/// The error is the first of these that holds: `NoItem` (66); `HistoryFull` (60), where the seat is full; `Closed` (61);
-/// `HistoryFull` (60), where fewer rows are free than it needs: 1 where the item is pending, else 3, and 2 more for each flush that
-/// it declares. After an error nothing is changed or counted.
+/// The error is the first of these that holds: `NoItem` (66); `HistoryFull` (60), where the seat is full; `Closed`
+/// (61); `HistoryFull` (60), where fewer rows are free than it needs: 1 where the item is pending, else 3, and 2 more
+/// for each flush that it declares. After an error nothing is changed or counted.
 fn queue<N: Naming, A: Allocator, R: Wait>(
     rt: &R,
     runtime: &WqRuntime<N, A>,
     seat: &mut Seat<N, A>,
     item: ItemId,
 ) -> Result<bool, CallError>
-    ensures counted { IfOk result (λ accepted. (item < items N.wiring) × (seat.new ≡ raised seat.old item Queue accepted)) }
+    ensures counted { IfOk result (λ accepted. (item < items N.wiring)
+        × (seat.new ≡ raised seat.old item Queue accepted)) }
     ensures refused { IfErr result (λ e. RefusesQueueByBody N.wiring seat.old item e × (seat.new ≡ seat.old)) }
 {
     runtime.queue_item(rt, seat, item)

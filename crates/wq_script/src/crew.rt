@@ -1,7 +1,7 @@
 //! Who runs a plan: a scripted body for each rescuer and each helper, and two scripted callers that share the items.
 //!
-//! The bodies make the flushes that their items declare. A body or a caller takes time and memory in the number of items, and all
-//! bodies together in that times their number: 4 bytes for each pair of an item and a body.
+//! The bodies make the flushes that their items declare. A body or a caller takes time and memory in the number of
+//! items, and all bodies together in that times their number: 4 bytes for each pair of an item and a body.
 
 ghost use Rattle.std.specs.Prelude.{◌≡◌, ◌<◌, length, vec_len, IfOk, OnErr};
 ghost use Rattle.std.specs.List.{All};
@@ -15,8 +15,8 @@ use crate::flushing::ScriptBody;
 use std::alloc::{AllocError, Allocator};
 use wq_items::{ItemId, ItemTable};
 
-/// Makes this many bodies, each of which makes the flushes that the items of the table declare. None has run anything. The only
-/// error is out of memory (20), and never where no body is wanted.
+/// Makes this many bodies, each of which makes the flushes that the items of the table declare. None has run anything.
+/// The only error is out of memory (20), and never where no body is wanted.
 pub fn script_bodies<'t, 'a, A: Allocator + Copy>(
     alloc: A,
     table: &'t ItemTable<'a, A>,
@@ -58,8 +58,8 @@ fn script_caller<A: Allocator + Copy>(
     Ok(ScriptCaller::new(acts))
 }
 
-/// Makes two callers that queue this many items and then flush them, in order: one the items with even numbers, the other those
-/// with odd numbers. The only error is out of memory (20).
+/// Makes two callers that queue this many items and then flush them, in order: one the items with even numbers, the
+/// other those with odd numbers. The only error is out of memory (20).
 pub fn script_callers<A: Allocator + Copy>(
     alloc: A,
     count: u16,

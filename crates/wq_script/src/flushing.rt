@@ -1,9 +1,10 @@
 //! Scripted bodies: the body of an item flushes what the item declares, in order, and nothing else.
 //!
-//! This is all that a declaration lets a work function wait for: `flush_work` of each target, or `flush_workqueue` of its whole
-//! workqueue, once for each declared flush ("Guidelines" in Documentation/core-api/workqueue.rst; `flush_work` and
-//! `flush_workqueue` in kernel/workqueue.c). Apart from what it waits for, a run takes time in the number of its item's flushes.
-//! `new` takes time and memory in the number of items, 4 bytes for each. How often an item ran is answered in constant time.
+//! This is all that a declaration lets a work function wait for: `flush_work` of each target, or `flush_workqueue` of
+//! its whole workqueue, once for each declared flush ("Guidelines" in Documentation/core-api/workqueue.rst;
+//! `flush_work` and `flush_workqueue` in kernel/workqueue.c). Apart from what it waits for, a run takes time in the
+//! number of its item's flushes. `new` takes time and memory in the number of items, 4 bytes for each. How often an
+//! item ran is answered in constant time.
 
 ghost use Rattle.std.specs.Prelude.{◌≡◌, ◌<◌, ◌≤◌, ℕ, List, Result, length, sum, IfOk, IfErr, OnOk, OnErr};
 ghost use Rattle.wq_items.specs.Table.{targets_of};
@@ -13,7 +14,8 @@ ghost use Rattle.wq_api.specs.Refusals.{RefusesWaitIn};
 ghost use Rattle.wq_api.specs.WaitingCalls.{waited_for, RefusedWaitIn};
 ghost use Rattle.wq_rescuer.specs.declared.body.BodyFault.{BodyFault as Fault};
 ghost use Rattle.wq_rescuer.specs.Executing.{NeverRan, RanOnce, SameFinished};
-ghost use Rattle.wq_script.specs.Scripts.{runs_of, CountsWaits, CountsFirstWaits, CountsOnlyWaits, CountsRun, IsFlushCode, IsCodeOf};
+ghost use Rattle.wq_script.specs.Scripts.{runs_of, CountsWaits, CountsFirstWaits, CountsOnlyWaits, CountsRun};
+ghost use Rattle.wq_script.specs.Scripts.{IsFlushCode, IsCodeOf};
 
 use std::alloc::{AllocError, Allocator};
 use std::marker::Model;
@@ -42,8 +44,8 @@ impl<'t, 'a, A: Allocator> Model for ScriptBody<'t, 'a, A> {
 }
 
 impl<'t, 'a, A: Allocator + Copy> ScriptBody<'t, 'a, A> {
-    /// Makes the body of the items of a table. None of them has run. The only error is out of memory (20), which can't occur
-    /// where there is no item.
+    /// Makes the body of the items of a table. None of them has run. The only error is out of memory (20), which can't
+    /// occur where there is no item.
     pub fn new(alloc: A, table: &'t ItemTable<'a, A>) -> Result<Self, AllocError>
         ensures waits { IfOk result (λ b. b.waits ≡ table.now.waits) }
         ensures width { IfOk result (λ b. length b.runs ≡ length table.now.names) }
@@ -57,15 +59,19 @@ impl<'t, 'a, A: Allocator + Copy> ScriptBody<'t, 'a, A> {
     }
 }
 
-/// Flushes the item of a target, or its whole workqueue, as the target says: true where that had an unfinished entry when the wait
-/// began. The error is that of the flush.
+/// Flushes the item of a target, or its whole workqueue, as the target says: true where that had an unfinished entry
+/// when the wait began. The error is that of the flush.
 fn flush_target<N: Naming, S: Allocator, R: Wait>(
     rt: &R,
     target: &Target,
     work: &mut Work<'_, N, S>,
 ) -> Result<bool, CallError>
-    ensures counted { IfOk result (λ unfinished. (target.now.item < items N.wiring) × (work.new.seat.now ≡ waited_for work.old.seat.now target.now.whole target.now.item unfinished)) }
-    ensures refused { IfErr result (λ e. RefusesWaitIn N.wiring work.old.seat.now work.old.context.lane work.old.context.helper e × RefusedWaitIn N.wiring work.old.seat.now work.new.seat.now work.old.context.lane work.old.context.helper target.now.whole target.now.item e) }
+    ensures counted { IfOk result (λ unfinished. (target.now.item < items N.wiring)
+        × (work.new.seat.now ≡ waited_for work.old.seat.now target.now.whole target.now.item unfinished)) }
+    ensures refused { IfErr result (λ e.
+        RefusesWaitIn N.wiring work.old.seat.now work.old.context.lane work.old.context.helper e
+        × RefusedWaitIn N.wiring work.old.seat.now work.new.seat.now work.old.context.lane work.old.context.helper
+        target.now.whole target.now.item e) }
     ensures finished { SameFinished work.old.seat.now work.new.seat.now }
     ensures same_seat { work.new.seat.ghost_name ≡ work.old.seat.ghost_name }
     ensures flushed { work.new.flushed ≡ result }
@@ -77,7 +83,8 @@ fn flush_target<N: Naming, S: Allocator, R: Wait>(
     }
 }
 
-/// Makes the flushes of the targets, in order, until one is refused. The number of the refusal is the code of the fault.
+/// Makes the flushes of the targets, in order, until one is refused. The number of
+/// the refusal is the code of the fault.
 fn flush_each<N: Naming, S: Allocator, R: Wait>(
     rt: &R,
     targets: &[Target],
@@ -113,12 +120,13 @@ impl<'t, 'a, A: Allocator + Copy> Body for ScriptBody<'t, 'a, A> {
 
     ghost may = { λ w b i answer old new. CountsRun (targets_of b.waits i) answer old new };
 
-    /// Counts a run of the item, and flushes what it declares, items and whole workqueues, in order and each as often as it is
-    /// declared.
+    /// Counts a run of the item, and flushes what it declares, items and whole
+    /// workqueues, in order and each as often as it is declared.
     ///
-    /// The error is the first refusal of a flush, and its number is the code of the fault: `HistoryFull` (60), where the seat is
-    /// full; `Undeclared` (62) or `TooManyWaits` (63), where the runtime isn't of this table; `WrongLane` (64), where another
-    /// caller drives the same rescuer or helper. The flushes before it are made, and those after it aren't.
+    /// The error is the first refusal of a flush, and its number is the code of the fault:
+    /// `HistoryFull` (60), where the seat is full; `Undeclared` (62) or `TooManyWaits` (63),
+    /// where the runtime isn't of this table; `WrongLane` (64), where another caller drives
+    /// the same rescuer or helper. The flushes before it are made, and those after it aren't.
     fn run<N: Naming, S: Allocator, R: Wait>(
         &mut self,
         rt: &R,
@@ -132,8 +140,10 @@ impl<'t, 'a, A: Allocator + Copy> Body for ScriptBody<'t, 'a, A> {
         ensures finished { SameFinished work.old.seat.now work.new.seat.now }
         ensures same_seat { work.new.seat.ghost_name ≡ work.old.seat.ghost_name }
         ensures waits { self.new.waits ≡ self.old.waits }
-        ensures flushed { OnOk result (CountsWaits work.old.seat.now work.new.seat.now (targets_of self.old.waits item)) }
-        ensures cut_off { OnErr result (CountsFirstWaits work.old.seat.now work.new.seat.now (targets_of self.old.waits item)) }
+        ensures flushed { OnOk result
+            (CountsWaits work.old.seat.now work.new.seat.now (targets_of self.old.waits item)) }
+        ensures cut_off { OnErr result
+            (CountsFirstWaits work.old.seat.now work.new.seat.now (targets_of self.old.waits item)) }
         ensures only_waits { CountsOnlyWaits work.old.seat.now work.new.seat.now }
         ensures code { IfErr result (λ f. IsFlushCode f.code) }
         ensures full { IfErr result (λ f. f.code ≡ 60 → seat_rows ≤ sum work.new.seat.now) }

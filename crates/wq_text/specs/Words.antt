@@ -1,5 +1,6 @@
 -- Words: the longest runs of bytes other than space and TAB before a line's comment.
-use Rattle.std.specs.Prelude.{◌≡◌, ◌≢◌, ℕ, ◌+◌, ◌==◌, ◌||◌, not, if◌then◌else◌, Bool, true, false, List, [], ◌∷◌, ◌++◌, length, ⊤}
+use Rattle.std.specs.Prelude.{◌≡◌, ◌≢◌, ℕ, ◌+◌, ◌==◌, ◌||◌, not, if◌then◌else◌, Bool, true, false, List, [], ◌∷◌, ◌++◌}
+use Rattle.std.specs.Prelude.{length, ⊤}
 use Rattle.std.specs.List.{AllByRecursion}
 use Rattle.wq_text.specs.Lines.{LineView}
 use Rattle.wq_text.specs.Comments.{before_comment}

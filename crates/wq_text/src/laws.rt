@@ -1,10 +1,11 @@
 //! Laws about lines and words, as contracts of functions that compute nothing.
 //!
-//! They follow from the definitions of docs/FORMAT.md, "Lines, words and numbers", for every text, and say them in other words:
-//! what a reader of a text relies on, and that no other way to cut the text meets it.
+//! They follow from the definitions of docs/FORMAT.md, "Lines, words and numbers", for every text, and say them in
+//! other words: what a reader of a text relies on, and that no other way to cut the text meets it.
 
 ghost use Rattle.std.specs.List.{HoldsAt};
-ghost use Rattle.std.specs.Prelude.{◌≡◌, ◌≢◌, ◌+◌, ◌<◌, ◌≤◌, ◌↔◌, ◌∷◌, ◌++◌, [], true, false, ℕ, List, length, map, slice_range, All, AllPairs, Any, EachIndex};
+ghost use Rattle.std.specs.Prelude.{◌≡◌, ◌≢◌, ◌+◌, ◌<◌, ◌≤◌, ◌↔◌, ◌∷◌, ◌++◌, [], true, false, ℕ, List, length, map};
+ghost use Rattle.std.specs.Prelude.{slice_range, All, AllPairs, Any, EachIndex};
 ghost use Rattle.wq_text.specs.declared.text.TextError.TheVariants.{TextTooLong, LineTooLong};
 ghost use Rattle.wq_text.specs.Limits.{limit_fault};
 ghost use Rattle.wq_text.specs.Lines.{Piece, LineView, pieces, line_bytes, lines_of, AreThePieces};
@@ -28,8 +29,8 @@ pub fn one_carriage_return_is_dropped()
     ensures last_line_stays { (bs : List ℕ) → line_bytes (record { bytes = bs; ended = false }) ≡ bs }
 {}
 
-/// Bytes have exactly one front that holds no `#` and is all of them or ends directly before a `#`: what comes before the
-/// comment.
+/// Bytes have exactly one front that holds no `#` and is all of them or ends
+/// directly before a `#`: what comes before the comment.
 pub fn a_comment_begins_at_the_first_hash()
     ensures is { (bs : List ℕ) → IsBeforeComment bs (before_comment bs) }
     ensures only { (bs front : List ℕ) → IsBeforeComment bs front → front ≡ before_comment bs }
@@ -42,8 +43,8 @@ pub fn words_are_the_only_ones()
         → AreTheWords at bs others → others ≡ words_from at bs }
 {}
 
-/// The lines of a text are numbered from 1, are in it in order where they say, and are what its pieces hold, each without one
-/// carriage return directly before its line feed.
+/// The lines of a text are numbered from 1, are in it in order where they say, and are what its pieces hold, each
+/// without one carriage return directly before its line feed.
 pub fn lines_are_slices_of_the_text()
     ensures numbers { (text : List ℕ) → EachIndex (lines_of text)
         (λ k. HoldsAt (λ (line : LineView). line.no ≡ k + 1) (lines_of text) k) }
@@ -75,8 +76,8 @@ pub fn words_are_slices_of_the_text()
         (words_of line) }
 {}
 
-/// The limits find no fault in exactly the texts that keep them. Otherwise the fault is that the text is too long or, in a text
-/// that isn't, the lowest line that is too long.
+/// The limits find no fault in exactly the texts that keep them. Otherwise the fault is that the text is too long or,
+/// in a text that isn't, the lowest line that is too long.
 pub fn limits_are_kept()
     ensures none { (max_text max_line : ℕ) (text : List ℕ)
         → (limit_fault max_text max_line text ≡ None)

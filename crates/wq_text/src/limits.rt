@@ -1,8 +1,9 @@
 //! The limit of lines: whether some line has more bytes, and which one is the first.
 //!
-//! Texts whose lines keep the limit aren't cut for that. From where a line begins, the search jumps past the last line feed among
-//! as many bytes as a line may have, and one more. No line that it jumps over is too long. So it looks at about one line for each
-//! jump, and at no byte more than three times. Where a line is too long, the lines are cut up to that one, to count them.
+//! Texts whose lines keep the limit aren't cut for that. From where a line begins, the search jumps
+//! past the last line feed among as many bytes as a line may have, and one more. No line that it
+//! jumps over is too long. So it looks at about one line for each jump, and at no byte more than
+//! three times. Where a line is too long, the lines are cut up to that one, to count them.
 
 ghost use Rattle.std.specs.Prelude.{◌≡◌, ◌<◌, ◌^◌, length, is_some, option_map};
 ghost use Rattle.wq_text.specs.Lines.{LineView, lines_of};

@@ -1,13 +1,14 @@
 //! Lines: what is between line feeds, and which part of a line comes before its comment.
 //!
-//! A line feed (LF, the byte 10) ends a line, and what comes after the last one is a line if it isn't empty. One carriage return
-//! (CR, the byte 13) directly before a line feed isn't part of the line. A comment begins at the first `#` of a line and reaches
-//! to the line's end. The rules are those of "Lines, words and numbers" in docs/FORMAT.md.
+//! A line feed (LF, the byte 10) ends a line, and what comes after the last one is a line if it isn't empty. One
+//! carriage return (CR, the byte 13) directly before a line feed isn't part of the line. A comment begins at the first
+//! `#` of a line and reaches to the line's end. The rules are those of "Lines, words and numbers" in docs/FORMAT.md.
 //!
-//! Going through the lines looks at each byte of the text once, sixteen at a time, and so does looking for the comment of a line, by
-//! `memchr`.
+//! Going through the lines looks at each byte of the text once, sixteen at a time,
+//! and so does looking for the comment of a line, by `memchr`.
 
-ghost use Rattle.std.specs.Prelude.{◌≡◌, ◌+◌, ◌<◌, ◌≤◌, ◌^◌, ◌∷◌, ◌++◌, [], List, ℕ, length, take, find, nat_lt, option_map, IfSome, IfNone};
+ghost use Rattle.std.specs.Prelude.{◌≡◌, ◌+◌, ◌<◌, ◌≤◌, ◌^◌, ◌∷◌, ◌++◌, [], List, ℕ, length, take, find, nat_lt};
+ghost use Rattle.std.specs.Prelude.{option_map, IfSome, IfNone};
 ghost use Rattle.std.specs.Iterator.{YieldsFirst, item_count};
 ghost use Rattle.wq_text.specs.Lines.{LineView, pieces, taken, line_bytes, lines_of};
 ghost use Rattle.wq_text.specs.Comments.{before_comment};
@@ -69,8 +70,8 @@ impl<'a> Line<'a> {
         &self.text[..self.len as usize]
     }
 
-    /// The bytes of the line before its comment, which begins at the first `#` and reaches to the line's end. They are all bytes
-    /// where there is no `#`.
+    /// The bytes of the line before its comment, which begins at the first `#` and reaches to the line's end. They are
+    /// all bytes where there is no `#`.
     pub fn content(&self) -> &'a [u8]
         ensures { result.now ≡ before_comment self.now.bytes }
     {
@@ -88,12 +89,13 @@ impl<'a> Line<'a> {
         Words::of(self.start, self.text, self.len)
     }
 
-    /// The words after the first, if the line begins with this word and a space. There is no answer otherwise, even if the first
-    /// word is this one.
+    /// The words after the first, if the line begins with this word and a space.
+    /// There is no answer otherwise, even if the first word is this one.
     pub fn words_after(&self, word: &[u8]) -> Option<Words<'a>>
         requires some { 0 < length word.now }
         requires unbroken { AllInWord word.now }
-        ensures after { IfSome result (λ words. words_of self.now ≡ record { start = self.now.start; bytes = word.now } ∷ words) }
+        ensures after { IfSome result (λ words. words_of self.now
+            ≡ record { start = self.now.start; bytes = word.now } ∷ words) }
         ensures none { IfNone result (¬ (take (length word.now + 1) self.now.bytes ≡ word.now ++ (32 ∷ []))) }
     {
         let after = self.bytes().strip_prefix(word)?;
@@ -118,8 +120,10 @@ pub(crate) struct Cut<'a> {
 /// Cuts bytes after their first line feed.
 pub(crate) fn first_cut<'a>(bytes: &'a [u8]) -> Cut<'a>
     requires { 0 < length bytes.now }
-    ensures first { pieces bytes.now ≡ record { bytes = result.piece.now; ended = result.ended } ∷ pieces result.rest.now }
-    ensures whole { taken (record { bytes = result.piece.now; ended = result.ended }) + length result.rest.now ≡ length bytes.now }
+    ensures first { pieces bytes.now
+        ≡ record { bytes = result.piece.now; ended = result.ended } ∷ pieces result.rest.now }
+    ensures whole { taken (record { bytes = result.piece.now; ended = result.ended }) + length result.rest.now
+        ≡ length bytes.now }
     ensures shorter { length result.rest.now < length bytes.now }
     ensures front { result.piece.now ≡ take (length result.piece.now) bytes.now }
 {

@@ -1,8 +1,8 @@
 //! A line, word by word: one space between two words, and a line feed after the last.
 //!
-//! This is how each line of "Plan texts", "Circle texts" and "Run texts" in docs/FORMAT.md is printed, and each answer of the
-//! commands. Each call takes time in the length of what it adds, and memory for nothing else. Where memory runs out, a part of it
-//! may have been added.
+//! This is how each line of "Plan texts", "Circle texts" and "Run texts" in docs/FORMAT.md is printed, and each answer
+//! of the commands. Each call takes time in the length of what it adds, and memory for nothing else. Where memory runs
+//! out, a part of it may have been added.
 
 ghost use Rattle.std.specs.Prelude.{◌≡◌, ◌++◌, ◌∷◌, [], OnErr, OnOk, decimal};
 ghost use Rattle.wq_text.specs.LineText.{IsBegun, spaced};

@@ -1,7 +1,7 @@
 //! Runs of bytes of one kind, sixteen at a time: bytes greater than `#`, and bytes other than a line feed.
 //!
-//! All bytes of a name are greater than `#`, and so are those of most words. A space, a TAB, a line feed and the `#` itself aren't
-//! (docs/FORMAT.md, "Lines, words and numbers"). A run of n bytes takes time in n / 16.
+//! All bytes of a name are greater than `#`, and so are those of most words. A space, a TAB, a line feed and the `#`
+//! itself aren't (docs/FORMAT.md, "Lines, words and numbers"). A run of n bytes takes time in n / 16.
 
 ghost use Rattle.std.specs.Prelude.{◌≡◌, ◌+◌, ◌<◌, ◌≤◌, ◌==◌, ℕ, true, false, nat_le, length, slice_index};
 ghost use Rattle.memchr.specs.Find.{IsFirstByte, is_byte};
@@ -44,8 +44,8 @@ fn feedless_of_sixteen(text: &[u8], at: usize) -> usize
     first_set(feeds.to_bitmask())
 }
 
-/// So many of the bytes from this place on, at least, are greater than `#`. Where the text ends within sixteen bytes, none is looked
-/// at.
+/// So many of the bytes from this place on, at least, are greater than `#`. Where
+/// the text ends within sixteen bytes, none is looked at.
 pub(crate) fn greater_at(text: &[u8], at: usize) -> usize
     requires { at ≤ length text.now }
     ensures within { at + result ≤ length text.now }

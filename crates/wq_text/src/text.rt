@@ -1,8 +1,8 @@
 //! Texts within limits, and how a text is refused.
 //!
-//! The caller sets the limits: those of a declaration aren't those of a certificate (docs/FORMAT.md, "Limits"). Making a text
-//! takes time in its length at most, and much less where its lines are short compared with their limit. Handing it out, or a part
-//! of it, takes constant time.
+//! The caller sets the limits: those of a declaration aren't those of a certificate (docs/FORMAT.md, "Limits"). Making
+//! a text takes time in its length at most, and much less where its lines are short compared with their limit. Handing
+//! it out, or a part of it, takes constant time.
 
 ghost use Rattle.std.specs.Prelude.{◌≡◌, ◌≤◌, List, ℕ, length, slice_range, IfErr, IfOk, None, Some};
 ghost use Rattle.wq_text.specs.Lines.{lines_of};
@@ -65,10 +65,11 @@ impl<'a> Model for Text<'a> {
 }
 
 impl<'a> Text<'a> {
-    /// Makes a text of the bytes: at most `max_text` bytes, with lines of at most `max_line` bytes each. The comment of a line
-    /// counts; its line feed and one CR directly before that don't.
+    /// Makes a text of the bytes: at most `max_text` bytes, with lines of at most `max_line` bytes each. The comment of
+    /// a line counts; its line feed and one CR directly before that don't.
     ///
-    /// The error is the first fault: `TextTooLong` (1), or else `LineTooLong` (2) with the lowest line that is too long.
+    /// The error is the first fault: `TextTooLong` (1), or else `LineTooLong` (2)
+    /// with the lowest line that is too long.
     pub fn new(text: &'a [u8], max_text: u32, max_line: u32) -> Result<Text<'a>, TextError>
         ensures text { IfOk result (λ t. (t ≡ text.now) × (limit_fault max_text max_line text.now ≡ None)) }
         ensures fault { IfErr result (λ e. limit_fault max_text max_line text.now ≡ Some e) }

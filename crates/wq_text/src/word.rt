@@ -1,8 +1,8 @@
 //! Words: the longest runs of bytes other than space and TAB.
 //!
-//! The rule is that of "Lines, words and numbers" in docs/FORMAT.md. A `#` ends the word before it and all words of a line, so
-//! there is no search for the comment before the words are cut. Blanks are looked at one by one, and the bytes of a word sixteen
-//! at a time.
+//! The rule is that of "Lines, words and numbers" in docs/FORMAT.md. A `#` ends the word
+//! before it and all words of a line, so there is no search for the comment before the words
+//! are cut. Blanks are looked at one by one, and the bytes of a word sixteen at a time.
 
 ghost use Rattle.std.specs.Prelude.{◌≡◌, ◌+◌, ◌<◌, ◌≤◌, ◌^◌, ◌⊎◌, true, [], ◌++◌, length, take};
 ghost use Rattle.std.specs.List.{prefix_len};
@@ -69,8 +69,8 @@ fn is_blank(byte: u8) -> bool
     byte <= b' ' && (byte == b' ' || byte == b'\t')
 }
 
-/// Whether a byte may be in a word: it is neither a blank nor the `#` of a comment. Most bytes of a line are greater than these,
-/// which one comparison tells.
+/// Whether a byte may be in a word: it is neither a blank nor the `#` of a comment. Most bytes of a line are greater
+/// than these, which one comparison tells.
 fn in_word(byte: u8) -> bool
     ensures { result ≡ in_word byte }
 {
@@ -89,8 +89,8 @@ fn blanks_in_front(bytes: &[u8]) -> usize
     bytes.len()
 }
 
-/// How many of the first `left` bytes of a text may be in a word, before one that may not. Sixteen are looked at at a time, also
-/// past these, where what is found doesn't count.
+/// How many of the first `left` bytes of a text may be in a word, before one that may not. Sixteen are looked at at a
+/// time, also past these, where what is found doesn't count.
 fn word_in_front(text: &[u8], left: usize) -> usize
     requires { left ≤ length text.now }
     ensures { result ≡ prefix_len in_word (take left text.now) }
@@ -119,8 +119,8 @@ fn split_blanks(bytes: &[u8]) -> (&[u8], &[u8])
     bytes.split_at(len)
 }
 
-/// Separates the word at the front of these bytes from what follows it. There is none where the comment or the end comes at once.
-/// The text begins with these bytes.
+/// Separates the word at the front of these bytes from what follows it. There is none where the comment or the end
+/// comes at once. The text begins with these bytes.
 fn split_word<'a>(bytes: &'a [u8], text: &[u8]) -> (&'a [u8], &'a [u8])
     requires { bytes.now ≡ take (length bytes.now) text.now }
     ensures whole { bytes.now ≡ result.0.now ++ result.1.now }

@@ -1,5 +1,6 @@
 -- What is said beside components of workqueues: how those of each can hang, and then by which flush to no rescuer.
-use Rattle.std.specs.Prelude.{◌≡◌, ◌⊎◌, ◌==◌, ◌&&◌, ℕ, Bool, List, [], ◌∷◌, ◌++◌, Option, Some, None, MatchResult, filter, flat_map}
+use Rattle.std.specs.Prelude.{◌≡◌, ◌⊎◌, ◌==◌, ◌&&◌, ℕ, Bool, List, [], ◌∷◌, ◌++◌, Option, Some, None, MatchResult}
+use Rattle.std.specs.Prelude.{filter, flat_map}
 use Rattle.std.specs.List.{list_any, range_with_len}
 use Rattle.wq_items.specs.declared.target.Target.{Target}
 use Rattle.wq_items.specs.Table.{targets_of}
@@ -29,18 +30,23 @@ begins_on s ws arcs q = list_any (λ (a : WaitArc). workqueue_of s ws a.src == q
 abbrev pub lanes_of : Declared → Workqueues → List WaitArc → List ℕ
 lanes_of s ws arcs = filter (begins_on s ws arcs) (range_with_len 0 ws.assignment.lanes)
 
--- for each component in turn a round of waits on its workqueues, such that no other round on them takes fewer steps; of a component
--- without one, none
+-- for each component in turn a round of waits on its workqueues, such that no other round on them takes fewer steps; of
+-- a component without one, none
 abbrev pub AreRounds : Declared → Workqueues → List (List WaitArc) → List (List Hop) → Type 0
 AreRounds s ws [] rounds = rounds ≡ []
 AreRounds s ws (arcs ∷ more) rounds =
-    ((hops : List Hop) × (rest : List (List Hop)) × (rounds ≡ hops ∷ rest) × IsLeastRoundOn (wiring_of (declared_waits s) ws) (lanes_of s ws arcs) hops × AreRounds s ws more rest)
-    ⊎ (((hops : List Hop) → ¬ IsRoundOn (wiring_of (declared_waits s) ws) (lanes_of s ws arcs) hops) × AreRounds s ws more rounds)
+    ((hops : List Hop)
+    × (rest : List (List Hop)) × (rounds ≡ hops ∷ rest)
+    × IsLeastRoundOn (wiring_of (declared_waits s) ws) (lanes_of s ws arcs) hops
+    × AreRounds s ws more rest)
+    ⊎ (((hops : List Hop) → ¬ IsRoundOn (wiring_of (declared_waits s) ws) (lanes_of s ws arcs) hops)
+    × AreRounds s ws more rounds)
 
 -- what is said of such rounds was added to a text
 abbrev pub AddsRounds : List ℕ → (Hop → List ℕ) → Declared → Workqueues → List (List WaitArc) → List ℕ → List ℕ → Type 0
 AddsRounds file words s ws components old new =
-    (rounds : List (List Hop)) × AreRounds s ws components rounds × AddsSaid file (flat_map (told can_hang words) rounds) old new
+    (rounds : List (List Hop)) × AreRounds s ws components rounds
+    × AddsSaid file (flat_map (told can_hang words) rounds) old new
 
 -- ---- flushes to no rescuer
 
@@ -63,20 +69,24 @@ first_told words s (a ∷ more) = told can_hang words (hop_of s a ∷ [])
 
 -- ---- both
 
--- how the workqueues of each component can hang is said in this file, in the order of the components; and then, if there are flushes to
--- no rescuer, of which the one of least place is
-pub record GivesReasons (file : List ℕ) (words : Hop → List ℕ) (s : Declared) (ws : Workqueues) (text : List ℕ) : Type 0 where
+-- how the workqueues of each component can hang is said in this file, in the order of the components; and then, if
+-- there are flushes to no rescuer, of which the one of least place is
+pub record GivesReasons (file : List ℕ) (words : Hop → List ℕ) (s : Declared) (ws : Workqueues) (text : List ℕ)
+    : Type 0 where
   pub components : List (List WaitArc)
   pub are : AreComponents (declared_waits s) ws components
   pub rounds : List (List Hop)
   pub least : AreRounds s ws components rounds
-  pub said : AreSaid file (flat_map (told can_hang words) rounds ++ first_told words s (bare_waits (declared_waits s) ws)) text
+  pub said : AreSaid file (flat_map (told can_hang words) rounds
+      ++ first_told words s (bare_waits (declared_waits s) ws)) text
 
 -- the same of workqueues with this text, if it isn't refused
 abbrev pub GivesReasonsOf : List ℕ → List ℕ → Declared → Option (List ℕ) → Type 0
 GivesReasonsOf first lanes s said =
     MatchResult (workqueues_of_text s.table.names s.partition lanes)
-    (λ ws. (text : List ℕ) × (said ≡ Some text) × GivesReasons first (λ h. words_of OnWorkqueues s ws (names_of lanes) h) s ws text)
+    (λ ws. (text : List ℕ)
+    × (said ≡ Some text)
+    × GivesReasons first (λ h. words_of OnWorkqueues s ws (names_of lanes) h) s ws text)
     (λ _. said ≡ None)
 
 -- the same where each group has a workqueue of its own, in words of groups
@@ -87,8 +97,12 @@ GivesReasonsOfGroups first s text =
 
 -- the same of the texts of a declaration and of workqueues; nothing if one is refused
 abbrev pub GivesReasonsOfTexts : List ℕ → List ℕ → List ℕ → Option (List ℕ) → Type 0
-GivesReasonsOfTexts first text lanes said = MatchResult (declaration text) (λ s. GivesReasonsOf first lanes s said) (λ _. said ≡ None)
+GivesReasonsOfTexts first text lanes said =
+    MatchResult (declaration text) (λ s. GivesReasonsOf first lanes s said) (λ _. said ≡ None)
 
 -- the same of the text of a declaration alone; nothing if it is refused
 abbrev pub GivesOwnReasons : List ℕ → List ℕ → Option (List ℕ) → Type 0
-GivesOwnReasons first text said = MatchResult (declaration text) (λ s. (own : List ℕ) × (said ≡ Some own) × GivesReasonsOfGroups first s own) (λ _. said ≡ None)
+GivesOwnReasons first text said =
+    MatchResult (declaration text) (λ s. (own : List ℕ)
+    × (said ≡ Some own)
+    × GivesReasonsOfGroups first s own) (λ _. said ≡ None)

@@ -1,5 +1,6 @@
 -- What is said beside `safe`: which items are on workqueues without a rescuer.
-use Rattle.std.specs.Prelude.{◌≡◌, ℕ, List, [], ◌∷◌, ◌++◌, Option, Some, MatchResult, codes, filter, flat_map, length, map}
+use Rattle.std.specs.Prelude.{◌≡◌, ℕ, List, [], ◌∷◌, ◌++◌, Option, Some, MatchResult, codes, filter, flat_map, length}
+use Rattle.std.specs.Prelude.{map}
 use Rattle.std.specs.List.{range_with_len}
 use Rattle.wq_core.specs.Workqueues.{Workqueues}
 use Rattle.wq_deadlock.specs.Judging.{is_on_bare}
@@ -22,7 +23,8 @@ bare_items s ws = filter (is_on_bare ws s.partition.group_of) (range_with_len 0 
 
 -- an item and its workqueue
 abbrev pub placed_item : Declared → Workqueues → List (List ℕ) → ℕ → List ℕ
-placed_item s ws names i = ((codes "`" ++ name_of s.table.names i) ++ codes "` on ") ++ workqueue_words names (workqueue_of s ws i)
+placed_item s ws names i =
+    ((codes "`" ++ name_of s.table.names i) ++ codes "` on ") ++ workqueue_words names (workqueue_of s ws i)
 
 -- the two lines of the note: these items, all of them, and what to do
 abbrev pub bare_note : List ℕ → List (List ℕ) → List ℕ
@@ -31,17 +33,20 @@ bare_note file items = shown_lines (
     ∷ (file ++ codes ": note: where reclaim waits for one of them, declare who waits: an item of its own, on a `wq` line, that flushes it")
     ∷ [])
 
--- what is said beside `safe`: this note of such items in the file of the assignment; if there is none, what is said of a
--- declaration without an item
+-- what is said beside `safe`: this note of such items in the file of the assignment; if there is none, what is said of
+-- a declaration without an item
 abbrev pub NotesItems : List ℕ → List ℕ → List ℕ → List (List ℕ) → Option (List ℕ) → Type 0
 NotesItems first second text [] said = NotesNoItem first text said
 NotesItems first second text (item ∷ items) said = said ≡ Some (bare_note second (item ∷ items))
 
 -- the same of the texts of a declaration and of these workqueues
 abbrev pub NotesBare : List ℕ → List ℕ → List ℕ → List ℕ → Declared → Workqueues → Option (List ℕ) → Type 0
-NotesBare first second text lanes s ws said = NotesItems first second text (map (placed_item s ws (names_of lanes)) (bare_items s ws)) said
+NotesBare first second text lanes s ws said =
+    NotesItems first second text (map (placed_item s ws (names_of lanes)) (bare_items s ws)) said
 
 -- what is said of the texts of a declaration and an assignment; this if one is refused
 abbrev pub SaysIfBoth : List ℕ → List ℕ → (Declared → Workqueues → Type 0) → Type 0 → Type 0
 SaysIfBoth text lanes Says Else =
-    MatchResult (declaration text) (λ s. MatchResult (workqueues_of_text s.table.names s.partition lanes) (λ ws. Says s ws) (λ _. Else)) (λ _. Else)
+    MatchResult (declaration text)
+    (λ s. MatchResult (workqueues_of_text s.table.names s.partition lanes) (λ ws. Says s ws) (λ _. Else))
+    (λ _. Else)

@@ -33,7 +33,8 @@ pub record IsSaidOf (file what text : List ℕ) : Type 0 where
 -- one block of lines for each of these, in this order: it has this file, and says that
 abbrev pub AreSaid : List ℕ → List (List ℕ) → List ℕ → Type 0
 AreSaid file [] text = text ≡ []
-AreSaid file (what ∷ more) text = (block : List ℕ) × (rest : List ℕ) × (text ≡ block ++ rest) × IsSaidOf file what block × AreSaid file more rest
+AreSaid file (what ∷ more) text =
+    (block : List ℕ) × (rest : List ℕ) × (text ≡ block ++ rest) × IsSaidOf file what block × AreSaid file more rest
 
 -- these blocks were added to a text
 abbrev pub AddsSaid : List ℕ → List (List ℕ) → List ℕ → List ℕ → Type 0
@@ -41,7 +42,8 @@ AddsSaid file whats old new = (added : List ℕ) × (new ≡ old ++ added) × Ar
 
 -- ---- walks
 
--- what is said of the waits of a walk, one after another: this comes before the first, and `and ` before each further one
+-- what is said of the waits of a walk, one after another: this comes before the
+-- first, and `and ` before each further one
 abbrev pub told : List ℕ → (Hop → List ℕ) → List Hop → List (List ℕ)
 told lead words [] = []
 told lead words (h ∷ hops) = (lead ++ words h) ∷ map (λ (g : Hop). codes "and " ++ words g) hops
@@ -54,11 +56,12 @@ can_hang = codes "can hang: "
 abbrev pub can_hang_on_any : List ℕ
 can_hang_on_any = codes "can hang on any workqueues: "
 
--- how these workqueues hang soonest is said in this file: the waits of a walk whose run is a shortest of all that end stuck; nothing
--- is said if no run does
+-- how these workqueues hang soonest is said in this file: the waits of a walk whose run is a shortest of all that end
+-- stuck; nothing is said if no run does
 abbrev pub GivesReason : List ℕ → List ℕ → (Hop → List ℕ) → Declaration → Workqueues → Option (List ℕ) → Type 0
 GivesReason file lead words d ws None = IsSafe (wiring_of d ws)
-GivesReason file lead words d ws (Some text) = (hops : List Hop) × (steps : List Step) × IsHangOf d ws hops steps × AreSaid file (told lead words hops) text
+GivesReason file lead words d ws (Some text) =
+    (hops : List Hop) × (steps : List Step) × IsHangOf d ws hops steps × AreSaid file (told lead words hops) text
 
 -- the same of the workqueues with this text; nothing if it is refused
 abbrev pub GivesReasonOf : List ℕ → List ℕ → Declared → Option (List ℕ) → Type 0
@@ -75,8 +78,10 @@ GivesReasonOfGroups first s said =
 
 -- the same of the texts of a declaration and of workqueues; nothing if one is refused
 abbrev pub GivesReasonOfTexts : List ℕ → List ℕ → List ℕ → Option (List ℕ) → Type 0
-GivesReasonOfTexts first text lanes said = MatchResult (declaration text) (λ s. GivesReasonOf first lanes s said) (λ _. said ≡ None)
+GivesReasonOfTexts first text lanes said =
+    MatchResult (declaration text) (λ s. GivesReasonOf first lanes s said) (λ _. said ≡ None)
 
 -- the same of the text of a declaration whose groups wait in a circle; nothing if it is refused
 abbrev pub GivesReasonOfCircle : List ℕ → List ℕ → Option (List ℕ) → Type 0
-GivesReasonOfCircle first text said = MatchResult (declaration text) (λ s. GivesReasonOfGroups first s said) (λ _. said ≡ None)
+GivesReasonOfCircle first text said =
+    MatchResult (declaration text) (λ s. GivesReasonOfGroups first s said) (λ _. said ≡ None)

@@ -1,7 +1,7 @@
 //! Whether the text of an assignment has the line of a workqueue without a rescuer.
 //!
-//! Nothing guarantees that items there run while memory is short. Where no line is such, no note needs to be sought. It takes the time of
-//! going through the lines.
+//! Nothing guarantees that items there run while memory is short. Where no line is such, no note needs to be sought. It
+//! takes the time of going through the lines.
 
 ghost use Rattle.std.specs.Prelude.{◌≡◌, false};
 ghost use Rattle.std.specs.List.{list_any};

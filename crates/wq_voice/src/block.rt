@@ -1,7 +1,8 @@
-//! Blocks of lines that say something of a line of a text: the place in it, what there is to say, and the line with its marks.
+//! Blocks of lines that say something of a line of a text: the place in it, what
+//! there is to say, and the line with its marks.
 //!
-//! The form is that of "Diagnoses" in docs/FORMAT.md. A line is sought in the time of reading the text, and a block takes time and memory
-//! in its length.
+//! The form is that of "Diagnoses" in docs/FORMAT.md. A line is sought in the time of reading the text, and a block
+//! takes time and memory in its length.
 
 ghost use Rattle.std.specs.Prelude.{◌≡◌, ◌++◌, ◌∷◌, IfOk, codes, map};
 ghost use Rattle.wq_findings.specs.Shown.{place_text};
@@ -86,7 +87,8 @@ fn whole_text<A: Allocator + Copy>(
     what: &[u8],
     more: &[Vec<u8, A>],
 ) -> Result<Vec<u8, A>, AllocError>
-    ensures { IfOk result (λ said. said.items ≡ shown_lines (plain_head file.now place.now what.now ∷ map (λ line. line.items) more.now)) }
+    ensures { IfOk result (λ said. said.items
+        ≡ shown_lines (plain_head file.now place.now what.now ∷ map (λ line. line.items) more.now)) }
 {
     let head = plain_head(alloc, file, place, what)?;
     let mut out = Vec::new(alloc);

@@ -1,7 +1,7 @@
 //! What is said beside components: how the workqueues of each can hang, and then by which flush to no rescuer.
 //!
-//! The rule is that of "Reasons" in docs/FORMAT.md. A call takes the time and the memory of reading the texts, of the components, and of a
-//! search from each item on one.
+//! The rule is that of "Reasons" in docs/FORMAT.md. A call takes the time and the memory of reading the texts, of the
+//! components, and of a search from each item on one.
 
 ghost use Rattle.std.specs.Prelude.{◌≡◌, ◌<◌, IfOk, OnOk, Ok, length, map, option_map};
 ghost use Rattle.wq_groups.specs.Declaration.{declaration_of};
@@ -9,7 +9,8 @@ ghost use Rattle.wq_deadlock.specs.Judging.{bare_waits};
 ghost use Rattle.wq_cert.specs.Texts.{workqueues_of_text};
 ghost use Rattle.wq_circles.specs.Components.{AreComponents};
 ghost use Rattle.wq_circles.specs.ComponentsText.{AreBetween};
-ghost use Rattle.wq_voice.specs.Components.{first_told, hop_of, is_of_whole, GivesOwnReasons, GivesReasons, GivesReasonsOf, GivesReasonsOfGroups, GivesReasonsOfTexts};
+ghost use Rattle.wq_voice.specs.Components.{first_told, hop_of, is_of_whole, GivesOwnReasons, GivesReasons};
+ghost use Rattle.wq_voice.specs.Components.{GivesReasonsOf, GivesReasonsOfGroups, GivesReasonsOfTexts};
 ghost use Rattle.wq_voice.specs.Reasons.{AddsSaid};
 ghost use Rattle.wq_voice.specs.Waits.{words_of};
 ghost use Rattle.wq_voice.specs.declared.waits.Wording.TheVariants.{OnWorkqueues};
@@ -68,11 +69,15 @@ fn put_first<A: Allocator + Copy>(
 ) -> Result<(), AllocError>
     requires between { AreBetween (length subject.now.declared.now.groups.group_of) waits.now }
     requires grouped { length subject.now.declared.now.groups.group_of ≡ length subject.now.declared.now.table.names }
-    requires assigned { length subject.now.workqueues.now.assignment.lane_of_group ≡ subject.now.declared.now.groups.groups }
+    requires assigned { length subject.now.workqueues.now.assignment.lane_of_group
+        ≡ subject.now.declared.now.groups.groups }
     ensures { OnOk result (AddsSaid subject.now.declaration.file.now (first_told (λ h. words_of subject.now.wording
         (record { table = subject.now.declared.now.table; partition = subject.now.declared.now.groups })
         subject.now.workqueues.now (map (λ n. n.now) subject.now.names.now) h)
-        (record { table = subject.now.declared.now.table; partition = subject.now.declared.now.groups }) waits.now) out.old.items out.new.items) }
+        (record {
+          table = subject.now.declared.now.table;
+          partition = subject.now.declared.now.groups;
+        }) waits.now) out.old.items out.new.items) }
 {
     match waits {
         [] => Ok(()),
@@ -91,13 +96,21 @@ fn of_components<A: Allocator + Copy>(
     waits: &[WaitArc],
 ) -> Result<Vec<u8, A>, AllocError>
     requires grouped { length subject.now.declared.now.groups.group_of ≡ length subject.now.declared.now.table.names }
-    requires assigned { length subject.now.workqueues.now.assignment.lane_of_group ≡ subject.now.declared.now.groups.groups }
-    requires are { AreComponents (declaration_of subject.now.declared.now.table subject.now.declared.now.groups) subject.now.workqueues.now (map (λ l. l.items) components.now) }
-    requires waits { waits.now ≡ bare_waits (declaration_of subject.now.declared.now.table subject.now.declared.now.groups) subject.now.workqueues.now }
+    requires assigned { length subject.now.workqueues.now.assignment.lane_of_group
+        ≡ subject.now.declared.now.groups.groups }
+    requires are { AreComponents
+        (declaration_of subject.now.declared.now.table subject.now.declared.now.groups) subject.now.workqueues.now
+        (map (λ l. l.items) components.now) }
+    requires waits { waits.now
+        ≡ bare_waits
+        (declaration_of subject.now.declared.now.table subject.now.declared.now.groups) subject.now.workqueues.now }
     ensures { IfOk result (λ said. GivesReasons subject.now.declaration.file.now (λ h. words_of subject.now.wording
         (record { table = subject.now.declared.now.table; partition = subject.now.declared.now.groups })
         subject.now.workqueues.now (map (λ n. n.now) subject.now.names.now) h)
-        (record { table = subject.now.declared.now.table; partition = subject.now.declared.now.groups }) subject.now.workqueues.now said.items) }
+        (record {
+          table = subject.now.declared.now.table;
+          partition = subject.now.declared.now.groups;
+        }) subject.now.workqueues.now said.items) }
 {
     // What holds of every table, of all groups and of every assignment.
     let Declaration { table, groups } = subject.declared;
@@ -117,11 +130,15 @@ fn of_subject<A: Allocator + Copy>(
     subject: &Subject<'_, '_, '_, '_, A>,
 ) -> Result<Vec<u8, A>, AllocError>
     requires grouped { length subject.now.declared.now.groups.group_of ≡ length subject.now.declared.now.table.names }
-    requires assigned { length subject.now.workqueues.now.assignment.lane_of_group ≡ subject.now.declared.now.groups.groups }
+    requires assigned { length subject.now.workqueues.now.assignment.lane_of_group
+        ≡ subject.now.declared.now.groups.groups }
     ensures { IfOk result (λ said. GivesReasons subject.now.declaration.file.now (λ h. words_of subject.now.wording
         (record { table = subject.now.declared.now.table; partition = subject.now.declared.now.groups })
         subject.now.workqueues.now (map (λ n. n.now) subject.now.names.now) h)
-        (record { table = subject.now.declared.now.table; partition = subject.now.declared.now.groups }) subject.now.workqueues.now said.items) }
+        (record {
+          table = subject.now.declared.now.table;
+          partition = subject.now.declared.now.groups;
+        }) subject.now.workqueues.now said.items) }
 {
     let Declaration { table, groups } = subject.declared;
     let components = components(alloc, table, groups, subject.workqueues)?;
@@ -138,10 +155,12 @@ fn of_assigned<'a, A: Allocator + Copy>(
     workqueues: &Workqueues<A>,
 ) -> Result<Vec<u8, A>, AllocError>
     requires grouped { length declared.now.groups.group_of ≡ length declared.now.table.names }
-    requires read { workqueues_of_text declared.now.table.names declared.now.groups assignment.text.now ≡ Ok workqueues.now }
+    requires read { workqueues_of_text declared.now.table.names declared.now.groups assignment.text.now
+        ≡ Ok workqueues.now }
     requires assigned { length workqueues.now.assignment.lane_of_group ≡ declared.now.groups.groups }
     ensures { IfOk result (λ said. GivesReasons declaration.entry.file.now (λ h. words_of OnWorkqueues
-        (record { table = declared.now.table; partition = declared.now.groups }) workqueues.now (names_of assignment.entry.text.now) h)
+        (record { table = declared.now.table; partition = declared.now.groups }) workqueues.now
+        (names_of assignment.entry.text.now) h)
         (record { table = declared.now.table; partition = declared.now.groups }) workqueues.now said.items) }
 {
     let names = workqueue_names(alloc, assignment.text)?;
@@ -167,7 +186,8 @@ fn of_declared<'a, A: Allocator + Copy>(
 ) -> Result<Option<Vec<u8, A>>, AllocError>
     requires { length declared.now.groups.group_of ≡ length declared.now.table.names }
     ensures { IfOk result (λ said. GivesReasonsOf declaration.entry.file.now assignment.entry.text.now
-        (record { table = declared.now.table; partition = declared.now.groups }) (option_map (λ text. text.items) said)) }
+        (record { table = declared.now.table; partition = declared.now.groups })
+        (option_map (λ text. text.items) said)) }
 {
     // What holds of every table and of all groups.
     let _items = declared.table.len();
@@ -197,7 +217,8 @@ pub(crate) fn of_both<'a, A: Allocator + Copy>(
     declaration: Source<'a>,
     assignment: Source<'a>,
 ) -> Result<Option<Vec<u8, A>>, AllocError>
-    ensures { IfOk result (λ said. GivesReasonsOfTexts declaration.entry.file.now declaration.entry.text.now assignment.entry.text.now
+    ensures { IfOk result (λ said.
+        GivesReasonsOfTexts declaration.entry.file.now declaration.entry.text.now assignment.entry.text.now
         (option_map (λ text. text.items) said)) }
 {
     match read_declaration(alloc, seed, declaration.text) {
@@ -247,7 +268,8 @@ pub(crate) fn of_own<'a, A: Allocator + Copy>(
     seed: u64,
     declaration: Source<'a>,
 ) -> Result<Option<Vec<u8, A>>, AllocError>
-    ensures { IfOk result (λ said. GivesOwnReasons declaration.entry.file.now declaration.entry.text.now (option_map (λ text. text.items) said)) }
+    ensures { IfOk result (λ said.
+        GivesOwnReasons declaration.entry.file.now declaration.entry.text.now (option_map (λ text. text.items) said)) }
 {
     match read_declaration(alloc, seed, declaration.text) {
         Ok(declared) => {

@@ -1,9 +1,11 @@
 //! The words of waits of groups, whatever their workqueues.
 //!
-//! The words are those of "Where workqueues can hang" in tests/DIAGNOSES.md. A call takes the time and the memory of the words.
+//! The words are those of "Where workqueues can hang" in tests/DIAGNOSES.md. A call
+//! takes the time and the memory of the words.
 
 ghost use Rattle.std.specs.Prelude.{◌≡◌, ◌++◌, IfOk};
-ghost use Rattle.wq_voice.specs.Waits.{group_behind_words, group_to_all_words, group_to_behind_words, group_to_next_words, group_to_words, group_wait_words};
+ghost use Rattle.wq_voice.specs.Waits.{group_behind_words, group_to_all_words, group_to_behind_words};
+ghost use Rattle.wq_voice.specs.Waits.{group_to_next_words, group_to_words, group_wait_words};
 
 use std::alloc::{AllocError, Allocator};
 use wq_commands::Declaration;
@@ -17,7 +19,8 @@ fn group_to_all_words<A: Allocator + Copy>(
     declared: &Declaration<'_, A>,
     hop: &Hop,
 ) -> Result<Vec<u8, A>, AllocError>
-    ensures { IfOk result (λ words. words.items ≡ group_to_all_words (record { table = declared.now.table; partition = declared.now.groups }) hop.now) }
+    ensures { IfOk result (λ words. words.items
+        ≡ group_to_all_words (record { table = declared.now.table; partition = declared.now.groups }) hop.now) }
 {
     if hop.next == hop.item {
         return Vec::from_slice(alloc, b"its workqueue");
@@ -39,7 +42,8 @@ fn group_to_next_words<A: Allocator + Copy>(
     declared: &Declaration<'_, A>,
     hop: &Hop,
 ) -> Result<Vec<u8, A>, AllocError>
-    ensures { IfOk result (λ words. words.items ≡ group_to_next_words (record { table = declared.now.table; partition = declared.now.groups }) hop.now) }
+    ensures { IfOk result (λ words. words.items
+        ≡ group_to_next_words (record { table = declared.now.table; partition = declared.now.groups }) hop.now) }
 {
     if hop.next == hop.item {
         return Vec::from_slice(alloc, b"itself");
@@ -55,7 +59,8 @@ fn behind_words<A: Allocator + Copy>(
     declared: &Declaration<'_, A>,
     hop: &Hop,
 ) -> Result<Vec<u8, A>, AllocError>
-    ensures { IfOk result (λ words. words.items ≡ group_behind_words (record { table = declared.now.table; partition = declared.now.groups }) hop.now) }
+    ensures { IfOk result (λ words. words.items
+        ≡ group_behind_words (record { table = declared.now.table; partition = declared.now.groups }) hop.now) }
 {
     if hop.next == hop.item {
         Vec::from_slice(alloc, b"it")
@@ -70,7 +75,8 @@ fn group_to_behind_words<A: Allocator + Copy>(
     declared: &Declaration<'_, A>,
     hop: &Hop,
 ) -> Result<Vec<u8, A>, AllocError>
-    ensures { IfOk result (λ words. words.items ≡ group_to_behind_words (record { table = declared.now.table; partition = declared.now.groups }) hop.now) }
+    ensures { IfOk result (λ words. words.items
+        ≡ group_to_behind_words (record { table = declared.now.table; partition = declared.now.groups }) hop.now) }
 {
     let behind = behind_words(alloc, declared, hop)?;
     let mut words = item_words(alloc, declared, hop.flush.item)?;
@@ -86,7 +92,8 @@ fn group_to_words<A: Allocator + Copy>(
     declared: &Declaration<'_, A>,
     hop: &Hop,
 ) -> Result<Vec<u8, A>, AllocError>
-    ensures { IfOk result (λ words. words.items ≡ group_to_words (record { table = declared.now.table; partition = declared.now.groups }) hop.now) }
+    ensures { IfOk result (λ words. words.items
+        ≡ group_to_words (record { table = declared.now.table; partition = declared.now.groups }) hop.now) }
 {
     if hop.flush.whole {
         group_to_all_words(alloc, declared, hop)
@@ -103,7 +110,8 @@ pub(crate) fn group_wait_words<A: Allocator + Copy>(
     declared: &Declaration<'_, A>,
     hop: &Hop,
 ) -> Result<Vec<u8, A>, AllocError>
-    ensures { IfOk result (λ words. words.items ≡ group_wait_words (record { table = declared.now.table; partition = declared.now.groups }) hop.now) }
+    ensures { IfOk result (λ words. words.items
+        ≡ group_wait_words (record { table = declared.now.table; partition = declared.now.groups }) hop.now) }
 {
     let target = group_to_words(alloc, declared, hop)?;
     let mut words = item_words(alloc, declared, hop.item)?;

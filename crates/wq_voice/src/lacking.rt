@@ -1,8 +1,8 @@
-//! What is said of a certificate to which `check` says no: the diagnosis of what it lacks; and behind that of a plan with a flush that
-//! doesn't fall how the plan's workqueues can hang.
+//! What is said of a certificate to which `check` says no: the diagnosis of what it lacks; and behind that of a plan
+//! with a flush that doesn't fall how the plan's workqueues can hang.
 //!
-//! Where flushes don't fall, workqueues may be safe nevertheless, if their numbers alone are wrong. A call takes the time and the memory
-//! of reading both texts, and of the search for a shortest run.
+//! Where flushes don't fall, workqueues may be safe nevertheless, if their numbers alone are wrong. A call takes the
+//! time and the memory of reading both texts, and of the search for a shortest run.
 
 ghost use Rattle.std.specs.Prelude.{◌≡◌, ◌++◌, [], IfOk, Some, length, option_map, unwrap_or};
 ghost use Rattle.wq_voice.specs.Voice.{SaysLacking, SaysLackingOf};
@@ -37,7 +37,8 @@ fn of_lacking<'a, A: Allocator + Copy>(
     no: &No,
 ) -> Result<Vec<u8, A>, AllocError>
     requires { length declared.now.groups.group_of ≡ length declared.now.table.names }
-    ensures { IfOk result (λ said. SaysLacking declaration.entry.file.now certificate.entry.file.now certificate.entry.text.now
+    ensures { IfOk result (λ said.
+        SaysLacking declaration.entry.file.now certificate.entry.file.now certificate.entry.text.now
         (record { table = declared.now.table; partition = declared.now.groups }) no.now (Some said.items)) }
 {
     let diagnosis = of_lack(alloc, declared, certificate, no)?;
@@ -52,7 +53,8 @@ fn of_lacking<'a, A: Allocator + Copy>(
     }
 }
 
-/// What is said of a certificate of a declaration to which the checker answered this no; nothing where the declaration is refused.
+/// What is said of a certificate of a declaration to which the checker answered this
+/// no; nothing where the declaration is refused.
 ///
 /// The only error is out of memory (20). The names are hashed with `seed`. Nothing that is said depends on it.
 pub(crate) fn of_answered_no<'a, A: Allocator + Copy>(
@@ -62,7 +64,8 @@ pub(crate) fn of_answered_no<'a, A: Allocator + Copy>(
     certificate: Source<'a>,
     no: &No,
 ) -> Result<Option<Vec<u8, A>>, AllocError>
-    ensures { IfOk result (λ said. SaysLackingOf declaration.entry.file.now certificate.entry.file.now declaration.entry.text.now
+    ensures { IfOk result (λ said.
+        SaysLackingOf declaration.entry.file.now certificate.entry.file.now declaration.entry.text.now
         certificate.entry.text.now no.now (option_map (λ text. text.items) said)) }
 {
     match read_declaration(alloc, seed, declaration.text) {

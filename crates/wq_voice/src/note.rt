@@ -1,7 +1,7 @@
 //! The note beside `safe`: which items are on workqueues without a rescuer.
 //!
-//! Nothing guarantees that such items run while memory is short, and `safe` says nothing of them. The form is that of "Diagnoses" in
-//! docs/FORMAT.md. A call takes time in the number of items, and the time and the memory of the words.
+//! Nothing guarantees that such items run while memory is short, and `safe` says nothing of them. The form is that of
+//! "Diagnoses" in docs/FORMAT.md. A call takes time in the number of items, and the time and the memory of the words.
 
 ghost use Rattle.std.specs.Prelude.{◌≡◌, ◌++◌, ◌<◌, IfOk, OnOk, codes, flat_map, length, map, option_map};
 ghost use Rattle.std.specs.List.{All};
@@ -23,7 +23,8 @@ pub(crate) fn bare_items<A: Allocator + Copy>(
 ) -> Result<Vec<ItemId, A>, AllocError>
     requires grouped { length declared.now.groups.group_of ≡ length declared.now.table.names }
     requires assigned { length workqueues.now.assignment.lane_of_group ≡ declared.now.groups.groups }
-    ensures items { IfOk result (λ items. items.items ≡ bare_items (record { table = declared.now.table; partition = declared.now.groups }) workqueues.now) }
+    ensures items { IfOk result (λ items. items.items
+        ≡ bare_items (record { table = declared.now.table; partition = declared.now.groups }) workqueues.now) }
     ensures within { IfOk result (λ items. All (λ i. i < length declared.now.table.names) items.items) }
 {
     let mut items = Vec::new(alloc);
@@ -48,7 +49,8 @@ fn placed_item<A: Allocator + Copy>(
     requires grouped { length declared.now.groups.group_of ≡ length declared.now.table.names }
     requires assigned { length workqueues.now.assignment.lane_of_group ≡ declared.now.groups.groups }
     ensures { IfOk result (λ words. words.items
-        ≡ placed_item (record { table = declared.now.table; partition = declared.now.groups }) workqueues.now (map (λ n. n.now) names.now) item) }
+        ≡ placed_item (record { table = declared.now.table; partition = declared.now.groups }) workqueues.now
+        (map (λ n. n.now) names.now) item) }
 {
     let workqueue = workqueue_words(alloc, names, workqueue_of(declared, workqueues, item))?;
     let mut words = Vec::new(alloc);
@@ -71,7 +73,9 @@ pub(crate) fn placed_items<A: Allocator + Copy>(
     requires grouped { length declared.now.groups.group_of ≡ length declared.now.table.names }
     requires assigned { length workqueues.now.assignment.lane_of_group ≡ declared.now.groups.groups }
     ensures { IfOk result (λ placed. map (λ words. words.items) placed.items
-        ≡ map (placed_item (record { table = declared.now.table; partition = declared.now.groups }) workqueues.now (map (λ n. n.now) names.now)) items.now) }
+        ≡ map
+        (placed_item (record { table = declared.now.table; partition = declared.now.groups }) workqueues.now
+        (map (λ n. n.now) names.now)) items.now) }
 {
     let mut placed = Vec::new(alloc);
     for item in items {
@@ -85,7 +89,8 @@ fn put_others<A: Allocator + Copy>(
     out: &mut Vec<u8, A>,
     others: &[Vec<u8, A>],
 ) -> Result<(), AllocError>
-    ensures { OnOk result (out.new.items ≡ out.old.items ++ flat_map (λ other. codes ", " ++ other) (map (λ words. words.items) others.now)) }
+    ensures { OnOk result (out.new.items
+        ≡ out.old.items ++ flat_map (λ other. codes ", " ++ other) (map (λ words. words.items) others.now)) }
 {
     for other in others {
         put(out, b", ")?;
@@ -117,7 +122,8 @@ fn note_line<A: Allocator + Copy>(
     items: &[Vec<u8, A>],
 ) -> Result<Vec<u8, A>, AllocError>
     ensures { IfOk result (λ line. line.items
-        ≡ (file.now ++ codes ": note: nothing guarantees that these run while memory is short: ") ++ listed (map (λ words. words.items) items.now)) }
+        ≡ (file.now ++ codes ": note: nothing guarantees that these run while memory is short: ")
+        ++ listed (map (λ words. words.items) items.now)) }
 {
     let mut line = Vec::new(alloc);
     put(&mut line, file.as_bytes())?;

@@ -1,14 +1,15 @@
 //! How workqueues can hang: the waits of a walk whose run is a shortest of all that end stuck.
 //!
-//! The rule is that of "Reasons" in docs/FORMAT.md. A call takes the time and the memory of reading both texts, and of the search for a
-//! shortest run.
+//! The rule is that of "Reasons" in docs/FORMAT.md. A call takes the time and the memory of reading both texts, and of
+//! the search for a shortest run.
 
 ghost use Rattle.std.specs.Prelude.{◌≡◌, IfOk, Ok, length, map, option_map};
 ghost use Rattle.wq_groups.specs.Declaration.{declaration_of};
 ghost use Rattle.wq_hang.specs.Answer.{IsAnswer};
 ghost use Rattle.wq_cert.specs.Texts.{workqueues_of_text};
 ghost use Rattle.wq_names.specs.Names.{names_of};
-ghost use Rattle.wq_voice.specs.Reasons.{can_hang, GivesReason, GivesReasonOf, GivesReasonOfCircle, GivesReasonOfGroups, GivesReasonOfTexts};
+ghost use Rattle.wq_voice.specs.Reasons.{can_hang, GivesReason, GivesReasonOf, GivesReasonOfCircle};
+ghost use Rattle.wq_voice.specs.Reasons.{GivesReasonOfGroups, GivesReasonOfTexts};
 ghost use Rattle.wq_voice.specs.Waits.{words_of};
 ghost use Rattle.wq_voice.specs.declared.waits.Wording.TheVariants.{OnWorkqueues};
 
@@ -38,9 +39,13 @@ fn of_answer<A: Allocator + Copy>(
     answer: &Answer<A>,
 ) -> Result<Option<Vec<u8, A>>, AllocError>
     requires grouped { length subject.now.declared.now.groups.group_of ≡ length subject.now.declared.now.table.names }
-    requires assigned { length subject.now.workqueues.now.assignment.lane_of_group ≡ subject.now.declared.now.groups.groups }
-    requires answer { IsAnswer (declaration_of subject.now.declared.now.table subject.now.declared.now.groups) subject.now.workqueues.now answer.now }
-    ensures { IfOk result (λ said. GivesReason subject.now.declaration.file.now lead.now (λ h. words_of subject.now.wording
+    requires assigned { length subject.now.workqueues.now.assignment.lane_of_group
+        ≡ subject.now.declared.now.groups.groups }
+    requires answer { IsAnswer
+        (declaration_of subject.now.declared.now.table subject.now.declared.now.groups) subject.now.workqueues.now
+        answer.now }
+    ensures { IfOk result (λ said.
+        GivesReason subject.now.declaration.file.now lead.now (λ h. words_of subject.now.wording
         (record { table = subject.now.declared.now.table; partition = subject.now.declared.now.groups })
         subject.now.workqueues.now (map (λ n. n.now) subject.now.names.now) h)
         (declaration_of subject.now.declared.now.table subject.now.declared.now.groups) subject.now.workqueues.now
@@ -66,8 +71,10 @@ pub fn of_subject<A: Allocator + Copy>(
     lead: &[u8],
 ) -> Result<Option<Vec<u8, A>>, AllocError>
     requires grouped { length subject.now.declared.now.groups.group_of ≡ length subject.now.declared.now.table.names }
-    requires assigned { length subject.now.workqueues.now.assignment.lane_of_group ≡ subject.now.declared.now.groups.groups }
-    ensures { IfOk result (λ said. GivesReason subject.now.declaration.file.now lead.now (λ h. words_of subject.now.wording
+    requires assigned { length subject.now.workqueues.now.assignment.lane_of_group
+        ≡ subject.now.declared.now.groups.groups }
+    ensures { IfOk result (λ said.
+        GivesReason subject.now.declaration.file.now lead.now (λ h. words_of subject.now.wording
         (record { table = subject.now.declared.now.table; partition = subject.now.declared.now.groups })
         subject.now.workqueues.now (map (λ n. n.now) subject.now.names.now) h)
         (declaration_of subject.now.declared.now.table subject.now.declared.now.groups) subject.now.workqueues.now
@@ -87,10 +94,12 @@ fn of_assigned<'a, A: Allocator + Copy>(
     workqueues: &Workqueues<A>,
 ) -> Result<Option<Vec<u8, A>>, AllocError>
     requires grouped { length declared.now.groups.group_of ≡ length declared.now.table.names }
-    requires read { workqueues_of_text declared.now.table.names declared.now.groups assignment.text.now ≡ Ok workqueues.now }
+    requires read { workqueues_of_text declared.now.table.names declared.now.groups assignment.text.now
+        ≡ Ok workqueues.now }
     requires assigned { length workqueues.now.assignment.lane_of_group ≡ declared.now.groups.groups }
     ensures { IfOk result (λ said. GivesReason declaration.entry.file.now can_hang (λ h. words_of OnWorkqueues
-        (record { table = declared.now.table; partition = declared.now.groups }) workqueues.now (names_of assignment.entry.text.now) h)
+        (record { table = declared.now.table; partition = declared.now.groups }) workqueues.now
+        (names_of assignment.entry.text.now) h)
         (declaration_of declared.now.table declared.now.groups) workqueues.now (option_map (λ text. text.items) said)) }
 {
     let names = workqueue_names(alloc, assignment.text)?;
@@ -116,7 +125,8 @@ pub(crate) fn of_declared<'a, A: Allocator + Copy>(
 ) -> Result<Option<Vec<u8, A>>, AllocError>
     requires { length declared.now.groups.group_of ≡ length declared.now.table.names }
     ensures { IfOk result (λ said. GivesReasonOf declaration.entry.file.now assignment.entry.text.now
-        (record { table = declared.now.table; partition = declared.now.groups }) (option_map (λ text. text.items) said)) }
+        (record { table = declared.now.table; partition = declared.now.groups })
+        (option_map (λ text. text.items) said)) }
 {
     // What holds of every table and of all groups.
     let _items = declared.table.len();
@@ -146,7 +156,8 @@ pub(crate) fn of_run<'a, A: Allocator + Copy>(
     declaration: Source<'a>,
     assignment: Source<'a>,
 ) -> Result<Option<Vec<u8, A>>, AllocError>
-    ensures { IfOk result (λ said. GivesReasonOfTexts declaration.entry.file.now declaration.entry.text.now assignment.entry.text.now
+    ensures { IfOk result (λ said.
+        GivesReasonOfTexts declaration.entry.file.now declaration.entry.text.now assignment.entry.text.now
         (option_map (λ text. text.items) said)) }
 {
     match read_declaration(alloc, seed, declaration.text) {
@@ -168,7 +179,8 @@ fn of_groups<'a, A: Allocator + Copy>(
 ) -> Result<Option<Vec<u8, A>>, AllocError>
     requires { length declared.now.groups.group_of ≡ length declared.now.table.names }
     ensures { IfOk result (λ said. GivesReasonOfGroups declaration.entry.file.now
-        (record { table = declared.now.table; partition = declared.now.groups }) (option_map (λ text. text.items) said)) }
+        (record { table = declared.now.table; partition = declared.now.groups })
+        (option_map (λ text. text.items) said)) }
 {
     let assignment = own_lanes(alloc, &declared.groups)?;
     let workqueues = Workqueues::new(assignment, Vec::new(alloc));
@@ -196,7 +208,9 @@ pub(crate) fn of_circle<'a, A: Allocator + Copy>(
     seed: u64,
     declaration: Source<'a>,
 ) -> Result<Option<Vec<u8, A>>, AllocError>
-    ensures { IfOk result (λ said. GivesReasonOfCircle declaration.entry.file.now declaration.entry.text.now (option_map (λ text. text.items) said)) }
+    ensures { IfOk result (λ said.
+        GivesReasonOfCircle declaration.entry.file.now declaration.entry.text.now
+        (option_map (λ text. text.items) said)) }
 {
     match read_declaration(alloc, seed, declaration.text) {
         Ok(declared) => {

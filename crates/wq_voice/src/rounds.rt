@@ -1,7 +1,7 @@
 //! How the workqueues of each component can hang: by a round of waits on them that takes the fewest steps.
 //!
-//! The rule is that of "Reasons" in docs/FORMAT.md. A component takes the time of a search from each of its items, and that of going through
-//! its flushes for each workqueue.
+//! The rule is that of "Reasons" in docs/FORMAT.md. A component takes the time of a search from each of its items, and
+//! that of going through its flushes for each workqueue.
 
 ghost use Rattle.std.specs.Prelude.{◌≡◌, ◌∷◌, [], ◌<◌, IfOk, OnOk, length, map};
 ghost use Rattle.std.specs.List.{All};
@@ -30,7 +30,8 @@ fn begins_on<A: Allocator + Copy>(
 ) -> bool
     requires between { AreBetween (length declared.now.groups.group_of) arcs.now }
     requires assigned { length workqueues.now.assignment.lane_of_group ≡ declared.now.groups.groups }
-    ensures { result ≡ begins_on (record { table = declared.now.table; partition = declared.now.groups }) workqueues.now arcs.now q }
+    ensures { result
+        ≡ begins_on (record { table = declared.now.table; partition = declared.now.groups }) workqueues.now arcs.now q }
 {
     for arc in arcs {
         let lane = workqueue_of(declared, workqueues, arc.src);
@@ -50,7 +51,8 @@ fn lanes_of<A: Allocator + Copy>(
 ) -> Result<Vec<u32, A>, AllocError>
     requires between { AreBetween (length declared.now.groups.group_of) arcs.now }
     requires assigned { length workqueues.now.assignment.lane_of_group ≡ declared.now.groups.groups }
-    ensures { IfOk result (λ lanes. lanes.items ≡ lanes_of (record { table = declared.now.table; partition = declared.now.groups }) workqueues.now arcs.now) }
+    ensures { IfOk result (λ lanes. lanes.items
+        ≡ lanes_of (record { table = declared.now.table; partition = declared.now.groups }) workqueues.now arcs.now) }
 {
     let mut lanes = Vec::new(alloc);
     for number in 0..workqueues.assignment().lanes() {
@@ -71,12 +73,18 @@ pub fn put_round<A: Allocator + Copy>(
 ) -> Result<(), AllocError>
     requires between { AreBetween (length subject.now.declared.now.groups.group_of) arcs.now }
     requires grouped { length subject.now.declared.now.groups.group_of ≡ length subject.now.declared.now.table.names }
-    requires assigned { length subject.now.workqueues.now.assignment.lane_of_group ≡ subject.now.declared.now.groups.groups }
-    requires rounds { rounds.old ≡ wiring_of (declaration_of subject.now.declared.now.table subject.now.declared.now.groups) subject.now.workqueues.now }
+    requires assigned { length subject.now.workqueues.now.assignment.lane_of_group
+        ≡ subject.now.declared.now.groups.groups }
+    requires rounds { rounds.old
+        ≡ wiring_of
+        (declaration_of subject.now.declared.now.table subject.now.declared.now.groups) subject.now.workqueues.now }
     ensures added { OnOk result (AddsRounds subject.now.declaration.file.now (λ h. words_of subject.now.wording
         (record { table = subject.now.declared.now.table; partition = subject.now.declared.now.groups })
         subject.now.workqueues.now (map (λ n. n.now) subject.now.names.now) h)
-        (record { table = subject.now.declared.now.table; partition = subject.now.declared.now.groups }) subject.now.workqueues.now
+        (record {
+          table = subject.now.declared.now.table;
+          partition = subject.now.declared.now.groups;
+        }) subject.now.workqueues.now
         (arcs.now ∷ []) out.old.items out.new.items) }
     ensures rounds { rounds.new ≡ rounds.old }
 {
@@ -99,14 +107,21 @@ pub(crate) fn put_rounds<A: Allocator + Copy>(
     rounds: &mut Rounds<A>,
     components: &[Vec<WaitArc, A>],
 ) -> Result<(), AllocError>
-    requires between { All (AreBetween (length subject.now.declared.now.groups.group_of)) (map (λ l. l.items) components.now) }
+    requires between { All (AreBetween (length subject.now.declared.now.groups.group_of))
+        (map (λ l. l.items) components.now) }
     requires grouped { length subject.now.declared.now.groups.group_of ≡ length subject.now.declared.now.table.names }
-    requires assigned { length subject.now.workqueues.now.assignment.lane_of_group ≡ subject.now.declared.now.groups.groups }
-    requires rounds { rounds.old ≡ wiring_of (declaration_of subject.now.declared.now.table subject.now.declared.now.groups) subject.now.workqueues.now }
+    requires assigned { length subject.now.workqueues.now.assignment.lane_of_group
+        ≡ subject.now.declared.now.groups.groups }
+    requires rounds { rounds.old
+        ≡ wiring_of
+        (declaration_of subject.now.declared.now.table subject.now.declared.now.groups) subject.now.workqueues.now }
     ensures { OnOk result (AddsRounds subject.now.declaration.file.now (λ h. words_of subject.now.wording
         (record { table = subject.now.declared.now.table; partition = subject.now.declared.now.groups })
         subject.now.workqueues.now (map (λ n. n.now) subject.now.names.now) h)
-        (record { table = subject.now.declared.now.table; partition = subject.now.declared.now.groups }) subject.now.workqueues.now
+        (record {
+          table = subject.now.declared.now.table;
+          partition = subject.now.declared.now.groups;
+        }) subject.now.workqueues.now
         (map (λ l. l.items) components.now) out.old.items out.new.items) }
 {
     for arcs in components {

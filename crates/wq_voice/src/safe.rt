@@ -1,7 +1,7 @@
 //! What is said beside `safe` of a declaration and an assignment.
 //!
-//! A call takes the time and the memory of reading both texts; where there is no workqueue without a rescuer, that of going through the
-//! lines of one.
+//! A call takes the time and the memory of reading both texts; where there is no workqueue without a rescuer, that of
+//! going through the lines of one.
 
 ghost use Rattle.std.specs.Prelude.{◌≡◌, IfOk, MatchResult, Ok, length, option_map};
 ghost use Rattle.wq_cert.specs.Texts.{workqueues_of_text};
@@ -27,10 +27,14 @@ pub fn safe_assigned<A: Allocator + Copy>(
     workqueues: &Workqueues<A>,
 ) -> Result<Option<Vec<u8, A>>, AllocError>
     requires grouped { length declared.now.groups.group_of ≡ length declared.now.table.names }
-    requires read { workqueues_of_text declared.now.table.names declared.now.groups assignment.text.now ≡ Ok workqueues.now }
+    requires read { workqueues_of_text declared.now.table.names declared.now.groups assignment.text.now
+        ≡ Ok workqueues.now }
     requires assigned { length workqueues.now.assignment.lane_of_group ≡ declared.now.groups.groups }
-    ensures { IfOk result (λ said. NotesBare declaration.entry.file.now assignment.entry.file.now declaration.entry.text.now assignment.entry.text.now
-        (record { table = declared.now.table; partition = declared.now.groups }) workqueues.now (option_map (λ text. text.items) said)) }
+    ensures { IfOk result (λ said.
+        NotesBare declaration.entry.file.now assignment.entry.file.now declaration.entry.text.now
+        assignment.entry.text.now
+        (record { table = declared.now.table; partition = declared.now.groups }) workqueues.now
+        (option_map (λ text. text.items) said)) }
 {
     let names = workqueue_names(alloc, assignment.text)?;
     let items = bare_items(alloc, declared, workqueues)?;
@@ -47,10 +51,15 @@ fn safe_declared<A: Allocator + Copy>(
     declared: &Declaration<'_, A>,
 ) -> Result<Option<Vec<u8, A>>, AllocError>
     requires { length declared.now.groups.group_of ≡ length declared.now.table.names }
-    ensures { IfOk result (λ said. MatchResult (workqueues_of_text declared.now.table.names declared.now.groups assignment.entry.text.now)
-        (λ ws. NotesBare declaration.entry.file.now assignment.entry.file.now declaration.entry.text.now assignment.entry.text.now
-        (record { table = declared.now.table; partition = declared.now.groups }) ws (option_map (λ text. text.items) said))
-        (λ _. NotesNoItem declaration.entry.file.now declaration.entry.text.now (option_map (λ text. text.items) said))) }
+    ensures { IfOk result (λ said.
+        MatchResult (workqueues_of_text declared.now.table.names declared.now.groups assignment.entry.text.now)
+        (λ ws.
+        NotesBare declaration.entry.file.now assignment.entry.file.now declaration.entry.text.now
+        assignment.entry.text.now
+        (record { table = declared.now.table; partition = declared.now.groups }) ws
+        (option_map (λ text. text.items) said))
+        (λ _.
+        NotesNoItem declaration.entry.file.now declaration.entry.text.now (option_map (λ text. text.items) said))) }
 {
     // What holds of every table and of all groups.
     let _items = declared.table.len();
@@ -81,7 +90,10 @@ pub(crate) fn of_safe<A: Allocator + Copy>(
     assignment: Source<'_>,
 ) -> Result<Option<Vec<u8, A>>, AllocError>
     ensures { IfOk result (λ said. SaysIfBoth declaration.entry.text.now assignment.entry.text.now
-        (λ s ws. NotesBare declaration.entry.file.now assignment.entry.file.now declaration.entry.text.now assignment.entry.text.now s ws (option_map (λ text. text.items) said))
+        (λ s ws.
+        NotesBare declaration.entry.file.now assignment.entry.file.now declaration.entry.text.now
+        assignment.entry.text.now s ws
+        (option_map (λ text. text.items) said))
         (NotesNoItem declaration.entry.file.now declaration.entry.text.now (option_map (λ text. text.items) said))) }
 {
     if !has_bare_line(assignment.text) {

@@ -46,7 +46,8 @@ fn push_bare<A: Allocator + Copy>(
     hop: &Hop,
 ) -> Result<(), AllocError>
     requires target { hop.now.flush.item < length subject.now.declared.now.groups.group_of }
-    requires assigned { length subject.now.workqueues.now.assignment.lane_of_group ≡ subject.now.declared.now.groups.groups }
+    requires assigned { length subject.now.workqueues.now.assignment.lane_of_group
+        ≡ subject.now.declared.now.groups.groups }
 {
     let Subject {
         assignment,
@@ -63,7 +64,8 @@ fn push_bare<A: Allocator + Copy>(
     spot.push(alloc, lines)
 }
 
-/// The lines below the first one: that of the flush, and, where its target is on a workqueue without a rescuer, that of this workqueue.
+/// The lines below the first one: that of the flush, and, where its target is on a
+/// workqueue without a rescuer, that of this workqueue.
 fn below<A: Allocator + Copy>(
     alloc: A,
     subject: &Subject<'_, '_, '_, '_, A>,
@@ -71,7 +73,8 @@ fn below<A: Allocator + Copy>(
     hop: &Hop,
 ) -> Result<Vec<Vec<u8, A>, A>, AllocError>
     requires target { hop.now.flush.item < length subject.now.declared.now.groups.group_of }
-    requires assigned { length subject.now.workqueues.now.assignment.lane_of_group ≡ subject.now.declared.now.groups.groups }
+    requires assigned { length subject.now.workqueues.now.assignment.lane_of_group
+        ≡ subject.now.declared.now.groups.groups }
 {
     let mut lines = Vec::new(alloc);
     spot.push(alloc, &mut lines)?;
@@ -89,7 +92,8 @@ fn block_of<A: Allocator + Copy>(
     what: &[u8],
 ) -> Result<Vec<u8, A>, AllocError>
     requires target { hop.now.flush.item < length subject.now.declared.now.groups.group_of }
-    requires assigned { length subject.now.workqueues.now.assignment.lane_of_group ≡ subject.now.declared.now.groups.groups }
+    requires assigned { length subject.now.workqueues.now.assignment.lane_of_group
+        ≡ subject.now.declared.now.groups.groups }
     ensures { IfOk result (λ said. IsSaidOf subject.now.declaration.file.now what.now said.items) }
 {
     let spot = subject.flushes.spot(hop.flush.place);
@@ -113,7 +117,8 @@ fn what_of<A: Allocator + Copy>(
 ) -> Result<Vec<u8, A>, AllocError>
     requires item { hop.now.item < length subject.now.declared.now.groups.group_of }
     requires target { hop.now.flush.item < length subject.now.declared.now.groups.group_of }
-    requires assigned { length subject.now.workqueues.now.assignment.lane_of_group ≡ subject.now.declared.now.groups.groups }
+    requires assigned { length subject.now.workqueues.now.assignment.lane_of_group
+        ≡ subject.now.declared.now.groups.groups }
     ensures { IfOk result (λ what. what.items ≡ lead.now ++ words_of subject.now.wording
         (record { table = subject.now.declared.now.table; partition = subject.now.declared.now.groups })
         subject.now.workqueues.now (map (λ n. n.now) subject.now.names.now) hop.now) }
@@ -142,10 +147,12 @@ fn put_wait<A: Allocator + Copy>(
 ) -> Result<(), AllocError>
     requires item { hop.now.item < length subject.now.declared.now.groups.group_of }
     requires target { hop.now.flush.item < length subject.now.declared.now.groups.group_of }
-    requires assigned { length subject.now.workqueues.now.assignment.lane_of_group ≡ subject.now.declared.now.groups.groups }
+    requires assigned { length subject.now.workqueues.now.assignment.lane_of_group
+        ≡ subject.now.declared.now.groups.groups }
     ensures { OnOk result (AddsSaid subject.now.declaration.file.now ((lead.now ++ words_of subject.now.wording
         (record { table = subject.now.declared.now.table; partition = subject.now.declared.now.groups })
-        subject.now.workqueues.now (map (λ n. n.now) subject.now.names.now) hop.now) ∷ []) out.old.items out.new.items) }
+        subject.now.workqueues.now (map (λ n. n.now) subject.now.names.now) hop.now)
+        ∷ []) out.old.items out.new.items) }
 {
     let what = what_of(alloc, subject, lead, hop)?;
     let block = block_of(alloc, subject, hop, &what)?;
@@ -161,8 +168,10 @@ fn put_further<A: Allocator + Copy>(
 ) -> Result<(), AllocError>
     requires items { All (λ h. h.item < length subject.now.declared.now.groups.group_of) hops.now }
     requires targets { All (λ h. h.flush.item < length subject.now.declared.now.groups.group_of) hops.now }
-    requires assigned { length subject.now.workqueues.now.assignment.lane_of_group ≡ subject.now.declared.now.groups.groups }
-    ensures { OnOk result (AddsSaid subject.now.declaration.file.now (map (λ h. codes "and " ++ words_of subject.now.wording
+    requires assigned { length subject.now.workqueues.now.assignment.lane_of_group
+        ≡ subject.now.declared.now.groups.groups }
+    ensures { OnOk result
+        (AddsSaid subject.now.declaration.file.now (map (λ h. codes "and " ++ words_of subject.now.wording
         (record { table = subject.now.declared.now.table; partition = subject.now.declared.now.groups })
         subject.now.workqueues.now (map (λ n. n.now) subject.now.names.now) h) hops.now) out.old.items out.new.items) }
 {
@@ -182,7 +191,8 @@ pub(crate) fn put_walk<A: Allocator + Copy>(
 ) -> Result<(), AllocError>
     requires items { All (λ h. h.item < length subject.now.declared.now.groups.group_of) hops.now }
     requires targets { All (λ h. h.flush.item < length subject.now.declared.now.groups.group_of) hops.now }
-    requires assigned { length subject.now.workqueues.now.assignment.lane_of_group ≡ subject.now.declared.now.groups.groups }
+    requires assigned { length subject.now.workqueues.now.assignment.lane_of_group
+        ≡ subject.now.declared.now.groups.groups }
     ensures { OnOk result (AddsSaid subject.now.declaration.file.now (told lead.now (λ h. words_of subject.now.wording
         (record { table = subject.now.declared.now.table; partition = subject.now.declared.now.groups })
         subject.now.workqueues.now (map (λ n. n.now) subject.now.names.now) h) hops.now) out.old.items out.new.items) }

@@ -1,5 +1,6 @@
-//! What is said beside the answer of a command: the diagnosis of the text that is refused, or of what a certificate lacks; why
-//! a step isn't lawful; which items `safe` doesn't speak of, or how workqueues can hang; or a note on a declaration without an item.
+//! What is said beside the answer of a command: the diagnosis of the text that is refused,
+//! or of what a certificate lacks; why a step isn't lawful; which items `safe` doesn't
+//! speak of, or how workqueues can hang; or a note on a declaration without an item.
 //!
 //! It takes the time and the memory of the diagnosis, of the note, or of the reason.
 
@@ -26,13 +27,13 @@ pub enum Beside {
     Other,
     /// A plan or a circle, of `plan`: beside a circle, how its groups can hang on any workqueues.
     Circle,
-    /// A verdict on an assignment, of `deadlock` or `hang`: beside `safe`, which items are on workqueues without a rescuer; beside a run,
-    /// how the workqueues can hang.
+    /// A verdict on an assignment, of `deadlock` or `hang`: beside `safe`, which items are on workqueues without a
+    /// rescuer; beside a run, how the workqueues can hang.
     Verdict,
     /// How a run ends, of `replay`: beside `deadlock` and `stuck`, how the workqueues can hang.
     RunEnd,
-    /// The components of an assignment, of `circles`: beside `safe`, which items are on workqueues without a rescuer; beside components,
-    /// how the workqueues of each can hang, and by which flush to no rescuer.
+    /// The components of an assignment, of `circles`: beside `safe`, which items are on workqueues without a rescuer;
+    /// beside components, how the workqueues of each can hang, and by which flush to no rescuer.
     Components,
     /// The components of groups, of `circles` too: how those of each can hang.
     OwnComponents,
@@ -121,7 +122,8 @@ fn of_text<A: Allocator + Copy>(
     code: u32,
     line: u32,
 ) -> Result<Option<Vec<u8, A>>, AllocError>
-    ensures { IfOk result (λ said. SaysWhy voice.now.declaration.now voice.now.certificate.now voice.now.run.now texts.now
+    ensures { IfOk result (λ said.
+        SaysWhy voice.now.declaration.now voice.now.certificate.now voice.now.run.now texts.now
         (Some (Refused which code line)) (option_map (λ text. text.items) said)) }
 {
     let declaration = Source {
@@ -166,7 +168,8 @@ fn of_more<A: Allocator + Copy>(
     texts: &Texts<A>,
     end: End,
 ) -> Result<Option<Vec<u8, A>>, AllocError>
-    ensures { IfOk result (λ said. SaysMore voice.now.beside voice.now.declaration.now voice.now.certificate.now texts.now end
+    ensures { IfOk result (λ said.
+        SaysMore voice.now.beside voice.now.declaration.now voice.now.certificate.now texts.now end
         (option_map (λ text. text.items) said)) }
 {
     let declaration = Source {
@@ -199,7 +202,8 @@ fn of_why<A: Allocator + Copy>(
     end: End,
     why: Option<Why>,
 ) -> Result<Option<Vec<u8, A>>, AllocError>
-    ensures { IfOk result (λ said. Says voice.now.beside voice.now.declaration.now voice.now.certificate.now voice.now.run.now texts.now
+    ensures { IfOk result (λ said.
+        Says voice.now.beside voice.now.declaration.now voice.now.certificate.now voice.now.run.now texts.now
         end why (option_map (λ text. text.items) said)) }
 {
     match why {
@@ -234,7 +238,8 @@ impl<A: Allocator + Copy> Voice<A, Outcome> for Diagnosing<'_> {
     ghost use Rattle.wq_voice.specs.Voice.{Says};
 
     ghost says = { λ voice texts outcome said.
-        Says voice.beside voice.declaration.now voice.certificate.now voice.run.now texts outcome.end outcome.why said };
+        Says voice.beside voice.declaration.now voice.certificate.now voice.run.now texts outcome.end outcome.why
+        said };
 
     fn say(
         &self,

@@ -1,9 +1,11 @@
 //! The words of waits that hold one another up: who waits, for what, and why that doesn't go on.
 //!
-//! The words are those of "Where workqueues can hang" in tests/DIAGNOSES.md. A call takes the time and the memory of the words.
+//! The words are those of "Where workqueues can hang" in tests/DIAGNOSES.md. A call
+//! takes the time and the memory of the words.
 
 ghost use Rattle.std.specs.Prelude.{◌≡◌, ◌++◌, ◌<◌, [], IfOk, codes, cond, length, map};
-ghost use Rattle.wq_voice.specs.Waits.{bare_words, to_all_words, to_bare_words, to_behind_words, to_next_words, to_words, wait_words, words_of};
+ghost use Rattle.wq_voice.specs.Waits.{bare_words, to_all_words, to_bare_words, to_behind_words, to_next_words};
+ghost use Rattle.wq_voice.specs.Waits.{to_words, wait_words, words_of};
 
 use crate::groups::group_wait_words;
 use std::alloc::{AllocError, Allocator};
@@ -35,7 +37,8 @@ pub(crate) fn bare_words<A: Allocator + Copy>(
     requires item { item < length declared.now.groups.group_of }
     requires assigned { length workqueues.now.assignment.lane_of_group ≡ declared.now.groups.groups }
     ensures { IfOk result (λ words. words.items
-        ≡ bare_words (record { table = declared.now.table; partition = declared.now.groups }) workqueues.now (map (λ n. n.now) names.now) item) }
+        ≡ bare_words (record { table = declared.now.table; partition = declared.now.groups }) workqueues.now
+        (map (λ n. n.now) names.now) item) }
 {
     let mut words = workqueue_words(alloc, names, workqueue_of(declared, workqueues, item))?;
     put(&mut words, b" has no rescuer")?;
@@ -60,7 +63,8 @@ fn to_bare_words<A: Allocator + Copy>(
     requires target { flush.now.item < length declared.now.groups.group_of }
     requires assigned { length workqueues.now.assignment.lane_of_group ≡ declared.now.groups.groups }
     ensures { IfOk result (λ words. words.items
-        ≡ to_bare_words (record { table = declared.now.table; partition = declared.now.groups }) workqueues.now (map (λ n. n.now) names.now) flush.now) }
+        ≡ to_bare_words (record { table = declared.now.table; partition = declared.now.groups }) workqueues.now
+        (map (λ n. n.now) names.now) flush.now) }
 {
     let target = item_words(alloc, declared, flush.item)?;
     let bare = bare_words(alloc, declared, workqueues, names, flush.item)?;
@@ -83,7 +87,8 @@ fn to_all_words<A: Allocator + Copy>(
     requires target { hop.now.flush.item < length declared.now.groups.group_of }
     requires assigned { length workqueues.now.assignment.lane_of_group ≡ declared.now.groups.groups }
     ensures { IfOk result (λ words. words.items
-        ≡ to_all_words (record { table = declared.now.table; partition = declared.now.groups }) workqueues.now (map (λ n. n.now) names.now) hop.now) }
+        ≡ to_all_words (record { table = declared.now.table; partition = declared.now.groups }) workqueues.now
+        (map (λ n. n.now) names.now) hop.now) }
 {
     if hop.next == hop.item {
         return Vec::from_slice(alloc, b"all of its workqueue");
@@ -111,7 +116,8 @@ fn to_next_words<A: Allocator + Copy>(
     requires target { hop.now.flush.item < length declared.now.groups.group_of }
     requires assigned { length workqueues.now.assignment.lane_of_group ≡ declared.now.groups.groups }
     ensures { IfOk result (λ words. words.items
-        ≡ to_next_words (record { table = declared.now.table; partition = declared.now.groups }) workqueues.now (map (λ n. n.now) names.now) hop.now) }
+        ≡ to_next_words (record { table = declared.now.table; partition = declared.now.groups }) workqueues.now
+        (map (λ n. n.now) names.now) hop.now) }
 {
     if hop.next == hop.item {
         return Vec::from_slice(alloc, b"itself");
@@ -135,7 +141,8 @@ fn to_behind_words<A: Allocator + Copy>(
     requires target { hop.now.flush.item < length declared.now.groups.group_of }
     requires assigned { length workqueues.now.assignment.lane_of_group ≡ declared.now.groups.groups }
     ensures { IfOk result (λ words. words.items
-        ≡ to_behind_words (record { table = declared.now.table; partition = declared.now.groups }) workqueues.now (map (λ n. n.now) names.now) hop.now) }
+        ≡ to_behind_words (record { table = declared.now.table; partition = declared.now.groups }) workqueues.now
+        (map (λ n. n.now) names.now) hop.now) }
 {
     let mut words = item_words(alloc, declared, hop.flush.item)?;
     if hop.next == hop.item {
@@ -163,7 +170,8 @@ fn to_words<A: Allocator + Copy>(
     requires target { hop.now.flush.item < length declared.now.groups.group_of }
     requires assigned { length workqueues.now.assignment.lane_of_group ≡ declared.now.groups.groups }
     ensures { IfOk result (λ words. words.items
-        ≡ to_words (record { table = declared.now.table; partition = declared.now.groups }) workqueues.now (map (λ n. n.now) names.now) hop.now) }
+        ≡ to_words (record { table = declared.now.table; partition = declared.now.groups }) workqueues.now
+        (map (λ n. n.now) names.now) hop.now) }
 {
     if is_on_bare(&declared.groups, workqueues, hop.flush.item) {
         to_bare_words(alloc, declared, workqueues, names, &hop.flush)
@@ -188,7 +196,8 @@ fn wait_words<A: Allocator + Copy>(
     requires target { hop.now.flush.item < length declared.now.groups.group_of }
     requires assigned { length workqueues.now.assignment.lane_of_group ≡ declared.now.groups.groups }
     ensures { IfOk result (λ words. words.items
-        ≡ wait_words (record { table = declared.now.table; partition = declared.now.groups }) workqueues.now (map (λ n. n.now) names.now) hop.now) }
+        ≡ wait_words (record { table = declared.now.table; partition = declared.now.groups }) workqueues.now
+        (map (λ n. n.now) names.now) hop.now) }
 {
     let q = workqueue_of(declared, workqueues, hop.item);
     let workqueue = workqueue_words(alloc, names, q)?;
@@ -214,7 +223,8 @@ pub(crate) fn words_of<A: Allocator + Copy>(
     requires target { hop.now.flush.item < length declared.now.groups.group_of }
     requires assigned { length workqueues.now.assignment.lane_of_group ≡ declared.now.groups.groups }
     ensures { IfOk result (λ words. words.items
-        ≡ words_of wording (record { table = declared.now.table; partition = declared.now.groups }) workqueues.now (map (λ n. n.now) names.now) hop.now) }
+        ≡ words_of wording (record { table = declared.now.table; partition = declared.now.groups }) workqueues.now
+        (map (λ n. n.now) names.now) hop.now) }
 {
     match wording {
         Wording::OnWorkqueues => wait_words(alloc, declared, workqueues, names, hop),

@@ -138,8 +138,8 @@ impl<'c> Client<'c> {
         Ok(())
     }
 
-    /// Makes a call at random, of an item or a lane at random, which may be pending, run or be idle. An item is mostly queued on its
-    /// lane, and now and then on any, or on one that doesn't exist.
+    /// Makes a call at random, of an item or a lane at random, which may be pending, run or be idle. An item is mostly
+    /// queued on its lane, and now and then on any, or on one that doesn't exist.
     fn call_any<N: Naming, A: Allocator, R: Wait>(
         &mut self,
         rt: &R,

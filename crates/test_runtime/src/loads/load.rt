@@ -8,7 +8,8 @@ const STRESSING: u16 = 4;
 /// What each caller does.
 #[derive(Clone, Copy, PartialEq, Eq)]
 pub(crate) enum CallerTask {
-    /// It makes pseudo-random calls, and the last one to end destroys the runtime. The bodies make pseudo-random calls too.
+    /// It makes pseudo-random calls, and the last one to end destroys the runtime.
+    /// The bodies make pseudo-random calls too.
     Stress,
     /// It queues its own item and flushes it, again and again.
     Rounds,
@@ -32,7 +33,8 @@ pub struct Load {
 }
 
 impl Load {
-    /// The load of this seed in which each of four callers makes this many pseudo-random calls, if these words are numbers.
+    /// The load of this seed in which each of four callers makes this many
+    /// pseudo-random calls, if these words are numbers.
     pub fn stress(seed: &str, calls: &str) -> Option<Load> {
         Some(Load {
             task: CallerTask::Stress,

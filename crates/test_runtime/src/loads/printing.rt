@@ -141,7 +141,8 @@ fn close<N: Naming>(
     }
 }
 
-/// Prints what all threads left, and how long they took. Of a stress it prints what each of them was answered and counted.
+/// Prints what all threads left, and how long they took. Of a stress it prints what
+/// each of them was answered and counted.
 fn put_left<N: Naming>(
     out: &mut String,
     table: &ItemTable<'_, Global>,

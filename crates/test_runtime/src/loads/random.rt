@@ -55,8 +55,8 @@ impl Random {
         LaneId::new(self.below(usize::from(lanes)) as u16)
     }
 
-    /// The item of one of these targets and whether its whole lane is waited for; now and then an item that doesn't exist, or the
-    /// other kind.
+    /// The item of one of these targets and whether its whole lane is waited for;
+    /// now and then an item that doesn't exist, or the other kind.
     pub(crate) fn any_target(&mut self, targets: &[Target]) -> (ItemId, bool) {
         if targets.is_empty() || self.below(16) == 0 {
             return (ItemId::new(u16::MAX), self.below(2) == 0);

@@ -55,7 +55,8 @@ fn make_clients<'c>(
     Ok(clients)
 }
 
-/// Has a runtime's lanes served while the callers of a load call, closes it, and prints what came of it. Returns the status.
+/// Has a runtime's lanes served while the callers of a load call, closes it, and
+/// prints what came of it. Returns the status.
 fn run_counted<N: Naming + Send + Sync, R: Threads + Wait + Clock + Sync>(
     rt: &R,
     alloc: Global,
@@ -65,7 +66,9 @@ fn run_counted<N: Naming + Send + Sync, R: Threads + Wait + Clock + Sync>(
     working: &AtomicU32,
     out: &mut String,
 ) -> Result<u8, AllocError>
-    requires { N.wiring ≡ with_helpers (wiring (declaration_of bed.now.table.now bed.now.groups.now) bed.now.assignment.now) bed.now.helpers }
+    requires { N.wiring
+        ≡ with_helpers
+        (wiring (declaration_of bed.now.table.now bed.now.groups.now) bed.now.assignment.now) bed.now.helpers }
 {
     let lanes = runtime.lanes();
     let contexts = contexts_of(alloc, &runtime)?;
@@ -96,7 +99,9 @@ fn run_named<N: Naming + Send + Sync, R: Threads + Wait + Clock + Sync>(
     requires name { blank.name ≡ N.name }
     requires parts { blank.parts ≡ N.parts }
     requires all_parts { N.parts ≡ 65536 }
-    requires of_wiring { N.wiring ≡ with_helpers (wiring (declaration_of bed.now.table.now bed.now.groups.now) bed.now.assignment.now) bed.now.helpers }
+    requires of_wiring { N.wiring
+        ≡ with_helpers
+        (wiring (declaration_of bed.now.table.now bed.now.groups.now) bed.now.assignment.now) bed.now.helpers }
     requires of_rows { N.rows ≡ bed.now.rows }
 {
     let Some(runtime) = make::<N>(alloc, blank, bed, out)? else {

@@ -23,7 +23,8 @@ const WORDS: [&'static str; 7] = [
 /// How often a thread was answered what.
 #[derive(Drop)]
 pub(crate) struct Tally {
-    /// For each call: how often it was answered yes, how often no, and how often it was refused with each number from 60 to 66.
+    /// For each call: how often it was answered yes, how often no, and how often it
+    /// was refused with each number from 60 to 66.
     answers: [[u32; 9]; 7],
 }
 

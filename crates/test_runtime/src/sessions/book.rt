@@ -1,5 +1,5 @@
-//! The calls of a book that a text asks for, made line by line. It takes the time of the calls, and for each line that of printing
-//! each lane.
+//! The calls of a book that a text asks for, made line by line. It takes the time of
+//! the calls, and for each line that of printing each lane.
 
 use crate::sessions::asks::{ask, give_up_all, tell};
 use crate::sessions::lane_asks;

@@ -79,7 +79,9 @@ impl PlottedCrew {
         runtime: &WqRuntime<N, Global>,
         bed: &Bed<'_>,
     ) -> Result<CrewRan<'_, N>, AllocError>
-        requires { N.wiring ≡ with_helpers (wiring (declaration_of bed.now.table.now bed.now.groups.now) bed.now.assignment.now) bed.now.helpers }
+        requires { N.wiring
+            ≡ with_helpers
+            (wiring (declaration_of bed.now.table.now bed.now.groups.now) bed.now.assignment.now) bed.now.helpers }
     {
         let items = bed.table.len();
         let bodies = make_doers(alloc, &self.flags, 0, items, &self.plot.bodies)?;
@@ -88,7 +90,8 @@ impl PlottedCrew {
         Ok(run_all(rt, alloc, runtime, bodies, callers))
     }
 
-    /// Has rescuers, helpers and callers do it, closes the runtime, and adds what is to be printed of it. Returns the status.
+    /// Has rescuers, helpers and callers do it, closes the runtime, and adds what is
+    /// to be printed of it. Returns the status.
     pub(crate) fn run<N: Naming + Send + Sync, R: Threads + Wait + Sync>(
         &self,
         rt: &R,
@@ -98,7 +101,9 @@ impl PlottedCrew {
         account: Account,
         out: &mut String,
     ) -> Result<u8, AllocError>
-        requires { N.wiring ≡ with_helpers (wiring (declaration_of bed.now.table.now bed.now.groups.now) bed.now.assignment.now) bed.now.helpers }
+        requires { N.wiring
+            ≡ with_helpers
+            (wiring (declaration_of bed.now.table.now bed.now.groups.now) bed.now.assignment.now) bed.now.helpers }
     {
         let contexts = contexts_of(alloc, &runtime)?;
         let ran = self.perform(rt, alloc, &runtime, bed);

@@ -32,8 +32,8 @@ pub(crate) enum Deed {
     Seen(u32),
     /// A body goes on for a while, and sees whether its item is run only once at a time. A caller skips this.
     Alone,
-    /// A caller says that the end has come, destroys the runtime, and looks whether those that lingered have ended. A body skips
-    /// this.
+    /// A caller says that the end has come, destroys the runtime, and looks whether
+    /// those that lingered have ended. A body skips this.
     Destroy,
 }
 

@@ -82,7 +82,8 @@ fn do_in_body<N: Naming, A: Allocator, R: Wait>(
     }
 }
 
-/// Does all things in a body, up to the first that is refused. Where it looked for something that it didn't see, this is noted.
+/// Does all things in a body, up to the first that is refused. Where it looked for
+/// something that it didn't see, this is noted.
 fn do_all_in_body<N: Naming, A: Allocator, R: Wait>(
     rt: &R,
     flags: &Flags,

@@ -124,8 +124,8 @@ fn put_judgement(out: &mut String, judgement: Result<u32, RowError>) -> Result<u
     }
 }
 
-/// Judges packed rows on a machine on which nothing has happened, and adds the judgement and the state that they leave. Returns the
-/// status.
+/// Judges packed rows on a machine on which nothing has happened, and adds the
+/// judgement and the state that they leave. Returns the status.
 fn judge_rows(
     alloc: Global,
     table: &ItemTable<'_, Global>,

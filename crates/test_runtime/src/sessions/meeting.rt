@@ -1,5 +1,5 @@
-//! How threads see each other: a flag for each, one for the end, a count of those that dawdled, and for each item how many run it.
-//! Looking takes as long as the others let it wait, but at most 1,000,000,000 looks for each.
+//! How threads see each other: a flag for each, one for the end, a count of those that dawdled, and for each item how
+//! many run it. Looking takes as long as the others let it wait, but at most 1,000,000,000 looks for each.
 
 use std::alloc::{AllocError, Global};
 use std::sync::atomic::{AtomicBool, AtomicU32, Ordering};
@@ -93,8 +93,8 @@ impl Flags {
         true
     }
 
-    /// Counts a run of this item as under way, goes on for a while, and counts it no more. It returns whether no other one was under
-    /// way meanwhile.
+    /// Counts a run of this item as under way, goes on for a while, and counts it no
+    /// more. It returns whether no other one was under way meanwhile.
     pub(crate) fn run_alone(&self, item: ItemId) -> bool {
         let Some(count) = self.under_way.get(usize::from(item.get())) else {
             return false;

@@ -78,7 +78,9 @@ impl Play<'_> {
         bed: &Bed<'_>,
         out: &mut String,
     ) -> Result<u8, AllocError>
-        requires { N.wiring ≡ with_helpers (wiring (declaration_of bed.now.table.now bed.now.groups.now) bed.now.assignment.now) bed.now.helpers }
+        requires { N.wiring
+            ≡ with_helpers
+            (wiring (declaration_of bed.now.table.now bed.now.groups.now) bed.now.assignment.now) bed.now.helpers }
     {
         match self {
             Play::Calls(text) => keep_session(rt, alloc, runtime, bed.table, *text, out),
@@ -104,7 +106,9 @@ fn play_named<N: Naming + Send + Sync, R: Threads + Wait + Clock + Sync>(
     requires name { blank.name ≡ N.name }
     requires parts { blank.parts ≡ N.parts }
     requires all_parts { N.parts ≡ 65536 }
-    requires of_wiring { N.wiring ≡ with_helpers (wiring (declaration_of bed.now.table.now bed.now.groups.now) bed.now.assignment.now) bed.now.helpers }
+    requires of_wiring { N.wiring
+        ≡ with_helpers
+        (wiring (declaration_of bed.now.table.now bed.now.groups.now) bed.now.assignment.now) bed.now.helpers }
     requires of_rows { N.rows ≡ bed.now.rows }
 {
     match make::<N>(alloc, blank, bed, out)? {

@@ -1,5 +1,5 @@
-//! A rescuer for each lane and its helpers, whose bodies make the declared flushes of their items, and two callers that queue all
-//! items and then flush them, or one caller that makes the calls of a text.
+//! A rescuer for each lane and its helpers, whose bodies make the declared flushes of their items, and two callers that
+//! queue all items and then flush them, or one caller that makes the calls of a text.
 //!
 //! It takes the time of the bodies and the callers, and then that of printing the history that they leave.
 
@@ -69,7 +69,9 @@ impl Script {
         runtime: &WqRuntime<N, Global>,
         bed: &Bed<'t>,
     ) -> Result<ScriptRan<'t, 't, N>, AllocError>
-        requires { N.wiring ≡ with_helpers (wiring (declaration_of bed.now.table.now bed.now.groups.now) bed.now.assignment.now) bed.now.helpers }
+        requires { N.wiring
+            ≡ with_helpers
+            (wiring (declaration_of bed.now.table.now bed.now.groups.now) bed.now.assignment.now) bed.now.helpers }
     {
         let bodies = script_bodies(alloc, bed.table, count_contexts(runtime))?;
         let callers = self.callers(alloc, bed.table.len())?;
@@ -85,7 +87,9 @@ impl Script {
         bed: &Bed<'_>,
         out: &mut String,
     ) -> Result<u8, AllocError>
-        requires { N.wiring ≡ with_helpers (wiring (declaration_of bed.now.table.now bed.now.groups.now) bed.now.assignment.now) bed.now.helpers }
+        requires { N.wiring
+            ≡ with_helpers
+            (wiring (declaration_of bed.now.table.now bed.now.groups.now) bed.now.assignment.now) bed.now.helpers }
     {
         let contexts = contexts_of(alloc, &runtime)?;
         let ran = self.perform(rt, alloc, &runtime, bed);

@@ -1,7 +1,8 @@
-//! The calls of a text, made on one runtime in one thread, with its seats, but for those that are to sleep until another call wakes
-//! them.
+//! The calls of a text, made on one runtime in one thread, with its seats, but for
+//! those that are to sleep until another call wakes them.
 //!
-//! It takes the time of the calls. A call that would wait for another thread never ends, unless it is one of those that sleep.
+//! It takes the time of the calls. A call that would wait for another thread never
+//! ends, unless it is one of those that sleep.
 
 use crate::sessions::asking::{RuntimeCall, read_call};
 use crate::sessions::seats::Seats;
@@ -116,7 +117,8 @@ impl<N: Naming, R: Wait> Session<'_, N, R> {
 }
 
 impl<N: Naming + Send + Sync, R: Threads + Wait + Clock + Sync> Session<'_, N, R> {
-    /// Hears of a call that is to sleep, with a seat of its own. It returns false where the words have the form of none.
+    /// Hears of a call that is to sleep, with a seat of its own. It returns false
+    /// where the words have the form of none.
     fn hear_sleeper(
         &mut self,
         table: &ItemTable<'_, Global>,
@@ -140,8 +142,8 @@ impl<N: Naming + Send + Sync, R: Threads + Wait + Clock + Sync> Session<'_, N, R
         Ok(true)
     }
 
-    /// Makes a call that wakes those that sleep, and adds the answers of all and the ends of their lines. Their seats come
-    /// after the others.
+    /// Makes a call that wakes those that sleep, and adds the answers of all and the
+    /// ends of their lines. Their seats come after the others.
     fn wake(
         &mut self,
         table: &ItemTable<'_, Global>,
@@ -170,8 +172,8 @@ impl<N: Naming + Send + Sync, R: Threads + Wait + Clock + Sync> Session<'_, N, R
         out.push('\n')
     }
 
-    /// Hears of a call, and makes it. It returns false where the words have the form of none, or where the runtime can't be closed,
-    /// since calls sleep.
+    /// Hears of a call, and makes it. It returns false where the words have the form of none, or where the runtime
+    /// can't be closed, since calls sleep.
     fn hear_call(
         &mut self,
         table: &ItemTable<'_, Global>,
@@ -195,8 +197,8 @@ impl<N: Naming + Send + Sync, R: Threads + Wait + Clock + Sync> Session<'_, N, R
         Ok(true)
     }
 
-    /// Hears of a line by its first word and the words after it. It returns false where the line is a mistake; once the runtime is
-    /// closed, none is.
+    /// Hears of a line by its first word and the words after it. It returns false
+    /// where the line is a mistake; once the runtime is closed, none is.
     fn hear(
         &mut self,
         table: &ItemTable<'_, Global>,
@@ -216,8 +218,8 @@ impl<N: Naming + Send + Sync, R: Threads + Wait + Clock + Sync> Session<'_, N, R
 
 /// Makes the first seat of a runtime, and the calls of a text. Returns the status.
 ///
-/// The lines are read here, and a session is no `Listener`: for a method of a trait the toolchain doesn't know that what its type has
-/// may go to a thread.
+/// The lines are read here, and a session is no `Listener`: for a method of a trait the toolchain doesn't know that
+/// what its type has may go to a thread.
 fn call_all<N: Naming + Send + Sync, R: Threads + Wait + Clock + Sync>(
     session: &mut Session<'_, N, R>,
     table: &ItemTable<'_, Global>,

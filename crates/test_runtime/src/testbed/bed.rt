@@ -12,8 +12,8 @@ use wq_api::{Naming, NewError, WqRuntime};
 use wq_groups::{Assignment, Groups};
 use wq_items::ItemTable;
 
-/// What a book or a runtime is made from: items, their groups, a lane for each group, room for this many rows, and how many helpers
-/// each lane has that isn't ordered.
+/// What a book or a runtime is made from: items, their groups, a lane for each group, room for this many rows, and how
+/// many helpers each lane has that isn't ordered.
 #[derive(Drop)]
 pub struct Bed<'a> {
     pub table: &'a ItemTable<'a, Global>,
@@ -35,7 +35,9 @@ pub fn make<N: Naming>(
     requires name { blank.name ≡ N.name }
     requires parts { blank.parts ≡ N.parts }
     requires all_parts { N.parts ≡ 65536 }
-    requires of_wiring { N.wiring ≡ with_helpers (wiring (declaration_of bed.now.table.now bed.now.groups.now) bed.now.assignment.now) bed.now.helpers }
+    requires of_wiring { N.wiring
+        ≡ with_helpers
+        (wiring (declaration_of bed.now.table.now bed.now.groups.now) bed.now.assignment.now) bed.now.helpers }
     requires of_rows { N.rows ≡ bed.now.rows }
 {
     let made = WqRuntime::<N, Global>::with_helpers(

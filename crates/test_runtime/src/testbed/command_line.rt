@@ -1,5 +1,5 @@
-//! What every command line has: the files of a declaration and an assignment, a number of rows, and a number of helpers. It takes
-//! time in the number of words.
+//! What every command line has: the files of a declaration and an assignment, a number of rows, and a number of
+//! helpers. It takes time in the number of words.
 
 use std::rt::Env;
 use std::{env, io};
@@ -20,8 +20,8 @@ pub fn words<R: Env + AllocGlobal>(rt: &R) -> io::Result<Vec<String>> {
     Ok(words)
 }
 
-/// The words of the command line without the number of helpers at its beginning, and this number; 0 where there is none there.
-/// The first word is the program's name. None where a number is missing or above 255.
+/// The words of the command line without the number of helpers at its beginning, and this number; 0 where there is none
+/// there. The first word is the program's name. None where a number is missing or above 255.
 pub fn without_helpers(words: &[String]) -> Option<(u8, &[String])> {
     match words {
         [_, first, rest @ ..] if first.as_str() == "helpers" => match rest {
