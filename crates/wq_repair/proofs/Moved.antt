@@ -11,7 +11,9 @@ use Rattle.wq_repair.specs.Joined.{become}
 use Rattle.wq_repair.specs.Vertices.{Vertices, AreVertices, LeadsOn, LeadsTo, AreHeads, IsJoined, IsLevelled, heads_at, heads_moved}
 use Rattle.wq_repair.specs.Together.{IsAlone}
 use Rattle.wq_repair.proofs.Joining.{Circle-closed}
+use Rattle.wq_repair.specs.Near.{HoldsAt, GainsAt, AreNear, LeadEitherWay}
 use Rattle.wq_repair.proofs.Levelled.{LeadsOn-from}
+use Rattle.wq_repair.proofs.Nearby.{LeadsTo-map}
 
 module _ (at : List ℕ) (heads : List (List ℕ)) (g p : ℕ) (g_is : g < length at) (p_is : p < length heads)
     (within : All (λ x. x < length heads) at) (heads_within : All (λ (list : List ℕ). All (λ h. h < length at) list) heads)
@@ -132,6 +134,43 @@ module _ (at : List ℕ) (heads : List (List ℕ)) (g p : ℕ) (g_is : g < lengt
     back x h (k, is, here, arc) =
         let below : k < length at = omega (arith, is, same) in
         subst (λ (z : ℕ). Contains (heads_at new z) h) (sym (new_of k below) ∙ here) (listed (slice_index at k) h ((are.listed (slice_index at k) h).1 (k, below, refl, arc)))
+
+  -- a new vertex stays what it is
+  same_new : (x : ℕ) → x < length at → to (slice_index new_at x) ≡ slice_index new_at x
+  same_new x is = elim (cases_eq x g) [
+    | inl same ↦ subst (λ (z : ℕ). to z ≡ z) (sym (ap (slice_index new_at) same ∙ of_g)) to_p
+    | inr other ↦ to_other (slice_index new_at x) (λ here. other (alone x is (sym (of_other x other) ∙ here)))
+  ]
+
+  either_new : (x y : ℕ) → LeadEitherWay at heads x y → LeadEitherWay new_at new (to x) (to y)
+  either_new x y (inl leads) = inl (LeadsTo-map (LeadsOn at heads) (LeadsOn new_at new) to keeps x y leads)
+  either_new x y (inr leads) = inr (LeadsTo-map (LeadsOn at heads) (LeadsOn new_at new) to keeps y x leads)
+
+  -- what is known of vertices still holds, if somebody is at p
+  module _ (sets more : List (List ℕ)) (somebody : (h : ℕ) × (h < length at) × (slice_index at h ≡ p)) (gains : GainsAt sets p (HoldsAt sets own) more)
+      (near : AreNear at heads sets) where
+    -- somebody was at each new vertex
+    was_at : (x : ℕ) → x < length at → (h : ℕ) × (h < length at) × (slice_index at h ≡ slice_index new_at x)
+    was_at x is = elim (cases_eq x g) [
+      | inl same ↦ (somebody.0, somebody.1, somebody.2 ∙ sym (ap (slice_index new_at) same ∙ of_g))
+      | inr other ↦ (x, is, sym (of_other x other))
+    ]
+
+    pub AreNear-moved : AreNear new_at new more
+    AreNear-moved x y x_is y_is has =
+        let x_was = was_at x (omega (arith, x_is, length-set at g p)) in
+        let y_was = was_at y (omega (arith, y_is, length-set at g p)) in
+        let a : ℕ = slice_index new_at x in
+        let b : ℕ = slice_index new_at y in
+        let found : LeadEitherWay new_at new (to a) (to b) = elim (gains a b has) [
+          | inl old ↦ either_new a b (subst (λ (z : ℕ). LeadEitherWay at heads z b) x_was.2 (subst (LeadEitherWay at heads (slice_index at x_was.0)) y_was.2
+              (near x_was.0 y_was.0 x_was.1 y_was.1 (subst (λ (z : ℕ). HoldsAt sets z (slice_index at y_was.0)) (sym x_was.2) (subst (HoldsAt sets a) (sym y_was.2) old)))))
+          | inr new_one ↦
+              let from_own : LeadEitherWay at heads own b = subst (LeadEitherWay at heads own) y_was.2 (near g y_was.0 g_is y_was.1 (subst (HoldsAt sets own) (sym y_was.2) new_one.1)) in
+              subst (λ (z : ℕ). LeadEitherWay new_at new z (to b)) (to_own ∙ sym (ap to new_one.0 ∙ to_p)) (either_new own b from_own)
+        ] in
+        subst (λ (z : ℕ). LeadEitherWay new_at new z b) (same_new x (omega (arith, x_is, length-set at g p)))
+        (subst (LeadEitherWay new_at new (to a)) (same_new y (omega (arith, y_is, length-set at g p))) found)
 
 -- vertices of the same height become one
 pub AreVertices-moved : (v : Vertices) (g p : ℕ) → AreVertices v → g < length v.at → p < length v.heads → slice_index v.at g ≢ p → IsAlone v.at g

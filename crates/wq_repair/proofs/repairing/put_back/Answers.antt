@@ -26,31 +26,22 @@ tried_groups-requires-clause-given g c = c.requires.ready.4.are_given.one_each
 pub tried_groups-requires-clause-few : goal.tried_groups-requires-clause-few
 tried_groups-requires-clause-few g c = omega (arith, c.requires.ready.4.are_movable.one_each, c.requires.ready.5.long, c.vertices-groups.ensures.graph.few)
 
-pub ranks_of-requires : goal.ranks_of-requires
-ranks_of-requires g c = λ has. no_circle-vertices c.args.graph.now c.args.joined.now c.requires.vertices c.requires.heads (Circle-between c.args.graph.now c.args.joined.now.at has.0)
-
-pub by_rank-requires-clause-few : goal.by_rank-requires-clause-few
-by_rank-requires-clause-few g c = omega (arith, ap (λ (xs : List ℕ). length xs) c.as_slice.ensures.value, c.in_ok-ranks.ensures.one_each, c.vertices-groups.ensures.graph.few)
-
-pub by_rank-requires-clause-below : goal.by_rank-requires-clause-below
-by_rank-requires-clause-below g c =
-    let ranks = c.in_ok-ranks.ranks.items in
-    subst (λ (xs : List ℕ). All (λ (r : ℕ). r < length xs) xs) (sym c.as_slice.ensures.value)
-    (subst (λ (n : ℕ). All (λ (r : ℕ). r < n) ranks) (sym c.in_ok-ranks.ensures.one_each) (AreRanks-few c.args.graph.now ranks c.vertices-groups.ensures.graph c.in_ok-ranks.ensures))
-
 pub order_of_trial-requires-clause-one_each : goal.order_of_trial-requires-clause-one_each
 order_of_trial-requires-clause-one_each g c =
-    ap (λ (xs : List Bool). length xs) c.as_slice-3.ensures.value ∙ c.in_ok-tried.ensures.one_each ∙ c.requires.ready.4.are_movable.one_each ∙ sym c.requires.ready.4.assignment.one_each
+    ap (λ (xs : List Bool). length xs) c.as_slice-2.ensures.value ∙ c.in_ok-tried.ensures.one_each ∙ c.requires.ready.4.are_movable.one_each ∙ sym c.requires.ready.4.assignment.one_each
     ∙ ap (λ (a : Assignment). length a.lane_of_group) (sym c.assignment-assignment.ensures)
 
-pub order_of_trial-requires-clause-graph : goal.order_of_trial-requires-clause-graph
-order_of_trial-requires-clause-graph g c =
-    c.requires.ready.5.long ∙ sym c.requires.ready.4.are_movable.one_each ∙ sym c.in_ok-tried.ensures.one_each ∙ ap (λ (xs : List Bool). length xs) (sym c.as_slice-3.ensures.value)
+pub order_of_trial-requires-clause-at : goal.order_of_trial-requires-clause-at
+order_of_trial-requires-clause-at g c =
+    ap (λ (xs : List Bool). length xs) c.as_slice-2.ensures.value ∙ c.in_ok-tried.ensures.one_each ∙ sym c.requires.ready.4.by.one_each ∙ sym (ap (λ (xs : List ℕ). length xs) c.requires.ready.6)
 
-pub order_of_trial-requires-clause-by_rank : goal.order_of_trial-requires-clause-by_rank
-order_of_trial-requires-clause-by_rank g c =
-    subst (All (λ (k : ℕ). k < length c.args.graph.now)) (sym c.as_slice-2.ensures.value)
-    (subst (λ (n : ℕ). All (λ (k : ℕ). k < n) c.in_ok-by_rank.by_rank.items) (ap (λ (xs : List ℕ). length xs) c.as_slice.ensures.value ∙ c.in_ok-ranks.ensures.one_each) c.in_ok-by_rank.ensures)
+pub order_of_trial-requires-clause-few : goal.order_of_trial-requires-clause-few
+order_of_trial-requires-clause-few g c =
+    omega (arith, ap (λ (xs : List Bool). length xs) c.as_slice-2.ensures.value, c.in_ok-tried.ensures.one_each, c.requires.ready.4.are_movable.one_each, c.requires.ready.5.long, c.vertices-groups.ensures.graph.few)
+
+pub order_of_trial-requires-clause-homes : goal.order_of_trial-requires-clause-homes
+order_of_trial-requires-clause-homes g c =
+    ap (λ (xs : List (Option ℕ)). length xs) c.as_slice.ensures.value ∙ c.in_ok-homes.ensures.one_each ∙ ap (λ (a : Assignment). a.lanes) (sym c.assignment-assignment.ensures)
 
 pub homes-requires-clause-needed : goal.homes-requires-clause-needed
 homes-requires-clause-needed g c = c.requires.ready.4.one_each ∙ sym c.requires.ready.4.assignment.one_each
@@ -75,21 +66,21 @@ put_together-requires-clause-order g c =
     let order = c.in_ok-order.order.items in
     let tried = c.in_ok-tried.tried.items in
     let ready = c.requires.ready in
-    let lists : Lists tried order = subst (λ (xs : List Bool). Lists xs order) c.as_slice-3.ensures.value c.in_ok-order.ensures in
-    subst (All (λ (k : ℕ). k < length c.args.joined.now.at)) (sym c.as_slice-4.ensures.value)
+    let lists : Lists tried order = subst (λ (xs : List Bool). Lists xs order) c.as_slice-2.ensures.value c.in_ok-order.ensures in
+    subst (All (λ (k : ℕ). k < length c.args.joined.now.at)) (sym c.as_slice-3.ensures.value)
     (order-below ready.0 c.args.old.now ready.1 c.args.scope.now ready.2 ready.4 c.args.joined.now.at ready.6 tried order c.in_ok-tried.ensures lists)
 
 pub put_together-requires-clause-once : goal.put_together-requires-clause-once
-put_together-requires-clause-once g c = subst (AllPairs (λ (j k : ℕ). j ≢ k)) (sym c.as_slice-4.ensures.value) c.in_ok-order.ensures.once
+put_together-requires-clause-once g c = subst (AllPairs (λ (j k : ℕ). j ≢ k)) (sym c.as_slice-3.ensures.value) c.in_ok-order.ensures.once
 
 pub put_together-requires-clause-alone : goal.put_together-requires-clause-alone
 put_together-requires-clause-alone g c =
     let order = c.in_ok-order.order.items in
     let tried = c.in_ok-tried.tried.items in
     let ready = c.requires.ready in
-    let lists : Lists tried order = subst (λ (xs : List Bool). Lists xs order) c.as_slice-3.ensures.value c.in_ok-order.ensures in
+    let lists : Lists tried order = subst (λ (xs : List Bool). Lists xs order) c.as_slice-2.ensures.value c.in_ok-order.ensures in
     λ k there. order-alone ready.0 c.args.old.now ready.1 c.args.scope.now ready.2 ready.4 c.args.joined.now.at ready.6 tried order c.in_ok-tried.ensures lists k
-    (subst (λ (xs : List ℕ). Contains xs k) c.as_slice-4.ensures.value there)
+    (subst (λ (xs : List ℕ). Contains xs k) c.as_slice-3.ensures.value there)
 
 pub put_together-requires-clause-homes : goal.put_together-requires-clause-homes
 put_together-requires-clause-homes g c =
@@ -98,10 +89,10 @@ put_together-requires-clause-homes g c =
     let homes = c.in_ok-homes.homes.items in
     let ready = c.requires.ready in
     let at = c.args.joined.now.at in
-    let lists : Lists tried order = subst (λ (xs : List Bool). Lists xs order) c.as_slice-3.ensures.value c.in_ok-order.ensures in
-    subst (λ (a : Assignment). AreHomes a.lane_of_group c.as_mut_slice.result.now c.as_slice-4.result.now at) (sym c.assignment-assignment.ensures)
-    (subst (λ (xs : List (Option ℕ)). AreHomes c.args.old.now.assignment.lane_of_group xs c.as_slice-4.result.now at) (sym c.as_mut_slice.ensures.value)
-    (subst (λ (xs : List ℕ). AreHomes c.args.old.now.assignment.lane_of_group homes xs at) (sym c.as_slice-4.ensures.value)
+    let lists : Lists tried order = subst (λ (xs : List Bool). Lists xs order) c.as_slice-2.ensures.value c.in_ok-order.ensures in
+    subst (λ (a : Assignment). AreHomes a.lane_of_group c.as_mut_slice.result.now c.as_slice-3.result.now at) (sym c.assignment-assignment.ensures)
+    (subst (λ (xs : List (Option ℕ)). AreHomes c.args.old.now.assignment.lane_of_group xs c.as_slice-3.result.now at) (sym c.as_mut_slice.ensures.value)
+    (subst (λ (xs : List ℕ). AreHomes c.args.old.now.assignment.lane_of_group homes xs at) (sym c.as_slice-3.ensures.value)
     (AreHomes-at ready.0 c.args.old.now ready.1 c.args.scope.now ready.2 ready.4 at ready.6 tried order c.in_ok-tried.ensures lists homes c.in_ok-homes.ensures.homes)))
 
 pub returns-clause-heads : goal.returns-clause-heads
@@ -116,7 +107,7 @@ returns-clause-back g c =
     let homes = c.in_ok-homes.homes.items in
     let at = c.args.joined.now.at in
     let new = c.put_together.new.joined.at in
-    let lists : Lists tried order = subst (λ (xs : List Bool). Lists xs order) c.as_slice-3.ensures.value c.in_ok-order.ensures in
+    let lists : Lists tried order = subst (λ (xs : List Bool). Lists xs order) c.as_slice-2.ensures.value c.in_ok-order.ensures in
     IfOk-weaker c.put_together.result _ _ (λ back all. record {
       homes = homes;
       tried = tried;
@@ -124,6 +115,6 @@ returns-clause-back g c =
       are_homes = c.in_ok-homes.ensures.homes;
       are_tried = c.in_ok-tried.ensures;
       lists = lists;
-      together = ArePutTogether-same graph old.assignment c.assignment-assignment.result.now homes c.as_mut_slice.result.now order c.as_slice-4.result.now at new back.items
-          c.assignment-assignment.ensures c.as_mut_slice.ensures.value c.as_slice-4.ensures.value (all graph c.requires.heads);
+      together = ArePutTogether-same graph old.assignment c.assignment-assignment.result.now homes c.as_mut_slice.result.now order c.as_slice-3.result.now at new back.items
+          c.assignment-assignment.ensures c.as_mut_slice.ensures.value c.as_slice-3.ensures.value (all graph c.requires.heads);
     }) c.put_together.ensures.together
