@@ -1,9 +1,9 @@
 -- Sets of vertices that lead to one another, and what is left of them when two vertices become one.
-use Rattle.std.proofs.Common.{◌≡◌, ℕ, ◌<◌, ◌⊎◌, inl, inr, List, [], ◌∷◌, map, refl, sym, subst, ap, arith}
-use Rattle.std.specs.Prelude.{Contains, slice_index}
+use Rattle.std.proofs.Common.{◌≡◌, ℕ, ◌⊎◌, inl, inr, List, [], ◌∷◌, map, refl, sym, subst}
+use Rattle.std.specs.Prelude.{slice_index}
 use Rattle.wq_items.specs.Chain.{IsChain, last_of}
 use Rattle.wq_repair.specs.Vertices.{LeadsOn, LeadsTo}
-use Rattle.wq_repair.specs.Near.{Holds, HoldsAt, GainsAt, AreLedTo, AreLeading, AreNear, LeadEitherWay}
+use Rattle.wq_repair.specs.Near.{HoldsAt, GainsAt, AreLedTo, AreLeading, AreNear}
 use Rattle.wq_repair.proofs.Chains.{LeadsTo-one, LeadsTo-more}
 use Rattle.wq_repair.proofs.NumberSets.{Holds-none}
 
