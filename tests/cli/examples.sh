@@ -416,7 +416,7 @@ run deadlock md.wq md.perarray.assign
 ends 'md: a workqueue for each array' 0 safe
 draws md 'plan of 2 workqueues, 1 wait in bold: items 4, workqueues 2, arrows 4, red 0, bold 1' md.wq
 draws 'md: the kernel' 'can hang, 4 waits in red, 1 in bold: items 4, workqueues 1, arrows 4, red 4, bold 1' md.wq md.assign
-repairs 'md: the kernel' md.wq md.assign 'data.upper 0 1,submit.upper 0 1'
+repairs 'md: the kernel' md.wq md.assign 'data.lower 0 1,submit.lower 0 1'
 like 'md: what is repaired is a workqueue for each array' md.perarray.assign
 too_few 'md: the kernel, one of the upper items moves' md.wq md.assign submit.upper
 repairs 'md: a workqueue for each array' md.wq md.perarray.assign ''

@@ -38,3 +38,5 @@ pub mod RepairedBy
 pub mod Widened
 pub mod Tried
 pub mod TrialReady
+pub mod NumberSets
+pub mod Nearby

@@ -16,3 +16,4 @@ pub mod Following
 pub mod Ready
 pub mod Placing
 pub mod Wider
+pub mod Near

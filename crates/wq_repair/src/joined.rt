@@ -10,10 +10,13 @@ ghost use Rattle.std.specs.List.{All};
 ghost use Rattle.wq_groups.specs.Assignment.{group_lane};
 ghost use Rattle.wq_graph.specs.Graph.{HasArc};
 ghost use Rattle.wq_graph.specs.declared.arc.WaitArc.{WaitArc};
+ghost use Rattle.wq_repair.specs.Near.{AreNear};
 ghost use Rattle.wq_repair.specs.Together.{AreHomes, ArePutTogether, IsAlone};
 ghost use Rattle.wq_repair.specs.Vertices.{AreHeads, AreVertices, IsJoined, IsLevelled, IsPutAtHome, heads_moved};
 
+use crate::bits::Numbers;
 use crate::levels::{level, lowered};
+use crate::near::{Near, leading_to};
 use std::alloc::{AllocError, Allocator};
 use std::marker::Model;
 use std::mem::replace;
@@ -228,6 +231,22 @@ impl<A: Allocator + Copy> Joined<A> {
         Ok(())
     }
 
+    /// For each vertex those that lead to it.
+    pub(crate) fn leading_to(&self, alloc: A) -> Result<Vec<Numbers<A>, A>, AllocError>
+        requires { AreVertices self.now }
+    {
+        leading_to(alloc, &self.vertex_of, &self.heads, &self.heights)
+    }
+
+    /// Notes that a search found a circle.
+    fn note_circle(&self, alloc: A, near: &mut Near<A>) -> Result<(), AllocError>
+        requires { AreVertices self.now }
+        ensures { IfOk result (λ _. AreNear self.now.at self.now.heads (map (λ s. s.words.items) near.old.sets.items)
+            → AreNear self.now.at self.now.heads (map (λ s. s.words.items) near.new.sets.items)) }
+    {
+        near.searched(alloc, &self.vertex_of, &self.heads, &self.heights)
+    }
+
     /// A group that is alone comes to a vertex, unless that makes a circle. The answer says whether it did.
     fn join(&mut self, alloc: A, group: u16, vertex: u16) -> Result<bool, AllocError>
         requires vertices { AreVertices self.old }
@@ -247,26 +266,62 @@ impl<A: Allocator + Copy> Joined<A> {
     }
 }
 
+/// A group that is alone comes to a vertex at which somebody is, unless that makes a circle. The answer says whether it
+/// did. No search is needed where a circle is known.
+fn join_unless_near<A: Allocator + Copy>(
+    alloc: A,
+    joined: &mut Joined<A>,
+    near: &mut Near<A>,
+    group: u16,
+    vertex: u16,
+) -> Result<bool, AllocError>
+    requires vertices { AreVertices joined.old }
+    requires near { AreNear joined.old.at joined.old.heads (map (λ s. s.words.items) near.old.sets.items) }
+    requires group { group < length joined.old.at }
+    requires somebody { (h : ℕ) × (h < length joined.old.at) × (slice_index joined.old.at h ≡ vertex) }
+    requires apart { slice_index joined.old.at group ≢ vertex }
+    requires alone { IsAlone joined.old.at group }
+    ensures joined { IfOk result (λ is. IsJoined joined.old group vertex is joined.new) }
+    ensures near { IfOk result (λ _.
+        AreNear joined.new.at joined.new.heads (map (λ s. s.words.items) near.new.sets.items)) }
+{
+    let own = joined.vertex(group);
+    if near.has(vertex, own) {
+        return Ok(false);
+    }
+    if joined.join(alloc, group, vertex)? {
+        near.put(alloc, own, vertex);
+        return Ok(true);
+    }
+    joined.note_circle(alloc, near)?;
+    Ok(false)
+}
+
 /// Puts a group together with those that come from the same lane, at the home of the lane. If it has none, the vertex of
 /// this group is its home from now on. The answer says whether the group is there.
 fn put_at_home<A: Allocator + Copy>(
     alloc: A,
     joined: &mut Joined<A>,
+    near: &mut Near<A>,
     homes: &mut [Option<u16>],
     lane: LaneId,
     group: u16,
 ) -> Result<bool, AllocError>
     requires vertices { AreVertices joined.old }
+    requires near { AreNear joined.old.at joined.old.heads (map (λ s. s.words.items) near.old.sets.items) }
     requires lane { lane < length homes.old }
     requires group { group < length joined.old.at }
     requires homes { (p : ℕ) → slice_index_or homes.old lane None ≡ Some p
-        → (p < length joined.old.heads) × (slice_index joined.old.at group ≢ p) }
+        → ((h : ℕ) × (h < length joined.old.at) × (slice_index joined.old.at h ≡ p))
+        × (slice_index joined.old.at group ≢ p) }
     requires alone { IsAlone joined.old.at group }
-    ensures { IfOk result (λ is. IsPutAtHome joined.old homes.old lane group is joined.new homes.new) }
+    ensures put { IfOk result (λ is. IsPutAtHome joined.old homes.old lane group is joined.new homes.new) }
+    ensures near { IfOk result (λ _.
+        AreNear joined.new.at joined.new.heads (map (λ s. s.words.items) near.new.sets.items)) }
 {
     let at = usize::from(lane.get());
     match homes[at] {
-        Some(vertex) => joined.join(alloc, group, vertex),
+        Some(vertex) => join_unless_near(alloc, joined, near, group, vertex),
         None => {
             homes[at] = Some(joined.vertex(group));
             Ok(true)
@@ -299,9 +354,10 @@ pub(crate) fn put_together<A: Allocator + Copy>(
 {
     let _lanes = old.lanes();
     let mut at_home = vec![in alloc; false; old.groups()]?;
+    let mut near = Near::none(alloc);
     for group in order {
         let lane = old.lane(GroupId::new(*group));
-        at_home[usize::from(*group)] = put_at_home(alloc, joined, homes, lane, *group)?;
+        at_home[usize::from(*group)] = put_at_home(alloc, joined, &mut near, homes, lane, *group)?;
     }
     Ok(at_home)
 }

@@ -8,12 +8,15 @@
 #![tactic(auto)]
 
 mod answer;
+mod bits;
 mod joined;
 mod lanes;
+mod largest;
 pub mod laws;
 mod levels;
 mod listing;
 mod named;
+mod near;
 mod needed;
 mod order;
 mod placing;

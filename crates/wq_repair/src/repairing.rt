@@ -32,7 +32,6 @@ use crate::scope::{Scope, all_but, but_not, scope_of, tried_groups};
 use crate::start::start;
 use crate::wider::better_repair;
 use std::alloc::{AllocError, Allocator};
-use wq_buckets::Buckets;
 use wq_core::Workqueues;
 use wq_deadlock::{Judged, judge, rescued_graph};
 use wq_graph::{WaitArc, WaitGraph};
@@ -99,22 +98,6 @@ fn homes<A: Allocator + Copy>(
         homes[usize::from(lane)] = Some(lane);
     }
     Ok(homes)
-}
-
-/// All groups, those of lower rank first.
-fn by_rank<A: Allocator + Copy>(alloc: A, ranks: &[u16]) -> Result<Vec<u16, A>, AllocError>
-    requires few { length ranks.now ≤ 4096 }
-    requires below { All (λ r. r < length ranks.now) ranks.now }
-    ensures { IfOk result (λ groups. All (λ g. g < length ranks.now) groups.items) }
-{
-    let (places, _) = Buckets::new(alloc, ranks, ranks.len() as u16)?.into_parts();
-    let mut groups = Vec::with_capacity(alloc, ranks.len())?;
-    for place in &places {
-        if (*place as usize) < ranks.len() {
-            groups.push(*place as u16)?;
-        }
-    }
-    Ok(groups)
 }
 
 /// The workqueues whose lanes are the vertices.
@@ -192,17 +175,15 @@ fn put_back<A: Allocator + Copy>(
 {
     let _groups = graph.vertices();
     let tried = tried_groups(alloc, old, scope)?;
-    let ranks = ranks_of(alloc, graph)?;
-    let by_rank = by_rank(alloc, ranks.as_slice())?;
     let assignment = old.assignment();
+    let mut homes = homes(alloc, old, scope)?;
     let order = order_of_trial(
         alloc,
-        graph,
-        by_rank.as_slice(),
+        joined,
         assignment,
+        homes.as_slice(),
         tried.as_slice(),
     )?;
-    let mut homes = homes(alloc, old, scope)?;
     put_together(
         alloc,
         joined,
