@@ -4,10 +4,7 @@ use Rattle.std.specs.List.{All}
 use Rattle.std.proofs.lemmas.Result.{IfOk-weaker}
 use Rattle.wq_groups.specs.Assignment.{Assignment}
 use Rattle.wq_graph.specs.declared.arc.WaitArc.{WaitArc}
-use Rattle.wq_levels.proofs.Ranks.{AreRanks-few}
 use Rattle.wq_repair.specs.Together.{Lists, AreHomes, ArePutTogether}
-use Rattle.wq_repair.proofs.Putting.{no_circle-vertices}
-use Rattle.wq_repair.proofs.PutBack.{Circle-between}
 use Rattle.wq_repair.proofs.TrialReady.{order-below, order-alone, AreHomes-at}
 use Rattle.wq_repair.proofs.repairing.put_back.Goals as goal
 
