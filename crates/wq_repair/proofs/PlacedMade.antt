@@ -9,7 +9,8 @@ use Rattle.wq_repair.specs.Changes.{IsRescued, HoldsAny, lane_in}
 use Rattle.wq_repair.specs.Marks.{IsMarked, Marks}
 use Rattle.wq_repair.specs.Steps.{ArePlacedBy, HoldsMarked}
 use Rattle.wq_repair.specs.Lanes.{nth_lane, AreFree, AreBareNow}
-use Rattle.wq_repair.specs.Placing.{IsLaneOfRank, HasNoLane, HoldsRanked, AreLanesOfRanks, HasRanked, AreEmpty, AreTaken, AreRankedLanes, AreHosted}
+use Rattle.wq_repair.specs.Placing.{IsLaneOfRank, HasNoLane, HoldsRanked, AreLanesOfRanks, HasRanked, AreEmpty, AreTaken, AreRankedLanes}
+use Rattle.wq_repair.specs.Placing.{AreHosted}
 use Rattle.wq_repair.proofs.StartsBy.{cases_marked}
 use Rattle.wq_repair.proofs.Readied.{all_or_one}
 use Rattle.wq_repair.proofs.Taking.{nth_lane-in, nth_lane-new, nth_lane-below, few-held}
@@ -23,7 +24,8 @@ cases_lane (Some q) = inl (q, refl)
 one_lane : (o : Option ℕ) (p q : ℕ) → o ≡ Some p → o ≡ Some q → p ≡ q
 one_lane o p q one other = let same : Some p ≡ Some q = sym one ∙ other in cc
 
-module _ (old : Workqueues) (given stays leaves leave bare named movable : List Bool) (ranks empty lane_of : List ℕ) (before after : List (Option ℕ)) (most taken : ℕ)
+module _ (old : Workqueues) (given stays leaves leave bare named movable : List Bool)
+    (ranks empty lane_of : List ℕ) (before after : List (Option ℕ)) (most taken : ℕ)
     (long : length leaves ≡ length old.assignment.lane_of_group)
     (stays_long : length stays ≡ length old.assignment.lane_of_group)
     (ranks_long : length ranks ≡ length old.assignment.lane_of_group)
@@ -67,7 +69,8 @@ module _ (old : Workqueues) (given stays leaves leave bare named movable : List 
     lane : IsLaneOfRank after (slice_index ranks g) (nth_lane empty old.assignment.lanes number)
     on : slice_index lane_of g ≡ nth_lane empty old.assignment.lanes number
 
-  had_or_comes : (g : ℕ) → g < length leaves → IsMarked leaves g → IsLaneOfRank before (slice_index ranks g) (slice_index lane_of g) ⊎ Comes g
+  had_or_comes : (g : ℕ) → g < length leaves → IsMarked leaves g
+      → IsLaneOfRank before (slice_index ranks g) (slice_index lane_of g) ⊎ Comes g
   had_or_comes g is marked = elim (cases_lane (slice_index_or before (slice_index ranks g) None)) [
     | inl had ↦
         let equal : had.0 ≡ slice_index lane_of g = one_lane (slice_index_or after (slice_index ranks g) None) had.0 (slice_index lane_of g) (took.kept (slice_index ranks g) had.0 had.1) (ranked.marked g is marked) in
@@ -86,7 +89,10 @@ module _ (old : Workqueues) (given stays leaves leave bare named movable : List 
   ]
 
   comes : (g : ℕ) → g < length leaves → IsMarked leaves g → HoldsRanked old stays ranks (slice_index ranks g) (slice_index lane_of g) ⊎ Comes g
-  comes g is marked = elim (had_or_comes g is marked) [ inl had ↦ inl (lanes.holds (slice_index ranks g) (slice_index lane_of g) had) | inr came ↦ inr came ]
+  comes g is marked = elim (had_or_comes g is marked) [
+    | inl had ↦ inl (lanes.holds (slice_index ranks g) (slice_index lane_of g) had)
+    | inr came ↦ inr came
+  ]
 
   stays_below : (g : ℕ) → IsMarked stays g → g < length leaves
   stays_below g marked = omega (arith, IsMarked-below stays g marked, stays_long, long)
@@ -216,13 +222,18 @@ module _ (old : Workqueues) (given stays leaves leave bare named movable : List 
     | inr comer ↦ inr (record { group = comer.group; is_group = omega (arith, comer.is_group, ranked.one_each); on = comer.on })
   ]
 
+  below_group : {q : ℕ} → (holds : HoldsAny old q) → holds.group < length leaves
+  below_group holds = omega (arith, holds.is_group, long)
+
   -- who comes to a lane that held somebody comes to a named one
   pub AreHosted-made : AreHosted old movable leaves made
   AreHosted-made g is marked holds = elim (had_or_comes g is marked) [
-    | inr came ↦ absurd (not_taken came.number holds.group (omega (arith, holds.is_group, long)) (sym came.on ∙ sym holds.on))
+    | inr came ↦ absurd (not_taken came.number holds.group (below_group holds) (sym came.on ∙ sym holds.on))
     | inl had ↦
-        let q_below : slice_index lane_of g < old.assignment.lanes = omega (arith, holds.on, within holds.group (omega (arith, holds.is_group, long))) in
-        (are_named.exactly (slice_index lane_of g) q_below).0 (lanes.named (slice_index ranks g) (slice_index lane_of g) had)
+        let q_below : slice_index lane_of g < old.assignment.lanes =
+        omega (arith, holds.on, within holds.group (below_group holds)) in
+        let marked_lane = lanes.named (slice_index ranks g) (slice_index lane_of g) had in
+        (are_named.exactly (slice_index lane_of g) q_below).0 marked_lane
   ]
 
   pub ArePlacedBy-made : ArePlacedBy old given stays leaves ranks made

@@ -436,12 +436,17 @@ module _ (d : Declaration) (old : Workqueues) (names : List ℕ) (s : Scope) (st
                     placed.ranked h g (omega (arith, h_is, are_leaving.one_each)) (omega (arith, is, are_leaving.one_each)) (stays_or_leaves h h_is h_needs) (stays_or_leaves g is needs) lane
 
             -- who moved leaves, and comes to a lane that held nobody, or one that may move
-            hosted : AreHosted old s.movable leaves new → (g : ℕ) → g < d.groups → HasMoved old new g → HoldsAny old (lane_in new g) → IsNamedLane d old names (lane_in new g)
+            hosted : AreHosted old s.movable leaves new → (g : ℕ) → g < d.groups → HasMoved old new g
+                → HoldsAny old (lane_in new g) → IsNamedLane d old names (lane_in new g)
             hosted are g is moved holds =
-                let marked : IsMarked leaves g = elim (cases_marked leaves g) [ inl marked ↦ marked | inr not ↦ absurd (moved (new_stays g is not)) ] in
+                let marked : IsMarked leaves g = elim (cases_marked leaves g) [
+                  | inl marked ↦ marked
+                  | inr not ↦ absurd (moved (new_stays g is not))
+                ] in
                 let host = are g (omega (arith, is, are_leaving.one_each)) marked holds in
                 let host_is : host.group < d.groups = omega (arith, host.is_group, long) in
-                record { group = host.group; is_group = host_is; named = movable_named host.group host_is host.marked; on = host.on }
+                let named = movable_named host.group host_is host.marked in
+                record { group = host.group; is_group = host_is; named = named; on = host.on }
 
             pub IsMinimal-placed : AreHosted old s.movable leaves new → IsMinimal d old names s.needed new
             IsMinimal-placed are_hosted = record {

@@ -15,8 +15,10 @@ pub IsRepair-needed : (d : Declaration) (old new : Workqueues) (names : List ℕ
     → FallsAlongWaits d new needed number → new.assignment.lanes ≤ max old.assignment.lanes d.groups → length new.bare ≤ new.assignment.lanes
     → ((q : ℕ) → old.assignment.lanes ≤ q → q < new.assignment.lanes → HoldsAny new q)
     → ((q : ℕ) → q < old.assignment.lanes → IsRescued new q → IsRescued old q ⊎ HoldsAny new q)
-    → ((g : ℕ) → g < d.groups → HasMoved old new g → HoldsAny old (lane_in new g) → IsNamedLane d old names (lane_in new g)) → IsRepair d old names new
-IsRepair-needed d old new names needed number declaration dead compared need are falls few bare used only hosted = record {
+    → ((g : ℕ) → g < d.groups → HasMoved old new g → HoldsAny old (lane_in new g)
+        → IsNamedLane d old names (lane_in new g))
+    → IsRepair d old names new
+IsRepair-needed d old new names needed number declaration dead compared need are falls few bare used only to = record {
   deadlocked = dead;
   compared = compared;
   safe = IsSafe-falling d new needed number declaration compared.assignment falls;
@@ -25,5 +27,5 @@ IsRepair-needed d old new names needed number declaration dead compared need are
   bare = bare;
   used = used;
   only = only;
-  hosted = hosted;
+  hosted = to;
 }

@@ -1,8 +1,8 @@
 //! Where the groups go that aren't put back: to lanes of their rank.
 //!
 //! Ranks fall along every wait, and lanes that hold groups of the same rank can be put together. So a group goes to a
-//! lane on which a group of its rank stays, if a group was on it that may move; and else all of that rank go to an empty
-//! lane, or to a new one. It takes time and memory in the number of groups and lanes.
+//! lane on which a group of its rank stays, if a group was on it that may move; and else all of that rank go to an
+//! empty lane, or to a new one. It takes time and memory in the number of groups and lanes.
 
 ghost use Rattle.std.specs.Prelude.{◌≡◌, ◌<◌, ◌≤◌, ◌⊎◌, ℕ, length, slice_index, IfOk, IsSome, IsTrue};
 ghost use Rattle.wq_repair.specs.Changes.{IsRescued, lane_in};
@@ -10,7 +10,8 @@ ghost use Rattle.wq_repair.specs.Marks.{IsMarked, Marks};
 ghost use Rattle.wq_repair.specs.Steps.{ArePlacedBy};
 ghost use Rattle.wq_repair.specs.Together.{AreListed, Lists};
 ghost use Rattle.wq_repair.specs.Lanes.{AreFree};
-ghost use Rattle.wq_repair.specs.Placing.{HasNoLane, AreLanesOfRanks, HasRanked, AreEmpty, AreTaken, AreRankedLanes, AreHosted};
+ghost use Rattle.wq_repair.specs.Placing.{HasNoLane, AreLanesOfRanks, HasRanked, AreEmpty, AreTaken, AreRankedLanes};
+ghost use Rattle.wq_repair.specs.Placing.{AreHosted};
 
 use crate::lanes::{bare_now, lanes_with, nth_lane};
 use crate::named::named_lanes;
@@ -199,8 +200,8 @@ fn lanes_of_groups<A: Allocator + Copy>(
 }
 
 /// The workqueues on which each group that leaves is on a lane of its rank, and all others stay. Of the lanes that hold
-/// groups, they go only to those that hold one that may move. Lanes to which groups go have a rescuer, and so have those
-/// that are given one. `most` is above all ranks.
+/// groups, they go only to those that hold one that may move. Lanes to which groups go have a rescuer, and so have
+/// those that are given one. `most` is above all ranks.
 pub(crate) fn place<A: Allocator + Copy>(
     alloc: A,
     old: &Workqueues<A>,
