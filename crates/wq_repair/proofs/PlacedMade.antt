@@ -232,7 +232,7 @@ module _ (old : Workqueues) (given stays leaves leave bare named movable : List 
     | inl had ↦
         let q_below : slice_index lane_of g < old.assignment.lanes =
         omega (arith, holds.on, within holds.group (below_group holds)) in
-        let marked_lane = lanes.named (slice_index ranks g) (slice_index lane_of g) had in
+        let marked_lane = lanes.on_named (slice_index ranks g) (slice_index lane_of g) had in
         (are_named.exactly (slice_index lane_of g) q_below).0 marked_lane
   ]
 

@@ -24,7 +24,7 @@ pub AreLanesOfRanks-none : (old : Workqueues) (marks named : List Bool) (ranks :
 AreLanesOfRanks-none old marks named ranks most of_rank is = record {
   one_each = ap length is ∙ length-replicate {A = Option ℕ} most None;
   holds = λ r q lane. absurd (no_home most of_rank is r q lane);
-  named = λ r q lane. absurd (no_home most of_rank is r q lane);
+  on_named = λ r q lane. absurd (no_home most of_rank is r q lane);
   all = λ g lt. absurd (omega (arith, lt));
 }
 
@@ -37,7 +37,7 @@ module _ (old : Workqueues) (marks named : List Bool) (ranks : List ℕ) (most g
   AreLanesOfRanks-skip has = record {
     one_each = is.one_each;
     holds = is.holds;
-    named = is.named;
+    on_named = is.on_named;
     all = λ h lt marked on_named. elim (cases_eq h g) [
       | inl last ↦
           subst (λ (x : ℕ). ¬ HasNoLane of_rank (slice_index ranks x)) (sym last)
@@ -51,7 +51,7 @@ module _ (old : Workqueues) (marks named : List Bool) (ranks : List ℕ) (most g
   AreLanesOfRanks-set r lane marked on_named ranked on below = record {
     one_each = length-set of_rank r (Some lane) ∙ is.one_each;
     holds = holds;
-    named = are_named;
+    on_named = are_named;
     all = all;
   }
     where
@@ -77,7 +77,7 @@ module _ (old : Workqueues) (marks named : List Bool) (ranks : List ℕ) (most g
             sym own ∙ ap (λ (x : ℕ). slice_index_or (set of_rank r (Some lane)) x None) (sym same) ∙ lane_of in
             let q_is : lane ≡ q = cc in
             subst (IsMarked named) q_is on_named
-        | inr other ↦ is.named s q (sym (kept s other) ∙ lane_of)
+        | inr other ↦ is.on_named s q (sym (kept s other) ∙ lane_of)
       ]
 
       all : (h : ℕ) → h < g + 1 → IsMarked marks h → IsMarked named (lane_in old h)

@@ -26,7 +26,7 @@ pub record AreLanesOfRanks (old : Workqueues) (marks named : List Bool) (ranks :
     (of_rank : List (Option ℕ)) : Type 0 where
   pub one_each : length of_rank ≡ most
   pub holds : (r q : ℕ) → IsLaneOfRank of_rank r q → HoldsRanked old marks ranks r q
-  pub named : (r q : ℕ) → IsLaneOfRank of_rank r q → IsMarked named q
+  pub on_named : (r q : ℕ) → IsLaneOfRank of_rank r q → IsMarked named q
   pub all : (g : ℕ) → g < groups → IsMarked marks g → IsMarked named (lane_in old g)
       → ¬ HasNoLane of_rank (slice_index ranks g)
 
