@@ -1,5 +1,5 @@
 -- Sets of vertices that lead to one another, and what is left of them when two vertices become one.
-use Rattle.std.proofs.Common.{◌≡◌, ℕ, ◌⊎◌, inl, inr, List, [], ◌∷◌, map, refl, sym, subst}
+use Rattle.std.proofs.Common.{◌≡◌, ℕ, inl, inr, List, [], ◌∷◌, map, refl, sym, subst}
 use Rattle.std.specs.Prelude.{slice_index}
 use Rattle.wq_items.specs.Chain.{IsChain, last_of}
 use Rattle.wq_repair.specs.Vertices.{LeadsOn, LeadsTo}
