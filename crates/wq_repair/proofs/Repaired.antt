@@ -16,7 +16,7 @@ pub IsRepair-needed : (d : Declaration) (old new : Workqueues) (names : List ℕ
     → ((q : ℕ) → old.assignment.lanes ≤ q → q < new.assignment.lanes → HoldsAny new q)
     → ((q : ℕ) → q < old.assignment.lanes → IsRescued new q → IsRescued old q ⊎ HoldsAny new q)
     → ((g : ℕ) → g < d.groups → HasMoved old new g → HoldsAny old (lane_in new g)
-        → IsNamedLane d old names (lane_in new g))
+    → IsNamedLane d old names (lane_in new g))
     → IsRepair d old names new
 IsRepair-needed d old new names needed number declaration dead compared need are falls few bare used only to = record {
   deadlocked = dead;

@@ -33,7 +33,7 @@ lanes_of_groups-requires-clause-some g c =
     c.in_ok-of_rank.of_rank.len (c.take_lanes-taken.auto.of_rank ∙ c.as_mut_slice.ensures.len) in
     subst (λ (xs : List (Option ℕ)). (h : ℕ) → IsMarked leaves h → ¬ HasNoLane xs (slice_index ranks h)) (sym whole)
     (leaving-has_lane leaves leave ranks empty c.lanes.result c.args.most taken before after
-        (c.requires.one_each ∙ sym c.requires.leaves) c.requires.below leaving took)
+    (c.requires.one_each ∙ sym c.requires.leaves) c.requires.below leaving took)
 
 pub unwrap-assignment-requires : goal.unwrap-assignment-requires
 unwrap-assignment-requires g c =
@@ -156,4 +156,4 @@ returns g c =
     subst (λ (o : Option Assignment). IfSome o (λ a. (a.lanes ≡ c.lanes_with-lanes.result) × (a.lane_of_group ≡ lane_of))) c.unwrap-assignment.ensures c.new.ensures.some in
     subst (λ (new : Workqueues). ArePlacedBy ws given stays leaves ranks new × AreHosted ws movable leaves new)
     (sym (Workqueues-made c.new-2.result c.unwrap-assignment.result bare (old.lanes + (taken - length empty)) lane_of
-        c.new-2.ensures (some.0 ∙ count) some.1)) (placed, hosted)
+    c.new-2.ensures (some.0 ∙ count) some.1)) (placed, hosted)

@@ -668,10 +668,10 @@ returns g c =
     let of_groups : AreRanksOfGroups d (placed_at start two) ranks = subst (AreRanksOfGroups d (placed_at start two)) (sym c.as_slice-10.ensures.value) c.in_ok-ranks.ensures in
     IfOk-weaker c.place.result
     (λ (new : Workqueues). ArePlacedBy old c.as_slice-7.result.now stays leaves ranks new
-        × AreHosted old c.as_slice-11.result.now leaves new)
+    × AreHosted old c.as_slice-11.result.now leaves new)
     (λ new. (names : List ℕ) → IsReady d old names s start → IsMinimal d old names s.needed new)
     (λ new placed all_names is_ready. IsMinimal-by d old all_names s start declaration is_ready graph of one two back leaves stays put are_leaving are_staying kept within few of_groups.of_lanes ranks of_groups.are of_groups.exactly new
     (subst (λ (xs : List Bool). ArePlacedBy old xs stays leaves ranks new)
-        (c.as_slice-7.ensures.value ∙ ap (λ (x : Scope). x.given) c.scope.view_is) placed.0)
+    (c.as_slice-7.ensures.value ∙ ap (λ (x : Scope). x.given) c.scope.view_is) placed.0)
     (subst (λ (xs : List Bool). AreHosted old xs leaves new)
-        (c.as_slice-11.ensures.value ∙ ap (λ (x : Scope). x.movable) c.scope.view_is) placed.1)) c.place.ensures
+    (c.as_slice-11.ensures.value ∙ ap (λ (x : Scope). x.movable) c.scope.view_is) placed.1)) c.place.ensures
