@@ -311,7 +311,7 @@ draws 'dm-snapshot: one kcopyd' 'can hang, 1 wait in red: items 6, workqueues 3,
     dm-snapshot.wq dm-snapshot.merged.assign
 repairs 'dm-snapshot: one kcopyd' dm-snapshot.wq dm-snapshot.merged.assign 'do_work.other 1 3'
 repairs 'dm-snapshot: one kcopyd, the merge moves' dm-snapshot.wq dm-snapshot.merged.assign \
-    'do_work.merging 1 2' do_work.merging
+    'do_work.merging 1 3' do_work.merging
 repairs 'dm-snapshot: the kernel' dm-snapshot.wq dm-snapshot.assign ''
 
 # dm-integrity: six workqueues, safe; without dm-integrity-offload it hangs.
@@ -328,7 +328,7 @@ draws dm-integrity 'plan of 3 workqueues, 2 waits in bold: items 8, workqueues 3
 repairs 'dm-integrity: without dm-integrity-offload' dm-integrity.wq dm-integrity.merged.assign 'integrity_metadata 0 5'
 like 'dm-integrity: what is repaired is what the kernel has' dm-integrity.assign
 repairs 'dm-integrity: without dm-integrity-offload, the bios move' dm-integrity.wq dm-integrity.merged.assign \
-    'integrity_bio_wait.offload 0 3' integrity_bio_wait.offload
+    'integrity_bio_wait.offload 0 5' integrity_bio_wait.offload
 repairs 'dm-integrity: the kernel' dm-integrity.wq dm-integrity.assign ''
 
 # nvmet-tcp: a circle, and waits by cancel_work_sync for what has no rescuer, so that every assignment hangs: the kernel's, one workqueue for all, and one for each item. The

@@ -989,6 +989,9 @@ def look_at_repair(*texts):
     demand((of_safe == 0) == (not moved and not given), "something changes where it isn't safe")
     demand(new.called == assignment.called and new.count <= max(assignment.count, len(declared.groups)), "names of workqueues stay")
     demand(moved <= case.named and given <= case.workqueue_named, "only what is named changes")
+    went_to = {new.workqueue_of[declared.groups[group][0]] for group in moved}
+    of_others = {number for number in case.workqueues if case.on[number]} - case.workqueue_named
+    demand(not went_to & of_others, "nothing moves to a workqueue of others")
     for other in one_change_less(case, new) if len(moved) < 100 else []:
         other_moved, other_given = case.changes(other)
         demand(other_moved <= moved and other_given <= given and not case.is_safe(other), "no change can be left out alone")

@@ -293,4 +293,4 @@ pub IsRepair-minimal : (d : Declaration) (old new : Workqueues) (names : List â„
 IsRepair-minimal d old new names needed declaration before are_needed dead is =
     IsRepair-needed d old new names needed is.number declaration dead is.compared
     (Î» fewer compared less g below marked. rescued-needed d old fewer names declaration before compared g ((are_needed.exactly g below).0 marked))
-    is.changes is.falls is.few is.bare is.used is.only
+    is.changes is.falls is.few is.bare is.used is.only is.hosted

@@ -7,9 +7,10 @@ use Rattle.std.proofs.lemmas.List.Elements.{Contains-get_or}
 use Rattle.wq_core.specs.Workqueues.{Workqueues}
 use Rattle.wq_repair.specs.Changes.{IsRescued, HoldsAny, lane_in}
 use Rattle.wq_repair.specs.Marks.{IsMarked, Marks}
-use Rattle.wq_repair.specs.Steps.{ArePlacedBy}
+use Rattle.wq_repair.specs.Steps.{ArePlacedBy, HoldsMarked}
 use Rattle.wq_repair.specs.Lanes.{nth_lane, AreFree, AreBareNow}
 use Rattle.wq_repair.specs.Placing.{IsLaneOfRank, HasNoLane, HoldsRanked, AreLanesOfRanks, HasRanked, AreEmpty, AreTaken, AreRankedLanes}
+use Rattle.wq_repair.specs.Placing.{AreHosted}
 use Rattle.wq_repair.proofs.StartsBy.{cases_marked}
 use Rattle.wq_repair.proofs.Readied.{all_or_one}
 use Rattle.wq_repair.proofs.Taking.{nth_lane-in, nth_lane-new, nth_lane-below, few-held}
@@ -23,7 +24,8 @@ cases_lane (Some q) = inl (q, refl)
 one_lane : (o : Option ℕ) (p q : ℕ) → o ≡ Some p → o ≡ Some q → p ≡ q
 one_lane o p q one other = let same : Some p ≡ Some q = sym one ∙ other in cc
 
-module _ (old : Workqueues) (given stays leaves leave bare : List Bool) (ranks empty lane_of : List ℕ) (before after : List (Option ℕ)) (most taken : ℕ)
+module _ (old : Workqueues) (given stays leaves leave bare named movable : List Bool)
+    (ranks empty lane_of : List ℕ) (before after : List (Option ℕ)) (most taken : ℕ)
     (long : length leaves ≡ length old.assignment.lane_of_group)
     (stays_long : length stays ≡ length old.assignment.lane_of_group)
     (ranks_long : length ranks ≡ length old.assignment.lane_of_group)
@@ -33,7 +35,8 @@ module _ (old : Workqueues) (given stays leaves leave bare : List Bool) (ranks e
     (fine : (g : ℕ) → IsMarked stays g → IsRescued old (lane_in old g) ⊎ IsMarked given (lane_in old g))
     (apart : (g : ℕ) → IsMarked stays g → ¬ IsMarked leaves g)
     (held : (g : ℕ) → g < length leaves → IsMarked leaves g → (h : ℕ) × (h < length leaves) × (lane_in old h ≡ lane_in old g) × (¬ IsMarked leaves h))
-    (groups : ℕ) (lanes : AreLanesOfRanks old stays ranks most groups before)
+    (groups : ℕ) (lanes : AreLanesOfRanks old stays named ranks most groups before)
+    (are_named : Marks (HoldsMarked old movable) old.assignment.lanes named)
     (leaving : Marks (HasRanked leaves ranks) most leave)
     (free : AreFree old.assignment.lanes empty)
     (are_empty : AreEmpty old empty)
@@ -66,11 +69,12 @@ module _ (old : Workqueues) (given stays leaves leave bare : List Bool) (ranks e
     lane : IsLaneOfRank after (slice_index ranks g) (nth_lane empty old.assignment.lanes number)
     on : slice_index lane_of g ≡ nth_lane empty old.assignment.lanes number
 
-  comes : (g : ℕ) → g < length leaves → IsMarked leaves g → HoldsRanked old stays ranks (slice_index ranks g) (slice_index lane_of g) ⊎ Comes g
-  comes g is marked = elim (cases_lane (slice_index_or before (slice_index ranks g) None)) [
+  had_or_comes : (g : ℕ) → g < length leaves → IsMarked leaves g
+      → IsLaneOfRank before (slice_index ranks g) (slice_index lane_of g) ⊎ Comes g
+  had_or_comes g is marked = elim (cases_lane (slice_index_or before (slice_index ranks g) None)) [
     | inl had ↦
         let equal : had.0 ≡ slice_index lane_of g = one_lane (slice_index_or after (slice_index ranks g) None) had.0 (slice_index lane_of g) (took.kept (slice_index ranks g) had.0 had.1) (ranked.marked g is marked) in
-        inl (subst (HoldsRanked old stays ranks (slice_index ranks g)) equal (lanes.holds (slice_index ranks g) had.0 had.1))
+        inl (subst (IsLaneOfRank before (slice_index ranks g)) equal had.1)
     | inr none ↦
         let r_below : slice_index ranks g < most = below g (omega (arith, is, long, ranks_long)) in
         let leaves_it : IsMarked leave (slice_index ranks g) = (leaving.exactly (slice_index ranks g) r_below).1 (record { group = g; marked = marked; ranked = refl }) in
@@ -82,6 +86,12 @@ module _ (old : Workqueues) (given stays leaves leave bare : List Bool) (ranks e
           lane = at.2;
           on = one_lane (slice_index_or after (slice_index ranks g) None) (slice_index lane_of g) (nth_lane empty old.assignment.lanes at.0) (ranked.marked g is marked) at.2;
         })
+  ]
+
+  comes : (g : ℕ) → g < length leaves → IsMarked leaves g → HoldsRanked old stays ranks (slice_index ranks g) (slice_index lane_of g) ⊎ Comes g
+  comes g is marked = elim (had_or_comes g is marked) [
+    | inl had ↦ inl (lanes.holds (slice_index ranks g) (slice_index lane_of g) had)
+    | inr came ↦ inr came
   ]
 
   stays_below : (g : ℕ) → IsMarked stays g → g < length leaves
@@ -210,6 +220,20 @@ module _ (old : Workqueues) (given stays leaves leave bare : List Bool) (ranks e
   only_used q lt rescued = elim (now.only q lt rescued) [
     | inl had ↦ inl had
     | inr comer ↦ inr (record { group = comer.group; is_group = omega (arith, comer.is_group, ranked.one_each); on = comer.on })
+  ]
+
+  below_group : {q : ℕ} → (holds : HoldsAny old q) → holds.group < length leaves
+  below_group holds = omega (arith, holds.is_group, long)
+
+  -- who comes to a lane that held somebody comes to a named one
+  pub AreHosted-made : AreHosted old movable leaves made
+  AreHosted-made g is marked holds = elim (had_or_comes g is marked) [
+    | inr came ↦ absurd (not_taken came.number holds.group (below_group holds) (sym came.on ∙ sym holds.on))
+    | inl had ↦
+        let q_below : slice_index lane_of g < old.assignment.lanes =
+        omega (arith, holds.on, within holds.group (below_group holds)) in
+        let marked_lane = lanes.on_named (slice_index ranks g) (slice_index lane_of g) had in
+        (are_named.exactly (slice_index lane_of g) q_below).0 marked_lane
   ]
 
   pub ArePlacedBy-made : ArePlacedBy old given stays leaves ranks made

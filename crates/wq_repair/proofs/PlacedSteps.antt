@@ -19,27 +19,41 @@ use Rattle.wq_repair.proofs.Taking.{nth_lane-apart}
 
 -- ---- the lanes of those that stay
 
-pub AreLanesOfRanks-none : (old : Workqueues) (marks : List Bool) (ranks : List ℕ) (most : ℕ) (of_rank : List (Option ℕ)) → of_rank ≡ replicate most None → AreLanesOfRanks old marks ranks most 0 of_rank
-AreLanesOfRanks-none old marks ranks most of_rank is = record {
+pub AreLanesOfRanks-none : (old : Workqueues) (marks named : List Bool) (ranks : List ℕ) (most : ℕ)
+    (of_rank : List (Option ℕ)) → of_rank ≡ replicate most None → AreLanesOfRanks old marks named ranks most 0 of_rank
+AreLanesOfRanks-none old marks named ranks most of_rank is = record {
   one_each = ap length is ∙ length-replicate {A = Option ℕ} most None;
   holds = λ r q lane. absurd (no_home most of_rank is r q lane);
+  on_named = λ r q lane. absurd (no_home most of_rank is r q lane);
   all = λ g lt. absurd (omega (arith, lt));
 }
 
-module _ (old : Workqueues) (marks : List Bool) (ranks : List ℕ) (most g : ℕ) (of_rank : List (Option ℕ)) (is : AreLanesOfRanks old marks ranks most g of_rank) where
-  -- the group isn't marked, or its rank has a lane
-  pub AreLanesOfRanks-skip : (IsMarked marks g → ¬ HasNoLane of_rank (slice_index ranks g)) → AreLanesOfRanks old marks ranks most (g + 1) of_rank
+module _ (old : Workqueues) (marks named : List Bool) (ranks : List ℕ) (most g : ℕ) (of_rank : List (Option ℕ))
+    (is : AreLanesOfRanks old marks named ranks most g of_rank) where
+  -- the group isn't marked, or its lane isn't named, or its rank has a lane
+  pub AreLanesOfRanks-skip :
+      (IsMarked marks g → IsMarked named (lane_in old g) → ¬ HasNoLane of_rank (slice_index ranks g))
+      → AreLanesOfRanks old marks named ranks most (g + 1) of_rank
   AreLanesOfRanks-skip has = record {
     one_each = is.one_each;
     holds = is.holds;
-    all = λ h lt marked. elim (cases_eq h g) [
-      | inl last ↦ subst (λ (x : ℕ). ¬ HasNoLane of_rank (slice_index ranks x)) (sym last) (has (subst (IsMarked marks) last marked))
-      | inr other ↦ is.all h (omega (arith, lt, other)) marked
+    on_named = is.on_named;
+    all = λ h lt marked on_named. elim (cases_eq h g) [
+      | inl last ↦
+          subst (λ (x : ℕ). ¬ HasNoLane of_rank (slice_index ranks x)) (sym last)
+          (has (subst (IsMarked marks) last marked) (subst (λ (x : ℕ). IsMarked named (lane_in old x)) last on_named))
+      | inr other ↦ is.all h (omega (arith, lt, other)) marked on_named
     ];
   }
 
-  pub AreLanesOfRanks-set : (r lane : ℕ) → IsMarked marks g → slice_index ranks g ≡ r → lane_in old g ≡ lane → r < most → AreLanesOfRanks old marks ranks most (g + 1) (set of_rank r (Some lane))
-  AreLanesOfRanks-set r lane marked ranked on below = record { one_each = length-set of_rank r (Some lane) ∙ is.one_each; holds = holds; all = all }
+  pub AreLanesOfRanks-set : (r lane : ℕ) → IsMarked marks g → IsMarked named lane → slice_index ranks g ≡ r
+      → lane_in old g ≡ lane → r < most → AreLanesOfRanks old marks named ranks most (g + 1) (set of_rank r (Some lane))
+  AreLanesOfRanks-set r lane marked on_named ranked on below = record {
+    one_each = length-set of_rank r (Some lane) ∙ is.one_each;
+    holds = holds;
+    on_named = are_named;
+    all = all;
+  }
     where
       own : slice_index_or (set of_rank r (Some lane)) r None ≡ Some lane
       own = get_or-set_same of_rank r (Some lane) None (omega (arith, below, is.one_each))
@@ -56,15 +70,27 @@ module _ (old : Workqueues) (marks : List Bool) (ranks : List ℕ) (most g : ℕ
         | inr other ↦ is.holds s q (sym (kept s other) ∙ lane_of)
       ]
 
-      all : (h : ℕ) → h < g + 1 → IsMarked marks h → ¬ HasNoLane (set of_rank r (Some lane)) (slice_index ranks h)
-      all h lt h_marked none = elim (cases_eq (slice_index ranks h) r) [
+      are_named : (s q : ℕ) → IsLaneOfRank (set of_rank r (Some lane)) s q → IsMarked named q
+      are_named s q lane_of = elim (cases_eq s r) [
+        | inl same ↦
+            let equal : Some lane ≡ Some q =
+            sym own ∙ ap (λ (x : ℕ). slice_index_or (set of_rank r (Some lane)) x None) (sym same) ∙ lane_of in
+            let q_is : lane ≡ q = cc in
+            subst (IsMarked named) q_is on_named
+        | inr other ↦ is.on_named s q (sym (kept s other) ∙ lane_of)
+      ]
+
+      all : (h : ℕ) → h < g + 1 → IsMarked marks h → IsMarked named (lane_in old h)
+          → ¬ HasNoLane (set of_rank r (Some lane)) (slice_index ranks h)
+      all h lt h_marked h_named none = elim (cases_eq (slice_index ranks h) r) [
         | inl same ↦ (
             let bad : Some lane ≡ None = sym own ∙ ap (λ (x : ℕ). slice_index_or (set of_rank r (Some lane)) x None) (sym same) ∙ none in
             absurd cc
             )
         | inr other ↦ elim (cases_eq h g) [
           | inl last ↦ absurd (other (ap (slice_index ranks) last ∙ ranked))
-          | inr before ↦ is.all h (omega (arith, lt, before)) h_marked (sym (kept (slice_index ranks h) other) ∙ none)
+          | inr before ↦
+              is.all h (omega (arith, lt, before)) h_marked h_named (sym (kept (slice_index ranks h) other) ∙ none)
         ]
       ]
 

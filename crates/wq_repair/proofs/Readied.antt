@@ -14,11 +14,12 @@ use Rattle.wq_levels.proofs.Ranks.{AreRanks-fall}
 use Rattle.wq_core.specs.Workqueues.{Workqueues}
 use Rattle.wq_core.proofs.LaneCircles.{Circle-map}
 use Rattle.wq_deadlock.specs.Judging.{rescued_graph}
-use Rattle.wq_repair.specs.Changes.{IsRescued, IsBare, IsNamed, lane_in}
+use Rattle.wq_repair.specs.Changes.{IsRescued, IsBare, IsNamed, IsNamedLane, HoldsAny, HasMoved, lane_in}
 use Rattle.wq_repair.specs.Marks.{IsMarked, Marks}
 use Rattle.wq_repair.specs.Joined.{VerticesWait, StaysOrIs, IsTriedInVain}
 use Rattle.wq_repair.specs.Together.{Lists, ArcBetween, IsHomeOf, IsAtHome, WasInVain, ArePutTogether}
 use Rattle.wq_repair.specs.Steps.{ArePlacedBy, AreLeaving}
+use Rattle.wq_repair.specs.Placing.{AreHosted}
 use Rattle.wq_repair.specs.Ready.{Scope, IsReady, IsGraphOfNeeded, IsMinimal, IsTried, HoldsNeeded, IsButNot, placed_at}
 use Rattle.wq_repair.proofs.Rescuers.{cases_rescued, waiting-below, awaited-below}
 use Rattle.wq_repair.proofs.StartsBy.{cases_marked}
@@ -434,8 +435,21 @@ module _ (d : Declaration) (old : Workqueues) (names : List ℕ) (s : Scope) (st
                     let h_is = marked_below s.needed h ready.one_each h_needs in
                     placed.ranked h g (omega (arith, h_is, are_leaving.one_each)) (omega (arith, is, are_leaving.one_each)) (stays_or_leaves h h_is h_needs) (stays_or_leaves g is needs) lane
 
-            pub IsMinimal-placed : IsMinimal d old names s.needed new
-            IsMinimal-placed = record {
+            -- who moved leaves, and comes to a lane that held nobody, or one that may move
+            hosted : AreHosted old s.movable leaves new → (g : ℕ) → g < d.groups → HasMoved old new g
+                → HoldsAny old (lane_in new g) → IsNamedLane d old names (lane_in new g)
+            hosted are g is moved holds =
+                let marked : IsMarked leaves g = elim (cases_marked leaves g) [
+                  | inl marked ↦ marked
+                  | inr not ↦ absurd (moved (new_stays g is not))
+                ] in
+                let host = are g (omega (arith, is, are_leaving.one_each)) marked holds in
+                let host_is : host.group < d.groups = omega (arith, host.is_group, long) in
+                let named = movable_named host.group host_is host.marked in
+                record { group = host.group; is_group = host_is; named = named; on = host.on }
+
+            pub IsMinimal-placed : AreHosted old s.movable leaves new → IsMinimal d old names s.needed new
+            IsMinimal-placed are_hosted = record {
               compared = IsToBeCompared-placed d old new names ready.lanes s.needed s.given stays leaves ranks ready.assignment ready.are_lanes ready.one_each ready.are_given leaving placed;
               changes = AreChangesNeeded-placed d old new names ready.lanes s.needed s.given stays leaves ranks ready.assignment ready.are_lanes ready.one_each ready.are_given leaving placed;
               number = λ (q : ℕ). rank_on s.needed new.assignment.lane_of_group ranks q d.groups;
@@ -445,4 +459,5 @@ module _ (d : Declaration) (old : Workqueues) (names : List ℕ) (s : Scope) (st
               bare = placed.bare;
               used = placed.used;
               only = placed.only_used;
+              hosted = hosted are_hosted;
             }

@@ -4,7 +4,7 @@ use Rattle.std.specs.Prelude.{max}
 use Rattle.wq_groups.specs.Declaration.{Declaration, IsDeclaration}
 use Rattle.wq_core.specs.Workqueues.{Workqueues, wiring_of}
 use Rattle.wq_core.specs.Deadlock.{Deadlocks}
-use Rattle.wq_repair.specs.Changes.{IsRescued, HoldsAny, IsToBeCompared}
+use Rattle.wq_repair.specs.Changes.{IsRescued, HoldsAny, HasMoved, IsNamedLane, IsToBeCompared, lane_in}
 use Rattle.wq_repair.specs.Joined.{NeedRescuers, AreChangesNeeded, FallsAlongWaits}
 use Rattle.wq_repair.specs.Repair.{IsRepair}
 use Rattle.wq_repair.proofs.Falling.{IsSafe-falling}
@@ -14,8 +14,11 @@ pub IsRepair-needed : (d : Declaration) (old new : Workqueues) (names : List ℕ
     → Deadlocks (wiring_of d old) → IsToBeCompared d old names new → NeedRescuers d old names new needed → AreChangesNeeded d old new needed
     → FallsAlongWaits d new needed number → new.assignment.lanes ≤ max old.assignment.lanes d.groups → length new.bare ≤ new.assignment.lanes
     → ((q : ℕ) → old.assignment.lanes ≤ q → q < new.assignment.lanes → HoldsAny new q)
-    → ((q : ℕ) → q < old.assignment.lanes → IsRescued new q → IsRescued old q ⊎ HoldsAny new q) → IsRepair d old names new
-IsRepair-needed d old new names needed number declaration dead compared need are falls few bare used only = record {
+    → ((q : ℕ) → q < old.assignment.lanes → IsRescued new q → IsRescued old q ⊎ HoldsAny new q)
+    → ((g : ℕ) → g < d.groups → HasMoved old new g → HoldsAny old (lane_in new g)
+    → IsNamedLane d old names (lane_in new g))
+    → IsRepair d old names new
+IsRepair-needed d old new names needed number declaration dead compared need are falls few bare used only to = record {
   deadlocked = dead;
   compared = compared;
   safe = IsSafe-falling d new needed number declaration compared.assignment falls;
@@ -24,4 +27,5 @@ IsRepair-needed d old new names needed number declaration dead compared need are
   bare = bare;
   used = used;
   only = only;
+  hosted = to;
 }

@@ -15,6 +15,7 @@ use Rattle.wq_deadlock.specs.Judging.{rescued_graph}
 use Rattle.wq_repair.specs.Changes.{IsRescued, lane_in}
 use Rattle.wq_repair.specs.Marks.{IsMarked, Marks}
 use Rattle.wq_repair.specs.Steps.{ArePlacedBy}
+use Rattle.wq_repair.specs.Placing.{AreHosted}
 use Rattle.wq_repair.specs.Ready.{Scope, IsReady, IsGraphOfNeeded, IsMinimal, IsTried, IsButNot, IsPutBack, IsKeptTogether, placed_at}
 use Rattle.wq_repair.proofs.Judged.{length-rescued_graph, IsGraph-rescued_graph}
 use Rattle.wq_repair.proofs.Readied.{IsAssignment-start, fine-staying, IsAssignment-merged, no_circle-merged, same-staying, apart-staying, held, IsMinimal-placed}
@@ -86,7 +87,8 @@ module _ (d : Declaration) (old : Workqueues) (names : List ℕ) (s : Scope) (st
           (λ q v home. (put.are_homes q v).0 home) (λ q holds. (put.are_homes q q).1 (refl, holds)) kept.no_homes are_tried put.lists put.together are_leaving are_staying kept.lists kept.together within few
           vertex_ranks ranks are of_groups
 
-      pub IsMinimal-by : (new : Workqueues) → ArePlacedBy old s.given stays leaves ranks new → IsMinimal d old names s.needed new
+      pub IsMinimal-by : (new : Workqueues) → ArePlacedBy old s.given stays leaves ranks new
+          → AreHosted old s.movable leaves new → IsMinimal d old names s.needed new
       IsMinimal-by =
           IsMinimal-placed d old names s start declaration ready graph of put.homes kept.homes put.tried leaves stays back kept.again put.order kept.order one two
           (λ q v home. (put.are_homes q v).0 home) (λ q holds. (put.are_homes q q).1 (refl, holds)) kept.no_homes are_tried put.lists put.together are_leaving are_staying kept.lists kept.together within few

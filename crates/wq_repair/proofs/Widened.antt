@@ -84,4 +84,6 @@ module _ (d : Declaration) (old new : Workqueues) (names : List ℕ) (needed all
   ]
 
   pub IsRepair-wider : Deadlocks (wiring_of d old) → IsMinimal d old names all new → IsRepair d old names new
-  IsRepair-wider dead is = IsRepair-needed d old new names all is.number declaration dead is.compared NeedRescuers-wider is.changes is.falls is.few is.bare is.used is.only
+  IsRepair-wider dead is =
+      IsRepair-needed d old new names all is.number declaration dead is.compared NeedRescuers-wider is.changes is.falls
+      is.few is.bare is.used is.only is.hosted

@@ -4,6 +4,7 @@ use Rattle.wq_core.specs.Workqueues.{Workqueues}
 use Rattle.wq_repair.specs.Changes.{HoldsAny, lane_in}
 use Rattle.wq_repair.specs.Marks.{IsMarked}
 use Rattle.wq_repair.specs.Lanes.{nth_lane}
+use Rattle.wq_repair.specs.Steps.{HoldsMarked}
 
 -- the lane of a rank, if there is one
 abbrev pub IsLaneOfRank : List (Option ℕ) → ℕ → ℕ → Type 0
@@ -20,12 +21,14 @@ pub record HoldsRanked (old : Workqueues) (marks : List Bool) (ranks : List ℕ)
   pub ranked : slice_index ranks group ≡ r
   pub on : lane_in old group ≡ q
 
--- for each of `most` ranks a lane on which a marked group of this rank is, if one of the first `groups` is
-pub record AreLanesOfRanks (old : Workqueues) (marks : List Bool) (ranks : List ℕ) (most groups : ℕ)
+-- for each of `most` ranks a named lane on which a marked group of this rank is, if one of the first `groups` is
+pub record AreLanesOfRanks (old : Workqueues) (marks named : List Bool) (ranks : List ℕ) (most groups : ℕ)
     (of_rank : List (Option ℕ)) : Type 0 where
   pub one_each : length of_rank ≡ most
   pub holds : (r q : ℕ) → IsLaneOfRank of_rank r q → HoldsRanked old marks ranks r q
-  pub all : (g : ℕ) → g < groups → IsMarked marks g → ¬ HasNoLane of_rank (slice_index ranks g)
+  pub on_named : (r q : ℕ) → IsLaneOfRank of_rank r q → IsMarked named q
+  pub all : (g : ℕ) → g < groups → IsMarked marks g → IsMarked named (lane_in old g)
+      → ¬ HasNoLane of_rank (slice_index ranks g)
 
 -- a marked group has this rank
 pub record HasRanked (marks : List Bool) (ranks : List ℕ) (r : ℕ) : Type 0 where
@@ -58,3 +61,8 @@ pub record AreRankedLanes (old : Workqueues) (marks : List Bool) (ranks : List �
   pub one_each : length lane_of ≡ groups
   pub marked : (g : ℕ) → g < groups → IsMarked marks g → IsLaneOfRank of_rank (slice_index ranks g) (slice_index lane_of g)
   pub others : (g : ℕ) → g < groups → (¬ IsMarked marks g) → slice_index lane_of g ≡ lane_in old g
+
+-- where who leaves comes to a lane that held somebody, a group was on it that may move
+abbrev pub AreHosted : Workqueues → List Bool → List Bool → Workqueues → Type 0
+AreHosted old movable leaves new = (g : ℕ) → g < length leaves → IsMarked leaves g → HoldsAny old (lane_in new g)
+    → HoldsMarked old movable (lane_in new g)

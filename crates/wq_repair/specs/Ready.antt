@@ -8,7 +8,7 @@ use Rattle.wq_core.specs.Workqueues.{Workqueues, wiring_of}
 use Rattle.wq_core.specs.Deadlock.{IsSafe}
 use Rattle.wq_levels.specs.Ranks.{AreRanks}
 use Rattle.wq_deadlock.specs.Judging.{rescued_graph}
-use Rattle.wq_repair.specs.Changes.{IsRescued, HoldsAny, IsNamed, IsNamedLane, IsToBeCompared, lane_in}
+use Rattle.wq_repair.specs.Changes.{IsRescued, HoldsAny, IsNamed, IsNamedLane, HasMoved, IsToBeCompared, lane_in}
 use Rattle.wq_repair.specs.Marks.{IsMarked, Marks}
 use Rattle.wq_repair.specs.Together.{Lists, IsHomeOf, ArePutTogether}
 use Rattle.wq_repair.specs.Joined.{AreChangesNeeded, FallsAlongWaits}
@@ -41,7 +41,7 @@ pub record IsGraphOfNeeded (d : Declaration) (needed : List Bool) (graph : List 
   pub arcs : (g h : ℕ) → HasArc graph g h ↔ (IsMarked needed g × IsMarked needed h × GroupWaits d g h)
 
 -- it may be compared, all changes are needed, and numbers fall along all waits. A group is on each new lane, and on each
--- old one that has a rescuer now and had none
+-- old one that has a rescuer now and had none. Who moved to a lane that held somebody moved to a named one
 pub record IsMinimal (d : Declaration) (old : Workqueues) (names : List ℕ) (needed : List Bool) (new : Workqueues) : Type 0 where
   pub compared : IsToBeCompared d old names new
   pub changes : AreChangesNeeded d old new needed
@@ -51,6 +51,8 @@ pub record IsMinimal (d : Declaration) (old : Workqueues) (names : List ℕ) (ne
   pub bare : length new.bare ≤ new.assignment.lanes
   pub used : (q : ℕ) → old.assignment.lanes ≤ q → q < new.assignment.lanes → HoldsAny new q
   pub only : (q : ℕ) → q < old.assignment.lanes → IsRescued new q → IsRescued old q ⊎ HoldsAny new q
+  pub hosted : (g : ℕ) → g < d.groups → HasMoved old new g → HoldsAny old (lane_in new g)
+      → IsNamedLane d old names (lane_in new g)
 
 -- the group may be put back: its lane has a rescuer, or is given one
 abbrev pub IsTried : Workqueues → Scope → ℕ → Type 0

@@ -11,13 +11,15 @@ use Rattle.wq_core.specs.Deadlock.{IsSafe, Deadlocks}
 use Rattle.wq_deadlock.specs.Judging.{AreSafe, IsHang}
 use Rattle.wq_repair.specs.declared.answer.Answer.{Answer}
 use Rattle.wq_repair.specs.declared.answer.Answer.TheVariants as answer
-use Rattle.wq_repair.specs.Changes.{IsRescued, HoldsAny, IsNamed, IsToBeCompared, HasFewerChanges}
+use Rattle.wq_repair.specs.Changes.{IsRescued, HoldsAny, IsNamed, IsNamedLane, lane_in}
+use Rattle.wq_repair.specs.Changes.{HasMoved, IsToBeCompared, HasFewerChanges}
 use Rattle.wq_repair.specs.Needed.{AreUnneeded}
 use Rattle.wq_repair.specs.Joined.{NeededWaits, IsStart}
 
 -- the old workqueues deadlock and the new ones are safe; and whatever has only some of the changes deadlocks. No more
 -- lanes are made than there are groups, and the list that says which are bare isn't longer than they. A group is on each
--- new lane, and on each old one that has a rescuer now and had none
+-- new lane, and on each old one that has a rescuer now and had none. Who moved to a lane that held groups moved to one
+-- that held a group that may move
 pub record IsRepair (d : Declaration) (old : Workqueues) (names : List ℕ) (new : Workqueues) : Type 0 where
   pub deadlocked : Deadlocks (wiring_of d old)
   pub compared : IsToBeCompared d old names new
@@ -28,6 +30,8 @@ pub record IsRepair (d : Declaration) (old : Workqueues) (names : List ℕ) (new
   pub bare : length new.bare ≤ new.assignment.lanes
   pub used : (q : ℕ) → old.assignment.lanes ≤ q → q < new.assignment.lanes → HoldsAny new q
   pub only : (q : ℕ) → q < old.assignment.lanes → IsRescued new q → IsRescued old q ⊎ HoldsAny new q
+  pub hosted : (g : ℕ) → g < d.groups → HasMoved old new g → HoldsAny old (lane_in new g)
+      → IsNamedLane d old names (lane_in new g)
 
 -- no groups that need a rescuer wait in a circle; but a group may not move, and whatever may be compared deadlocks. The
 -- steps are the run that shows it of this start, in which each group that may move and needs a rescuer is alone. No more

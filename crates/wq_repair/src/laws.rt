@@ -9,7 +9,7 @@ ghost use Rattle.wq_core.specs.declared.step.Step.{Step};
 ghost use Rattle.wq_core.specs.Workqueues.{Workqueues, wiring_of};
 ghost use Rattle.wq_core.specs.Deadlock.{IsSafe, Deadlocks};
 ghost use Rattle.wq_deadlock.specs.Judging.{AreSafe};
-ghost use Rattle.wq_repair.specs.Changes.{IsRescued, HoldsAny, IsToBeCompared, HasFewerChanges, lane_in};
+ghost use Rattle.wq_repair.specs.Changes.{IsRescued, HoldsAny, HasMoved, IsToBeCompared, HasFewerChanges, lane_in};
 ghost use Rattle.wq_repair.specs.Needed.{NeedsRescuerOf};
 ghost use Rattle.wq_repair.specs.Joined.{become, NeededWaits, HangsRound, IsStart, NeedRescuers, AreChangesNeeded, FallsAlongWaits};
 ghost use Rattle.wq_repair.specs.Changes.{IsNamed, IsNamedLane};
@@ -98,6 +98,8 @@ pub fn needed_changes_make_a_repair()
         new.assignment.lanes ≤ max old.assignment.lanes d.groups → length new.bare ≤ new.assignment.lanes →
         ((q : ℕ) → old.assignment.lanes ≤ q → q < new.assignment.lanes → HoldsAny new q) →
         ((q : ℕ) → q < old.assignment.lanes → IsRescued new q → IsRescued old q ⊎ HoldsAny new q) →
+        ((g : ℕ) → g < d.groups → HasMoved old new g → HoldsAny old (lane_in new g) →
+        IsNamedLane d old names (lane_in new g)) →
         IsRepair d old names new }
 {}
 

@@ -1,8 +1,8 @@
 //! Where the groups go that aren't put back: to lanes of their rank.
 //!
 //! Ranks fall along every wait, and lanes that hold groups of the same rank can be put together. So a group goes to a
-//! lane on which a group of its rank stays, and else all of that rank go to an empty lane, or to a new one. It takes
-//! time and memory in the number of groups and lanes.
+//! lane on which a group of its rank stays, if a group was on it that may move; and else all of that rank go to an
+//! empty lane, or to a new one. It takes time and memory in the number of groups and lanes.
 
 ghost use Rattle.std.specs.Prelude.{◌≡◌, ◌<◌, ◌≤◌, ◌⊎◌, ℕ, length, slice_index, IfOk, IsSome, IsTrue};
 ghost use Rattle.wq_repair.specs.Changes.{IsRescued, lane_in};
@@ -11,8 +11,10 @@ ghost use Rattle.wq_repair.specs.Steps.{ArePlacedBy};
 ghost use Rattle.wq_repair.specs.Together.{AreListed, Lists};
 ghost use Rattle.wq_repair.specs.Lanes.{AreFree};
 ghost use Rattle.wq_repair.specs.Placing.{HasNoLane, AreLanesOfRanks, HasRanked, AreEmpty, AreTaken, AreRankedLanes};
+ghost use Rattle.wq_repair.specs.Placing.{AreHosted};
 
 use crate::lanes::{bare_now, lanes_with, nth_lane};
+use crate::named::named_lanes;
 use crate::start::free_lanes;
 use std::alloc::{AllocError, Allocator};
 use wq_core::Workqueues;
@@ -28,27 +30,33 @@ fn is_at_most(lane: Option<u16>, other: u16) -> bool
     }
 }
 
-/// The lowest lane of each rank, of the groups that need a rescuer and stay.
+/// The lowest named lane of each rank, of the groups that need a rescuer and stay.
 fn lanes_by_rank<A: Allocator + Copy>(
     alloc: A,
     old: &Workqueues<A>,
     stays: &[bool],
+    named: &[bool],
     ranks: &[u16],
     most: usize,
 ) -> Result<Vec<Option<u16>, A>, AllocError>
     requires stays { length stays.now ≡ length old.now.assignment.lane_of_group }
+    requires named { length named.now ≡ old.now.assignment.lanes }
     requires one_each { length ranks.now ≡ length old.now.assignment.lane_of_group }
     requires few { length stays.now ≤ 4096 }
     requires below { (g : ℕ) → g < length ranks.now → slice_index ranks.now g < most }
     ensures { IfOk result (λ lanes.
-        AreLanesOfRanks old.now stays.now ranks.now most (length stays.now) lanes.items) }
+        AreLanesOfRanks old.now stays.now named.now ranks.now most (length stays.now) lanes.items) }
 {
+    let _lanes = old.assignment().lanes();
     let mut lanes: Vec<Option<u16>, A> = vec![in alloc; None; most]?;
     for (group, does_stay) in stays.iter().enumerate() {
         if !*does_stay {
             continue;
         }
         let lane = old.assignment().lane(GroupId::new(group as u16)).get();
+        if !named[usize::from(lane)] {
+            continue;
+        }
         let rank = usize::from(ranks[group]);
         if is_at_most(lanes[rank], lane) {
             continue;
@@ -191,8 +199,9 @@ fn lanes_of_groups<A: Allocator + Copy>(
     Ok(lane_of)
 }
 
-/// The workqueues on which each group that leaves is on a lane of its rank, and all others stay. Lanes to which groups
-/// go have a rescuer, and so have those that are given one. `most` is above all ranks.
+/// The workqueues on which each group that leaves is on a lane of its rank, and all others stay. Of the lanes that hold
+/// groups, they go only to those that hold one that may move. Lanes to which groups go have a rescuer, and so have
+/// those that are given one. `most` is above all ranks.
 pub(crate) fn place<A: Allocator + Copy>(
     alloc: A,
     old: &Workqueues<A>,
@@ -201,6 +210,7 @@ pub(crate) fn place<A: Allocator + Copy>(
     leaves: &[bool],
     ranks: &[u16],
     most: usize,
+    movable: &[bool],
 ) -> Result<Workqueues<A>, AllocError>
     requires given { length given.now ≡ old.now.assignment.lanes }
     requires stays { length stays.now ≡ length old.now.assignment.lane_of_group }
@@ -209,6 +219,7 @@ pub(crate) fn place<A: Allocator + Copy>(
     requires few { length leaves.now ≤ 4096 }
     requires below { (g : ℕ) → g < length ranks.now → slice_index ranks.now g < most }
     requires ranks_few { most ≤ 4096 }
+    requires movable { length movable.now ≡ length old.now.assignment.lane_of_group }
     requires apart { (g : ℕ) → IsMarked stays.now g → ¬ IsMarked leaves.now g }
     requires same { (g h : ℕ) → IsMarked stays.now g → IsMarked stays.now h → lane_in old.now g ≡ lane_in old.now h →
         slice_index ranks.now g ≡ slice_index ranks.now h }
@@ -216,10 +227,12 @@ pub(crate) fn place<A: Allocator + Copy>(
         (h : ℕ) × (h < length leaves.now) × (lane_in old.now h ≡ lane_in old.now g) × (¬ IsMarked leaves.now h) }
     requires fine { (g : ℕ) → IsMarked stays.now g →
         IsRescued old.now (lane_in old.now g) ⊎ IsMarked given.now (lane_in old.now g) }
-    ensures { IfOk result (ArePlacedBy old.now given.now stays.now leaves.now ranks.now) }
+    ensures { IfOk result (λ new. ArePlacedBy old.now given.now stays.now leaves.now ranks.now new
+        × AreHosted old.now movable.now leaves.now new) }
 {
     let assignment = old.assignment();
-    let mut of_rank = lanes_by_rank(alloc, old, stays, ranks, most)?;
+    let named = named_lanes(alloc, old, movable)?;
+    let mut of_rank = lanes_by_rank(alloc, old, stays, named.as_slice(), ranks, most)?;
     let leave = ranks_that_leave(alloc, leaves, ranks, most)?;
     let empty = empty_lanes(alloc, old, leaves.len() as u16)?;
     let taken = take_lanes(

@@ -305,6 +305,7 @@ pub(crate) fn repaired<A: Allocator + Copy>(
         leaves.as_slice(),
         ranks.as_slice(),
         usize::from(lanes),
+        scope.movable.as_slice(),
     )
 }
 

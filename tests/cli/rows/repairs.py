@@ -97,6 +97,21 @@ REPAIRS = [
     ("item a / item x / item y / item z / flush a x y / flush y z", [("wq 0 a x y / wq 1 z", "x y", "wq 0 a / wq 1 z / wq 2 x y")]),
     # To the lowest-numbered workqueue of the same rank.
     ("item a / item x / item b / item y / flush a x / flush b y", [("wq 0 a x / wq 1 b / wq 2 y", "", "wq 0 a / wq 1 b / wq 2 x y")]),
+    # If it isn't named, to one that is; to an empty one; or to a new one.
+    ("item a / item x / item y / item z / flush a x", [
+        ("wq 0 a x / wq 1 y / wq 2 z", "", "wq 0 a / wq 1 x y / wq 2 z"),
+        ("wq 0 a x / wq 1 y / wq 2 z", "x z", "wq 0 a / wq 1 y / wq 2 x z"),
+        ("wq 0 a x / wq 1 y / wq 2 z", "x", "wq 0 a / wq 1 y / wq 2 z / wq 3 x"),
+        ("wq 0 a x / wq 1 y / norescuer 2 / wq 3 z", "x", "wq 0 a / wq 1 y / wq 2 x / wq 3 z"),
+        # Where a workqueue is given a rescuer, too.
+        ("wq 0 a x / norescuer 1 y / wq 2 z", "x y", "wq 0 a / norescuer 1 y / wq 2 z / wq 3 x"),
+    ]),
+    # Workqueue 1 is named, since y is on it, though y leaves it. Without this name it can't be repaired.
+    ("item b / item y / item t / item u / flush b y / flush t u / flush u y", [
+        ("wq 0 t u / wq 1 b y", "u y", "wq 0 t / wq 1 b u / wq 2 y"),
+        ("wq 0 t u / wq 1 b / wq 2 y", "u y", "wq 0 t / wq 1 b / wq 2 y / wq 3 u"),
+        ("wq 0 t u / wq 1 b / wq 2 y", "u b", "wq 0 t / wq 1 b u / wq 2 y"),
+    ]),
     # y has to have a rescuer where it is, and may not stay there.
     ("item a / item x / item y / flush a x / flush y a", [("wq 0 a / norescuer 1 x y", "y", "wq 0 a / wq 1 x / wq 2 y")]),
     # The second repair: one rescuer, in place of two moves.

@@ -6,9 +6,11 @@ use Rattle.wq_groups.specs.Declaration.{IsDeclaration, declaration_of}
 use Rattle.wq_groups.specs.Assignment.{Assignment}
 use Rattle.wq_groups.proofs.Declarations.{IsDeclaration-of}
 use Rattle.wq_graph.specs.Graph.{group_graph, without}
+use Rattle.wq_core.specs.Workqueues.{Workqueues}
 use Rattle.wq_repair.specs.Changes.{IsRescued, lane_in}
 use Rattle.wq_repair.specs.Marks.{IsMarked, Marks}
 use Rattle.wq_repair.specs.Steps.{ArePlacedBy}
+use Rattle.wq_repair.specs.Placing.{AreHosted}
 use Rattle.wq_repair.specs.Ready.{Scope, IsReady, IsGraphOfNeeded, IsButNot, IsPutBack, IsKeptTogether, IsMinimal, AreRanksOfGroups, placed_at}
 use Rattle.wq_repair.proofs.Answered.{IsGraphOfNeeded-without}
 use Rattle.wq_repair.proofs.Readied.{IsAssignment-start}
@@ -294,6 +296,11 @@ ranks_of_vertices-requires-clause-no_circle g c =
 
 pub place-requires-clause-given : goal.place-requires-clause-given
 place-requires-clause-given g c = ap length (c.as_slice-7.ensures.value ∙ ap (λ (x : Scope). x.given) c.scope.view_is) ∙ c.requires.ready.1.are_given.one_each
+
+pub place-requires-clause-movable : goal.place-requires-clause-movable
+place-requires-clause-movable g c =
+    ap length (c.as_slice-11.ensures.value ∙ ap (λ (x : Scope). x.movable) c.scope.view_is)
+    ∙ c.requires.ready.1.are_movable.one_each ∙ sym c.requires.ready.1.assignment.one_each
 
 pub place-requires-clause-stays : goal.place-requires-clause-stays
 place-requires-clause-stays g c =
@@ -659,6 +666,12 @@ returns g c =
     let within : All (λ (v : ℕ). v < start.assignment.lanes) two = within-by d old names s start declaration ready graph of one two back leaves stays put are_leaving are_staying kept in
     let ranks = c.as_slice-10.result.now in
     let of_groups : AreRanksOfGroups d (placed_at start two) ranks = subst (AreRanksOfGroups d (placed_at start two)) (sym c.as_slice-10.ensures.value) c.in_ok-ranks.ensures in
-    IfOk-weaker c.place.result (ArePlacedBy old c.as_slice-7.result.now stays leaves ranks) (λ new. (names : List ℕ) → IsReady d old names s start → IsMinimal d old names s.needed new)
+    IfOk-weaker c.place.result
+    (λ (new : Workqueues). ArePlacedBy old c.as_slice-7.result.now stays leaves ranks new
+    × AreHosted old c.as_slice-11.result.now leaves new)
+    (λ new. (names : List ℕ) → IsReady d old names s start → IsMinimal d old names s.needed new)
     (λ new placed all_names is_ready. IsMinimal-by d old all_names s start declaration is_ready graph of one two back leaves stays put are_leaving are_staying kept within few of_groups.of_lanes ranks of_groups.are of_groups.exactly new
-    (subst (λ (xs : List Bool). ArePlacedBy old xs stays leaves ranks new) (c.as_slice-7.ensures.value ∙ ap (λ (x : Scope). x.given) c.scope.view_is) placed)) c.place.ensures
+    (subst (λ (xs : List Bool). ArePlacedBy old xs stays leaves ranks new)
+    (c.as_slice-7.ensures.value ∙ ap (λ (x : Scope). x.given) c.scope.view_is) placed.0)
+    (subst (λ (xs : List Bool). AreHosted old xs leaves new)
+    (c.as_slice-11.ensures.value ∙ ap (λ (x : Scope). x.movable) c.scope.view_is) placed.1)) c.place.ensures
