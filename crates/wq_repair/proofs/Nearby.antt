@@ -1,9 +1,9 @@
 -- Sets of vertices that lead to one another, and what is left of them when two vertices become one.
-use Rattle.std.proofs.Common.{◌≡◌, ℕ, ◌<◌, ◌⊎◌, inl, inr, List, [], ◌∷◌, map, refl, sym, subst, ap, arith}
-use Rattle.std.specs.Prelude.{Contains, slice_index}
+use Rattle.std.proofs.Common.{◌≡◌, ℕ, inl, inr, List, [], ◌∷◌, map, refl, sym, subst}
+use Rattle.std.specs.Prelude.{slice_index}
 use Rattle.wq_items.specs.Chain.{IsChain, last_of}
 use Rattle.wq_repair.specs.Vertices.{LeadsOn, LeadsTo}
-use Rattle.wq_repair.specs.Near.{Holds, HoldsAt, GainsAt, AreLedTo, AreLeading, AreNear, LeadEitherWay}
+use Rattle.wq_repair.specs.Near.{HoldsAt, GainsAt, AreLedTo, AreLeading, AreNear}
 use Rattle.wq_repair.proofs.Chains.{LeadsTo-one, LeadsTo-more}
 use Rattle.wq_repair.proofs.NumberSets.{Holds-none}
 
@@ -11,46 +11,40 @@ LeadsTo-first : (R : ℕ → ℕ → Type 0) (p q z : ℕ) → R p q → LeadsTo
 LeadsTo-first R p q z step leads = record { others = q ∷ leads.others; chain = (step, leads.chain); step = leads.step }
 
 module _ (at : List ℕ) (heads : List (List ℕ)) where
-  pub AreLedTo-none : (sets : List (List ℕ)) → ((p k : ℕ) → ¬ HoldsAt sets p k) → AreLedTo at heads sets
-  AreLedTo-none sets none p k has = absurd (none p k has)
+  abbrev Leads : ℕ → ℕ → Type 0
+  Leads p q = LeadsTo (LeadsOn at heads) p q
 
-  pub AreLeading-none : (sets : List (List ℕ)) → ((p k : ℕ) → ¬ HoldsAt sets p k) → AreLeading at heads sets
-  AreLeading-none sets none p k has = absurd (none p k has)
+  module _ (sets mid new : List (List ℕ)) (v w : ℕ) (step : LeadsOn at heads v w) where
+    leads : Leads v w
+    leads = LeadsTo-one (LeadsOn at heads) v w step
 
-  -- v waits for w
-  pub AreLedTo-more : (sets mid new : List (List ℕ)) (v w : ℕ) → LeadsOn at heads v w → AreLedTo at heads sets
-      → GainsAt sets v (HoldsAt sets w) mid → GainsAt mid v (λ k. k ≡ w) new → AreLedTo at heads new
-  AreLedTo-more sets mid new v w step are one two p q has = elim (two p q has) [
-    | inl was ↦ elim (one p q was) [
-      | inl old ↦ are p q old
-      | inr more ↦ subst (λ (x : ℕ). LeadsTo (LeadsOn at heads) x q) (sym more.0) (LeadsTo-first (LeadsOn at heads) v w q step (are w q more.1))
+    -- v waits for w
+    pub AreLedTo-more : AreLedTo at heads sets → GainsAt sets v (HoldsAt sets w) mid
+        → GainsAt mid v (λ k. k ≡ w) new → AreLedTo at heads new
+    AreLedTo-more are one two p q has = elim (two p q has) [
+      | inl was ↦ elim (one p q was) [
+        | inl old ↦ are p q old
+        | inr more ↦ subst (λ x. Leads x q) (sym more.0) (LeadsTo-first (LeadsOn at heads) v w q step (are w q more.1))
+      ]
+      | inr more ↦ subst (λ x. Leads x q) (sym more.0) (subst (Leads v) (sym more.1) leads)
     ]
-    | inr more ↦
-        subst (λ (x : ℕ). LeadsTo (LeadsOn at heads) x q) (sym more.0) (subst (LeadsTo (LeadsOn at heads) v) (sym more.1) (LeadsTo-one (LeadsOn at heads) v w step))
-  ]
 
-  pub AreLeading-more : (sets mid new : List (List ℕ)) (v w : ℕ) → LeadsOn at heads v w → AreLeading at heads sets
-      → GainsAt sets w (HoldsAt sets v) mid → GainsAt mid w (λ k. k ≡ v) new → AreLeading at heads new
-  AreLeading-more sets mid new v w step are one two p q has = elim (two p q has) [
-    | inl was ↦ elim (one p q was) [
-      | inl old ↦ are p q old
-      | inr more ↦ subst (LeadsTo (LeadsOn at heads) q) (sym more.0) (LeadsTo-more (LeadsOn at heads) q v w (are v q more.1) step)
+    pub AreLeading-more : AreLeading at heads sets → GainsAt sets w (HoldsAt sets v) mid
+        → GainsAt mid w (λ k. k ≡ v) new → AreLeading at heads new
+    AreLeading-more are one two p q has = elim (two p q has) [
+      | inl was ↦ elim (one p q was) [
+        | inl old ↦ are p q old
+        | inr more ↦ subst (Leads q) (sym more.0) (LeadsTo-more (LeadsOn at heads) q v w (are v q more.1) step)
+      ]
+      | inr more ↦ subst (Leads q) (sym more.0) (subst (λ x. Leads x w) (sym more.1) leads)
     ]
-    | inr more ↦
-        subst (LeadsTo (LeadsOn at heads) q) (sym more.0) (subst (λ (x : ℕ). LeadsTo (LeadsOn at heads) x w) (sym more.1) (LeadsTo-one (LeadsOn at heads) v w step))
-  ]
 
   pub AreNear-none : (sets : List (List ℕ)) → sets ≡ [] → AreNear at heads sets
   AreNear-none sets none g h g_is h_is has =
-      let bad : HoldsAt [] (slice_index at g) (slice_index at h) = subst (λ (l : List (List ℕ)). HoldsAt l (slice_index at g) (slice_index at h)) none has in
-      absurd (Holds-none (slice_index at h) bad)
-
-  pub AreNear-both : (one two all : List (List ℕ)) → AreLedTo at heads one → AreLeading at heads two
-      → ((p k : ℕ) → HoldsAt all p k → HoldsAt one p k ⊎ HoldsAt two p k) → AreNear at heads all
-  AreNear-both one two all led leading either g h g_is h_is has = elim (either (slice_index at g) (slice_index at h) has) [
-    | inl to ↦ inl (led (slice_index at g) (slice_index at h) to)
-    | inr from ↦ inr (leading (slice_index at g) (slice_index at h) from)
-  ]
+      let p = slice_index at g in
+      let q = slice_index at h in
+      let bad : HoldsAt [] p q = subst (λ (l : List (List ℕ)). HoldsAt l p q) none has in
+      absurd (Holds-none q bad)
 
 -- chains go over to other vertices where steps do
 module _ (R S : ℕ → ℕ → Type 0) (f : ℕ → ℕ) (keeps : (x y : ℕ) → R x y → S (f x) (f y)) where

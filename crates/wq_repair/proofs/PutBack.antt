@@ -1,15 +1,13 @@
 -- What groups that are put back may rely on: they are alone, and homes hold none of them.
-use Rattle.std.proofs.Common.{◌≡◌, ◌≢◌, ℕ, ◌<◌, inl, inr, Bool, List, length, refl, sym, subst, ◌∙◌, arith}
+use Rattle.std.proofs.Common.{◌≡◌, ◌≢◌, ℕ, ◌<◌, inl, inr, Bool, List, length, sym, subst, ◌∙◌, arith}
 use Rattle.std.specs.Prelude.{◌↔◌, Option, slice_index, Contains, AllPairs}
-use Rattle.wq_items.specs.Chain.{Circle, Repeats}
+use Rattle.wq_items.specs.Chain.{Repeats}
 use Rattle.wq_groups.specs.Declaration.{Declaration}
 use Rattle.wq_graph.specs.declared.arc.WaitArc.{WaitArc}
-use Rattle.wq_graph.specs.Graph.{HasArc}
 use Rattle.wq_core.specs.Workqueues.{Workqueues}
-use Rattle.wq_core.proofs.LaneCircles.{Circle-map}
 use Rattle.wq_repair.specs.Changes.{lane_in}
 use Rattle.wq_repair.specs.Marks.{IsMarked, Marks}
-use Rattle.wq_repair.specs.Together.{Lists, ArcBetween, IsAlone, IsHomeOf, AreHomes, IsAtHome}
+use Rattle.wq_repair.specs.Together.{Lists, IsAlone, IsHomeOf, AreHomes, IsAtHome}
 use Rattle.wq_repair.specs.Ready.{Scope, IsReady, IsTried, HoldsNeeded, IsButNot, IsPutBack}
 use Rattle.wq_repair.proofs.StartsBy.{cases_marked}
 use Rattle.wq_repair.proofs.StartMade.{IsMarked-below}
@@ -79,8 +77,3 @@ module _ (d : Declaration) (old : Workqueues) (names : List ℕ) (s : Scope) (st
         let is : g < length s.movable = omega (arith, IsMarked-below leaves g marked, are_leaving.one_each) in
         let parts = (are_leaving.exactly g is).0 marked in
         put.together.alone g (omega (arith, is, start_long)) (λ h h_lt same. sym (ready.by.alone g h is (omega (arith, h_lt, start_long)) parts.0 (sym same))) (not_home g is parts.0 parts.1)
-
--- an arc of the graph of groups is one between their vertices
-pub Circle-between : (graph : List (List WaitArc)) (at : List ℕ) → Circle (HasArc graph) → Circle (ArcBetween graph at)
-Circle-between graph at circle =
-    Circle-map (HasArc graph) (ArcBetween graph at) (slice_index at) (λ g h arc. record { from = g; to = h; arc = arc; leaves = refl; leads = refl }) circle

@@ -295,7 +295,8 @@ fn join_unless_near<A: Allocator + Copy>(
     requires apart { slice_index joined.old.at group ≢ vertex }
     requires alone { IsAlone joined.old.at group }
     ensures joined { IfOk result (λ is. IsJoined joined.old group vertex is joined.new) }
-    ensures near { IfOk result (λ _. AreNear joined.new.at joined.new.heads (map (λ s. s.words.items) near.new.sets.items)) }
+    ensures near { IfOk result (λ _.
+        AreNear joined.new.at joined.new.heads (map (λ s. s.words.items) near.new.sets.items)) }
 {
     let own = joined.vertex(group);
     if near.has(vertex, own) {
@@ -324,10 +325,12 @@ fn put_at_home<A: Allocator + Copy>(
     requires lane { lane < length homes.old }
     requires group { group < length joined.old.at }
     requires homes { (p : ℕ) → slice_index_or homes.old lane None ≡ Some p
-        → ((h : ℕ) × (h < length joined.old.at) × (slice_index joined.old.at h ≡ p)) × (slice_index joined.old.at group ≢ p) }
+        → ((h : ℕ) × (h < length joined.old.at) × (slice_index joined.old.at h ≡ p))
+        × (slice_index joined.old.at group ≢ p) }
     requires alone { IsAlone joined.old.at group }
     ensures put { IfOk result (λ is. IsPutAtHome joined.old homes.old lane group is joined.new homes.new) }
-    ensures near { IfOk result (λ _. AreNear joined.new.at joined.new.heads (map (λ s. s.words.items) near.new.sets.items)) }
+    ensures near { IfOk result (λ _.
+        AreNear joined.new.at joined.new.heads (map (λ s. s.words.items) near.new.sets.items)) }
 {
     let at = usize::from(lane.get());
     match homes[at] {
