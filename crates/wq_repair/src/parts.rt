@@ -1,9 +1,9 @@
 //! Vertices that become one, part by part, and which of some lead to one another.
 //!
-//! Those that are one wait for all for whom one of them waits. Whoever leads to a part is told so along all waits, in an
-//! order in which each part comes before those to which it leads, as in A. B. Kahn, "Topological sorting of large
-//! networks" (Communications of the ACM 5, 1962), for 64 vertices at a time, a bit for each. It takes time in the number
-//! of vertices and waits, times that of vertices asked about by 64; memory in the number of vertices and waits.
+//! Those that are one wait for all for whom one of them waits. Who leads to a part is told along all waits, in an order
+//! in which each part comes before those to which it leads, as in A. B. Kahn, "Topological sorting of large networks"
+//! (Communications of the ACM 5, 1962), for 64 vertices at a time, a bit for each. It takes time in the number of
+//! vertices and waits, times that of vertices asked about by 64; memory in the number of vertices and waits.
 
 use crate::bits::{Numbers, empty_sets};
 use std::alloc::{AllocError, Allocator};
@@ -28,8 +28,8 @@ pub(crate) struct Parts<A: Allocator> {
 }
 
 impl<A: Allocator + Copy> Parts<A> {
-    /// Each vertex is a part. `vertex_of` has the vertex of each group, and `heads` for each vertex the groups for which
-    /// those at it wait.
+    /// Each vertex is a part. `vertex_of` has the vertex of each group, and `heads` for each vertex the groups for
+    /// which those at it wait.
     pub(crate) fn new(
         alloc: A,
         vertex_of: &[u16],
