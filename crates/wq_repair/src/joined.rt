@@ -14,9 +14,9 @@ ghost use Rattle.wq_repair.specs.Near.{AreNear};
 ghost use Rattle.wq_repair.specs.Together.{AreHomes, ArePutTogether, IsAlone};
 ghost use Rattle.wq_repair.specs.Vertices.{AreHeads, AreVertices, IsJoined, IsLevelled, IsPutAtHome, heads_moved};
 
-use crate::bits::Numbers;
 use crate::levels::{level, lowered};
-use crate::near::{Near, leading_to};
+use crate::near::Near;
+use crate::parts::Parts;
 use std::alloc::{AllocError, Allocator};
 use std::marker::Model;
 use std::mem::replace;
@@ -231,11 +231,9 @@ impl<A: Allocator + Copy> Joined<A> {
         Ok(())
     }
 
-    /// For each vertex those that lead to it.
-    pub(crate) fn leading_to(&self, alloc: A) -> Result<Vec<Numbers<A>, A>, AllocError>
-        requires { AreVertices self.now }
-    {
-        leading_to(alloc, &self.vertex_of, &self.heads, &self.heights)
+    /// Each vertex as a part.
+    pub(crate) fn parts(&self, alloc: A) -> Result<Parts<A>, AllocError> {
+        Parts::new(alloc, &self.vertex_of, &self.heads)
     }
 
     /// Notes that a search found a circle.

@@ -19,6 +19,7 @@ mod named;
 mod near;
 mod needed;
 mod order;
+mod parts;
 mod placing;
 mod repairing;
 mod scope;
