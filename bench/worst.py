@@ -166,6 +166,18 @@ def across():
     return [(i, (i + numbers.choice((1, 2, 3, 16))) % ITEMS) for i in range(ITEMS) for _ in range(4)]
 
 
+def in_layers(width):
+    """Layers of so many items, each of which flushes four random ones of the next layer."""
+    numbers = random.Random(7)
+    return [(i, i // width * width + width + numbers.randrange(width)) for i in range(ITEMS - width) for _ in range(4)]
+
+
+def few(count):
+    """So many random flushes of later items."""
+    numbers = random.Random(1)
+    return [tuple(sorted(numbers.sample(range(ITEMS), 2))) for _ in range(count)]
+
+
 def near(width):
     """Each item flushes four random ones of the next so many."""
     numbers = random.Random(1)
@@ -364,6 +376,13 @@ def repairs():
     yield "flushes of the next 512, 64 workqueues", on_near, in_turn(64), []
     yield "flushes of the next 512, 2,048 workqueues", on_near, in_turn(2_048), []
     yield "layers, 64 workqueues, every other without a rescuer", declaration(ITEMS, layers()), in_turn_with_bare(64, 2), []
+    yield "random flushes, one workqueue", declaration(ITEMS, falling(3)), one(), []
+    yield "random flushes, 512 workqueues, every other without a rescuer", declaration(ITEMS, falling(3)), in_turn_with_bare(512, 2), []
+    for width in 64, 1_024:
+        yield (f"layers of {width:,} other items, 512 workqueues, every other without a rescuer",
+               declaration(ITEMS, shuffled(in_layers(width))), in_turn_with_bare(512, 2), [])
+    yield "4,000 random flushes, 2,048 workqueues", declaration(ITEMS, few(4_000)), in_turn(2_048), []
+    yield "100 random flushes, 64 workqueues", declaration(ITEMS, few(100)), in_turn(64), []
 
 
 COLLIDING = "names that collide for the seed 0"
