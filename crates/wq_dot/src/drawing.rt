@@ -55,6 +55,8 @@ pub fn drawing_text<A: Allocator + Copy>(
         ≡ drawing_text table.now groups.now (record { assignment = assignment.now; bare = bare.now })
         (map (λ n. n.now) called.now) title.now looks.now (map (λ c. c.now) comments.now)) }
 {
+    // What holds of all groups.
+    let _groups = groups.len();
     let workqueues = assignment.lanes();
     let lanes = assignment.lanes_of_groups(alloc)?;
     let by_workqueue = Buckets::new(alloc, &lanes, workqueues)?;

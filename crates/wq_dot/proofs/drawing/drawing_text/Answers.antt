@@ -14,6 +14,11 @@ use Rattle.wq_dot.proofs.Lines.{text_of, text_of-more, text_of-line, text_of-who
 use Rattle.wq_dot.proofs.Workqueues.{groups_on-below, groups_on-bucket}
 use Rattle.wq_dot.proofs.drawing.drawing_text.Goals as goal
 
+pub new-requires-clause-few : goal.new-requires-clause-few
+new-requires-clause-few g c =
+    let long = ap length (c.deref.ensures.value ∙ c.in_ok-lanes.ensures.lanes) in
+    omega (arith, long, c.requires.assigned, c.len-groups.ensures.len, c.len-groups.ensures.few)
+
 pub places-own-requires : goal.places-own-requires
 places-own-requires g c =
     let many = ap length c.in_ok-by_workqueue.ensures.buckets ∙ length-map-range_with_len (places_of c.deref.result.now) 0 c.lanes-workqueues.result in
