@@ -991,7 +991,7 @@ def look_at_repair(*texts):
     demand(moved <= case.named and given <= case.workqueue_named, "only what is named changes")
     went_to = {new.workqueue_of[declared.groups[group][0]] for group in moved}
     of_others = {number for number in case.workqueues if case.on[number]} - case.workqueue_named
-    demand(not went_to & of_others, "nothing moves to a workqueue of others")
+    demand(not went_to & of_others, "nothing moves to a workqueue that held nobody named")
     for other in one_change_less(case, new) if len(moved) < 100 else []:
         other_moved, other_given = case.changes(other)
         demand(other_moved <= moved and other_given <= given and not case.is_safe(other), "no change can be left out alone")
