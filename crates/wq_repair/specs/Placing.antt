@@ -21,7 +21,8 @@ pub record HoldsRanked (old : Workqueues) (marks : List Bool) (ranks : List ℕ)
   pub ranked : slice_index ranks group ≡ r
   pub on : lane_in old group ≡ q
 
--- for each of `most` ranks a named lane on which a marked group of this rank is, if one of the first `groups` is
+-- for each of `most` ranks a named lane on which a marked group of this rank is, if one of the first `groups` is on a
+-- named lane
 pub record AreLanesOfRanks (old : Workqueues) (marks named : List Bool) (ranks : List ℕ) (most groups : ℕ)
     (of_rank : List (Option ℕ)) : Type 0 where
   pub one_each : length of_rank ≡ most
@@ -62,7 +63,7 @@ pub record AreRankedLanes (old : Workqueues) (marks : List Bool) (ranks : List �
   pub marked : (g : ℕ) → g < groups → IsMarked marks g → IsLaneOfRank of_rank (slice_index ranks g) (slice_index lane_of g)
   pub others : (g : ℕ) → g < groups → (¬ IsMarked marks g) → slice_index lane_of g ≡ lane_in old g
 
--- where who leaves comes to a lane that held somebody, a group was on it that may move
+-- where who leaves comes to a lane that held somebody, a movable group was on it
 abbrev pub AreHosted : Workqueues → List Bool → List Bool → Workqueues → Type 0
 AreHosted old movable leaves new = (g : ℕ) → g < length leaves → IsMarked leaves g → HoldsAny old (lane_in new g)
     → HoldsMarked old movable (lane_in new g)

@@ -1,8 +1,9 @@
 //! Where the groups go that aren't put back: to lanes of their rank.
 //!
 //! Ranks fall along every wait, and lanes that hold groups of the same rank can be put together. So a group goes to a
-//! lane on which a group of its rank stays, if a group was on it that may move; and else all of that rank go to an
-//! empty lane, or to a new one. It takes time and memory in the number of groups and lanes.
+//! lane on which a group of its rank stays, if a movable group was on it; and else all of that rank go to an empty
+//! lane, or to a new one. (All groups need a rescuer on a lane to which groups go. So a movable group was on it
+//! exactly if it is named.) It takes time and memory in the number of groups and lanes.
 
 ghost use Rattle.std.specs.Prelude.{◌≡◌, ◌<◌, ◌≤◌, ◌⊎◌, ℕ, length, slice_index, IfOk, IsSome, IsTrue};
 ghost use Rattle.wq_repair.specs.Changes.{IsRescued, lane_in};
