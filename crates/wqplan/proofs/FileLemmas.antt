@@ -36,7 +36,8 @@ module _ {F : Type 0} (Opens : Text → Option F → Type 0) where
 
   -- ---- all are opened
 
-  pub all_opened : (paths : Files (Bor Text)) (files : Files F) → AreOpened Opens paths files → All (IsOpened Opens) (paths_of paths)
+  pub all_opened : (paths : Files (Bor Text)) (files : Files F) → AreOpened Opens paths files
+      → All (IsOpened Opens) (paths_of paths)
   all_opened (One first) (One a) opened = All-cons (IsOpened Opens) first.now [] (a, opened) (All-nil (IsOpened Opens))
   all_opened (Two first second) (Two a b) opened =
       All-cons (IsOpened Opens) first.now (second.now ∷ []) (a, opened.0)
@@ -55,7 +56,8 @@ module _ {F : Type 0} (Opens : Text → Option F → Type 0) where
   -- ---- the texts of what is opened
 
   module _ (remaining : F → Option (List ℕ)) where
-    holds_if : (limit : Option ℕ) (path : Text) (a : F) (text : List ℕ) → Opens path (Some a) → IsInputIf limit (remaining a) text
+    holds_if : (limit : Option ℕ) (path : Text) (a : F) (text : List ℕ) → Opens path (Some a)
+        → IsInputIf limit (remaining a) text
         → HoldsIf (Has Opens remaining) limit path text
     holds_if None path a text opened given = given
     holds_if (Some limit) path a text opened given = (a, opened, given)
@@ -67,26 +69,32 @@ module _ {F : Type 0} (Opens : Text → Option F → Type 0) where
       have_one (Two first second) a opened given = absurd opened
       have_one (Three first second third) a opened given = absurd opened
 
-      pub have_two : (paths : Files (Bor Text)) (a b : F) → AreOpened Opens paths (Two a b) → IsInput (remaining a) t.first
+      pub have_two : (paths : Files (Bor Text)) (a b : F) → AreOpened Opens paths (Two a b)
+          → IsInput (remaining a) t.first
           → IsInputIf limits.second (remaining b) t.second → HaveTexts (Has Opens remaining) limits paths t
       have_two (One first) a b opened given other = absurd opened
       have_two (Two first second) a b opened given other =
           ((a, opened.0, given), holds_if limits.second second.now b t.second opened.1 other)
       have_two (Three first second third) a b opened given other = absurd opened
 
-      pub have_three : (paths : Files (Bor Text)) (a b d : F) → AreOpened Opens paths (Three a b d) → IsInput (remaining a) t.first
+      pub have_three : (paths : Files (Bor Text)) (a b d : F) → AreOpened Opens paths (Three a b d)
+          → IsInput (remaining a) t.first
           → IsInputIf limits.second (remaining b) t.second → IsInputIf limits.third (remaining d) t.third
           → HaveTexts (Has Opens remaining) limits paths t
       have_three (One first) a b d opened given other last = absurd opened
       have_three (Two first second) a b d opened given other last = absurd opened
-      have_three (Three first second third) a b d opened given other last =
-          ((a, opened.0, given), holds_if limits.second second.now b t.second opened.1 other, holds_if limits.third third.now d t.third opened.2 last)
+      have_three (Three first second third) a b d opened given other last = (
+        (a, opened.0, given),
+        holds_if limits.second second.now b t.second opened.1 other,
+        holds_if limits.third third.now d t.third opened.2 last,
+      )
 
   -- ---- no seed
 
   module _ (Seeds : Option ℕ → Type 0) where
     -- without a seed nothing but `explain` is carried out
-    pub unready_asked : (InputFailed : Type 0) (request : Request) → ((code : Option (Bor Text)) → ¬ (request ≡ asks.Explain code)) → Seeds None
+    pub unready_asked : (InputFailed : Type 0) (request : Request)
+        → ((code : Option (Bor Text)) → ¬ (request ≡ asks.Explain code)) → Seeds None
         → IsCaused Seeds Opens InputFailed (spelled request) (Err (Common Read))
     unready_asked InputFailed (asks.Plan None) other none = inl (inl none)
     unready_asked InputFailed (asks.Plan (Some file)) other none = inl (inl none)
@@ -103,13 +111,16 @@ module _ {F : Type 0} (Opens : Text → Option F → Type 0) where
 -- ---- how a command ends
 
 -- a command that ended on files ended as it is to
-module _ {W : Type 0} (contents : W → Option (List ℕ)) (old new : Meter W) (Holds : Text → List ℕ → Type 0) (limits : Limits)
-    (Answers : Given → Outcome → List ℕ → Type 0) (paths : Files (Bor Text)) (Ends : End → List ℕ → Type 0)
-    (f : (o : Outcome) (t : Given) (out : List ℕ) → HaveTexts Holds limits paths t → Answers (kept limits t) o out → Ends o.end out) where
+module _ {W : Type 0} (contents : W → Option (List ℕ)) (old new : Meter W)
+    (Holds : Text → List ℕ → Type 0) (limits : Limits) (Answers : Given → Outcome → List ℕ → Type 0)
+    (paths : Files (Bor Text)) (Ends : End → List ℕ → Type 0)
+    (f : (o : Outcome) (t : Given) (out : List ℕ) → HaveTexts Holds limits paths t → Answers (kept limits t) o out
+    → Ends o.end out) where
   end_on : (end : End) (out : List ℕ) → EndsFiles Holds limits Answers paths end out → Ends end out
   end_on end out h = subst (λ e. Ends e out) (sym h.2) (f h.0 h.1 out h.3 h.4)
 
-  pub ends_on_files : (result : Result End CommandFault) → EndedBy contents old new (EndsFiles Holds limits Answers paths) result → EndedBy contents old new Ends result
+  pub ends_on_files : (result : Result End CommandFault)
+      → EndedBy contents old new (EndsFiles Holds limits Answers paths) result → EndedBy contents old new Ends result
   ends_on_files (Ok end) h = (h.0, end_on end h.0 h.1, h.2, h.3)
   ends_on_files (Err (Common Write)) h = (h.0, h.1, end_on h.0 h.1 h.2, h.3, h.4)
   ends_on_files (Err (Common Read)) h = h
@@ -118,7 +129,9 @@ module _ {W : Type 0} (contents : W → Option (List ℕ)) (old new : Meter W) (
   ends_on_files (Err Tally) h = h
 
 -- a command ended as what is asked for does
-pub ends_as : {W : Type 0} (contents : W → Option (List ℕ)) (old new : Meter W) (Holds : Text → List ℕ → Type 0) (Input : List ℕ → Type 0)
-    (request same : Request) (result : Result End CommandFault) → request ≡ same
-    → EndedBy contents old new (EndsAsAsked Holds Input (spelled same)) result → EndedBy contents old new (EndsAsAsked Holds Input (spelled request)) result
-ends_as contents old new Holds Input request same result is = subst (λ r. EndedBy contents old new (EndsAsAsked Holds Input (spelled r)) result) (sym is)
+pub ends_as : {W : Type 0} (contents : W → Option (List ℕ)) (old new : Meter W) (Holds : Text → List ℕ → Type 0)
+    (Input : List ℕ → Type 0) (request same : Request) (result : Result End CommandFault) → request ≡ same
+    → EndedBy contents old new (EndsAsAsked Holds Input (spelled same)) result
+    → EndedBy contents old new (EndsAsAsked Holds Input (spelled request)) result
+ends_as contents old new Holds Input request same result is =
+    subst (λ r. EndedBy contents old new (EndsAsAsked Holds Input (spelled r)) result) (sym is)

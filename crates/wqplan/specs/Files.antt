@@ -38,7 +38,8 @@ HaveTexts Holds limits (Three first second third) texts =
     × HoldsIf Holds limits.third third.now texts.third
 
 -- a command with these limits and answers ends like this with this answer, if the files at these paths have its texts
-abbrev pub EndsFiles : (Text → List ℕ → Type 0) → Limits → (Given → Outcome → List ℕ → Type 0) → Files (Bor Text) → End → List ℕ → Type 0
+abbrev pub EndsFiles : (Text → List ℕ → Type 0) → Limits → (Given → Outcome → List ℕ → Type 0) → Files (Bor Text)
+    → End → List ℕ → Type 0
 EndsFiles Holds limits Answers paths end out =
     (outcome : Outcome) × (texts : Given) × (end ≡ outcome.end)
     × HaveTexts Holds limits paths texts × Answers (kept limits texts) outcome out

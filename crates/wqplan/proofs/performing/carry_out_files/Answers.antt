@@ -9,7 +9,7 @@ pub returns-in-One-clause-ended : goal.returns-in-One-clause-ended
 returns-in-One-clause-ended g c =
     let Opens = g.O.World.opens c.args.world.now in
     let opened = subst (AreOpened Opens c.args.paths) c.in-One.is c.in-Some.ensures.opened in
-    let on = c.carry_out_on-in-One in
+    let on = c.carry_out_on in
     ended_by g.W.Write.contents c.args.writer.now on.new.writer _ _ _
     (λ o t out from answer. (
       o,
@@ -19,7 +19,7 @@ returns-in-One-clause-ended g c =
           c.in-One.first opened from.0,
       answer,
     ))
-    on.result c.end_of-in-One.result c.end_of-in-One.ensures on.ensures.answered on.ensures.prefix on.ensures.untouched
+    on.result c.end_of.result c.end_of.ensures on.ensures.answered on.ensures.prefix on.ensures.untouched
     on.ensures.write_failed on.ensures.no_write_failed
 
 pub returns-in-One-clause-caused : goal.returns-in-One-clause-caused
@@ -27,7 +27,7 @@ returns-in-One-clause-caused g c =
     let Opens = g.O.World.opens c.args.world.now in
     files_caused (g.O.World.seeds c.args.world.now) Opens (paths_of c.args.paths)
     ((_, c.requires.drawn), all_opened Opens c.args.paths c.in-Some.files c.in-Some.ensures.opened)
-    c.carry_out_on-in-One.result c.end_of-in-One.result c.end_of-in-One.ensures
+    c.carry_out_on.result c.end_of.result c.end_of.ensures
 
 pub returns-in-Two-clause-ended : goal.returns-in-Two-clause-ended
 returns-in-Two-clause-ended g c =
