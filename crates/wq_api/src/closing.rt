@@ -7,6 +7,7 @@ ghost use Rattle.std.specs.Prelude.{◌≡◌, vec_len, IfOk, IfErr};
 ghost use Rattle.wq_held.specs.Locked.{RefusesClose};
 ghost use Rattle.wq_held.specs.Closing.{IsClosed};
 ghost use Rattle.wq_api.specs.Locking.{UnderLock};
+ghost use Rattle.wq_api.specs.Taking.{Destroys};
 
 use crate::runtime::WqRuntime;
 use crate::turns::Uncounted;
@@ -27,7 +28,9 @@ pub struct CloseRefused<N: Naming, A: Allocator> {
 
 impl<N: Naming, A: Allocator> WqRuntime<N, A> {
     /// Refuses queueings from now on, and waits until no entry is unfinished (`destroy_workqueue`, for all workqueues).
-    pub fn destroy<R: Wait>(&self, rt: &R) {
+    pub fn destroy<R: Wait>(&self, rt: &R)
+        ensures took { Destroys N.wiring N.rows }
+    {
         let _closed = self.settle(rt, Uncounted::Close);
         let _idle = self.settle(rt, Uncounted::Drain);
     }

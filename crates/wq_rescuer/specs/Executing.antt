@@ -4,12 +4,15 @@ use Rattle.std.specs.List.{sum_by, range_with_len}
 use Rattle.wq_core.specs.Wiring.{Wiring, items, HasContext}
 use Rattle.wq_counts.specs.declared.kind.Kind.TheVariants.{Finish}
 use Rattle.wq_counts.specs.Counting.{counts_each, made, raised}
+use Rattle.wq_history.specs.declared.call.Call.TheVariants.{Start}
+use Rattle.wq_history.specs.declared.call.Reply.TheVariants.{Done}
 use Rattle.wq_history.specs.declared.fault.CallError.{CallError}
 use Rattle.wq_history.specs.declared.fault.CallError.TheVariants.{HistoryFull, Closed, NoItem}
 use Rattle.wq_history.specs.Errors.{call_code}
 use Rattle.wq_held.specs.Locked.{IsOnLane, SeatHasRoom, seat_rows, slots}
 use Rattle.wq_api.specs.WaitingCalls.{IsHelper}
 use Rattle.wq_api.specs.Locking.{WasWrongToStartIn}
+use Rattle.wq_api.specs.Taking.{context_of, IsAnswered}
 use Rattle.wq_rescuer.specs.declared.body.BodyFault.{BodyFault}
 use Rattle.wq_rescuer.specs.declared.rescuing.Rescued.{Rescued}
 
@@ -110,6 +113,10 @@ abbrev pub Executes : (ℕ → Result (Unit {0}) BodyFault → List ℕ → List
     → Result Rescued CallError → Type 0
 Executes may old new (Ok rescued) = HasExecuted may old new rescued.finished rescued.faults
 Executes may old new (Err e) = HasStopped may old new
+
+-- context c of lane q was given nothing to start, by a book that the lock may protect, since its lane had ended
+abbrev pub HasEnded : Wiring → ℕ → ℕ → ℕ → Type 0
+HasEnded w rows q c = IsAnswered w rows (Start (context_of q c)) (Ok Done)
 
 -- ---- refusals
 
