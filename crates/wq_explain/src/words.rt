@@ -32,7 +32,8 @@ const WQ: Explanation = (
     "wq answer\n",
     "\
 `wq Q NAME..`: these items are on workqueue Q. In a plan each item waits only
-for items on workqueues with lower numbers.
+for items on workqueues with lower numbers. The lines that `repair` prints are
+safe workqueues, and standard error names each change.
 
 The rule: docs/FORMAT.md, \"Plan texts\"
 
@@ -42,7 +43,8 @@ To see it:
 What to do:
 Queue these items on one workqueue. Lines of this form are an assignment, too:
 write those of the driver as it is today, with `norescuer` in place of `wq` for
-a workqueue without `WQ_MEM_RECLAIM`, and ask `wqplan deadlock`.
+a workqueue without `WQ_MEM_RECLAIM`, and ask `wqplan deadlock` whether they can
+hang, and `wqplan repair` what to change then.
 ",
 );
 
@@ -117,7 +119,9 @@ const RUN: Explanation = (
 and at their end nothing is sure to go on. `queue` puts an item on its
 workqueue, `start` runs it in the workqueue's rescuer, the one context that is
 sure to be there, `wait` and `over` begin and end a flush in it, `waitwq` and
-`overwq` one of a whole workqueue, and `finish` ends it.
+`overwq` one of a whole workqueue, and `finish` ends it. `repair` prints one
+where the items that it was told may move aren't enough: of the workqueues that
+standard error lists.
 
 The rule: docs/FORMAT.md, \"Run texts\"
 
@@ -319,8 +323,9 @@ To see it:
 
 What to do:
 Take flushes out of the driver until no circle is left, or put items on other
-workqueues: `wqplan plan` prints an assignment if there is one. `wqplan dot`
-draws these flushes in red.
+workqueues: `wqplan repair` prints what to change, and `wqplan plan` the fewest
+workqueues for a new driver, if there are any. `wqplan dot` draws these flushes
+in red.
 ",
 );
 
