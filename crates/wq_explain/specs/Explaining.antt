@@ -1,5 +1,6 @@
 -- What is printed for a word: the explanation that it names, or the list of all.
-use Rattle.std.specs.Prelude.{◌==◌, ◌++◌, ◌^◌, ◌&&◌, ℕ, Bool, false, List, [], ◌∷◌, Option, Some, None, codes, cond, find, flat_map, length, map, nat_lt}
+use Rattle.std.specs.Prelude.{◌==◌, ◌++◌, ◌^◌, ◌&&◌, ℕ, Bool, false, List, [], ◌∷◌, Option, Some, None, codes, cond}
+use Rattle.std.specs.Prelude.{find, flat_map, length, map, nat_lt}
 use Rattle.std.specs.Borrow.{Bor}
 use Rattle.std.specs.Char.{digit_value, to_ascii_lowercase}
 use Rattle.std.specs.List.{list_all}
@@ -10,26 +11,27 @@ use Rattle.wq_explain.specs.declared.explain.Explained.TheVariants.{Known, Unkno
 use Rattle.wq_explain.specs.declared.words.TheConstants.{WORDS}
 use Rattle.wq_explain.specs.declared.table.TheConstants.{EXPLANATIONS}
 
--- the numbers that have an explanation: those of a refused declaration, of a refused certificate, of a `no`, and of a plan that
--- is refused because it has too many workqueues to run
+-- the numbers that have an explanation: those of a refused declaration, of a refused certificate, of a `no`, and of a
+-- plan that is refused because it has too many workqueues to run
 abbrev pub numbers : List ℕ
 numbers = 1 ∷ 2 ∷ 3 ∷ 4 ∷ 5 ∷ 6 ∷ 7 ∷ 8 ∷ 9 ∷ 10 ∷ 11 ∷ 12 ∷ 40 ∷ 41 ∷ 42 ∷ 43 ∷ 50 ∷ 51 ∷ 52 ∷ 53 ∷ 54 ∷ 69 ∷ []
 
--- the names that have an explanation: those of the numbers, in their order, those of the faults, the words with which lines of
--- answers begin, and the directives
+-- the names that have an explanation: those of the numbers, in their order, those of the faults, the words with which
+-- lines of answers begin, and the directives
 abbrev pub names : List (List ℕ)
 names =
-    codes "TextTooLong" ∷ codes "LineTooLong" ∷ codes "BadByte" ∷ codes "UnknownWord" ∷ codes "MissingName" ∷ codes "BadName"
-    ∷ codes "ItemTwice" ∷ codes "UnknownItem" ∷ codes "TooManyItems" ∷ codes "TooManyFlushes" ∷ codes "GroupedTwice"
-    ∷ codes "ExtraWord" ∷ codes "BadCertLine" ∷ codes "NotAllItems" ∷ codes "GroupSplit" ∷ codes "NumberOutOfRange"
-    ∷ codes "NotFalling" ∷ codes "ChainBroken" ∷ codes "LengthDiffers" ∷ codes "CircleBroken" ∷ codes "RunBroken"
-    ∷ codes "TooManyLanes" ∷ codes "read" ∷ codes "memory" ∷ codes "thread" ∷ codes "tally" ∷ codes "write"
-    ∷ codes "plan" ∷ codes "wq" ∷ codes "chain" ∷ codes "arc" ∷ codes "circle" ∷ codes "run" ∷ codes "yes" ∷ codes "no"
-    ∷ codes "not lawful" ∷ codes "deadlock" ∷ codes "stuck" ∷ codes "open" ∷ codes "safe" ∷ codes "components" ∷ codes "norescuer"
-    ∷ codes "workqueues" ∷ codes "refused" ∷ codes "fault" ∷ codes "item" ∷ codes "flush" ∷ codes "flushwq" ∷ codes "ordered" ∷ []
+    codes "TextTooLong" ∷ codes "LineTooLong" ∷ codes "BadByte" ∷ codes "UnknownWord" ∷ codes "MissingName"
+    ∷ codes "BadName" ∷ codes "ItemTwice" ∷ codes "UnknownItem" ∷ codes "TooManyItems" ∷ codes "TooManyFlushes"
+    ∷ codes "GroupedTwice" ∷ codes "ExtraWord" ∷ codes "BadCertLine" ∷ codes "NotAllItems" ∷ codes "GroupSplit"
+    ∷ codes "NumberOutOfRange" ∷ codes "NotFalling" ∷ codes "ChainBroken" ∷ codes "LengthDiffers"
+    ∷ codes "CircleBroken" ∷ codes "RunBroken" ∷ codes "TooManyLanes" ∷ codes "read" ∷ codes "memory"
+    ∷ codes "thread" ∷ codes "tally" ∷ codes "write" ∷ codes "plan" ∷ codes "wq" ∷ codes "chain" ∷ codes "arc"
+    ∷ codes "circle" ∷ codes "run" ∷ codes "yes" ∷ codes "no" ∷ codes "not lawful" ∷ codes "deadlock"
+    ∷ codes "stuck" ∷ codes "open" ∷ codes "safe" ∷ codes "components" ∷ codes "norescuer" ∷ codes "workqueues"
+    ∷ codes "refused" ∷ codes "fault" ∷ codes "item" ∷ codes "flush" ∷ codes "flushwq" ∷ codes "ordered" ∷ []
 
--- a row of the table: the number that it explains, if it explains one; the name of the number or of the fault, the word of an
--- answer, or the directive; its line in a list; and what it means
+-- a row of the table: the number that it explains, if it explains one; the name of the number or of the fault, the word
+-- of an answer, or the directive; its line in a list; and what it means
 pub record Row : Type 0 where
   pub code : Option ℕ
   pub name : List ℕ
@@ -42,7 +44,8 @@ row_of row = record { code = row.0; name = row.1.now; title = row.2.now; meaning
 
 -- the rows of the numbers and of the faults
 abbrev pub numbers_and_faults : List Row
-numbers_and_faults = map (λ row. record { code = row.0; name = row.1.now; title = row.2.now; meaning = row.3.now }) EXPLANATIONS
+numbers_and_faults =
+    map (λ row. record { code = row.0; name = row.1.now; title = row.2.now; meaning = row.3.now }) EXPLANATIONS
 
 -- the rows of the words with which lines of answers and of declarations begin
 abbrev pub words_of_texts : List Row
