@@ -13,8 +13,8 @@ fn between<'a, T>(whole: &'a [T], begin: usize, end: usize) -> &'a [T]
 }
 
 /// Piece `k` of a list that is cut at these places. The last piece ends at the last of them.
-pub fn piece<'a, T>(whole: &'a [T], begins: &[usize], k: u16) -> &'a [T]
-    requires cuts { AreCuts begins.now whole.now }
+pub(crate) fn piece<'a, T>(whole: &'a [T], begins: &[usize], k: u16) -> &'a [T]
+    requires cuts { AreCuts begins.now (length whole.now) }
     requires among { k + 1 < length begins.now }
     ensures { result.now ≡ piece begins.now whole.now k }
 {

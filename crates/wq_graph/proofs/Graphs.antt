@@ -11,7 +11,6 @@ use Rattle.std.proofs.lemmas.List.FromFn.{length-range_with_len, length-map-rang
 use Rattle.std.proofs.lemmas.List.Kept.{AllPairs-filter, AllPairs-from_increasing}
 use Rattle.std.proofs.lemmas.List.Sums.{length-filter, count_by-le-length}
 use Rattle.std.proofs.lemmas.Option.{get_or_from_slice_get, slice_get-get_or}
-use Rattle.wq_buckets.specs.Cuts.{pieces, AreCuts}
 use Rattle.wq_items.specs.declared.target.Target.{Target}
 use Rattle.wq_items.specs.Table.{TargetsBelow, flush_count, places, VertexWaits}
 use Rattle.wq_items.proofs.Lists.{Contains-filtered}
@@ -195,14 +194,15 @@ few_joined : {X Y : Type 0} (f : X → List Y) → ((x : X) → length (f x) ≤
 few_joined f each [] = omega arith
 few_joined f each (x ∷ xs) = omega (arith, length-append (f x) (flat_map f xs), each x, few_joined f each xs)
 
-pub few_arcs : (vertex_of : List ℕ) (arcs sorted : List WaitArc) (begins : List ℕ) (n : ℕ) → length arcs ≤ 16384 → n ≤ 4096 → AreCuts begins sorted
-    → pieces begins sorted ≡ map (arcs_leaving vertex_of arcs) (range_with_len 0 n) → length sorted < 4294967296
-few_arcs vertex_of arcs sorted begins n few few_vertices cuts are =
+pub few_arcs : (vertex_of : List ℕ) (arcs : List WaitArc) (n : ℕ) → length arcs ≤ 16384 → n ≤ 4096
+    → length (flat_map (λ (l : List WaitArc). l) (map (arcs_leaving vertex_of arcs) (range_with_len 0 n))) < 4294967296
+few_arcs vertex_of arcs n few few_vertices =
     let of : ℕ → List WaitArc = arcs_leaving vertex_of arcs in
     let each : (v : ℕ) → length (of v) ≤ 16384 = λ v. (let leaves : WaitArc → Bool = λ (a : WaitArc). slice_index vertex_of a.src == v in
     omega (arith, length-filter leaves arcs, count_by-le-length leaves arcs, few)) in
-    let joined : length sorted ≡ length (flat_map of (range_with_len 0 n)) =
-    ap length (sym cuts.joined ∙ ap (flat_map (λ (l : List WaitArc). l)) are ∙ flat_map-map (λ (l : List WaitArc). l) of (range_with_len 0 n)) in
+    let joined : length (flat_map (λ (l : List WaitArc). l) (map of (range_with_len 0 n))) ≡ length
+    (flat_map of (range_with_len 0 n)) =
+    ap length (flat_map-map (λ (l : List WaitArc). l) of (range_with_len 0 n)) in
     omega (arith, joined, few_joined of each (range_with_len 0 n), length-range_with_len 0 n, few_vertices)
 
 -- ---- no other arcs

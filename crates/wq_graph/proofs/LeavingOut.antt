@@ -1,16 +1,16 @@
 -- Graphs without some of their vertices.
-use Rattle.std.proofs.Common.{◌≡◌, ℕ, zero, suc, ◌+◌, ◌<◌, ◌≤◌, ◌↔◌, inl, inr, Bool, true, false, not, List, [], ◌∷◌, length, map, get_or, refl, sym, ap, subst, ◌∙◌, arith}
+use Rattle.std.proofs.Common.{◌≡◌, ℕ, ◌<◌, ◌≤◌, ◌↔◌, inl, inr, Bool, true, false, not, List, [], ◌∷◌, length, map}
+use Rattle.std.proofs.Common.{get_or, refl, sym, ap, subst, ◌∙◌, arith}
 use Rattle.std.specs.Prelude.{Contains, filter, flat_map, if◌then◌else◌}
 use Rattle.std.specs.List.{All, range_with_len}
 use Rattle.std.specs.List.Sorted.{IsStrictlyIncreasing}
 use Rattle.std.proofs.lemmas.Bool.{cases_lt, cond-true}
 use Rattle.std.proofs.lemmas.List.{get_or_past, length-append}
 use Rattle.std.proofs.lemmas.List.Elements.{All-map, All-filter, All-contains, All-contains_itself, filter_passes}
+use Rattle.std.proofs.lemmas.List.Folds.{flat_map-map}
 use Rattle.std.proofs.lemmas.List.FromFn.{length-map-range_with_len, get_or-map-range_with_len, fill_by_all}
 use Rattle.std.proofs.lemmas.List.Kept.{AllPairs-filter, AllPairs-from_increasing}
 use Rattle.std.proofs.lemmas.List.Sums.{length-filter, count_by-le-length}
-use Rattle.wq_buckets.specs.Cuts.{pieces, AreCuts}
-use Rattle.wq_buckets.proofs.Cutting.{first, first-none, first-more, pieces-are, AreCuts-begins}
 use Rattle.wq_items.proofs.Lists.{Contains-filtered}
 use Rattle.wq_graph.specs.declared.arc.WaitArc.{WaitArc}
 use Rattle.wq_graph.specs.Graph.{arcs_at, HasArc, IsGraph, is_left_out, arcs_kept, arcs_without, without}
@@ -142,23 +142,29 @@ module _ (out : List Bool) where
 
     -- ---- there are no more arcs than before
 
-    first-shorter : (n : ℕ) → length (first (arcs_without out graph) n) ≤ length (first (arcs_at graph) n)
-    first-shorter zero = omega (arith, ap length (first-none (arcs_without out graph)))
-    first-shorter (suc n) =
-        let e : suc n ≡ n + 1 = omega arith in
+    joined-shorter : (vertices : List ℕ) → length (flat_map (arcs_without out graph) vertices) ≤ length
+        (flat_map (arcs_at graph) vertices)
+    joined-shorter [] = omega arith
+    joined-shorter (v ∷ vertices) =
         let f : ℕ → List WaitArc = arcs_without out graph in
         let g : ℕ → List WaitArc = arcs_at graph in
-        rw e (omega (arith, ap length (first-more f n), ap length (first-more g n), length-append (first f n) (f n), length-append (first g n) (g n), kept-shorter (is_left_out out n) (arcs_at graph n), first-shorter n))
+        omega (
+          arith,
+          length-append (f v) (flat_map f vertices),
+          length-append (g v) (flat_map g vertices),
+          kept-shorter (is_left_out out v) (arcs_at graph v),
+          joined-shorter vertices,
+        )
 
-    joined-first : (f : ℕ → List WaitArc) (lists : List (List WaitArc)) (n : ℕ) → lists ≡ map f (range_with_len 0 n) → flat_map (λ (l : List WaitArc). l) lists ≡ first f n
-    joined-first f lists n is = ap (flat_map (λ (l : List WaitArc). l)) (is ∙ sym (pieces-are f n)) ∙ (AreCuts-begins f n).joined
-
-    pub few-without : (arcs kept : List WaitArc) (begins kept_begins : List ℕ) → AreCuts begins arcs → pieces begins arcs ≡ graph → AreCuts kept_begins kept → pieces kept_begins kept ≡ without out graph
-        → length kept ≤ length arcs
-    few-without arcs kept begins kept_begins cuts all kept_cuts are =
-        let n : ℕ = length graph in
-        let before : length arcs ≡ length (first (arcs_at graph) n) =
-        ap length (sym cuts.joined ∙ ap (flat_map (λ (l : List WaitArc). l)) all ∙ joined-first (arcs_at graph) graph n (fill_by_all (arcs_at graph) graph n [] refl (λ k lt. refl))) in
-        let after : length kept ≡ length (first (arcs_without out graph) n) =
-        ap length (sym kept_cuts.joined ∙ ap (flat_map (λ (l : List WaitArc). l)) are ∙ joined-first (arcs_without out graph) (without out graph) n refl) in
-        omega (arith, before, after, first-shorter n)
+    pub few-without : length (flat_map (λ (l : List WaitArc). l) (without out graph)) ≤ length
+        (flat_map (λ (l : List WaitArc). l) graph)
+    few-without =
+        let vertices : List ℕ = range_with_len 0 (length graph) in
+        let before : length (flat_map (λ (l : List WaitArc). l) graph) ≡ length (flat_map (arcs_at graph) vertices) =
+        ap length (ap (flat_map (λ (l : List WaitArc). l))
+        (fill_by_all (arcs_at graph) graph (length graph) [] refl (λ k lt. refl))
+        ∙ flat_map-map (λ (l : List WaitArc). l) (arcs_at graph) vertices) in
+        let after : length (flat_map (λ (l : List WaitArc). l) (without out graph)) ≡ length
+        (flat_map (arcs_without out graph) vertices) =
+        ap length (flat_map-map (λ (l : List WaitArc). l) (arcs_without out graph) vertices) in
+        omega (arith, before, after, joined-shorter vertices)

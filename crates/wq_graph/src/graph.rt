@@ -15,31 +15,26 @@ use crate::building::sorted_arcs;
 use crate::leaving_out::kept_arcs;
 use std::alloc::{AllocError, Allocator};
 use std::marker::Model;
-use wq_buckets::piece;
+use wq_buckets::Pieces;
 use wq_groups::{Assignment, Groups};
 use wq_items::ItemTable;
 
 /// A wait graph. Contracts see the list of the arcs of each vertex.
 #[derive(Drop)]
 pub struct WaitGraph<A: Allocator> {
-    arcs: Vec<WaitArc, A>,
-    begins: Vec<usize, A>,
+    arcs: Pieces<WaitArc, A>,
 }
 
 impl<A: Allocator> Model for WaitGraph<A> {
-    ghost use Rattle.std.specs.Prelude.{◌<◌, List, length};
-    ghost use Rattle.wq_buckets.specs.Cuts.{AreCuts, pieces};
+    ghost use Rattle.std.specs.Prelude.{◌<◌, List, length, flat_map};
     ghost use Rattle.wq_graph.specs.declared.arc.WaitArc.{WaitArc};
     ghost use Rattle.wq_graph.specs.Graph.{IsGraph};
 
     ghost Value = { List (List WaitArc) };
 
-    ghost view = { λ g. pieces g.begins.items g.arcs.items };
+    ghost view = { λ g. g.arcs };
 
-    ghost invariant = { λ g.
-        AreCuts g.begins.items g.arcs.items
-        × IsGraph (pieces g.begins.items g.arcs.items)
-        × (length g.arcs.items < 4294967296) };
+    ghost invariant = { λ g. IsGraph g.arcs × (length (flat_map (λ arcs. arcs) g.arcs) < 4294967296) };
 }
 
 impl<A: Allocator + Copy> WaitGraph<A> {
@@ -56,8 +51,8 @@ impl<A: Allocator + Copy> WaitGraph<A> {
         ensures graph { IfOk result (λ g. g ≡ graph_of table.now.waits vertex_of.now vertices) }
         ensures memory { IfErr result (λ _. 0 < vertices) }
     {
-        let (arcs, begins) = sorted_arcs(alloc, table, vertex_of, vertices)?;
-        Ok(WaitGraph { arcs, begins })
+        let arcs = sorted_arcs(alloc, table, vertex_of, vertices)?;
+        Ok(WaitGraph { arcs })
     }
 
     /// The wait graph of the groups of a table's items. The groups are those of this table.
@@ -103,8 +98,8 @@ impl<A: Allocator + Copy> WaitGraph<A> {
         ensures graph { IfOk result (λ g. g ≡ without left_out.now self) }
         ensures memory { IfErr result (λ _. 0 < length self) }
     {
-        let (arcs, begins) = kept_arcs(alloc, &self, left_out)?;
-        Ok(WaitGraph { arcs, begins })
+        let arcs = kept_arcs(alloc, &self, left_out)?;
+        Ok(WaitGraph { arcs })
     }
 
     /// How many vertices there are, at most 4,096.
@@ -112,7 +107,7 @@ impl<A: Allocator + Copy> WaitGraph<A> {
         ensures vertices { result ≡ length self.now }
         ensures graph { IsGraph self.now }
     {
-        self.begins.len().saturating_sub(1) as u16
+        self.arcs.len() as u16
     }
 
     /// The arcs that leave a vertex below `vertices()`, in order of place.
@@ -120,7 +115,7 @@ impl<A: Allocator + Copy> WaitGraph<A> {
         requires { vertex < length self.now }
         ensures { result.now ≡ arcs_at self.now vertex }
     {
-        piece(self.arcs.as_slice(), self.begins.as_slice(), vertex)
+        self.arcs.get(vertex)
     }
 
     /// All arcs: those of vertex 0, then those of vertex 1, and so on. Their places have numbers below 2^32.
@@ -128,6 +123,6 @@ impl<A: Allocator + Copy> WaitGraph<A> {
         ensures arcs { result.now ≡ flat_map (λ arcs. arcs) self.now }
         ensures few { length result.now < 4294967296 }
     {
-        self.arcs.as_slice()
+        self.arcs.all()
     }
 }

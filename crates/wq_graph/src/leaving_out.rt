@@ -4,12 +4,12 @@
 //! vertices and arcs, and memory in those that are kept.
 
 ghost use Rattle.std.specs.Prelude.{◌≡◌, ◌<◌, ◌++◌, length, IfOk, IfErr};
-ghost use Rattle.wq_buckets.specs.Cuts.{AreCuts, pieces};
 ghost use Rattle.wq_graph.specs.Graph.{IsGraph, is_left_out, arcs_kept, arcs_without, without};
 
 use crate::arc::WaitArc;
 use crate::graph::WaitGraph;
 use std::alloc::{AllocError, Allocator};
+use wq_buckets::{Pieces, PiecesBuilder};
 
 /// Whether a vertex is left out.
 fn is_left_out(left_out: &[bool], vertex: u16) -> bool
@@ -23,11 +23,12 @@ fn is_left_out(left_out: &[bool], vertex: u16) -> bool
 
 /// Adds those of these arcs that don't lead to a vertex that is left out.
 fn add_kept<A: Allocator + Copy>(
-    kept: &mut Vec<WaitArc, A>,
+    kept: &mut PiecesBuilder<WaitArc, A>,
     left_out: &[bool],
     arcs: &[WaitArc],
 ) -> Result<(), AllocError>
-    ensures { IfOk result (λ _. kept.new.items ≡ kept.old.items ++ arcs_kept left_out.now arcs.now) }
+    ensures pieces { IfOk result (λ _. kept.new.pieces ≡ kept.old.pieces) }
+    ensures next { IfOk result (λ _. kept.new.next ≡ kept.old.next ++ arcs_kept left_out.now arcs.now) }
 {
     for arc in arcs {
         if !is_left_out(left_out, arc.head) {
@@ -39,13 +40,14 @@ fn add_kept<A: Allocator + Copy>(
 
 /// Adds the arcs that leave a vertex and are kept.
 fn add_from<A: Allocator + Copy>(
-    kept: &mut Vec<WaitArc, A>,
+    kept: &mut PiecesBuilder<WaitArc, A>,
     left_out: &[bool],
     graph: &WaitGraph<A>,
     vertex: u16,
 ) -> Result<(), AllocError>
     requires { vertex < length graph.now }
-    ensures { IfOk result (λ _. kept.new.items ≡ kept.old.items ++ arcs_without left_out.now graph.now vertex) }
+    ensures pieces { IfOk result (λ _. kept.new.pieces ≡ kept.old.pieces) }
+    ensures next { IfOk result (λ _. kept.new.next ≡ kept.old.next ++ arcs_without left_out.now graph.now vertex) }
 {
     if is_left_out(left_out, vertex) {
         return Ok(());
@@ -53,27 +55,21 @@ fn add_from<A: Allocator + Copy>(
     add_kept(kept, left_out, graph.arcs(vertex))
 }
 
-/// The arcs that are kept, by the vertices that they leave, and where the arcs of each vertex begin.
+/// The arcs that are kept, by the vertices that they leave.
 pub(crate) fn kept_arcs<A: Allocator + Copy>(
     alloc: A,
     graph: &WaitGraph<A>,
     left_out: &[bool],
-) -> Result<(Vec<WaitArc, A>, Vec<usize, A>), AllocError>
-    ensures cuts { IfOk result (λ kept. AreCuts kept.1.items kept.0.items) }
-    ensures pieces { IfOk result (λ kept. pieces kept.1.items kept.0.items ≡ without left_out.now graph.now) }
+) -> Result<Pieces<WaitArc, A>, AllocError>
+    ensures arcs { IfOk result (λ kept. kept ≡ without left_out.now graph.now) }
     ensures memory { IfErr result (λ _. 0 < length graph.now) }
     ensures graph { IsGraph graph.now }
 {
     let vertices = graph.vertices();
-    if vertices == 0 {
-        return Ok((Vec::new(alloc), Vec::new(alloc)));
-    }
-    let mut arcs = Vec::new(alloc);
-    let mut begins = Vec::with_capacity(alloc, usize::from(vertices) + 1)?;
-    begins.push(0)?;
+    let mut kept = PiecesBuilder::with_room(alloc, 0, vertices)?;
     for vertex in 0..vertices {
-        add_from(&mut arcs, left_out, graph, vertex)?;
-        begins.push(arcs.len())?;
+        add_from(&mut kept, left_out, graph, vertex)?;
+        kept.end_piece()?;
     }
-    Ok((arcs, begins))
+    Ok(kept.finish())
 }

@@ -1,49 +1,30 @@
-//! The items of each group, one group after the other in one vector.
+//! The items of each group.
 //!
 //! Those of a group are in declaration order: "Items and groups" in docs/FORMAT.md.
 //! `wq_buckets` finds them, and nothing is compared. Making them takes time and memory
 //! in the number of items and groups. Those of a group are found in constant time.
 
-ghost use Rattle.std.specs.Prelude.{◌≡◌, ◌<◌, ◌≤◌, length, map, slice_index_or, IfOk, IfErr, [], max};
+ghost use Rattle.std.specs.Prelude.{◌≡◌, ◌<◌, ◌≤◌, length, map, slice_index_or, IfOk, IfErr, []};
 ghost use Rattle.std.specs.List.{All, range_with_len};
 ghost use Rattle.wq_items.specs.Table.{items_at};
 
 use std::alloc::{AllocError, Allocator};
 use std::marker::Model;
-use wq_buckets::{Buckets, piece};
+use wq_buckets::Pieces;
 use wq_items::ItemId;
 
 /// A list of items for each group. Contracts see the list of these lists.
 #[derive(Drop)]
 pub(crate) struct Members<A: Allocator> {
-    items: Vec<ItemId, A>,
-    begins: Vec<usize, A>,
+    items: Pieces<ItemId, A>,
 }
 
 impl<A: Allocator> Model for Members<A> {
     ghost use Rattle.std.specs.Prelude.{ℕ, List};
-    ghost use Rattle.wq_buckets.specs.Cuts.{AreCuts, pieces};
 
     ghost Value = { List (List ℕ) };
 
-    ghost view = { λ m. pieces m.begins.items m.items.items };
-
-    ghost invariant = { λ m. AreCuts m.begins.items m.items.items };
-}
-
-/// Numbers as items.
-fn items_numbered<A: Allocator + Copy>(
-    alloc: A,
-    numbers: &[u32],
-) -> Result<Vec<ItemId, A>, AllocError>
-    requires { All (λ n. n < 65536) numbers.now }
-    ensures { IfOk result (λ items. items.items ≡ numbers.now) }
-{
-    let mut items = Vec::with_capacity(alloc, numbers.len())?;
-    for number in numbers {
-        items.push(ItemId::new(*number as u16))?;
-    }
-    Ok(items)
+    ghost view = { λ m. m.items };
 }
 
 impl<A: Allocator + Copy> Members<A> {
@@ -56,22 +37,16 @@ impl<A: Allocator + Copy> Members<A> {
         ensures members { IfOk result (λ members. members ≡ map (items_at group_of.now) (range_with_len 0 groups)) }
         ensures memory { IfErr result (λ _. 0 < groups) }
     {
-        if groups == 0 {
-            return Ok(Members {
-                items: Vec::new(alloc),
-                begins: Vec::new(alloc),
-            });
-        }
-        let (places, begins) = Buckets::new(alloc, group_of, groups)?.into_parts();
-        let items = items_numbered(alloc, &places)?;
-        Ok(Members { items, begins })
+        let item = |place: u32| ItemId::new(place as u16);
+        let items = Pieces::sorted(alloc, group_of, groups, &item)?;
+        Ok(Members { items })
     }
 
     /// How many groups there are.
     pub(crate) fn len(&self) -> usize
         ensures { result ≡ length self.now }
     {
-        self.begins.len().saturating_sub(1)
+        self.items.len()
     }
 
     /// The items of a group.
@@ -79,6 +54,6 @@ impl<A: Allocator + Copy> Members<A> {
         requires { group < length self.now }
         ensures { result.now ≡ slice_index_or self.now group [] }
     {
-        piece(self.items.as_slice(), self.begins.as_slice(), group)
+        self.items.get(group)
     }
 }
