@@ -22,7 +22,7 @@ use Rattle.wq_held.specs.Calls.{counts_after, IsBarred, IsAdmitted}
 
 -- context c of lane q
 abbrev pub context_of : ℕ → ℕ → Context
-context_of q c = record { lane = q; helper = c }
+context_of q c = record { lane = q; number = c }
 
 -- a flush of item b, or of the whole lane of b
 abbrev pub flush_of : Bool → ℕ → Flush

@@ -22,7 +22,7 @@ pub record IsServed (w : Wiring) (context : Context) (seat : List ℕ) (runs : �
   pub counts : ForOk answer (λ (rescued : Rescued). ((i : ℕ) → finished_of seat i ≡ runs i)
       × (rescued.finished ≡ finished_in_all (items w) seat)
       × (rescued.faults ≤ rescued.finished))
-  pub refused : ForErr answer (λ (e : CallError). RefusesServe w context.lane context.helper seat e
+  pub refused : ForErr answer (λ (e : CallError). RefusesServe w context.lane context.number seat e
       × ((i : ℕ) → finished_of seat i ≤ runs i))
 
 -- how many executions a context finished, if it wasn't refused

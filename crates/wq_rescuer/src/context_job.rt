@@ -84,7 +84,7 @@ impl<N: Naming, A: Allocator, B: Body + Drop> ContextJob<N, A, B> {
             rt,
             runtime,
             context.lane,
-            context.helper,
+            context.number,
             &mut seat,
             &mut body,
         );
