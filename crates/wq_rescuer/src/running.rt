@@ -4,11 +4,11 @@
 //! All memory is taken, and all seats are made, before any thread starts.
 
 ghost use Rattle.std.specs.Prelude.{◌≡◌, ◌≢◌, ℕ, ◌+◌, ◌<◌, ◌≤◌, [], length, map, reverse, take, drop, vec_len};
-ghost use Rattle.std.specs.Prelude.{vec_capacity, IfOk, IfErr};
+ghost use Rattle.std.specs.Prelude.{vec_capacity, IfOk, IfErr, OnOk};
 ghost use Rattle.std.specs.List.{All};
 ghost use Rattle.wq_core.specs.Wiring.{items};
 ghost use Rattle.wq_held.specs.Locked.{slots};
-ghost use Rattle.wq_rescuer.specs.Executing.{NeverRan, Executes, no_counts};
+ghost use Rattle.wq_rescuer.specs.Executing.{NeverRan, Executes, HasEnded, no_counts};
 ghost use Rattle.wq_rescuer.specs.Contexts.{contexts_of};
 ghost use Rattle.wq_rescuer.specs.Serving.{AreFirstSeats, HasRoomFor, HaveCalled, HaveServed, IsNoSeat, IsOneLost};
 ghost use Rattle.wq_rescuer.specs.Serving.{IsRan, RefusesRun, run_code};
@@ -183,6 +183,9 @@ pub fn run_all<
     ensures served { IfOk result (λ r. HaveServed
         (λ body seat answer. Executes (B.may N.wiring body) (no_counts N.wiring) seat answer) bodies.items
         (take (length (contexts_of N.wiring)) r.seats.items) r.rescued.items) }
+    ensures ended { IfOk result (λ r. HaveServed
+        (λ context seat answer. OnOk answer (HasEnded N.wiring N.rows context.lane context.helper))
+        (contexts_of N.wiring) (take (length (contexts_of N.wiring)) r.seats.items) r.rescued.items) }
     ensures called { IfOk result (λ r. HaveCalled
         (λ before after answer seat. C.did N.wiring before after answer (no_counts N.wiring) seat) callers.items
         r.callers.items r.results.items (drop (length (contexts_of N.wiring)) r.seats.items)) }
