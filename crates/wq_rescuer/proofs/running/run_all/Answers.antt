@@ -93,7 +93,7 @@ returns-clause-served g c =
     × HasCeased w g.N.Naming.rows job.context.lane job.context.helper (g.B.Body.may w job.body) (no_counts w) end.seat
     end.rescued)
     (λ body end. Executes (g.B.Body.may w body) (no_counts w) end.seat end.rescued)
-    (λ job. job.body) (λ job end done. done.1.0) jobs ends (c.run_threads-board.ensures.served yes))
+    (λ job. job.body) (λ job end done. done.1) jobs ends (c.run_threads-board.ensures.served yes))
     c.gather.ensures.first_seats c.gather.ensures.rescued
 
 pub returns-clause-ended : goal.returns-clause-ended
@@ -113,7 +113,7 @@ returns-clause-ended g c =
     end.rescued)
     (λ context end. OnOk end.rescued (HasEnded w rows context.lane context.helper)) (λ job. job.context)
     (λ job end done. has_ended w rows job.context.lane job.context.helper (g.B.Body.may w job.body) (no_counts w)
-    end.seat end.rescued done.1.1) jobs ends (c.run_threads-board.ensures.served yes))
+    end.seat end.rescued done.2) jobs ends (c.run_threads-board.ensures.served yes))
     c.gather.ensures.first_seats c.gather.ensures.rescued
 
 pub returns-clause-called : goal.returns-clause-called

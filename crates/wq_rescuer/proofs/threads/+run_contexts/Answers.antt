@@ -20,9 +20,9 @@ returns-in-Ok-clause-served g t c = λ yes.
     c.in-Some.job c.push_reserved.new.self.items c.run_contexts-all.new.board.contexts.ends.items end
     c.in-Some.ensures.items c.push_reserved.ensures.items (c.run_contexts-all.ensures.served yes) (
       kept.0,
-      subst (λ body. Executes (g.B.Body.may w body) (no_counts w) end.seat end.rescued
-          × HasCeased w rows c.in-Some.job.context.lane c.in-Some.job.context.helper (g.B.Body.may w body) (no_counts w)
-          end.seat end.rescued) c.of.ensures kept.1,
+      subst (λ body. Executes (g.B.Body.may w body) (no_counts w) end.seat end.rescued) c.of.ensures kept.1,
+      subst (λ body. HasCeased w rows c.in-Some.job.context.lane c.in-Some.job.context.helper (g.B.Body.may w body)
+          (no_counts w) end.seat end.rescued) c.of.ensures kept.2,
     )
 
 pub returns-in-Ok-clause-lost : goal.returns-in-Ok-clause-lost
