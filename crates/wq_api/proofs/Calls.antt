@@ -26,8 +26,8 @@ use Rattle.wq_history.proofs.CallRows.{told-yes, over-yes, finish-yes}
 use Rattle.wq_history.proofs.Wakes.{unchanged-enough}
 use Rattle.wq_held.specs.declared.fault.SeatError.{SeatError}
 use Rattle.wq_held.specs.Locked.{HeldView, seat_rows}
-use Rattle.wq_held.specs.Calls.{IsNamed, missing, IsBarred}
-use Rattle.wq_api.specs.Taking.{WritesOne, Took}
+use Rattle.wq_held.specs.Calls.{IsNamed, missing, IsBarred, IsSettled}
+use Rattle.wq_api.specs.Taking.{WritesOne, IsAnswered, Took}
 
 -- ---- replies
 
@@ -162,3 +162,23 @@ seat_wakes old new (Ok seat) few wake made refused =
 seat_wakes old new (Err e) few wake made refused =
     subst (λ (b : BookView). WakesEnough old.book b wake) (sym (ap (λ (h : HeldView). h.book) refused))
     (unchanged-enough old.book wake)
+
+-- ---- calls that are done
+
+-- a close is done, whatever the book
+pub closed_done : (w : Wiring) (rows : ℕ) (answer : Result Reply CallError) → IsAnswered w rows Close answer
+    → IsAnswered w rows Close (Ok Done)
+closed_done w rows (Ok (Wrote row)) answered = absurd answered.answers.0
+closed_done w rows (Ok (WroteTwo ask taken)) answered = absurd answered.answers
+closed_done w rows (Ok Done) answered = answered
+closed_done w rows (Ok NotYet) answered = absurd answered.answers.0
+closed_done w rows (Err e) answered = absurd answered.answers.0
+
+-- so is a drain that isn't too early
+pub drained_done : (w : Wiring) (rows : ℕ) (answer : Result Reply CallError) → IsAnswered w rows Drain answer
+    → IsSettled answer → IsAnswered w rows Drain (Ok Done)
+drained_done w rows (Ok (Wrote row)) answered settled = absurd answered.answers.0
+drained_done w rows (Ok (WroteTwo ask taken)) answered settled = absurd answered.answers
+drained_done w rows (Ok Done) answered settled = answered
+drained_done w rows (Ok NotYet) answered settled = absurd settled
+drained_done w rows (Err e) answered settled = absurd answered.answers.0
