@@ -52,7 +52,7 @@ impl<N: Naming, A: Allocator, B: Body + Drop> Promise<ContextEnd<N, A, B>> for E
 
     ghost kept_by = { λ p end. (end.context ≡ p.context)
         × Executes (B.may N.wiring p.body.value) (no_counts N.wiring) end.seat end.rescued
-        × HasCeased N.wiring N.rows p.context.lane p.context.helper (B.may N.wiring p.body.value) (no_counts N.wiring)
+        × HasCeased N.wiring N.rows p.context.lane p.context.number (B.may N.wiring p.body.value) (no_counts N.wiring)
         end.seat end.rescued };
 }
 
@@ -76,7 +76,7 @@ impl<N: Naming, A: Allocator, B: Body + Drop> ContextJob<N, A, B> {
     pub(crate) fn serve<R: Wait>(self, rt: &R, runtime: &WqRuntime<N, A>) -> ContextEnd<N, A, B>
         ensures context { result.context ≡ self.context }
         ensures executed { Executes (B.may N.wiring self.body) (no_counts N.wiring) result.seat result.rescued }
-        ensures ceased { HasCeased N.wiring N.rows self.context.lane self.context.helper (B.may N.wiring self.body)
+        ensures ceased { HasCeased N.wiring N.rows self.context.lane self.context.number (B.may N.wiring self.body)
             (no_counts N.wiring) result.seat result.rescued }
     {
         let ContextJob {

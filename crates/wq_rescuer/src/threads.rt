@@ -77,7 +77,7 @@ fn run_contexts<
     requires no_callers { board.old.callers.ends.items ≡ [] }
     ensures served { IsTrue result → AreDone (λ job end. (end.context ≡ job.context)
         × Executes (B.may N.wiring job.body) (no_counts N.wiring) end.seat end.rescued
-        × HasCeased N.wiring N.rows job.context.lane job.context.helper (B.may N.wiring job.body) (no_counts N.wiring)
+        × HasCeased N.wiring N.rows job.context.lane job.context.number (B.may N.wiring job.body) (no_counts N.wiring)
         end.seat end.rescued) board.old.contexts.waiting.items board.new.contexts.ends.items }
     ensures called { IsTrue result → AreDone (λ job end. C.did N.wiring job.caller end.caller end.result
         (no_counts N.wiring) end.seat) board.old.callers.waiting.items board.new.callers.ends.items }
@@ -124,7 +124,7 @@ pub(crate) fn run_threads<
     ensures served { IsTrue result.1 → AreDone
         (λ job end. (end.context ≡ job.context)
         × Executes (B.may N.wiring job.body) (no_counts N.wiring) end.seat end.rescued
-        × HasCeased N.wiring N.rows job.context.lane job.context.helper (B.may N.wiring job.body) (no_counts N.wiring)
+        × HasCeased N.wiring N.rows job.context.lane job.context.number (B.may N.wiring job.body) (no_counts N.wiring)
         end.seat end.rescued) jobs.board.contexts.waiting.items result.0.contexts.ends.items }
     ensures called { IsTrue result.1 → AreDone
         (λ job end. C.did N.wiring job.caller end.caller end.result (no_counts N.wiring) end.seat)
@@ -143,7 +143,7 @@ pub(crate) fn run_threads<
             ensures served { IsTrue result.1 → AreDone
                 (λ job end. (end.context ≡ job.context)
                 × Executes (B.may N.wiring job.body) (no_counts N.wiring) end.seat end.rescued
-                × HasCeased N.wiring N.rows job.context.lane job.context.helper (B.may N.wiring job.body)
+                × HasCeased N.wiring N.rows job.context.lane job.context.number (B.may N.wiring job.body)
                 (no_counts N.wiring) end.seat end.rescued)
                 jobs.board.contexts.waiting.items result.0.contexts.ends.items }
             ensures called { IsTrue result.1 → AreDone

@@ -36,7 +36,7 @@ gather-requires-clause-in_order g c =
     let yes : IsTrue c.run_threads-board.result.1 = search rules in
     done_part (λ job end. (end.context ≡ job.context)
     × Executes (g.B.Body.may w job.body) (no_counts w) end.seat end.rescued
-    × HasCeased w g.N.Naming.rows job.context.lane job.context.helper (g.B.Body.may w job.body) (no_counts w) end.seat
+    × HasCeased w g.N.Naming.rows job.context.lane job.context.number (g.B.Body.may w job.body) (no_counts w) end.seat
     end.rescued)
     (λ job. job.context) (λ end. end.context)
     (λ job end done. done.0) c.make_jobs-jobs.result.0.board.contexts.waiting.items
@@ -90,7 +90,7 @@ returns-clause-served g c =
     c.gather.result.rescued.items c.make_jobs-jobs.ensures.bodies
     (done_of (λ job end. (end.context ≡ job.context)
     × Executes (g.B.Body.may w job.body) (no_counts w) end.seat end.rescued
-    × HasCeased w g.N.Naming.rows job.context.lane job.context.helper (g.B.Body.may w job.body) (no_counts w) end.seat
+    × HasCeased w g.N.Naming.rows job.context.lane job.context.number (g.B.Body.may w job.body) (no_counts w) end.seat
     end.rescued)
     (λ body end. Executes (g.B.Body.may w body) (no_counts w) end.seat end.rescued)
     (λ job. job.body) (λ job end done. done.1) jobs ends (c.run_threads-board.ensures.served yes))
@@ -103,16 +103,16 @@ returns-clause-ended g c =
     let yes : IsTrue c.run_threads-board.result.1 = search rules in
     let jobs = c.make_jobs-jobs.result.0.board.contexts.waiting.items in
     let ends = c.run_threads-board.result.0.contexts.ends.items in
-    have_served (λ context seat answer. OnOk answer (HasEnded w rows context.lane context.helper)) (λ end. end.seat)
+    have_served (λ context seat answer. OnOk answer (HasEnded w rows context.lane context.number)) (λ end. end.seat)
     (λ end. end.rescued) (contexts_of w) (map (λ job. job.context) jobs) ends
     (take (length (contexts_of w)) c.gather.result.seats.items) c.gather.result.rescued.items
     c.make_jobs-jobs.ensures.contexts
     (done_of (λ job end. (end.context ≡ job.context)
     × Executes (g.B.Body.may w job.body) (no_counts w) end.seat end.rescued
-    × HasCeased w g.N.Naming.rows job.context.lane job.context.helper (g.B.Body.may w job.body) (no_counts w) end.seat
+    × HasCeased w g.N.Naming.rows job.context.lane job.context.number (g.B.Body.may w job.body) (no_counts w) end.seat
     end.rescued)
-    (λ context end. OnOk end.rescued (HasEnded w rows context.lane context.helper)) (λ job. job.context)
-    (λ job end done. has_ended w rows job.context.lane job.context.helper (g.B.Body.may w job.body) (no_counts w)
+    (λ context end. OnOk end.rescued (HasEnded w rows context.lane context.number)) (λ job. job.context)
+    (λ job end done. has_ended w rows job.context.lane job.context.number (g.B.Body.may w job.body) (no_counts w)
     end.seat end.rescued done.2) jobs ends (c.run_threads-board.ensures.served yes))
     c.gather.ensures.first_seats c.gather.ensures.rescued
 

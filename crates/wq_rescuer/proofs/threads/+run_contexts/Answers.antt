@@ -11,17 +11,17 @@ returns-in-Ok-clause-served g t c = λ yes.
     let end = c.join.result in
     let kept =
     subst (λ p. (end.context ≡ p.context) × Executes (g.B.Body.may w p.body.value) (no_counts w) end.seat end.rescued
-    × HasCeased w rows p.context.lane p.context.helper (g.B.Body.may w p.body.value) (no_counts w) end.seat end.rescued)
+    × HasCeased w rows p.context.lane p.context.number (g.B.Body.may w p.body.value) (no_counts w) end.seat end.rescued)
     c.in-Ok.ensures.ok c.join.ensures in
     done_at_end (λ job end. (end.context ≡ job.context)
     × Executes (g.B.Body.may w job.body) (no_counts w) end.seat end.rescued
-    × HasCeased w rows job.context.lane job.context.helper (g.B.Body.may w job.body) (no_counts w) end.seat end.rescued)
+    × HasCeased w rows job.context.lane job.context.number (g.B.Body.may w job.body) (no_counts w) end.seat end.rescued)
     c.args.board.now.contexts.waiting.items c.pop.new.self.items
     c.in-Some.job c.push_reserved.new.self.items c.run_contexts-all.new.board.contexts.ends.items end
     c.in-Some.ensures.items c.push_reserved.ensures.items (c.run_contexts-all.ensures.served yes) (
       kept.0,
       subst (λ body. Executes (g.B.Body.may w body) (no_counts w) end.seat end.rescued) c.of.ensures kept.1,
-      subst (λ body. HasCeased w rows c.in-Some.job.context.lane c.in-Some.job.context.helper (g.B.Body.may w body)
+      subst (λ body. HasCeased w rows c.in-Some.job.context.lane c.in-Some.job.context.number (g.B.Body.may w body)
           (no_counts w) end.seat end.rescued) c.of.ensures kept.2,
     )
 

@@ -24,7 +24,7 @@ returns-clause-executed g c =
 pub returns-clause-ceased : goal.returns-clause-ceased
 returns-clause-ceased g c =
     let context = c.args.self.context in
-    has_ceased g.N.Naming.wiring g.N.Naming.rows context.lane context.helper
+    has_ceased g.N.Naming.wiring g.N.Naming.rows context.lane context.number
     (g.B.Body.may g.N.Naming.wiring c.args.self.body) (no_counts g.N.Naming.wiring) c.args.self.seat
     c.serve-rescued.new.seat c.serve-rescued.result c.args.self.fresh c.serve-rescued.ensures.ended
     c.serve-rescued.ensures.cause
