@@ -26,38 +26,26 @@ use Rattle.wq_history.proofs.CallRows.{told-yes, over-yes, finish-yes}
 use Rattle.wq_history.proofs.Wakes.{unchanged-enough}
 use Rattle.wq_held.specs.declared.fault.SeatError.{SeatError}
 use Rattle.wq_held.specs.Locked.{HeldView, seat_rows}
-use Rattle.wq_held.specs.Calls.{IsNamed, missing, IsBarred}
-use Rattle.wq_api.specs.Taking.{WritesOne, Took}
+use Rattle.wq_held.specs.Calls.{IsNamed, missing, IsBarred, IsSettled}
+use Rattle.wq_api.specs.Taking.{WritesOne, IsAnswered, Took}
 
 -- ---- replies
 
 -- a call that writes one row isn't answered otherwise
 pub never_two : (old new : BookView) (call : Call) (ask taken : Row) → WritesOne call
     → Replies old call (WroteTwo ask taken) new → ⊥
-never_two old new (Queue i) ask taken writes replies = absurd replies
-never_two old new (Cancel i) ask taken writes replies = absurd replies
-never_two old new (Ask x) ask taken writes replies = absurd replies
-never_two old new (Told x mark) ask taken writes replies = absurd replies
-never_two old new (Wait c f) ask taken writes replies = absurd replies
-never_two old new (Over c f) ask taken writes replies = absurd replies
-never_two old new (Finish c i) ask taken writes replies = absurd replies
 never_two old new (CancelSync i) ask taken writes replies = absurd writes
 never_two old new (Start c) ask taken writes replies = absurd writes
 never_two old new Close ask taken writes replies = absurd writes
 never_two old new Drain ask taken writes replies = absurd writes
+never_two old new _ ask taken writes replies = absurd replies
 
 pub never_done : (old new : BookView) (call : Call) → WritesOne call → Replies old call Done new → ⊥
-never_done old new (Queue i) writes replies = absurd replies.0
-never_done old new (Cancel i) writes replies = absurd replies.0
-never_done old new (Ask x) writes replies = absurd replies.0
-never_done old new (Told x mark) writes replies = absurd replies.0
-never_done old new (Wait c f) writes replies = absurd replies.0
-never_done old new (Over c f) writes replies = absurd replies.0
-never_done old new (Finish c i) writes replies = absurd replies.0
 never_done old new (CancelSync i) writes replies = absurd writes
 never_done old new (Start c) writes replies = absurd writes
 never_done old new Close writes replies = absurd writes
 never_done old new Drain writes replies = absurd writes
+never_done old new _ writes replies = absurd replies.0
 
 -- ---- counts
 
@@ -100,28 +88,28 @@ pub wait_counted : (w : Wiring) (rows : ℕ) (counts left : List ℕ) (c : Conte
     → row.yes ≡ said → Took w rows counts (Wait c f) (Ok (Wrote row)) left
     → left ≡ raised counts f.target (wait_kind f.whole) said
 wait_counted w rows counts left c f row said says took =
-    noted_so counts left row (wait_event f.whole c.lane c.helper f.target) said took.0.answers.0 says took.1
-    ∙ wait-noted counts f.whole c.lane c.helper f.target said
+    noted_so counts left row (wait_event f.whole c.lane c.number f.target) said took.0.answers.0 says took.1
+    ∙ wait-noted counts f.whole c.lane c.number f.target said
 
 pub over_counted : (w : Wiring) (rows : ℕ) (counts left : List ℕ) (c : Context) (f : Flush) (row : Row)
     → Took w rows counts (Over c f) (Ok (Wrote row)) left → left ≡ raised counts f.target (over_kind f.whole) true
 over_counted w rows counts left c f row took =
     let b : BookView = took.0.old in
-    let event : Event = over_event f.whole c.lane c.helper f.target in
+    let event : Event = over_event f.whole c.lane c.number f.target in
     let is : row.event ≡ event = took.0.answers.0 in
     let may = subst (λ (e : Event). MayCome b.wiring b.rows e row.yes row.number) is took.0.answers.1.may in
-    let yes : row.yes ≡ true = over-yes b.wiring b.rows f.whole c.lane c.helper f.target row.yes row.number may in
-    noted_so counts left row event true is yes took.1 ∙ over-noted counts f.whole c.lane c.helper f.target true
+    let yes : row.yes ≡ true = over-yes b.wiring b.rows f.whole c.lane c.number f.target row.yes row.number may in
+    noted_so counts left row event true is yes took.1 ∙ over-noted counts f.whole c.lane c.number f.target true
 
 pub finish_counted : (w : Wiring) (rows : ℕ) (counts left : List ℕ) (c : Context) (i : ℕ) (row : Row)
     → Took w rows counts (Finish c i) (Ok (Wrote row)) left → left ≡ raised counts i FinishKind true
 finish_counted w rows counts left c i row took =
     let b : BookView = took.0.old in
-    let is : row.event ≡ finish_event c.lane c.helper i = took.0.answers.0 in
+    let is : row.event ≡ finish_event c.lane c.number i = took.0.answers.0 in
     let may = subst (λ (e : Event). MayCome b.wiring b.rows e row.yes row.number) is took.0.answers.1.may in
-    let yes : row.yes ≡ true = finish-yes b.wiring b.rows c.lane c.helper i row.yes row.number may in
-    noted_so counts left row (finish_event c.lane c.helper i) true is yes took.1
-    ∙ finish-noted counts c.lane c.helper i true
+    let yes : row.yes ≡ true = finish-yes b.wiring b.rows c.lane c.number i row.yes row.number may in
+    noted_so counts left row (finish_event c.lane c.number i) true is yes took.1
+    ∙ finish-noted counts c.lane c.number i true
 
 -- ---- refusals
 
@@ -141,23 +129,13 @@ barred_by P w counts call e gone full (inr (named, needs, over, is)) = subst P (
 
 -- a caller isn't told for one cause alone
 pub told_refused : (b : BookView) (x : Subject) (e : CallError) → RefusesToTell b x e → e ≡ NotAsked
-told_refused b x HistoryFull why = absurd why
-told_refused b x Closed why = absurd why
-told_refused b x Undeclared why = absurd why
-told_refused b x TooManyWaits why = absurd why
-told_refused b x WrongLane why = absurd why
 told_refused b x NotAsked why = refl
-told_refused b x NoItem why = absurd why
+told_refused b x _ why = absurd why
 
 -- a context that can't make a call is refused for one cause alone
 pub wrong_lane : (wrong : Type 0) (e : CallError) → RefusesIf wrong e → (e ≡ WrongLane) × wrong
-wrong_lane wrong HistoryFull why = absurd why
-wrong_lane wrong Closed why = absurd why
-wrong_lane wrong Undeclared why = absurd why
-wrong_lane wrong TooManyWaits why = absurd why
 wrong_lane wrong WrongLane why = (refl, why)
-wrong_lane wrong NotAsked why = absurd why
-wrong_lane wrong NoItem why = absurd why
+wrong_lane wrong _ why = absurd why
 
 -- ---- answers under the lock
 
@@ -184,3 +162,23 @@ seat_wakes old new (Ok seat) few wake made refused =
 seat_wakes old new (Err e) few wake made refused =
     subst (λ (b : BookView). WakesEnough old.book b wake) (sym (ap (λ (h : HeldView). h.book) refused))
     (unchanged-enough old.book wake)
+
+-- ---- calls that are done
+
+-- a close is done, whatever the book
+pub closed_done : (w : Wiring) (rows : ℕ) (answer : Result Reply CallError) → IsAnswered w rows Close answer
+    → IsAnswered w rows Close (Ok Done)
+closed_done w rows (Ok (Wrote row)) answered = absurd answered.answers.0
+closed_done w rows (Ok (WroteTwo ask taken)) answered = absurd answered.answers
+closed_done w rows (Ok Done) answered = answered
+closed_done w rows (Ok NotYet) answered = absurd answered.answers.0
+closed_done w rows (Err e) answered = absurd answered.answers.0
+
+-- so is a drain that isn't too early
+pub drained_done : (w : Wiring) (rows : ℕ) (answer : Result Reply CallError) → IsAnswered w rows Drain answer
+    → IsSettled answer → IsAnswered w rows Drain (Ok Done)
+drained_done w rows (Ok (Wrote row)) answered settled = absurd answered.answers.0
+drained_done w rows (Ok (WroteTwo ask taken)) answered settled = absurd answered.answers
+drained_done w rows (Ok Done) answered settled = answered
+drained_done w rows (Ok NotYet) answered settled = absurd settled
+drained_done w rows (Err e) answered settled = absurd answered.answers.0

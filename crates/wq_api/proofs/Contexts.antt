@@ -109,24 +109,16 @@ wait_done w rows counts left q c whole target (Err e) came = tt
 -- counts after a wait that couldn't begin
 not-begun : (w : Wiring) (old new : List ℕ) (q c : ℕ) (whole : Bool) (target : ℕ) (e : CallError) → new ≡ old
     → RefusedWaitIn w old new q c whole target e
-not-begun w old new q c whole target HistoryFull same = same
-not-begun w old new q c whole target Closed same = same
-not-begun w old new q c whole target Undeclared same = same
-not-begun w old new q c whole target TooManyWaits same = same
 not-begun w old new q c whole target WrongLane same = inl same
-not-begun w old new q c whole target NotAsked same = same
-not-begun w old new q c whole target NoItem same = same
+not-begun w old new q c whole target _ same = same
 
 wait-refusal : (w : Wiring) (b : BookView) (counts : List ℕ) (q c : ℕ) (whole : Bool) (target : ℕ) (e : CallError)
     → HasContext w q c → SeatHasRoom counts → RefusesToWait b (context_of q c) (flush_of whole target) e
     → RefusesWaitIn w counts q c e
-wait-refusal w b counts q c whole target HistoryFull there room why = absurd why
-wait-refusal w b counts q c whole target Closed there room why = absurd why
 wait-refusal w b counts q c whole target Undeclared there room why = (there, room)
 wait-refusal w b counts q c whole target TooManyWaits there room why = (there, room)
 wait-refusal w b counts q c whole target WrongLane there room why = inr room
-wait-refusal w b counts q c whole target NotAsked there room why = absurd why
-wait-refusal w b counts q c whole target NoItem there room why = absurd why
+wait-refusal w b counts q c whole target _ there room why = absurd why
 
 pub wait_not_done : (w : Wiring) (rows : ℕ) (counts left : List ℕ) (q c : ℕ) (whole : Bool) (target : ℕ)
     (r : Result Bool CallError) → Waits w rows counts (context_of q c) (flush_of whole target) r left

@@ -37,11 +37,8 @@ queue-refusal : (w : Wiring) (b : BookView) (counts : List ℕ) (i : ℕ) (e : C
     → SeatHasRoom counts → RefusesToQueue b i e → RefusesQueueWork w counts (lane_of w i) i e
 queue-refusal w b counts i HistoryFull of_wiring there room why = (there, refl)
 queue-refusal w b counts i Closed of_wiring there room why = ((there, refl), room)
-queue-refusal w b counts i Undeclared of_wiring there room why = absurd why
-queue-refusal w b counts i TooManyWaits of_wiring there room why = absurd why
-queue-refusal w b counts i WrongLane of_wiring there room why = absurd why
-queue-refusal w b counts i NotAsked of_wiring there room why = absurd why
 queue-refusal w b counts i NoItem of_wiring there room why = subst (λ (x : Wiring). items x ≤ i) of_wiring why
+queue-refusal w b counts i _ of_wiring there room why = absurd why
 
 pub queue_refused : (w : Wiring) (rows : ℕ) (counts left : List ℕ) (i : ℕ) (r : Result Bool CallError)
     → GivesYes (λ answer. ComesTo w rows counts (Queue i) answer left) r
@@ -72,12 +69,8 @@ cancel_counted w rows counts left i (Err e) came = tt
 cancel-refusal : (w : Wiring) (b : BookView) (i : ℕ) (e : CallError) → b.wiring ≡ w → i < items w
     → RefusesToCancel b i e → RefusesCancelWork w i e
 cancel-refusal w b i HistoryFull of_wiring there why = there
-cancel-refusal w b i Closed of_wiring there why = absurd why
-cancel-refusal w b i Undeclared of_wiring there why = absurd why
-cancel-refusal w b i TooManyWaits of_wiring there why = absurd why
-cancel-refusal w b i WrongLane of_wiring there why = absurd why
-cancel-refusal w b i NotAsked of_wiring there why = absurd why
 cancel-refusal w b i NoItem of_wiring there why = subst (λ (x : Wiring). items x ≤ i) of_wiring why
+cancel-refusal w b i _ of_wiring there why = absurd why
 
 pub cancel_refused : (w : Wiring) (rows : ℕ) (counts left : List ℕ) (i : ℕ) (r : Result Bool CallError)
     → GivesYes (λ answer. ComesTo w rows counts (Cancel i) answer left) r

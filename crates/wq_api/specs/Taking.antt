@@ -15,14 +15,18 @@ use Rattle.wq_history.specs.declared.call.Call.TheVariants.{Ask, Told, CancelSyn
 use Rattle.wq_history.specs.declared.call.Reply.{Reply}
 use Rattle.wq_history.specs.declared.call.Reply.TheVariants.{Wrote, WroteTwo, Done}
 use Rattle.wq_history.specs.declared.fault.CallError.{CallError}
+use Rattle.wq_history.specs.declared.sleepers.Wake.{Wake}
 use Rattle.wq_history.specs.Book.{BookView}
 use Rattle.wq_history.specs.Calls.{Answers}
-use Rattle.wq_held.specs.Locked.{Holds}
+use Rattle.wq_held.specs.declared.fault.SeatError.{SeatError}
+use Rattle.wq_held.specs.declared.turn.Turn.TheVariants.{Answers as Answered}
+use Rattle.wq_held.specs.Locked.{HeldView, Holds}
 use Rattle.wq_held.specs.Calls.{counts_after, IsBarred, IsAdmitted}
+use Rattle.wq_api.specs.Locking.{MakesSeat}
 
 -- context c of lane q
 abbrev pub context_of : ℕ → ℕ → Context
-context_of q c = record { lane = q; helper = c }
+context_of q c = record { lane = q; number = c }
 
 -- a flush of item b, or of the whole lane of b
 abbrev pub flush_of : Bool → ℕ → Flush
@@ -54,6 +58,18 @@ abbrev pub ComesTo : Wiring → ℕ → List ℕ → Call → Result Reply CallE
 ComesTo w rows counts call (Ok reply) left = IsAdmitted w counts call × Took w rows counts call (Ok reply) left
 ComesTo w rows counts call (Err e) left = (IsBarred w counts call e × (left ≡ counts))
     ⊎ (IsAdmitted w counts call × Took w rows counts call (Err e) left)
+
+-- a runtime is destroyed: first its book is closed, and then nothing is unfinished
+abbrev pub Destroys : Wiring → ℕ → Type 0
+Destroys w rows = IsAnswered w rows Close (Ok Done) × IsAnswered w rows Drain (Ok Done)
+
+-- a seat is wanted, and something that the lock of such a runtime may protect answers so
+pub record IsSeated (w : Wiring) (rows : ℕ) (answer : Result (List ℕ) SeatError) : Type 0 where
+  pub old : HeldView
+  pub new : HeldView
+  pub wake : Wake
+  pub holds : Holds w rows old.book
+  pub makes : MakesSeat w old (Answered answer wake) new
 
 -- ---- what is told of the answer, of which this holds
 

@@ -44,7 +44,7 @@ impl<N: Naming, A: Allocator> Layout<N, A> {
             Call::Cancel(item) => self.has_item(item),
             Call::Ask(subject) => self.has_subject(&subject),
             Call::CancelSync(item) => self.has_item(item),
-            Call::Wait(context, _) => self.has_context(context.lane, context.helper),
+            Call::Wait(context, _) => self.has_context(context.lane, context.number),
             Call::Told(_, _) => true,
             Call::Start(_) => true,
             Call::Over(_, _) => true,

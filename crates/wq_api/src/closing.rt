@@ -3,10 +3,13 @@
 //! `destroy` waits until no entry is unfinished. `close` takes time in the number of all counts, and no memory. In each
 //! seat there are 22 counts for each item, or for each workqueue where there are more of those.
 
-ghost use Rattle.std.specs.Prelude.{◌≡◌, vec_len, IfOk, IfErr};
+ghost use Rattle.std.specs.Prelude.{◌≡◌, vec_len, Ok, IfOk, IfErr};
+ghost use Rattle.wq_history.specs.declared.call.Call.TheVariants.{Close, Drain};
+ghost use Rattle.wq_history.specs.declared.call.Reply.TheVariants.{Done};
 ghost use Rattle.wq_held.specs.Locked.{RefusesClose};
 ghost use Rattle.wq_held.specs.Closing.{IsClosed};
 ghost use Rattle.wq_api.specs.Locking.{UnderLock};
+ghost use Rattle.wq_api.specs.Taking.{IsAnswered, Destroys};
 
 use crate::runtime::WqRuntime;
 use crate::turns::Uncounted;
@@ -26,10 +29,29 @@ pub struct CloseRefused<N: Naming, A: Allocator> {
 }
 
 impl<N: Naming, A: Allocator> WqRuntime<N, A> {
-    /// Refuses queueings from now on, and waits until no entry is unfinished (`destroy_workqueue`, for all workqueues).
-    pub fn destroy<R: Wait>(&self, rt: &R) {
+    /// Closes the book: nothing is queued from now on.
+    #[tactic(auto, using(crate::proofs::Calls::closed_done))]
+    fn refuse_queueings<R: Wait>(&self, rt: &R)
+        ensures { IsAnswered N.wiring N.rows Close (Ok Done) }
+    {
         let _closed = self.settle(rt, Uncounted::Close);
+    }
+
+    /// Waits until nothing is unfinished. The book was closed before.
+    #[tactic(auto, using(crate::proofs::Calls::drained_done))]
+    fn drain<R: Wait>(&self, rt: &R)
+        requires closed { IsAnswered N.wiring N.rows Close (Ok Done) }
+        ensures { IsAnswered N.wiring N.rows Drain (Ok Done) }
+    {
         let _idle = self.settle(rt, Uncounted::Drain);
+    }
+
+    /// Refuses queueings from now on, and waits until no entry is unfinished (`destroy_workqueue`, for all workqueues).
+    pub fn destroy<R: Wait>(&self, rt: &R)
+        ensures took { Destroys N.wiring N.rows }
+    {
+        self.refuse_queueings(rt);
+        self.drain(rt);
     }
 
     /// Closes an idle runtime, given all of its seats, and returns its book and the sums of their counts.

@@ -10,6 +10,7 @@
 ghost use Rattle.std.specs.Prelude.{◌≡◌, ◌<◌, ◌%◌, ◌⊎◌, min, vec_len, IfOk, OnErr};
 ghost use Rattle.wq_api.specs.Locking.{max_item_condvars, HasCondvar};
 
+use crate::unlocked::Unlocked;
 use std::alloc::{AllocError, Allocator};
 use std::sync::Condvar;
 use wq_groups::LaneId;
@@ -132,8 +133,8 @@ impl<A: Allocator> Condvars<A> {
         }
     }
 
-    /// Wakes whoever is to be woken.
-    pub(crate) fn wake(&self, wake: &Wake) {
+    /// Wakes whoever is to be woken, once the lock was given back.
+    pub(crate) fn wake(&self, _after: Unlocked, wake: &Wake) {
         self.wake_contexts(wake.contexts);
         if let Some(item) = wake.item_waiters
             && !self.items.is_empty()

@@ -15,6 +15,7 @@ mod lock;
 mod runtime;
 mod serving;
 mod turns;
+mod unlocked;
 
 pub use closing::CloseRefused;
 pub use runtime::WqRuntime;

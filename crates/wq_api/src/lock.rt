@@ -11,6 +11,7 @@ ghost use Rattle.wq_held.specs.declared.turn.Turn.TheVariants.{Answers};
 ghost use Rattle.wq_api.specs.Locking.{max_item_condvars};
 
 use crate::condvars::Condvars;
+use crate::unlocked::unlock;
 use std::alloc::Allocator;
 use std::sync::{Mutex, Wait};
 use wq_held::Turn;
@@ -98,8 +99,7 @@ impl<H: Watched, A: Allocator> Lock<H, A> {
         for _ in rt.forever() {
             match held.take(own, call) {
                 Turn::Answers(answer, wake) => {
-                    drop(held);
-                    self.condvars.wake(&wake);
+                    self.condvars.wake(unlock(held), &wake);
                     return answer;
                 }
                 Turn::Sleeps(among) => {

@@ -22,7 +22,7 @@ ghost use Rattle.wq_api.specs.Refusals.{RefusesQueueWork, RefusesCancelWork};
 ghost use Rattle.wq_api.specs.WaitingCalls.{RefusesFlushWork, flushed, flush_refused, CountsCancelSync};
 ghost use Rattle.wq_api.specs.WaitingCalls.{RefusedCancelSync, RefusesFlushWorkqueue, lane_flushed, lane_flush_refused};
 ghost use Rattle.wq_api.specs.Locking.{max_item_condvars};
-ghost use Rattle.wq_api.specs.Taking.{ComesTo, GivesYes, Flushes, FlushesSo, CancelsSync};
+ghost use Rattle.wq_api.specs.Taking.{ComesTo, GivesYes, Flushes, FlushesSo, CancelsSync, IsSeated};
 
 use crate::condvars::Condvars;
 use crate::layout::Layout;
@@ -118,6 +118,7 @@ impl<N: Naming, A: Allocator + Copy> WqRuntime<N, A> {
     /// The error is `TooManySeats` (70) where 65,535 were made, or else out of
     /// memory (20). After an error no seat is made.
     pub fn seat<R: Wait>(&self, rt: &R, alloc: A) -> Result<Seat<N, A>, SeatError>
+        ensures took { IsSeated N.wiring N.rows result }
         ensures seat { IfOk result (λ s. s ≡ replicate (counts_each * slots N.wiring) 0) }
         ensures memory { result ≡ Err SeatOutOfMemory → 0 < slots N.wiring }
     {

@@ -49,7 +49,13 @@ impl<N: Naming, A: Allocator> WqRuntime<N, A> {
         ensures refused { IfErr result (λ e. e ≡ WrongLane) }
         ensures cause { OnErr result (WasWrongToStartIn N.wiring N.rows q helper) }
     {
-        self.start(rt, Context { lane: q, helper })
+        self.start(
+            rt,
+            Context {
+                lane: q,
+                number: helper,
+            },
+        )
     }
 
     /// Makes what a context runs wait for an item (`flush_work` in a work function), until none of its entries that
@@ -82,7 +88,15 @@ impl<N: Naming, A: Allocator> WqRuntime<N, A> {
             target,
             whole: false,
         };
-        self.wait(rt, seat, &Context { lane: q, helper }, &flush)
+        self.wait(
+            rt,
+            seat,
+            &Context {
+                lane: q,
+                number: helper,
+            },
+            &flush,
+        )
     }
 
     /// Makes what a context runs wait for the whole workqueue of an item
@@ -115,7 +129,15 @@ impl<N: Naming, A: Allocator> WqRuntime<N, A> {
             target,
             whole: true,
         };
-        self.wait(rt, seat, &Context { lane: q, helper }, &flush)
+        self.wait(
+            rt,
+            seat,
+            &Context {
+                lane: q,
+                number: helper,
+            },
+            &flush,
+        )
     }
 
     /// Finishes what a context runs, an entry of this item.
@@ -137,7 +159,15 @@ impl<N: Naming, A: Allocator> WqRuntime<N, A> {
             × (seat.new ≡ raised seat.old item FinishKind true)) }
         ensures refused { IfErr result (λ e. (e ≡ WrongLane) × (seat.new ≡ seat.old)) }
     {
-        self.finish(rt, seat, Context { lane: q, helper }, item)
+        self.finish(
+            rt,
+            seat,
+            Context {
+                lane: q,
+                number: helper,
+            },
+            item,
+        )
     }
 
     // ---- the rescuer

@@ -87,11 +87,13 @@ pub(crate) struct SeatIn<A: Allocator + Copy>(pub(crate) A);
 
 impl<N: Naming, A: Allocator + Copy> Turns<(), SeatIn<A>, Result<Seat<N, A>, SeatError>>
     for Held<N, A> {
+    ghost use Rattle.wq_held.specs.Locked.{Holds};
     ghost use Rattle.wq_api.specs.Locking.{MakesSeat};
 
-    ghost takes = { λ old none call turn new left. MakesSeat N.wiring old turn new };
+    ghost takes = { λ old none call turn new left. Holds N.wiring N.rows old.book × MakesSeat N.wiring old turn new };
 
     fn take(&mut self, _own: &mut (), call: SeatIn<A>) -> Turn<Result<Seat<N, A>, SeatError>> {
+        self.holds();
         Turn::Answers(self.seat(call.0), Wake::nobody())
     }
 }

@@ -27,7 +27,7 @@ use crate::entry::{Entry, Running};
 use crate::lane::Lane;
 use crate::lanes::Lanes;
 use crate::pending::PendingNumbers;
-use crate::step::{HelpStep, RunError, Step, StepError};
+use crate::step::{Context, HelpStep, RunError, Step, StepError};
 use crate::targets::Targets;
 use crate::workqueues::Workqueues;
 use std::alloc::{AllocError, Allocator};
@@ -201,11 +201,12 @@ impl<A: Allocator> Core<A> {
         }
     }
 
-    /// Whether there is such a context: the rescuer of a lane, 0, or its helper of this number, from 1.
-    pub fn has_context(&self, q: LaneId, helper: u8) -> bool
-        ensures { IsTrue result ↔ HasContext self.now.wiring q helper }
+    /// Whether there is such a context.
+    pub fn has_context(&self, context: Context) -> bool
+        ensures { IsTrue result ↔ HasContext self.now.wiring context.lane context.number }
     {
-        usize::from(q.get()) < self.lanes() && helper <= self.helpers_of(q)
+        usize::from(context.lane.get()) < self.lanes()
+            && context.number <= self.helpers_of(context.lane)
     }
 
     /// A lane, where there is such a lane.
@@ -230,14 +231,14 @@ impl<A: Allocator> Core<A> {
         }
     }
 
-    /// What a context runs, the rescuer of a lane, 0, or its helper of this number, with the waits that it has made and
-    /// what it waits for; nothing where it runs nothing, or where there is no such context.
-    pub fn running_in(&self, q: LaneId, helper: u8) -> Option<Running>
-        ensures running { result ≡ run_by (lane_at self.now.state q) helper }
+    /// What a context runs, with the waits that it has made and what it waits for; nothing where it runs nothing, or
+    /// where there is no such context.
+    pub fn running_in(&self, context: Context) -> Option<Running>
+        ensures running { result ≡ run_by (lane_at self.now.state context.lane) context.number }
         ensures machine { IsMachine self.now }
     {
-        if usize::from(q.get()) < self.lanes() {
-            self.lane(q).run_by(helper)
+        if usize::from(context.lane.get()) < self.lanes() {
+            self.lane(context.lane).run_by(context.number)
         } else {
             None
         }
@@ -409,15 +410,15 @@ impl<A: Allocator> Core<A> {
     }
 
     /// The number that a start of a helper gives, where it is lawful.
-    fn may_help(&self, q: LaneId, helper: u8, item: ItemId) -> Option<u32>
-        requires { 0 < helper }
-        ensures { IsNumberOf self.now (Help q helper (DoStart item)) result }
+    fn may_help(&self, context: Context, item: ItemId) -> Option<u32>
+        requires { 0 < context.number }
+        ensures { IsNumberOf self.now (Help context.lane context.number (DoStart item)) result }
     {
         let entry = self.pending_entry(item)?;
-        if self.lane_of(item) == q
-            && self.has_context(q, helper)
-            && self.running_in(q, helper).is_none()
-            && !self.lane(q).is_running(item)
+        if self.lane_of(item) == context.lane
+            && self.has_context(context)
+            && self.running_in(context).is_none()
+            && !self.lane(context.lane).is_running(item)
         {
             Some(entry.number)
         } else {
@@ -426,21 +427,21 @@ impl<A: Allocator> Core<A> {
     }
 
     /// The number that a start of a context gives, where it is lawful.
-    fn may_start(&self, q: LaneId, helper: u8, item: ItemId) -> Option<u32>
-        ensures { IsNumberOf self.now (step_in q helper (DoStart item)) result }
+    fn may_start(&self, context: Context, item: ItemId) -> Option<u32>
+        ensures { IsNumberOf self.now (step_in context.lane context.number (DoStart item)) result }
     {
-        if helper == 0 {
-            self.may_start_first(q, item)
+        if context.number == 0 {
+            self.may_start_first(context.lane, item)
         } else {
-            self.may_help(q, helper, item)
+            self.may_help(context, item)
         }
     }
 
     /// The number that a wait of a context gives, where it is lawful.
-    fn may_wait(&self, q: LaneId, helper: u8, whole: bool, target: ItemId) -> Option<u32>
-        ensures { IsNumberOf self.now (step_in q helper (wait_deed whole target)) result }
+    fn may_wait(&self, context: Context, whole: bool, target: ItemId) -> Option<u32>
+        ensures { IsNumberOf self.now (step_in context.lane context.number (wait_deed whole target)) result }
     {
-        let running = self.running_in(q, helper)?;
+        let running = self.running_in(context)?;
         let item = running.entry.item;
         if running.waiting.is_none()
             && (running.made as usize) < self.waits(item).len()
@@ -453,10 +454,10 @@ impl<A: Allocator> Core<A> {
     }
 
     /// The number that the end of a wait of a context gives, where it is lawful.
-    fn may_be_over(&self, q: LaneId, helper: u8, whole: bool, target: ItemId) -> Option<u32>
-        ensures { IsNumberOf self.now (step_in q helper (over_deed whole target)) result }
+    fn may_be_over(&self, context: Context, whole: bool, target: ItemId) -> Option<u32>
+        ensures { IsNumberOf self.now (step_in context.lane context.number (over_deed whole target)) result }
     {
-        let running = self.running_in(q, helper)?;
+        let running = self.running_in(context)?;
         let flush = running.waiting?;
         if flush.whole == whole
             && flush.target == target
@@ -469,10 +470,10 @@ impl<A: Allocator> Core<A> {
     }
 
     /// The number that a finish of a context gives, where it is lawful.
-    fn may_finish(&self, q: LaneId, helper: u8, item: ItemId) -> Option<u32>
-        ensures { IsNumberOf self.now (step_in q helper (DoFinish item)) result }
+    fn may_finish(&self, context: Context, item: ItemId) -> Option<u32>
+        ensures { IsNumberOf self.now (step_in context.lane context.number (DoFinish item)) result }
     {
-        let running = self.running_in(q, helper)?;
+        let running = self.running_in(context)?;
         if running.entry.item == item && running.waiting.is_none() {
             Some(running.entry.number)
         } else {
@@ -481,27 +482,27 @@ impl<A: Allocator> Core<A> {
     }
 
     /// The number that what a context does gives, where it is lawful.
-    fn may_do(&self, q: LaneId, helper: u8, deed: HelpStep) -> Option<u32>
-        ensures { IsNumberOf self.now (step_in q helper deed) result }
+    fn may_do(&self, context: Context, deed: HelpStep) -> Option<u32>
+        ensures { IsNumberOf self.now (step_in context.lane context.number deed) result }
     {
         match deed {
-            HelpStep::Start(item) => self.may_start(q, helper, item),
-            HelpStep::Wait(target) => self.may_wait(q, helper, false, target),
-            HelpStep::WaitAll(target) => self.may_wait(q, helper, true, target),
-            HelpStep::Over(target) => self.may_be_over(q, helper, false, target),
-            HelpStep::OverAll(target) => self.may_be_over(q, helper, true, target),
-            HelpStep::Finish(item) => self.may_finish(q, helper, item),
+            HelpStep::Start(item) => self.may_start(context, item),
+            HelpStep::Wait(target) => self.may_wait(context, false, target),
+            HelpStep::WaitAll(target) => self.may_wait(context, true, target),
+            HelpStep::Over(target) => self.may_be_over(context, false, target),
+            HelpStep::OverAll(target) => self.may_be_over(context, true, target),
+            HelpStep::Finish(item) => self.may_finish(context, item),
         }
     }
 
     /// The number that a step of a helper gives, where it is lawful.
-    fn helper_may(&self, q: LaneId, helper: u8, deed: HelpStep) -> Option<u32>
-        ensures { IsNumberOf self.now (Help q helper deed) result }
+    fn helper_may(&self, helper: Context, deed: HelpStep) -> Option<u32>
+        ensures { IsNumberOf self.now (Help helper.lane helper.number deed) result }
     {
-        if helper == 0 {
+        if helper.number == 0 {
             None
         } else {
-            self.may_do(q, helper, deed)
+            self.may_do(helper, deed)
         }
     }
 
@@ -539,75 +540,99 @@ impl<A: Allocator> Core<A> {
     }
 
     /// Starts the pending entry of an item in a context, and gives its number.
-    fn start(&mut self, q: LaneId, helper: u8, item: ItemId) -> Result<u32, StepError>
-        ensures done { IfOk result (λ n. IsDone self.old (step_in q helper (DoStart item)) n self.new) }
-        ensures refused { IfErr result (λ e. IsRefusal self.old (step_in q helper (DoStart item)) e
-            × (self.new ≡ self.old)) }
+    fn start(&mut self, context: Context, item: ItemId) -> Result<u32, StepError>
+        ensures done { IfOk result (λ n.
+            IsDone self.old (step_in context.lane context.number (DoStart item)) n self.new) }
+        ensures refused { IfErr result (λ e.
+            IsRefusal self.old (step_in context.lane context.number (DoStart item)) e × (self.new ≡ self.old)) }
     {
-        let Some(number) = self.may_start(q, helper, item) else {
+        let q = context.lane;
+        let by = context.number;
+        let Some(number) = self.may_start(context, item) else {
             return Err(StepError::NotLawful);
         };
         let entry = Entry { number, item };
-        self.lanes.lane_mut(q).start(helper, entry);
+        self.lanes.lane_mut(q).start(by, entry);
         self.pending.forget(item);
         Ok(number)
     }
 
     /// Makes what a context runs begin to wait, and gives the mark.
-    fn wait(&mut self, q: LaneId, helper: u8, whole: bool, target: ItemId) -> Result<u32, StepError>
-        ensures done { IfOk result (λ n. IsDone self.old (step_in q helper (wait_deed whole target)) n self.new) }
-        ensures refused { IfErr result (λ e. IsRefusal self.old (step_in q helper (wait_deed whole target)) e
+    fn wait(&mut self, context: Context, whole: bool, target: ItemId) -> Result<u32, StepError>
+        ensures done { IfOk result (λ n.
+            IsDone self.old (step_in context.lane context.number (wait_deed whole target)) n self.new) }
+        ensures refused { IfErr result (λ e.
+            IsRefusal self.old (step_in context.lane context.number (wait_deed whole target)) e
             × (self.new ≡ self.old)) }
     {
-        let Some(number) = self.may_wait(q, helper, whole, target) else {
+        let q = context.lane;
+        let by = context.number;
+        let Some(number) = self.may_wait(context, whole, target) else {
             return Err(StepError::NotLawful);
         };
-        self.lanes.lane_mut(q).wait(helper, whole, target, number);
+        self.lanes.lane_mut(q).wait(by, whole, target, number);
         Ok(number)
     }
 
     /// Ends the wait of what a context runs, and gives the mark.
-    fn over(&mut self, q: LaneId, helper: u8, whole: bool, target: ItemId) -> Result<u32, StepError>
-        ensures done { IfOk result (λ n. IsDone self.old (step_in q helper (over_deed whole target)) n self.new) }
-        ensures refused { IfErr result (λ e. IsRefusal self.old (step_in q helper (over_deed whole target)) e
+    fn over(&mut self, context: Context, whole: bool, target: ItemId) -> Result<u32, StepError>
+        ensures done { IfOk result (λ n.
+            IsDone self.old (step_in context.lane context.number (over_deed whole target)) n self.new) }
+        ensures refused { IfErr result (λ e.
+            IsRefusal self.old (step_in context.lane context.number (over_deed whole target)) e
             × (self.new ≡ self.old)) }
     {
-        let Some(number) = self.may_be_over(q, helper, whole, target) else {
+        let q = context.lane;
+        let by = context.number;
+        let Some(number) = self.may_be_over(context, whole, target) else {
             return Err(StepError::NotLawful);
         };
-        self.lanes.lane_mut(q).over(helper);
+        self.lanes.lane_mut(q).over(by);
         Ok(number)
     }
 
     /// Finishes what a context runs, and gives the number of its entry.
-    fn finish(&mut self, q: LaneId, helper: u8, item: ItemId) -> Result<u32, StepError>
-        ensures done { IfOk result (λ n. IsDone self.old (step_in q helper (DoFinish item)) n self.new) }
-        ensures refused { IfErr result (λ e. IsRefusal self.old (step_in q helper (DoFinish item)) e
-            × (self.new ≡ self.old)) }
+    fn finish(&mut self, context: Context, item: ItemId) -> Result<u32, StepError>
+        ensures done { IfOk result (λ n.
+            IsDone self.old (step_in context.lane context.number (DoFinish item)) n self.new) }
+        ensures refused { IfErr result (λ e.
+            IsRefusal self.old (step_in context.lane context.number (DoFinish item)) e × (self.new ≡ self.old)) }
     {
-        let Some(number) = self.may_finish(q, helper, item) else {
+        let q = context.lane;
+        let by = context.number;
+        let Some(number) = self.may_finish(context, item) else {
             return Err(StepError::NotLawful);
         };
-        self.lanes.lane_mut(q).finish(helper);
+        self.lanes.lane_mut(q).finish(by);
         Ok(number)
     }
 
-    /// Makes a step of a helper, and gives its number.
-    fn help(&mut self, q: LaneId, helper: u8, deed: HelpStep) -> Result<u32, StepError>
-        ensures done { IfOk result (λ n. IsDone self.old (Help q helper deed) n self.new) }
-        ensures refused { IfErr result (λ e. IsRefusal self.old (Help q helper deed) e × (self.new ≡ self.old)) }
+    /// Does what a context does, and gives its number.
+    fn make(&mut self, context: Context, deed: HelpStep) -> Result<u32, StepError>
+        ensures done { IfOk result (λ n. IsDone self.old (step_in context.lane context.number deed) n self.new) }
+        ensures refused { IfErr result (λ e. IsRefusal self.old (step_in context.lane context.number deed) e
+            × (self.new ≡ self.old)) }
     {
-        if helper == 0 {
+        match deed {
+            HelpStep::Start(item) => self.start(context, item),
+            HelpStep::Wait(target) => self.wait(context, false, target),
+            HelpStep::WaitAll(target) => self.wait(context, true, target),
+            HelpStep::Over(target) => self.over(context, false, target),
+            HelpStep::OverAll(target) => self.over(context, true, target),
+            HelpStep::Finish(item) => self.finish(context, item),
+        }
+    }
+
+    /// Makes a step of a helper, and gives its number.
+    fn help(&mut self, helper: Context, deed: HelpStep) -> Result<u32, StepError>
+        ensures done { IfOk result (λ n. IsDone self.old (Help helper.lane helper.number deed) n self.new) }
+        ensures refused { IfErr result (λ e. IsRefusal self.old (Help helper.lane helper.number deed) e
+            × (self.new ≡ self.old)) }
+    {
+        if helper.number == 0 {
             return Err(StepError::NotLawful);
         }
-        match deed {
-            HelpStep::Start(item) => self.start(q, helper, item),
-            HelpStep::Wait(target) => self.wait(q, helper, false, target),
-            HelpStep::WaitAll(target) => self.wait(q, helper, true, target),
-            HelpStep::Over(target) => self.over(q, helper, false, target),
-            HelpStep::OverAll(target) => self.over(q, helper, true, target),
-            HelpStep::Finish(item) => self.finish(q, helper, item),
-        }
+        self.make(helper, deed)
     }
 
     /// The number that a step would give; none where it wouldn't be made, because it
@@ -623,13 +648,13 @@ impl<A: Allocator> Core<A> {
                 number => number,
             },
             Step::Cancel(item) => self.may_cancel(item),
-            Step::Start(q, item) => self.may_start(q, 0, item),
-            Step::Wait(q, target) => self.may_wait(q, 0, false, target),
-            Step::Over(q, target) => self.may_be_over(q, 0, false, target),
-            Step::WaitAll(q, target) => self.may_wait(q, 0, true, target),
-            Step::OverAll(q, target) => self.may_be_over(q, 0, true, target),
-            Step::Finish(q, item) => self.may_finish(q, 0, item),
-            Step::Help(q, helper, deed) => self.helper_may(q, helper, deed),
+            Step::Start(q, item) => self.may_start(Context::rescuer(q), item),
+            Step::Wait(q, target) => self.may_wait(Context::rescuer(q), false, target),
+            Step::Over(q, target) => self.may_be_over(Context::rescuer(q), false, target),
+            Step::WaitAll(q, target) => self.may_wait(Context::rescuer(q), true, target),
+            Step::OverAll(q, target) => self.may_be_over(Context::rescuer(q), true, target),
+            Step::Finish(q, item) => self.may_finish(Context::rescuer(q), item),
+            Step::Help(lane, number, deed) => self.helper_may(Context { lane, number }, deed),
         }
     }
 
@@ -646,13 +671,13 @@ impl<A: Allocator> Core<A> {
         match step {
             Step::Queue(item) => self.queue(item),
             Step::Cancel(item) => self.cancel(item),
-            Step::Start(q, item) => self.start(q, 0, item),
-            Step::Wait(q, target) => self.wait(q, 0, false, target),
-            Step::Over(q, target) => self.over(q, 0, false, target),
-            Step::WaitAll(q, target) => self.wait(q, 0, true, target),
-            Step::OverAll(q, target) => self.over(q, 0, true, target),
-            Step::Finish(q, item) => self.finish(q, 0, item),
-            Step::Help(q, helper, deed) => self.help(q, helper, deed),
+            Step::Start(q, item) => self.start(Context::rescuer(q), item),
+            Step::Wait(q, target) => self.wait(Context::rescuer(q), false, target),
+            Step::Over(q, target) => self.over(Context::rescuer(q), false, target),
+            Step::WaitAll(q, target) => self.wait(Context::rescuer(q), true, target),
+            Step::OverAll(q, target) => self.over(Context::rescuer(q), true, target),
+            Step::Finish(q, item) => self.finish(Context::rescuer(q), item),
+            Step::Help(lane, number, deed) => self.help(Context { lane, number }, deed),
         }
     }
 

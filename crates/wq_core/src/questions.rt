@@ -18,7 +18,7 @@ ghost use Rattle.wq_core.specs.Played.{RescuerCanMove, HelperGoesOn, CanMove, Ha
 
 use crate::entry::{Entry, Running};
 use crate::machine::Core;
-use crate::step::Step;
+use crate::step::{Context, Step};
 use std::alloc::Allocator;
 use wq_groups::LaneId;
 use wq_items::{ItemId, Target};
@@ -51,11 +51,11 @@ impl<A: Allocator> Core<A> {
     }
 
     /// Whether a helper can go on with what it runs.
-    fn helper_goes_on(&self, q: LaneId, helper: u8) -> bool
-        requires { 0 < helper }
-        ensures { IsTrue result ↔ HelperGoesOn self.now.wiring self.now.state q helper }
+    fn helper_goes_on(&self, helper: Context) -> bool
+        requires { 0 < helper.number }
+        ensures { IsTrue result ↔ HelperGoesOn self.now.wiring self.now.state helper.lane helper.number }
     {
-        let Some(running) = self.running_in(q, helper) else {
+        let Some(running) = self.running_in(helper) else {
             return false;
         };
         let Some(flush) = running.waiting else {
@@ -70,7 +70,8 @@ impl<A: Allocator> Core<A> {
     {
         let count = self.helpers_of(q);
         for before in 0..count {
-            if self.helper_goes_on(q, before + 1) {
+            let number = before + 1;
+            if self.helper_goes_on(Context { lane: q, number }) {
                 return true;
             }
         }

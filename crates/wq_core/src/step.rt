@@ -14,22 +14,22 @@ use thiserror::Error;
 use wq_groups::LaneId;
 use wq_items::ItemId;
 
-/// An execution context of a lane.
+/// An execution context of a lane: its rescuer, or one of its helpers.
 #[derive(Clone, Copy, Debug, PartialEq, Eq)]
 pub struct Context {
     /// The lane.
     pub lane: LaneId,
-    /// 0 for the lane's rescuer, or the number of its helper, from 1.
-    pub helper: u8,
+    /// 0 is the lane's rescuer, and from 1 on come its helpers.
+    pub number: u8,
 }
 
 impl Context {
     /// The rescuer of a lane.
     pub fn rescuer(lane: LaneId) -> Context
         ensures lane { result.lane ≡ lane }
-        ensures helper { result.helper ≡ 0 }
+        ensures number { result.number ≡ 0 }
     {
-        Context { lane, helper: 0 }
+        Context { lane, number: 0 }
     }
 }
 
@@ -112,13 +112,14 @@ pub enum Step {
 }
 
 impl Step {
-    /// The step of a context: the rescuer of a lane, 0, or its helper of this number.
+    /// What a context does, as a step.
     #[inline(always)]
-    pub fn of(q: LaneId, helper: u8, deed: HelpStep) -> Step
-        ensures { result ≡ step_in q helper deed }
+    pub fn of(context: Context, deed: HelpStep) -> Step
+        ensures { result ≡ step_in context.lane context.number deed }
     {
-        if helper > 0 {
-            return Step::Help(q, helper, deed);
+        let q = context.lane;
+        if context.number > 0 {
+            return Step::Help(q, context.number, deed);
         }
         match deed {
             HelpStep::Start(item) => Step::Start(q, item),

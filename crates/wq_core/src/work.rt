@@ -13,7 +13,7 @@ ghost use Rattle.wq_core.specs.Work.{whole_work, waits_over, running_work, lane_
 
 use crate::entry::Waiting;
 use crate::machine::Core;
-use crate::step::{HelpStep, Step};
+use crate::step::{Context, HelpStep, Step};
 use std::alloc::Allocator;
 use wq_groups::LaneId;
 use wq_items::ItemId;
@@ -55,11 +55,12 @@ impl<A: Allocator> Core<A> {
     }
 
     /// What is left of what a context runs.
-    fn running_work(&self, q: LaneId, helper: u8) -> u64
-        ensures work { result ≡ running_work self.now.wiring (run_by (lane_at self.now.state q) helper) }
+    fn running_work(&self, context: Context) -> u64
+        ensures work { result
+            ≡ running_work self.now.wiring (run_by (lane_at self.now.state context.lane) context.number) }
         ensures few { result ≤ 32770 }
     {
-        let Some(running) = self.running_in(q, helper) else {
+        let Some(running) = self.running_in(context) else {
             return 0;
         };
         let made = u64::from(running.made);
@@ -75,7 +76,8 @@ impl<A: Allocator> Core<A> {
         let count = self.helpers_of(q);
         let mut work = 0;
         for before in 0..count {
-            work += self.running_work(q, before + 1);
+            let number = before + 1;
+            work += self.running_work(Context { lane: q, number });
         }
         work
     }
@@ -86,7 +88,7 @@ impl<A: Allocator> Core<A> {
         ensures work { result ≡ lane_work self.now.wiring (lane_at self.now.state q) }
         ensures few { result ≤ 4105 * 32770 }
     {
-        self.pending_work(q) + (self.running_work(q, 0) + self.helping_work(q))
+        self.pending_work(q) + (self.running_work(Context::rescuer(q)) + self.helping_work(q))
     }
 
     /// The number of starts, waits, ends of waits and finishes that can still be made
@@ -104,8 +106,9 @@ impl<A: Allocator> Core<A> {
     }
 
     /// How much less is left after what a context does: one step, or all that is left of what it finishes.
-    fn deed_work(&self, q: LaneId, helper: u8, deed: HelpStep) -> u64
-        ensures work { result ≡ deed_work self.now.wiring (lane_at self.now.state q) helper deed }
+    fn deed_work(&self, context: Context, deed: HelpStep) -> u64
+        ensures work { result
+            ≡ deed_work self.now.wiring (lane_at self.now.state context.lane) context.number deed }
     {
         match deed {
             HelpStep::Start(_)
@@ -113,7 +116,7 @@ impl<A: Allocator> Core<A> {
             | HelpStep::WaitAll(_)
             | HelpStep::Over(_)
             | HelpStep::OverAll(_) => 1,
-            HelpStep::Finish(_) => self.running_work(q, helper),
+            HelpStep::Finish(_) => self.running_work(context),
         }
     }
 
@@ -136,8 +139,8 @@ impl<A: Allocator> Core<A> {
             | Step::Over(_, _)
             | Step::WaitAll(_, _)
             | Step::OverAll(_, _) => work - 1,
-            Step::Finish(q, _) => work - self.running_work(q, 0),
-            Step::Help(q, helper, deed) => work - self.deed_work(q, helper, deed),
+            Step::Finish(q, _) => work - self.running_work(Context::rescuer(q)),
+            Step::Help(lane, number, deed) => work - self.deed_work(Context { lane, number }, deed),
         }
     }
 }

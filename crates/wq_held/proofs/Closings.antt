@@ -178,7 +178,7 @@ all_told : (w : Wiring) (rows : List Row) → IsLegal w rows → all_asks_waitin
     → (x : Subject) → count_by (ends_a_wait x) rows ≡ count_by (begins_to_wait x) rows
 all_told w rows legal none x =
     let c = AreCounted-legal w rows legal in
-    CountsAsks-none rows c.asks x c.sum_is c.counts (all_asks_waiting-count rows c.asks c.counts ∙ none)
+    CountsAsks-none rows c.0 x c.1.sum_is c.1.counts (all_asks_waiting-count rows c.0 c.1.counts ∙ none)
 
 -- the rows of a legal history are of items and lanes that exist
 rows_there : (w : Wiring) (rows : List Row) → IsWiring w → IsLegal w rows → (n : ℕ) (row : Row) → slice_get rows n ≡ Some row → IsThere w (subject_in row.event)
@@ -187,34 +187,14 @@ rows_there w rows wiring legal n row is =
     (exist w (take n rows) row.event row.yes row.number wiring before (legal n row is)).0
 
 item_there : (w : Wiring) (event : Event) (kind : Kind) → kind_in event ≡ Some kind → IsThere w (subject_in event) → item_in event < items w
-item_there w (Queue i) kind is there = there
-item_there w (Cancel i) kind is there = there
-item_there w (Start q i) kind is there = there
-item_there w (Wait q b) kind is there = there
-item_there w (Over q b) kind is there = there
-item_there w (Finish q i) kind is there = there
-item_there w (Ask i) kind is there = there
-item_there w (Told i) kind is there = there
-item_there w (WaitAll q b) kind is there = there
-item_there w (OverAll q b) kind is there = there
 item_there w (AskLane q) kind is there = absurd cc
 item_there w (ToldLane q) kind is there = absurd cc
-item_there w (Help q h deed) kind is there = there
+item_there w _ kind is there = there
 
 lane_there : (w : Wiring) (event : Event) (kind : LaneKind) → lane_kind_in event ≡ Some kind → IsThere w (subject_in event) → lane_in event < w.lanes
-lane_there w (Queue i) kind is there = absurd cc
-lane_there w (Cancel i) kind is there = absurd cc
-lane_there w (Start q i) kind is there = absurd cc
-lane_there w (Wait q b) kind is there = absurd cc
-lane_there w (Over q b) kind is there = absurd cc
-lane_there w (Finish q i) kind is there = absurd cc
-lane_there w (Ask i) kind is there = absurd cc
-lane_there w (Told i) kind is there = absurd cc
-lane_there w (WaitAll q b) kind is there = absurd cc
-lane_there w (OverAll q b) kind is there = absurd cc
 lane_there w (AskLane q) kind is there = there
 lane_there w (ToldLane q) kind is there = there
-lane_there w (Help q h deed) kind is there = absurd cc
+lane_there w _ kind is there = absurd cc
 
 -- so no row is of an item or a lane that doesn't
 count_none : (p : Row → Bool) (rows : List Row) → ((n : ℕ) (row : Row) → slice_get rows n ≡ Some row → p row ≡ false) → count_by p rows ≡ 0

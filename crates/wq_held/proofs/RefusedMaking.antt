@@ -44,12 +44,7 @@ book_refused w rows OutOfMemory sound few why = by_cause why.1 where
   by_cause (inr (inl some_items)) =
       let below : lane_of w 0 < w.lanes = lane_exists w 0 sound some_items in inl (omega (arith, below))
   by_cause (inr (inr some_lanes)) = inl some_lanes
-book_refused w rows HistoryFull sound few why = absurd why
-book_refused w rows Closed sound few why = absurd why
-book_refused w rows Undeclared sound few why = absurd why
-book_refused w rows TooManyWaits sound few why = absurd why
-book_refused w rows WrongLane sound few why = absurd why
-book_refused w rows NoItem sound few why = absurd why
+book_refused w rows _ sound few why = absurd why
 
 -- where there are counts to keep, there are lanes
 pub some_lanes : (w : Wiring) → IsWiring w → 0 < slots w → 0 < w.lanes

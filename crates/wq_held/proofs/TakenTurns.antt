@@ -63,9 +63,7 @@ pub answered-there : (old new : BookView) (call : Call) (answer : Result Reply C
     → Answers old call answer new → AreThere old.wiring answer
 answered-there old new call (Ok (Wrote row)) book answers = row-there old new row book answers.1
 answered-there old new call (Ok (WroteTwo ask taken)) book answers = two-there old new call ask taken book answers
-answered-there old new call (Ok Done) book answers = tt
-answered-there old new call (Ok NotYet) book answers = tt
-answered-there old new call (Err e) book answers = tt
+answered-there old new call _ book answers = tt
 
 -- the same of the book after
 pub now-there : (b : BookView) (call : Call) (answer : Result Reply CallError) → WasAnswered b call answer
@@ -112,16 +110,7 @@ same-protected w rows parts b new tallies sums seats left amount wirings all_row
 same-after : (b : BookView) (call : Call)
     → ((after b call).wiring ≡ b.wiring) × ((after b call).rows ≡ b.rows) × ((after b call).room ≡ b.room)
 same-after b Close = (refl, refl, refl)
-same-after b (Queue i) = (refl, refl, refl)
-same-after b (Cancel i) = (refl, refl, refl)
-same-after b (Ask x) = (refl, refl, refl)
-same-after b (Told x mark) = (refl, refl, refl)
-same-after b (CancelSync i) = (refl, refl, refl)
-same-after b (Start c) = (refl, refl, refl)
-same-after b (Wait c f) = (refl, refl, refl)
-same-after b (Over c f) = (refl, refl, refl)
-same-after b (Finish c i) = (refl, refl, refl)
-same-after b Drain = (refl, refl, refl)
+same-after b _ = (refl, refl, refl)
 
 module _ (w : Wiring) (rows parts : ℕ) (b new : BookView) (tallies sums : List ℕ) (seats left amount : ℕ)
     (held : IsProtected w rows parts b tallies sums seats left amount) (book : IsBook b) where
@@ -162,7 +151,7 @@ start-uncounted counts q (suc h) i said = refl
 row-uncounted : (b : BookView) (call : Call) (row : Row) (counts : List ℕ) → IsUncounted call → IsRowOf b call row
     → noted counts row ≡ counts
 row-uncounted b (Start c) row counts uncounted (i, next, is) =
-    ap (λ (e : Event). noted_as counts e row.yes) is ∙ start-uncounted counts c.lane c.helper i row.yes
+    ap (λ (e : Event). noted_as counts e row.yes) is ∙ start-uncounted counts c.lane c.number i row.yes
 row-uncounted b Close row counts uncounted is = absurd is
 row-uncounted b Drain row counts uncounted is = absurd is
 row-uncounted b _ row counts uncounted is = absurd uncounted
@@ -179,8 +168,7 @@ answered-uncounted old new call (Ok (Wrote row)) counts uncounted answers =
 answered-uncounted old new call (Ok (WroteTwo ask taken)) counts uncounted answers =
     two-uncounted old new call ask taken counts uncounted answers
 answered-uncounted old new call (Ok Done) counts uncounted answers = refl
-answered-uncounted old new call (Ok NotYet) counts uncounted answers = refl
-answered-uncounted old new call (Err e) counts uncounted answers = refl
+answered-uncounted old new call _ counts uncounted answers = refl
 
 -- ---- who sleeps
 
@@ -201,19 +189,13 @@ module _ (b : BookView) (book : IsBook b) where
   early-group (Start c) early = early.0.0.0
   early-group (Over c f) early = waiters-group _ early.0 early.2
   early-group Drain early = tt
-  early-group (Queue i) early = absurd early
-  early-group (Cancel i) early = absurd early
-  early-group (Ask x) early = absurd early
-  early-group (CancelSync i) early = absurd early
-  early-group (Wait c f) early = absurd early
-  early-group (Finish c i) early = absurd early
-  early-group Close early = absurd early
+  early-group _ early = absurd early
 
   -- what a context waits for is there
   pub awaited-there : (c : Context) (f : Flush) → IsEarly b (Over c f) → f.target < items b.wiring
   awaited-there c f (mark, (g, ((r, runs, waits), kind), same, of_mark), left) =
       let there = declared-item b.wiring g.whole r.entry.item g.target book.wiring
-      ((sound.running c.lane c.helper r runs).waits g waits).1 in
+      ((sound.running c.lane c.number r runs).waits g waits).1 in
       subst (λ (t : ℕ). t < items b.wiring) same there
 
 -- ---- turns

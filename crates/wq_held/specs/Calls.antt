@@ -29,7 +29,7 @@ IsNamed w (Queue i) = i < items w
 IsNamed w (Cancel i) = i < items w
 IsNamed w (Ask x) = IsThere w x
 IsNamed w (CancelSync i) = i < items w
-IsNamed w (Wait c f) = HasContext w c.lane c.helper
+IsNamed w (Wait c f) = HasContext w c.lane c.number
 IsNamed w _ = Unit {0}
 
 -- the refusal of a call that names what isn't there

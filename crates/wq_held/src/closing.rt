@@ -47,7 +47,6 @@ fn gather<N: Naming, A: Allocator>(
     ensures sums { SumsSeats seats.items sums.new }
     ensures length { HasCountsOf (slots N.wiring) sums.new }
     ensures total { sum sums.new ≡ ledger.old.total }
-    ensures ledger { ledger.new.total ≡ ledger.old.total }
 {
     while let Some(seat) = seats.pop() {
         let Seat { counts, share } = seat;

@@ -138,14 +138,6 @@ impl<N: Naming, A: Allocator> Held<N, A> {
         self.tallies.audit(seat);
     }
 
-    /// The number of workqueues, at most 256.
-    pub fn lanes(&self) -> usize
-        ensures lanes { result ≡ N.wiring.lanes }
-        ensures few { result ≤ max_runtime_lanes }
-    {
-        self.book.lanes()
-    }
-
     /// The workqueue of an item, where there is such an item.
     pub fn lane_of(&self, item: ItemId) -> Option<LaneId>
         ensures some { IfSome result (λ q. IsOnLane N.wiring q item) }

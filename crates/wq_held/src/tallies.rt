@@ -3,7 +3,7 @@
 //! Each counted row is counted twice: here, for the history, and in the seat of the caller whose call wrote it. The
 //! ledger shows that both grow by one together. A count takes constant time and no memory.
 
-ghost use Rattle.std.specs.Prelude.{◌≡◌, ◌+◌, ◌<◌, ◌≤◌, sum, Ok};
+ghost use Rattle.std.specs.Prelude.{◌≡◌, ◌+◌, ◌<◌, ◌≤◌, sum};
 ghost use Rattle.wq_counts.specs.Counting.{noted};
 ghost use Rattle.wq_history.specs.Events.{subject_in};
 ghost use Rattle.wq_history.specs.History.{IsThere};
@@ -61,24 +61,6 @@ impl<N: Naming, A: Allocator> Tallies<N, A> {
             .add(&mut seat.share, seat.counts.total() - before);
     }
 
-    /// Counts the rows of a reply.
-    fn count_reply(&mut self, seat: &mut Seat<N, A>, reply: &Reply)
-        requires there { AreThere N.wiring (Ok reply.now) }
-        requires few { sum self.old < 4294967294 }
-        ensures tallies { self.new ≡ counts_after self.old (Ok reply.now) }
-        ensures seat { seat.new ≡ counts_after seat.old (Ok reply.now) }
-    {
-        match reply {
-            Reply::Wrote(row) => self.count_row(seat, row),
-            Reply::WroteTwo(ask, taken) => {
-                self.count_row(seat, ask);
-                self.count_row(seat, taken);
-            }
-            Reply::Done => {}
-            Reply::NotYet => {}
-        }
-    }
-
     /// Counts the rows of an answer.
     pub fn count_answer(&mut self, seat: &mut Seat<N, A>, answer: &Result<Reply, CallError>)
         requires there { AreThere N.wiring answer.now }
@@ -87,7 +69,13 @@ impl<N: Naming, A: Allocator> Tallies<N, A> {
         ensures seat { seat.new ≡ counts_after seat.old answer.now }
     {
         match answer {
-            Ok(reply) => self.count_reply(seat, reply),
+            Ok(Reply::Wrote(row)) => self.count_row(seat, row),
+            Ok(Reply::WroteTwo(ask, taken)) => {
+                self.count_row(seat, ask);
+                self.count_row(seat, taken);
+            }
+            Ok(Reply::Done) => {}
+            Ok(Reply::NotYet) => {}
             Err(_) => {}
         }
     }

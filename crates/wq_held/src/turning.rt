@@ -2,7 +2,7 @@
 //!
 //! A call that is too early changes nothing. A call takes the time of the book's answer, and no memory.
 
-ghost use Rattle.std.specs.Prelude.{◌≡◌, ℕ, List, Ok};
+ghost use Rattle.std.specs.Prelude.{◌≡◌, ℕ, List};
 ghost use Rattle.wq_core.specs.Wiring.{items};
 ghost use Rattle.wq_held.specs.Locked.{Holds};
 ghost use Rattle.wq_held.specs.Calls.{IsUncounted, WasAnswered, BecomesTurn, TakesTurn};
@@ -16,29 +16,6 @@ use crate::waking::{by_done, by_refusal, by_row, sleepers};
 use std::alloc::Allocator;
 use wq_history::{Book, Call, CallError, Reply};
 
-/// What a call comes to to which the book replied so.
-fn turn_of_reply<A: Allocator>(
-    book: &Book<A>,
-    call: &Call,
-    reply: Reply,
-) -> Turn<Result<Reply, CallError>>
-    requires { WasAnswered book.now call.now (Ok reply) }
-    ensures { BecomesTurn book.now call.now (Ok reply) result }
-{
-    match reply {
-        Reply::Wrote(row) => {
-            let wake = by_row(book, &row);
-            Turn::Answers(Ok(Reply::Wrote(row)), wake)
-        }
-        Reply::WroteTwo(asked, taken) => {
-            let wake = by_row(book, &taken);
-            Turn::Answers(Ok(Reply::WroteTwo(asked, taken)), wake)
-        }
-        Reply::Done => Turn::Answers(Ok(Reply::Done), by_done(call)),
-        Reply::NotYet => Turn::Sleeps(sleepers(book, call)),
-    }
-}
-
 /// What a call comes to that the book answered so.
 fn turn_of<A: Allocator>(
     book: &Book<A>,
@@ -49,7 +26,16 @@ fn turn_of<A: Allocator>(
     ensures { BecomesTurn book.now call.now answer result }
 {
     match answer {
-        Ok(reply) => turn_of_reply(book, call, reply),
+        Ok(Reply::Wrote(row)) => {
+            let wake = by_row(book, &row);
+            Turn::Answers(Ok(Reply::Wrote(row)), wake)
+        }
+        Ok(Reply::WroteTwo(asked, taken)) => {
+            let wake = by_row(book, &taken);
+            Turn::Answers(Ok(Reply::WroteTwo(asked, taken)), wake)
+        }
+        Ok(Reply::Done) => Turn::Answers(Ok(Reply::Done), by_done(call)),
+        Ok(Reply::NotYet) => Turn::Sleeps(sleepers(book, call)),
         Err(e) => Turn::Answers(Err(e), by_refusal(call)),
     }
 }

@@ -11,16 +11,15 @@ ghost use Rattle.wq_core.specs.Wiring.{items, lane_of};
 ghost use Rattle.wq_history.specs.Events.{subject_in};
 ghost use Rattle.wq_history.specs.History.{IsThere};
 ghost use Rattle.wq_history.specs.Book.{IsBook};
-ghost use Rattle.wq_history.specs.Calls.{IsEarly, subject_of, waiters_for, sleepers_of, woken_by_done};
+ghost use Rattle.wq_history.specs.Calls.{IsEarly, waiters_for, sleepers_of, woken_by_done};
 ghost use Rattle.wq_history.specs.Calls.{woken_by_refusal};
 ghost use Rattle.wq_history.specs.Waits.{WakesBy, WakesByDeed, WakesIfEnded, WakesIfPending, WakesWaiters};
-ghost use Rattle.wq_history.specs.Waits.{WakesByStart, WakesByFinish};
 ghost use Rattle.wq_rows.specs.declared.event.Event.TheVariants.{Queue as QueueEvent, Cancel as CancelEvent};
 
 use std::alloc::Allocator;
 use wq_core::HelpStep;
 use wq_groups::LaneId;
-use wq_history::{Book, Call, Flush, Sleepers, Subject, Wake, WokenContexts};
+use wq_history::{Book, Call, Sleepers, Subject, Wake, WokenContexts};
 use wq_items::ItemId;
 use wq_rows::{Event, Row};
 
@@ -68,18 +67,6 @@ fn by_queueing<A: Allocator>(book: &Book<A>, item: ItemId, accepted: bool) -> Wa
     Wake::one_context(lane_of_item(book, item))
 }
 
-/// Whom a start on a workqueue wakes.
-fn by_start<A: Allocator>(book: &Book<A>, q: LaneId) -> Wake
-    ensures { WakesByStart book.now q result }
-{
-    Wake {
-        contexts: if_ended(book, q),
-        item_waiters: None,
-        lane_waiters: None,
-        destroyers: false,
-    }
-}
-
 /// Whom it wakes that an entry of an item has ended, on a workqueue: these contexts, and who waited for that.
 fn by_end<A: Allocator>(book: &Book<A>, contexts: WokenContexts, q: LaneId, item: ItemId) -> Wake
     ensures contexts { result.contexts ≡ contexts }
@@ -91,13 +78,6 @@ fn by_end<A: Allocator>(book: &Book<A>, contexts: WokenContexts, q: LaneId, item
         lane_waiters: Some(q),
         destroyers: book.is_idle(),
     }
-}
-
-/// Whom a finish of an item on a workqueue wakes.
-fn by_finish<A: Allocator>(book: &Book<A>, q: LaneId, item: ItemId) -> Wake
-    ensures { WakesByFinish book.now q item result }
-{
-    by_end(book, if_pending(book, q, item), q, item)
 }
 
 /// Whom a cancellation of an item, which exists, wakes, where it took an entry or didn't.
@@ -117,8 +97,13 @@ fn by_step<A: Allocator>(book: &Book<A>, q: LaneId, step: &HelpStep) -> Wake
     ensures { WakesByDeed book.now q step.now result }
 {
     match *step {
-        HelpStep::Start(_) => by_start(book, q),
-        HelpStep::Finish(item) => by_finish(book, q, item),
+        HelpStep::Start(_) => Wake {
+            contexts: if_ended(book, q),
+            item_waiters: None,
+            lane_waiters: None,
+            destroyers: false,
+        },
+        HelpStep::Finish(item) => by_end(book, if_pending(book, q, item), q, item),
         HelpStep::Wait(_) => Wake::nobody(),
         HelpStep::WaitAll(_) => Wake::nobody(),
         HelpStep::Over(_) => Wake::nobody(),
@@ -134,8 +119,8 @@ pub(crate) fn by_row<A: Allocator>(book: &Book<A>, row: &Row) -> Wake
     match row.event {
         Event::Queue(item) => by_queueing(book, item, row.yes),
         Event::Cancel(item) => by_cancel(book, item, row.yes),
-        Event::Start(q, _) => by_start(book, q),
-        Event::Finish(q, item) => by_finish(book, q, item),
+        Event::Start(q, item) => by_step(book, q, &HelpStep::Start(item)),
+        Event::Finish(q, item) => by_step(book, q, &HelpStep::Finish(item)),
         Event::Help(q, _, step) => by_step(book, q, &step),
         Event::Wait(_, _) => Wake::nobody(),
         Event::WaitAll(_, _) => Wake::nobody(),
@@ -178,17 +163,6 @@ fn waiters(subject: &Subject) -> Sleepers
     }
 }
 
-/// What a wait for an item, which exists, or for its whole workqueue, is for.
-fn awaited<A: Allocator>(book: &Book<A>, flush: &Flush) -> Subject
-    requires { flush.now.target < items book.now.wiring }
-    ensures { result ≡ subject_of book.now.wiring flush.now.whole flush.now.target }
-{
-    if !flush.whole {
-        return Subject::Item(flush.target);
-    }
-    Subject::Lane(lane_of_item(book, flush.target))
-}
-
 /// Among whom the caller of a call sleeps that is too early.
 pub(crate) fn sleepers<A: Allocator>(book: &Book<A>, call: &Call) -> Sleepers
     requires book { IsBook book.now }
@@ -198,7 +172,7 @@ pub(crate) fn sleepers<A: Allocator>(book: &Book<A>, call: &Call) -> Sleepers
     match *call {
         Call::Told(subject, _) => waiters(&subject),
         Call::Start(context) => Sleepers::Contexts(context.lane),
-        Call::Over(_, flush) => waiters(&awaited(book, &flush)),
+        Call::Over(_, flush) => waiters(&book.subject_of(flush.whole, flush.target)),
         _ => Sleepers::Destroyers,
     }
 }

@@ -3,7 +3,6 @@ use Rattle.std.proofs.Common.{◌≡◌, ℕ, ◌⊎◌, inl, inr, Bool, true, f
 use Rattle.std.specs.Prelude.{Some, None}
 use Rattle.wq_core.specs.declared.entry.Running.{Running}
 use Rattle.wq_core.specs.declared.entry.Waiting.{Waiting as WaitOf}
-use Rattle.wq_core.specs.declared.step.Context.{Context}
 use Rattle.wq_core.specs.Rules.{IsHeldBack}
 use Rattle.wq_rows.specs.declared.event.Event.TheVariants.{Cancel as CancelEvent, Ask as AskEvent, Told as ToldEvent, AskLane as AskLaneEvent, ToldLane as ToldLaneEvent}
 use Rattle.wq_rows.specs.declared.event.Row.{Row}
@@ -19,7 +18,7 @@ use Rattle.wq_history.specs.declared.asking.Subject.TheVariants.{Item as OfItem,
 use Rattle.wq_history.specs.declared.call.Flush.{Flush}
 use Rattle.wq_history.specs.declared.call.Call.{Call}
 use Rattle.wq_history.specs.declared.call.Call.TheVariants.{Queue, Cancel, Ask, Told, CancelSync, Start, Wait, Over, Finish, Close, Drain}
-use Rattle.wq_history.specs.declared.call.Reply.TheVariants.{Wrote, WroteTwo, Done, NotYet}
+use Rattle.wq_history.specs.declared.call.Reply.TheVariants.{Wrote, Done, NotYet}
 use Rattle.wq_history.specs.declared.fault.BookError.{BookError}
 use Rattle.wq_history.specs.declared.fault.BookError.TheVariants.{HistoryFull as BookFull, Closed as BookClosed, Undeclared as BookUndeclared, TooManyWaits as BookTooManyWaits, WrongLane as BookWrongLane, NoItem as BookNoItem, TooManyRows, OutOfMemory}
 use Rattle.wq_history.specs.declared.fault.CallError.{CallError}
@@ -27,9 +26,10 @@ use Rattle.wq_history.specs.declared.fault.CallError.TheVariants.{HistoryFull, C
 use Rattle.wq_history.specs.Errors.{call_error, IsOfBook}
 use Rattle.wq_history.specs.Events.{told_event, start_event, wait_event, over_event, finish_event}
 use Rattle.wq_history.specs.History.{asks_waiting}
-use Rattle.wq_history.specs.Book.{BookView, state, Appends, AppendsOne, LaneRuns, RunsItem, IsWaiting, IsNotAwake, RefusesQueue, RefusesItem, RefusesAskLane, RefusesLane, RefusesWait}
+use Rattle.wq_history.specs.Book.{BookView, state, Appends, AppendsOne, LaneRuns, RunsItem, IsWaiting, IsNotAwake}
+use Rattle.wq_history.specs.Book.{RefusesItem, RefusesLane}
 use Rattle.wq_history.specs.Answers.{AnswersAsk, AnswersTold, AnswersAskLane, AnswersToldLane, AnswersStart, AnswersOver}
-use Rattle.wq_history.specs.Calls.{RefusesToQueue, RefusesToCancel, RefusesToAsk, RefusesToTell, RefusesToWait, RefusesIf, Refuses, Replies, AlwaysWrites, RefusesAs}
+use Rattle.wq_history.specs.Calls.{RefusesToTell, RefusesIf, Refuses, Replies, AlwaysWrites, RefusesAs}
 use Rattle.wq_history.proofs.CallRows.{appends-as, appends_event, told-yes, start-yes, over-yes, finish-yes, start-item, held-back}
 
 -- ---- refusals
@@ -38,62 +38,25 @@ use Rattle.wq_history.proofs.CallRows.{appends-as, appends_event, told-yes, star
 moved : (P : CallError → Type 0) (x e : CallError) → Some x ≡ Some e → P e → P x
 moved P x e is holds = let same : e ≡ x = cc in subst P same holds
 
-pub queue_refused : (b : BookView) (i : ℕ) (x : BookError) → RefusesAs b (Queue i) x → RefusesQueue b i x
-queue_refused b i BookFull (e, is, why) = moved (λ y. RefusesToQueue b i y) HistoryFull e is why
-queue_refused b i BookClosed (e, is, why) = moved (λ y. RefusesToQueue b i y) Closed e is why
-queue_refused b i BookUndeclared (e, is, why) = moved (λ y. RefusesToQueue b i y) Undeclared e is why
-queue_refused b i BookTooManyWaits (e, is, why) = moved (λ y. RefusesToQueue b i y) TooManyWaits e is why
-queue_refused b i BookWrongLane (e, is, why) = moved (λ y. RefusesToQueue b i y) WrongLane e is why
-queue_refused b i BookNoItem (e, is, why) = moved (λ y. RefusesToQueue b i y) NoItem e is why
-queue_refused b i TooManyRows (e, is, why) = absurd cc
-queue_refused b i OutOfMemory (e, is, why) = absurd cc
+-- a refused call, by the error of its name
+pub refused_as : (b : BookView) (call : Call) (x : BookError) (e : CallError) → call_error x ≡ Some e
+    → Refuses b call e → RefusesAs b call x
+refused_as b call BookFull e is why = moved (λ y. Refuses b call y) HistoryFull e is why
+refused_as b call BookClosed e is why = moved (λ y. Refuses b call y) Closed e is why
+refused_as b call BookUndeclared e is why = moved (λ y. Refuses b call y) Undeclared e is why
+refused_as b call BookTooManyWaits e is why = moved (λ y. Refuses b call y) TooManyWaits e is why
+refused_as b call BookWrongLane e is why = moved (λ y. Refuses b call y) WrongLane e is why
+refused_as b call BookNoItem e is why = moved (λ y. Refuses b call y) NoItem e is why
+refused_as b call TooManyRows e is why = absurd cc
+refused_as b call OutOfMemory e is why = absurd cc
 
 pub cancel_refused : (b : BookView) (i : ℕ) (x : BookError) → RefusesAs b (Cancel i) x → RefusesItem b i CancelEvent x
-cancel_refused b i BookFull (e, is, why) = moved (λ y. RefusesToCancel b i y) HistoryFull e is why
-cancel_refused b i BookClosed (e, is, why) = moved (λ y. RefusesToCancel b i y) Closed e is why
-cancel_refused b i BookUndeclared (e, is, why) = moved (λ y. RefusesToCancel b i y) Undeclared e is why
-cancel_refused b i BookTooManyWaits (e, is, why) = moved (λ y. RefusesToCancel b i y) TooManyWaits e is why
-cancel_refused b i BookWrongLane (e, is, why) = moved (λ y. RefusesToCancel b i y) WrongLane e is why
-cancel_refused b i BookNoItem (e, is, why) = moved (λ y. RefusesToCancel b i y) NoItem e is why
-cancel_refused b i TooManyRows (e, is, why) = absurd cc
-cancel_refused b i OutOfMemory (e, is, why) = absurd cc
+cancel_refused b i BookFull why = why
+cancel_refused b i _ why = why
 
 pub ask_refused : (b : BookView) (i : ℕ) (x : BookError) → RefusesAs b (Ask (OfItem i)) x → RefusesItem b i AskEvent x
-ask_refused b i BookFull (e, is, why) = moved (λ y. RefusesToAsk b (OfItem i) y) HistoryFull e is why
-ask_refused b i BookClosed (e, is, why) = moved (λ y. RefusesToAsk b (OfItem i) y) Closed e is why
-ask_refused b i BookUndeclared (e, is, why) = moved (λ y. RefusesToAsk b (OfItem i) y) Undeclared e is why
-ask_refused b i BookTooManyWaits (e, is, why) = moved (λ y. RefusesToAsk b (OfItem i) y) TooManyWaits e is why
-ask_refused b i BookWrongLane (e, is, why) = moved (λ y. RefusesToAsk b (OfItem i) y) WrongLane e is why
-ask_refused b i BookNoItem (e, is, why) = moved (λ y. RefusesToAsk b (OfItem i) y) NoItem e is why
-ask_refused b i TooManyRows (e, is, why) = absurd cc
-ask_refused b i OutOfMemory (e, is, why) = absurd cc
-
-pub ask_lane_refused : (b : BookView) (q : ℕ) (x : BookError) → RefusesAs b (Ask (OfLane q)) x → RefusesAskLane b q x
-ask_lane_refused b q BookFull (e, is, why) = moved (λ y. RefusesToAsk b (OfLane q) y) HistoryFull e is why
-ask_lane_refused b q BookClosed (e, is, why) = moved (λ y. RefusesToAsk b (OfLane q) y) Closed e is why
-ask_lane_refused b q BookUndeclared (e, is, why) = moved (λ y. RefusesToAsk b (OfLane q) y) Undeclared e is why
-ask_lane_refused b q BookTooManyWaits (e, is, why) = moved (λ y. RefusesToAsk b (OfLane q) y) TooManyWaits e is why
-ask_lane_refused b q BookWrongLane (e, is, why) = moved (λ y. RefusesToAsk b (OfLane q) y) WrongLane e is why
-ask_lane_refused b q BookNoItem (e, is, why) = moved (λ y. RefusesToAsk b (OfLane q) y) NoItem e is why
-ask_lane_refused b q TooManyRows (e, is, why) = absurd cc
-ask_lane_refused b q OutOfMemory (e, is, why) = absurd cc
-
-pub wait_refused : (b : BookView) (q h : ℕ) (whole : Bool) (t : ℕ) (x : BookError)
-    → RefusesAs b (Wait (record { lane = q; helper = h }) (record { target = t; whole = whole })) x
-    → RefusesWait b q h whole t x
-wait_refused b q h whole t x (e, is, why) =
-    by x (record { lane = q; helper = h }) (record { target = t; whole = whole }) is why
-  where
-    by : (y : BookError) (c : Context) (f : Flush) → call_error y ≡ Some e → RefusesToWait b c f e
-        → RefusesWait b c.lane c.helper f.whole f.target y
-    by BookFull c f same cause = moved (λ y. RefusesToWait b c f y) HistoryFull e same cause
-    by BookClosed c f same cause = moved (λ y. RefusesToWait b c f y) Closed e same cause
-    by BookUndeclared c f same cause = moved (λ y. RefusesToWait b c f y) Undeclared e same cause
-    by BookTooManyWaits c f same cause = moved (λ y. RefusesToWait b c f y) TooManyWaits e same cause
-    by BookWrongLane c f same cause = moved (λ y. RefusesToWait b c f y) WrongLane e same cause
-    by BookNoItem c f same cause = moved (λ y. RefusesToWait b c f y) NoItem e same cause
-    by TooManyRows c f same cause = absurd cc
-    by OutOfMemory c f same cause = absurd cc
+ask_refused b i BookFull why = why
+ask_refused b i _ why = why
 
 -- a call with one cause of refusal
 pub lane_refused : (wrong : Type 0) (x : BookError) (e : CallError) → call_error x ≡ Some e → RefusesIf wrong e
@@ -109,22 +72,11 @@ lane_refused wrong OutOfMemory e is why = absurd cc
 
 -- a call with one cause of refusal is refused as one by name
 pub lane_of_book : (wrong : Type 0) (e : CallError) → RefusesIf wrong e → IsOfBook e
-lane_of_book wrong HistoryFull why = tt
-lane_of_book wrong Closed why = tt
-lane_of_book wrong Undeclared why = tt
-lane_of_book wrong TooManyWaits why = tt
-lane_of_book wrong WrongLane why = tt
 lane_of_book wrong NotAsked why = why
-lane_of_book wrong NoItem why = tt
+lane_of_book wrong _ why = tt
 
 -- so is a call that writes one row unless it is refused
 pub row_of_book : (b : BookView) (call : Call) (e : CallError) → AlwaysWrites call → Refuses b call e → IsOfBook e
-row_of_book b call HistoryFull writes why = tt
-row_of_book b call Closed writes why = tt
-row_of_book b call Undeclared writes why = tt
-row_of_book b call TooManyWaits writes why = tt
-row_of_book b call WrongLane writes why = tt
-row_of_book b call NoItem writes why = tt
 row_of_book b (Queue i) NotAsked writes why = why
 row_of_book b (Cancel i) NotAsked writes why = why
 row_of_book b (Ask (OfItem i)) NotAsked writes why = why
@@ -137,34 +89,9 @@ row_of_book b (Start c) NotAsked writes why = absurd writes
 row_of_book b (Over c f) NotAsked writes why = absurd writes
 row_of_book b Close NotAsked writes why = absurd writes
 row_of_book b Drain NotAsked writes why = absurd writes
+row_of_book b call _ writes why = tt
 
 -- ---- replies
-
--- it isn't answered otherwise than by one row
-pub never_two : (old new : BookView) (call : Call) (ask taken : Row) → AlwaysWrites call
-    → Replies old call (WroteTwo ask taken) new → ⊥
-never_two old new (Queue i) ask taken writes replies = absurd replies
-never_two old new (Cancel i) ask taken writes replies = absurd replies
-never_two old new (Ask x) ask taken writes replies = absurd replies
-never_two old new (Wait c f) ask taken writes replies = absurd replies
-never_two old new (Finish c i) ask taken writes replies = absurd replies
-never_two old new _ ask taken writes replies = absurd writes
-
-pub never_done : (old new : BookView) (call : Call) → AlwaysWrites call → Replies old call Done new → ⊥
-never_done old new (Queue i) writes replies = absurd replies.0
-never_done old new (Cancel i) writes replies = absurd replies.0
-never_done old new (Ask x) writes replies = absurd replies.0
-never_done old new (Wait c f) writes replies = absurd replies.0
-never_done old new (Finish c i) writes replies = absurd replies.0
-never_done old new _ writes replies = absurd writes
-
-pub never_not_yet : (old new : BookView) (call : Call) → AlwaysWrites call → Replies old call NotYet new → ⊥
-never_not_yet old new (Queue i) writes replies = absurd replies.0
-never_not_yet old new (Cancel i) writes replies = absurd replies.0
-never_not_yet old new (Ask x) writes replies = absurd replies.0
-never_not_yet old new (Wait c f) writes replies = absurd replies.0
-never_not_yet old new (Finish c i) writes replies = absurd replies.0
-never_not_yet old new _ writes replies = absurd writes
 
 -- an ask: the item is idle, or the caller waits, with the number of the row as its mark
 pub ask_idle : (old new : BookView) (i : ℕ) (row : Row) → row.yes ≡ false → Replies old (Ask (OfItem i)) (Wrote row) new
@@ -174,12 +101,14 @@ ask_idle old new i row is replies = (
   appends-as old new row.event (AskEvent i) row.yes false row.number row.number replies.0 is refl replies.1,
 )
 
-pub ask_waits : (old new : BookView) (i : ℕ) (row : Row) (asked : Asked) → row.yes ≡ true → asked.item ≡ i
-    → asked.mark ≡ row.number → Replies old (Ask (OfItem i)) (Wrote row) new → AnswersAsk old new i (ItemWaiting asked)
-ask_waits old new i row asked is item mark replies = (
-  item,
-  appends-as old new row.event (AskEvent i) row.yes true row.number asked.mark replies.0 is (sym mark) replies.1,
-)
+pub ask_waits : (old new : BookView) (i : ℕ) (row : Row) (asked : Asked) → row.yes ≡ true
+    → asked ≡ record { item = i; mark = row.number } → Replies old (Ask (OfItem i)) (Wrote row) new
+    → AnswersAsk old new i (ItemWaiting asked)
+ask_waits old new i row asked waits is replies =
+    subst (λ (a : Asked). AnswersAsk old new i (ItemWaiting a)) (sym is) (
+      refl,
+      appends-as old new row.event (AskEvent i) row.yes true row.number row.number replies.0 waits refl replies.1,
+    )
 
 -- the same of a lane
 pub ask_lane_idle : (old new : BookView) (q : ℕ) (row : Row) → row.yes ≡ false
@@ -189,23 +118,19 @@ ask_lane_idle old new q row is replies = (
   appends-as old new row.event (AskLaneEvent q) row.yes false row.number row.number replies.0 is refl replies.1,
 )
 
-pub ask_lane_waits : (old new : BookView) (q : ℕ) (row : Row) (asked : LaneAsked) → row.yes ≡ true → asked.lane ≡ q
-    → asked.mark ≡ row.number → Replies old (Ask (OfLane q)) (Wrote row) new
+pub ask_lane_waits : (old new : BookView) (q : ℕ) (row : Row) (asked : LaneAsked) → row.yes ≡ true
+    → asked ≡ record { lane = q; mark = row.number } → Replies old (Ask (OfLane q)) (Wrote row) new
     → AnswersAskLane old new q (LaneWaiting asked)
-ask_lane_waits old new q row asked is lane mark replies = (
-  lane,
-  appends-as old new row.event (AskLaneEvent q) row.yes true row.number asked.mark replies.0 is (sym mark) replies.1,
-)
+ask_lane_waits old new q row asked waits is replies =
+    subst (λ (a : LaneAsked). AnswersAskLane old new q (LaneWaiting a)) (sym is) (
+      refl,
+      appends-as old new row.event (AskLaneEvent q) row.yes true row.number row.number replies.0 waits refl replies.1,
+    )
 
 -- no ask waits
 no_ask : (b : BookView) (x : Subject) (e : CallError) → RefusesToTell b x e → asks_waiting x b.rows ≡ 0
-no_ask b x HistoryFull why = absurd why
-no_ask b x Closed why = absurd why
-no_ask b x Undeclared why = absurd why
-no_ask b x TooManyWaits why = absurd why
-no_ask b x WrongLane why = absurd why
 no_ask b x NotAsked why = why
-no_ask b x NoItem why = absurd why
+no_ask b x _ why = absurd why
 
 -- who is told, is told by a row that says yes
 told_row : (old new : BookView) (x : Subject) (mark : ℕ) (row : Row) → Replies old (Told x mark) (Wrote row) new
@@ -256,7 +181,7 @@ told_lane_not_asked old new asked q mark e lane why same =
 
 -- a start, of the item of the row
 pub start_some : (old new : BookView) (q h item : ℕ) (row : Row) → item ≡ item_in row.event
-    → Replies old (Start (record { lane = q; helper = h })) (Wrote row) new → AnswersStart old new q h (Some item)
+    → Replies old (Start (record { lane = q; number = h })) (Wrote row) new → AnswersStart old new q h (Some item)
 start_some old new q h item row is replies =
     let i : ℕ = replies.0.0 in
     let started : Appends old new (start_event q h i) row.yes row.number = appends-as old new row.event
@@ -267,23 +192,23 @@ start_some old new q h item row is replies =
     subst (λ (k : ℕ). AnswersStart old new q h (Some k)) (sym same) (replies.0.1, (row.number, appends))
 
 -- nothing is started: the context is done, or it sleeps
-pub start_none : (old new : BookView) (q h : ℕ) → Replies old (Start (record { lane = q; helper = h })) Done new
+pub start_none : (old new : BookView) (q h : ℕ) → Replies old (Start (record { lane = q; number = h })) Done new
     → AnswersStart old new q h None
 start_none old new q h replies = (replies.0.0, replies.1)
 
-pub start_later : (old new : BookView) (q h : ℕ) → Replies old (Start (record { lane = q; helper = h })) NotYet new
+pub start_later : (old new : BookView) (q h : ℕ) → Replies old (Start (record { lane = q; number = h })) NotYet new
     → AnswersStart old new q h None
 start_later old new q h replies = (replies.0.0, replies.1)
 
 -- a wait begins
 pub wait_row : (old new : BookView) (q h : ℕ) (whole : Bool) (t : ℕ) (row : Row)
-    → Replies old (Wait (record { lane = q; helper = h }) (record { target = t; whole = whole })) (Wrote row) new
+    → Replies old (Wait (record { lane = q; number = h }) (record { target = t; whole = whole })) (Wrote row) new
     → AppendsOne old new (wait_event whole q h t) row.yes
 wait_row old new q h whole t row replies = appends_event old new row (wait_event whole q h t) replies.0 replies.1
 
 -- what waits is let go on, or not yet
 pub over_true : (old new : BookView) (q h : ℕ) (f : WaitOf) (row : Row) → IsWaiting old q h f
-    → Replies old (Over (record { lane = q; helper = h })
+    → Replies old (Over (record { lane = q; number = h })
     (record { target = f.target; whole = f.whole })) (Wrote row) new
     → AnswersOver old new q h true
 over_true old new q h f row waits replies =
@@ -294,7 +219,7 @@ over_true old new q h f row waits replies =
     (f, waits, (row.number, appends))
 
 pub over_false : (old new : BookView) (q h : ℕ) (f : Flush)
-    → Replies old (Over (record { lane = q; helper = h }) f) NotYet new
+    → Replies old (Over (record { lane = q; number = h }) f) NotYet new
     → AnswersOver old new q h false
 over_false old new q h f replies =
     let with = replies.0.1 in
@@ -307,18 +232,13 @@ over_false old new q h f replies =
 
 -- the end of the wait that is there isn't refused
 pub over_not_refused : (b : BookView) (q h : ℕ) (f : WaitOf) (e : CallError) → IsWaiting b q h f
-    → Refuses b (Over (record { lane = q; helper = h }) (record { target = f.target; whole = f.whole })) e → ⊥
-over_not_refused b q h f HistoryFull waits why = why
-over_not_refused b q h f Closed waits why = why
-over_not_refused b q h f Undeclared waits why = why
-over_not_refused b q h f TooManyWaits waits why = why
+    → Refuses b (Over (record { lane = q; number = h }) (record { target = f.target; whole = f.whole })) e → ⊥
 over_not_refused b q h f WrongLane waits why = why (f, (waits, refl), refl)
-over_not_refused b q h f NotAsked waits why = why
-over_not_refused b q h f NoItem waits why = why
+over_not_refused b q h f _ waits why = why
 
 -- what runs is finished
 pub finish_done : (old new : BookView) (q h i : ℕ) (row : Row) → RunsItem old q h i
-    → Replies old (Finish (record { lane = q; helper = h }) i) (Wrote row) new
+    → Replies old (Finish (record { lane = q; number = h }) i) (Wrote row) new
     → (r : Running) × LaneRuns old q h r × AppendsOne old new (finish_event q h r.entry.item) true
 finish_done old new q h i row runs replies =
     let finished : Appends old new (finish_event q h i) row.yes row.number = appends-as old new row.event
@@ -330,17 +250,10 @@ finish_done old new q h i row runs replies =
 
 -- or it waits
 pub finish_refused : (b : BookView) (q h i : ℕ) (x : BookError) → RunsItem b q h i
-    → RefusesAs b (Finish (record { lane = q; helper = h }) i) x → RefusesLane (IsNotAwake b q h) x
-finish_refused b q h i x runs (e, is, why) = lane_refused (IsNotAwake b q h) x e is (asleep e why) where
-  asleep : (k : CallError) → RefusesIf ((¬ RunsItem b q h i) ⊎ IsNotAwake b q h) k → RefusesIf (IsNotAwake b q h) k
-  asleep HistoryFull cause = cause
-  asleep Closed cause = cause
-  asleep Undeclared cause = cause
-  asleep TooManyWaits cause = cause
-  asleep WrongLane (inl missing) = absurd (missing runs)
-  asleep WrongLane (inr never) = never
-  asleep NotAsked cause = cause
-  asleep NoItem cause = cause
+    → RefusesAs b (Finish (record { lane = q; number = h }) i) x → RefusesLane (IsNotAwake b q h) x
+finish_refused b q h i BookWrongLane runs (inl missing) = absurd (missing runs)
+finish_refused b q h i BookWrongLane runs (inr never) = never
+finish_refused b q h i _ runs why = why
 
 -- nothing runs, so nothing is awake
 pub not_awake : (b : BookView) (q h : ℕ) → ((r : Running) → ¬ LaneRuns b q h r) → IsNotAwake b q h

@@ -7,7 +7,7 @@ use Rattle.std.proofs.lemmas.List.{get_or-set_same, get_or-set_other}
 use Rattle.std.proofs.lemmas.List.Sums.{sum_by_push, get_or-le-sum_by}
 use Rattle.wq_core.specs.declared.step.Step.{Step}
 use Rattle.wq_rows.specs.declared.event.Event.{Event}
-use Rattle.wq_rows.specs.declared.event.Event.TheVariants.{Queue, Cancel, Start, Wait, Over, Finish, Ask, Told, WaitAll, OverAll, AskLane, ToldLane, Help}
+use Rattle.wq_rows.specs.declared.event.Event.TheVariants.{Ask, Told, AskLane, ToldLane}
 use Rattle.wq_rows.specs.declared.event.Row.{Row}
 use Rattle.wq_history.specs.declared.asking.Subject.{Subject}
 use Rattle.wq_history.specs.declared.asking.Subject.TheVariants.{Item as OfItem, Lane as OfLane}
@@ -78,19 +78,11 @@ pub record IsNobodys (row : Row) : Type 0 where
 
 -- rows of steps are such rows
 pub IsNobodys-step : (event : Event) (said : Bool) (n : ℕ) (step : Step) → step_of event said ≡ Some step → IsNobodys (record { event = event; yes = said; number = n })
-IsNobodys-step (Queue i) said n step makes = record { begins = λ x. refl; ends = λ x. refl; asks = refl; tells = refl }
-IsNobodys-step (Cancel i) said n step makes = record { begins = λ x. refl; ends = λ x. refl; asks = refl; tells = refl }
-IsNobodys-step (Start q i) said n step makes = record { begins = λ x. refl; ends = λ x. refl; asks = refl; tells = refl }
-IsNobodys-step (Wait q b) said n step makes = record { begins = λ x. refl; ends = λ x. refl; asks = refl; tells = refl }
-IsNobodys-step (Over q b) said n step makes = record { begins = λ x. refl; ends = λ x. refl; asks = refl; tells = refl }
-IsNobodys-step (Finish q i) said n step makes = record { begins = λ x. refl; ends = λ x. refl; asks = refl; tells = refl }
 IsNobodys-step (Ask i) said n step makes = absurd cc
 IsNobodys-step (Told i) said n step makes = absurd cc
-IsNobodys-step (WaitAll q b) said n step makes = record { begins = λ x. refl; ends = λ x. refl; asks = refl; tells = refl }
-IsNobodys-step (OverAll q b) said n step makes = record { begins = λ x. refl; ends = λ x. refl; asks = refl; tells = refl }
 IsNobodys-step (AskLane q) said n step makes = absurd cc
 IsNobodys-step (ToldLane q) said n step makes = absurd cc
-IsNobodys-step (Help q h deed) said n step makes = record { begins = λ x. refl; ends = λ x. refl; asks = refl; tells = refl }
+IsNobodys-step _ said n step makes = record { begins = λ x. refl; ends = λ x. refl; asks = refl; tells = refl }
 
 and-false : (b : Bool) → (b && false) ≡ false
 and-false true = refl
@@ -98,19 +90,11 @@ and-false false = refl
 
 -- what comes to nothing is such a row
 pub IsNobodys-nothing : (event : Event) (n : ℕ) → is_told event ≡ false → IsNobodys (record { event = event; yes = false; number = n })
-IsNobodys-nothing (Queue i) n told = record { begins = λ x. refl; ends = λ x. refl; asks = refl; tells = refl }
-IsNobodys-nothing (Cancel i) n told = record { begins = λ x. refl; ends = λ x. refl; asks = refl; tells = refl }
-IsNobodys-nothing (Start q i) n told = record { begins = λ x. refl; ends = λ x. refl; asks = refl; tells = refl }
-IsNobodys-nothing (Wait q b) n told = record { begins = λ x. refl; ends = λ x. refl; asks = refl; tells = refl }
-IsNobodys-nothing (Over q b) n told = record { begins = λ x. refl; ends = λ x. refl; asks = refl; tells = refl }
-IsNobodys-nothing (Finish q i) n told = record { begins = λ x. refl; ends = λ x. refl; asks = refl; tells = refl }
 IsNobodys-nothing (Ask i) n told = record { begins = λ x. and-false (is_subject x (OfItem i)); ends = λ x. refl; asks = refl; tells = refl }
 IsNobodys-nothing (Told i) n told = absurd cc
-IsNobodys-nothing (WaitAll q b) n told = record { begins = λ x. refl; ends = λ x. refl; asks = refl; tells = refl }
-IsNobodys-nothing (OverAll q b) n told = record { begins = λ x. refl; ends = λ x. refl; asks = refl; tells = refl }
 IsNobodys-nothing (AskLane q) n told = record { begins = λ x. and-false (is_subject x (OfLane q)); ends = λ x. refl; asks = refl; tells = refl }
 IsNobodys-nothing (ToldLane q) n told = absurd cc
-IsNobodys-nothing (Help q h deed) n told = record { begins = λ x. refl; ends = λ x. refl; asks = refl; tells = refl }
+IsNobodys-nothing _ n told = record { begins = λ x. refl; ends = λ x. refl; asks = refl; tells = refl }
 
 -- such a row leaves the counts as they are
 pub CountsAsks-same : (rows : List Row) (row : Row) (asks : AskView) → IsNobodys row → CountsAsks rows asks → CountsAsks (rows ++ (row ∷ [])) asks

@@ -14,12 +14,14 @@ use Rattle.wq_core.specs.State.{State, lane_at, run_by, next_of, is_running, Run
 use Rattle.wq_core.specs.Rules.{Lawful, Gives, MayDo, MayWait, MayBeOver, IsHeldBack, step_in, deed_item, wait_deed, over_deed}
 use Rattle.wq_core.specs.Held.{IsSoundState, Machine, IsMachine}
 use Rattle.wq_core.proofs.Contexts.{helpers_of-few, next-may}
+use Rattle.wq_core.proofs.Safety.{lawful-step_in}
 use Rattle.wq_rows.specs.declared.event.Event.{Event}
-use Rattle.wq_rows.specs.declared.event.Event.TheVariants.{Queue, Cancel, Start, Wait, Over, Finish, Ask, Told, WaitAll, OverAll, AskLane, ToldLane, Help}
+use Rattle.wq_rows.specs.declared.event.Event.TheVariants.{Start, Over, Finish, Told, OverAll, ToldLane, Help}
 use Rattle.wq_rows.specs.declared.event.Row.{Row}
 use Rattle.wq_rows.specs.Packing.{HelpMayAnswer, MayAnswer}
 use Rattle.wq_history.specs.Events.{step_of, event_in}
-use Rattle.wq_history.specs.History.{SaysUnfinished, SaysBusy, Says, MayComeIn, MayCome}
+use Rattle.wq_history.specs.History.{SaysUnfinishedOf, Says, MayComeIn, MayCome}
+use Rattle.wq_history.specs.Calls.{subject_of}
 use Rattle.wq_history.specs.Reserve.{rows_needed}
 use Rattle.wq_history.specs.Book.{BookView, state, IsWaiting}
 use Rattle.wq_history.proofs.WaitEvents.{declared-item}
@@ -62,10 +64,10 @@ deed_may_come w s waiting q (suc h) deed said n says lawful gives = (says, (lawf
 
 -- ---- what a deed says
 
-pub wait_says : (w : Wiring) (s : State) (whole : Bool) (b : ℕ) (said : Bool) → (whole ≡ false → SaysUnfinished s b said)
-    → (whole ≡ true → SaysBusy s (lane_of w b) said) → Says w s (wait_deed whole b) said
-wait_says w s false b said item lane = item refl
-wait_says w s true b said item lane = lane refl
+pub wait_says : (w : Wiring) (s : State) (whole : Bool) (b : ℕ) (said : Bool)
+    → SaysUnfinishedOf s (subject_of w whole b) said → Says w s (wait_deed whole b) said
+wait_says w s false b said says = says
+wait_says w s true b said says = says
 
 pub over_says : (w : Wiring) (s : State) (whole : Bool) (b : ℕ) → Says w s (over_deed whole b) true
 over_says w s false b = refl
@@ -78,12 +80,9 @@ says_one w s deed x y a b = by_deed deed a b where
   same_word Said of_x of_y = both_ways x y (λ t. of_y.1 (of_x.0 t)) (λ t. of_x.1 (of_y.0 t))
 
   by_deed : (d : HelpStep) → Says w s d x → Says w s d y → x ≡ y
-  by_deed (DoStart i) a b = a ∙ sym b
   by_deed (DoWait t) a b = same_word (HasUnfinishedOf s t) a b
   by_deed (DoWaitAll t) a b = same_word (IsBusy (lane_at s (lane_of w t))) a b
-  by_deed (DoOver t) a b = a ∙ sym b
-  by_deed (DoOverAll t) a b = a ∙ sym b
-  by_deed (DoFinish i) a b = a ∙ sym b
+  by_deed _ a b = a ∙ sym b
 
 -- a word that is right is the one that is said exactly if that is right, too
 pub same-word : (Said : Type 0) (x y : Bool) → IsTrue x ↔ Said → IsTrue (beq x y) ↔ (IsTrue y ↔ Said)
@@ -94,31 +93,23 @@ same-word Said false false right = ((λ same. right), (λ other. refl))
 
 -- and its row may say that
 says-answer : (w : Wiring) (s : State) (deed : HelpStep) (said : Bool) → Says w s deed said → HelpMayAnswer deed said
-says-answer w s (DoStart i) said says = says
 says-answer w s (DoWait b) said says = tt
 says-answer w s (DoWaitAll b) said says = tt
-says-answer w s (DoOver b) said says = says
-says-answer w s (DoOverAll b) said says = says
-says-answer w s (DoFinish i) said says = says
+says-answer w s _ said says = says
 
 -- what may come can be packed
 pub may-packable : (w : Wiring) (rows : List Row) (event : Event) (said : Bool) (n : ℕ) → w.helpers ≤ max_helpers → MayCome w rows event said n
     → MayAnswer event said
-may-packable w rows (Queue i) said n few may = tt
-may-packable w rows (Cancel i) said n few may = tt
 may-packable w rows (Start q i) said n few may = may.0
-may-packable w rows (Wait q b) said n few may = tt
 may-packable w rows (Over q b) said n few may = may.0
 may-packable w rows (Finish q i) said n few may = may.0
-may-packable w rows (Ask i) said n few may = tt
 may-packable w rows (Told i) said n few may = may.0
-may-packable w rows (WaitAll q b) said n few may = tt
 may-packable w rows (OverAll q b) said n few may = may.0
-may-packable w rows (AskLane q) said n few may = tt
 may-packable w rows (ToldLane q) said n few may = may.0
 may-packable w rows (Help q h deed) said n few may =
     let has : HasHelper w q h = may.1.0.0 in
     ((has.0, omega (arith, has.1, helpers_of-few w q, few)), says-answer w _ deed said may.0)
+may-packable w rows _ said n few may = tt
 
 -- ---- what may be done is lawful
 
@@ -133,30 +124,28 @@ start_is_lawful w s q (suc h) e there idle next =
     let may = next-may (lane_at s q).pending (is_running (lane_at s q)) e next in
     (has-helper w q h there, record { idle = idle; entry = e; pending = may.0; of_item = refl; not_running = may.1 })
 
-pub wait_is_lawful : (w : Wiring) (s : State) (q c : ℕ) (whole : Bool) (b : ℕ) (r : Running) → HasContext w q c → RunsIn (lane_at s q) c r
-    → MayWait w whole b r → Lawful w s (step_in q c (wait_deed whole b))
-wait_is_lawful w s q zero false b r there runs may = (r, runs, may)
-wait_is_lawful w s q zero true b r there runs may = (r, runs, may)
-wait_is_lawful w s q (suc h) false b r there runs may = (has-helper w q h there, (r, runs, may))
-wait_is_lawful w s q (suc h) true b r there runs may = (has-helper w q h there, (r, runs, may))
+pub wait_is_lawful : (w : Wiring) (s : State) (q c : ℕ) (whole : Bool) (b : ℕ) (r : Running) → HasContext w q c
+    → RunsIn (lane_at s q) c r → MayWait w whole b r → Lawful w s (step_in q c (wait_deed whole b))
+wait_is_lawful w s q c false b r there runs may = lawful-step_in w s q c (DoWait b) there.1 tt (r, runs, may)
+wait_is_lawful w s q c true b r there runs may = lawful-step_in w s q c (DoWaitAll b) there.1 tt (r, runs, may)
 
-over_lawful : (w : Wiring) (s : State) (q c : ℕ) (whole : Bool) (b : ℕ) (r : Running) → HasContext w q c → RunsIn (lane_at s q) c r
-    → MayBeOver w s whole b r → Lawful w s (step_in q c (over_deed whole b))
-over_lawful w s q zero false b r there runs may = (r, runs, may)
-over_lawful w s q zero true b r there runs may = (r, runs, may)
-over_lawful w s q (suc h) false b r there runs may = (has-helper w q h there, (r, runs, may))
-over_lawful w s q (suc h) true b r there runs may = (has-helper w q h there, (r, runs, may))
+over_lawful : (w : Wiring) (s : State) (q c : ℕ) (whole : Bool) (b : ℕ) (r : Running) → HasContext w q c
+    → RunsIn (lane_at s q) c r → MayBeOver w s whole b r → Lawful w s (step_in q c (over_deed whole b))
+over_lawful w s q c false b r there runs may = lawful-step_in w s q c (DoOver b) there.1 tt (r, runs, may)
+over_lawful w s q c true b r there runs may = lawful-step_in w s q c (DoOverAll b) there.1 tt (r, runs, may)
 
 -- the wait of a context may be over where nothing holds it back
 pub over_is_lawful : (b : BookView) (q c : ℕ) (f : Waiting) → HasContext b.wiring q c → IsWaiting b q c f
-    → ¬ IsHeldBack b.wiring (state b) f.whole f.target f.mark → Lawful b.wiring (state b) (step_in q c (over_deed f.whole f.target))
+    → ¬ IsHeldBack b.wiring (state b) f.whole f.target f.mark
+    → Lawful b.wiring (state b) (step_in q c (over_deed f.whole f.target))
 over_is_lawful b q c f there (r, runs, waits) done =
-    over_lawful b.wiring (state b) q c f.whole f.target r there runs (record { flush = f; waits = waits; kind = refl; target = refl; done = done })
+    over_lawful b.wiring (state b) q c f.whole f.target r there runs
+    (record { flush = f; waits = waits; kind = refl; target = refl; done = done })
 
-pub finish_is_lawful : (w : Wiring) (s : State) (q c : ℕ) (r : Running) → HasContext w q c → RunsIn (lane_at s q) c r → r.waiting ≡ None
-    → Lawful w s (step_in q c (DoFinish r.entry.item))
-finish_is_lawful w s q zero r there runs awake = (r, runs, record { entry = refl; awake = awake })
-finish_is_lawful w s q (suc h) r there runs awake = (has-helper w q h there, (r, runs, record { entry = refl; awake = awake }))
+pub finish_is_lawful : (w : Wiring) (s : State) (q c : ℕ) (r : Running) → HasContext w q c → RunsIn (lane_at s q) c r
+    → r.waiting ≡ None → Lawful w s (step_in q c (DoFinish r.entry.item))
+finish_is_lawful w s q c r there runs awake =
+    lawful-step_in w s q c (DoFinish r.entry.item) there.1 tt (r, runs, record { entry = refl; awake = awake })
 
 -- ---- answers by helper
 

@@ -1,20 +1,21 @@
 -- One more row: what it does to the replay, and why the history stays legal.
-use Rattle.std.proofs.Common.{◌≡◌, ℕ, zero, suc, ◌⊎◌, inl, inr, Bool, true, false, List, [], ◌∷◌, ◌++◌, take, refl, sym, ap, subst, ◌∙◌}
-use Rattle.std.specs.Prelude.{Option, Some, None, slice_get}
+use Rattle.std.proofs.Common.{◌≡◌, ℕ, zero, suc, ◌⊎◌, inl, inr, Bool, false, List, [], ◌∷◌, ◌++◌, take, refl, sym, ap}
+use Rattle.std.proofs.Common.{subst, ◌∙◌}
+use Rattle.std.specs.Prelude.{Option, Some, None, IfSome, slice_get}
 use Rattle.std.specs.List.{cons_option}
 use Rattle.std.proofs.lemmas.List.{append-nil}
 use Rattle.std.proofs.lemmas.List.Elements.{filter_map-append}
 use Rattle.wq_core.specs.declared.step.Step.{Step}
 use Rattle.wq_core.specs.Wiring.{Wiring}
-use Rattle.wq_core.specs.State.{empty_state}
+use Rattle.wq_core.specs.State.{State, empty_state}
 use Rattle.wq_core.specs.Rules.{Lawful, effect}
 use Rattle.wq_core.specs.Runs.{end_of}
 use Rattle.wq_core.proofs.RunLemmas.{after-more}
 use Rattle.wq_rows.specs.declared.event.Event.{Event}
-use Rattle.wq_rows.specs.declared.event.Event.TheVariants.{Queue, Cancel, Start, Wait, Over, Finish, Ask, Told, WaitAll, OverAll, AskLane, ToldLane, Help}
+use Rattle.wq_rows.specs.declared.event.Event.TheVariants.{Queue, Cancel, Ask, Told, AskLane, ToldLane}
 use Rattle.wq_rows.specs.declared.event.Row.{Row}
-use Rattle.wq_history.specs.Events.{step_of, steps_of}
-use Rattle.wq_history.specs.History.{state_after, MayCome, MayFollow, IsLegal}
+use Rattle.wq_history.specs.Events.{step_of, steps_of, subject_in}
+use Rattle.wq_history.specs.History.{state_after, asks_waiting, MayComeIn, MayCome, MayFollow, IsLegal}
 
 -- ---- lists
 
@@ -60,26 +61,20 @@ IsLegal-more w rows row legal may n r at = by_place (at_place rows row n r at) w
   by_place (inl (is, same)) = subst (λ (rs : List Row). MayFollow w rs r) (sym same) (legal n r is)
   by_place (inr (is, same)) = subst (λ (rs : List Row). MayFollow w rs r) (sym same) (subst (λ (x : Row). MayFollow w rows x) (sym is) may)
 
--- the step, if there is one, is lawful after these rows
-abbrev Allows : Wiring → List Row → Option Step → Type 0
-Allows w rows None = Unit {0}
-Allows w rows (Some step) = Lawful w (state_after w rows) step
+-- the step of what may come is lawful
+pub step-lawful : (w : Wiring) (s : State) (waiting : ℕ) (event : Event) (said : Bool) (n : ℕ)
+    → MayComeIn w s waiting event said n → IfSome (step_of event said) (λ (step : Step). Lawful w s step)
+step-lawful w s waiting (Queue i) false n may = tt
+step-lawful w s waiting (Cancel i) false n may = tt
+step-lawful w s waiting (Ask i) said n may = tt
+step-lawful w s waiting (Told i) said n may = tt
+step-lawful w s waiting (AskLane q) said n may = tt
+step-lawful w s waiting (ToldLane q) said n may = tt
+step-lawful w s waiting _ said n may = may.1.0
 
--- the step of a row that may follow is lawful
-pub MayCome-lawful : (w : Wiring) (rows : List Row) (event : Event) (said : Bool) (n : ℕ) (step : Step) → MayCome w rows event said n
-    → step_of event said ≡ Some step → Lawful w (state_after w rows) step
-MayCome-lawful w rows (Queue i) true n step may makes = subst (Allows w rows) makes may.1.0
-MayCome-lawful w rows (Queue i) false n step may makes = absurd cc
-MayCome-lawful w rows (Cancel i) true n step may makes = subst (Allows w rows) makes may.1.0
-MayCome-lawful w rows (Cancel i) false n step may makes = absurd cc
-MayCome-lawful w rows (Start q i) said n step may makes = subst (Allows w rows) makes may.1.0
-MayCome-lawful w rows (Wait q b) said n step may makes = subst (Allows w rows) makes may.1.0
-MayCome-lawful w rows (Over q b) said n step may makes = subst (Allows w rows) makes may.1.0
-MayCome-lawful w rows (Finish q i) said n step may makes = subst (Allows w rows) makes may.1.0
-MayCome-lawful w rows (Ask i) said n step may makes = absurd cc
-MayCome-lawful w rows (Told i) said n step may makes = absurd cc
-MayCome-lawful w rows (WaitAll q b) said n step may makes = subst (Allows w rows) makes may.1.0
-MayCome-lawful w rows (OverAll q b) said n step may makes = subst (Allows w rows) makes may.1.0
-MayCome-lawful w rows (AskLane q) said n step may makes = absurd cc
-MayCome-lawful w rows (ToldLane q) said n step may makes = absurd cc
-MayCome-lawful w rows (Help q h deed) said n step may makes = subst (Allows w rows) makes may.1.0
+pub MayCome-lawful : (w : Wiring) (rows : List Row) (event : Event) (said : Bool) (n : ℕ) (step : Step)
+    → MayCome w rows event said n → step_of event said ≡ Some step → Lawful w (state_after w rows) step
+MayCome-lawful w rows event said n step may makes =
+    let s : State = state_after w rows in
+    let waiting : ℕ = asks_waiting (subject_in event) rows in
+    subst (λ (o : Option Step). IfSome o (λ (x : Step). Lawful w s x)) makes (step-lawful w s waiting event said n may)

@@ -1,14 +1,16 @@
 -- Judging: what one more row does to a replay, and why a row is at fault.
-use Rattle.std.proofs.Common.{◌≡◌, ℕ, ◌+◌, ◌-◌, ◌*◌, ◌<◌, ◌≤◌, ◌↔◌, Bool, true, false, eqb, List, append_assoc, length-append, length-take, [], ◌∷◌, ◌++◌, length, get_or, take, refl, sym, ap, subst, ◌∙◌, arith}
+use Rattle.std.proofs.Common.{◌≡◌, ℕ, ◌+◌, ◌-◌, ◌*◌, ◌<◌, ◌≤◌, ◌↔◌, true, false, eqb, List, append_assoc}
+use Rattle.std.proofs.Common.{length-append, length-take, [], ◌∷◌, ◌++◌, length, get_or, take, refl, sym, ap, subst}
+use Rattle.std.proofs.Common.{◌∙◌, arith}
 use Rattle.std.specs.Prelude.{Option, Some, None, IfSome, IfNone, IsTrue, ◌&&◌}
 use Rattle.std.specs.Option.{option_eq}
 use Rattle.std.proofs.lemmas.Bool.{eqb-true, eq-eqb}
-use Rattle.std.proofs.lemmas.List.{length-set, append-nil}
+use Rattle.std.proofs.lemmas.List.{append-nil}
 use Rattle.std.proofs.lemmas.List.Elements.{All-nil}
 use Rattle.std.proofs.lemmas.List.Sums.{count_by-le-length}
 use Rattle.std.specs.List.{IsSplitAt}
 use Rattle.wq_core.specs.declared.step.Step.{Step}
-use Rattle.wq_core.specs.declared.step.Step.TheVariants.{Queue as QueueStep, Cancel as CancelStep, Start as StartStep, Wait as WaitStep, Over as OverStep, WaitAll as WaitAllStep, OverAll as OverAllStep, Finish as FinishStep, Help as HelperStep}
+use Rattle.wq_core.specs.declared.step.Step.TheVariants.{Queue as QueueStep}
 use Rattle.wq_core.specs.declared.step.StepError.{StepError}
 use Rattle.wq_core.specs.declared.step.StepError.TheVariants.{NotLawful, NumbersUsedUp}
 use Rattle.wq_core.specs.Wiring.{Wiring}
@@ -17,33 +19,25 @@ use Rattle.wq_core.specs.Rules.{Lawful, Gives}
 use Rattle.wq_core.specs.Held.{Machine, IsMachine, IsDone, IsRefusal, UsesUp, machine_after}
 use Rattle.wq_core.proofs.Numbers.{Gives-one}
 use Rattle.wq_rows.specs.declared.event.Event.{Event}
-use Rattle.wq_rows.specs.declared.event.Event.TheVariants.{Queue, Cancel, Start, Wait, Over, Finish, Ask, Told, WaitAll, OverAll, AskLane, ToldLane, Help}
 use Rattle.wq_rows.specs.declared.event.Row.{Row}
 use Rattle.wq_rows.specs.Packing.{packed, IsPackable, IsRowInRange, IsPackedRow}
 use Rattle.wq_rows.specs.Stored.{max_rows, IsStored}
 use Rattle.wq_rows.proofs.StoredLemmas.{IsStored-length, IsStored-push, IsSplitAt-parts, empty_list}
 use Rattle.wq_history.specs.declared.asking.Subject.{Subject}
-use Rattle.wq_history.specs.declared.asking.Subject.TheVariants.{Item as OfItem, Lane as OfLane}
-use Rattle.wq_history.specs.Events.{step_of, subject_in, ask_event, told_event, is_ask, is_told}
+use Rattle.wq_history.specs.Events.{step_of, subject_in, ask_event, told_event, is_ask}
 use Rattle.wq_history.specs.History.{state_after, asks_waiting, Makes, MayComeIn, MayCome, MayFollow, IsLegal}
-use Rattle.wq_history.specs.Counts.{AskView, Replays, ask_place}
-use Rattle.wq_history.specs.Judging.{IsJudged, IsJudgedUpTo, stepped, with_ask, without_ask, counted}
-use Rattle.wq_history.proofs.Counting.{IsNobodys-nothing, CountsAsks-same, CountsAsks-asked, CountsAsks-told, asks_waiting-count, within-some}
+use Rattle.wq_history.specs.Counts.{AskView, AreCounted, Replays, ask_place}
+use Rattle.wq_history.specs.Judging.{IsJudged, IsJudgedUpTo, stepped, counted}
+use Rattle.wq_history.proofs.Counting.{asks_waiting-count}
 use Rattle.wq_history.proofs.Holding.{AreFirst, Replays-noted, Replays-made, Replays-first}
-use Rattle.wq_history.proofs.WaitEvents.{step_of-ask_event, step_of-told_event, ask-there, told-waiting}
+use Rattle.wq_history.proofs.LegalRows.{AreCounted-more}
+use Rattle.wq_history.proofs.WaitEvents.{ask-there, told-some}
 
 -- ---- the number of a step
 
 number_left : (s : State) (step : Step) → s.next < 4294967295 → ¬ UsesUp s step
 number_left s (QueueStep i) below used = omega (arith, below, used)
-number_left s (CancelStep i) below used = used
-number_left s (StartStep q i) below used = used
-number_left s (WaitStep q b) below used = used
-number_left s (OverStep q b) below used = used
-number_left s (WaitAllStep q b) below used = used
-number_left s (OverAllStep q b) below used = used
-number_left s (FinishStep q i) below used = used
-number_left s (HelperStep q h deed) below used = used
+number_left s _ below used = used
 
 refused : (m : Machine) (step : Step) (e : StepError) → m.state.next < 4294967295 → IsRefusal m step e → ¬ Lawful m.wiring m.state step
 refused m step NotLawful below refusal = refusal
@@ -75,107 +69,47 @@ MayFollow-here m rows asks row waiting replays is = (
 )
   where
     same : waiting ≡ asks_waiting (subject_in row.event) rows
-    same = is ∙ asks_waiting-count rows asks (subject_in row.event) replays.asked
-
--- the step of what may come is lawful
-pub step-lawful : (w : Wiring) (s : State) (waiting : ℕ) (event : Event) (said : Bool) (n : ℕ) → MayComeIn w s waiting event said n
-    → IfSome (step_of event said) (λ step. Lawful w s step)
-step-lawful w s waiting (Queue i) true n may = may.1.0
-step-lawful w s waiting (Queue i) false n may = tt
-step-lawful w s waiting (Cancel i) true n may = may.1.0
-step-lawful w s waiting (Cancel i) false n may = tt
-step-lawful w s waiting (Start q i) said n may = may.1.0
-step-lawful w s waiting (Wait q b) said n may = may.1.0
-step-lawful w s waiting (Over q b) said n may = may.1.0
-step-lawful w s waiting (Finish q i) said n may = may.1.0
-step-lawful w s waiting (Ask i) said n may = tt
-step-lawful w s waiting (Told i) said n may = tt
-step-lawful w s waiting (WaitAll q b) said n may = may.1.0
-step-lawful w s waiting (OverAll q b) said n may = may.1.0
-step-lawful w s waiting (AskLane q) said n may = tt
-step-lawful w s waiting (ToldLane q) said n may = tt
-step-lawful w s waiting (Help q h deed) said n may = may.1.0
+    same = is ∙ asks_waiting-count rows asks (subject_in row.event) replays.asked.counts
 
 -- no more asks wait than there are rows
 pub few_asks : (m : Machine) (rows : List Row) (asks : AskView) → Replays m rows asks → asks.all ≤ length rows
-few_asks m rows asks replays = omega (arith, replays.asked.in_all, count_by-le-length (λ (row : Row). is_ask row.event && row.yes) rows)
+few_asks m rows asks replays = omega (
+  arith,
+  replays.asked.counts.in_all,
+  count_by-le-length
+      (λ (row : Row). is_ask row.event && row.yes) rows,
+)
 
 -- an ask that may come has a count
-pub ask-counted : (m : Machine) (rows : List Row) (asks : AskView) (waiting : ℕ) (event : Event) (said : Bool) (n : ℕ) (x : Subject) → Replays m rows asks
-    → MayComeIn m.wiring m.state waiting event said n → event ≡ ask_event x → ask_place x < length asks.counts
-ask-counted m rows asks waiting event said n x replays may is =
-    replays.a_count_each x (ask-there m.wiring m.state waiting x said n (subst (λ (e : Event). MayComeIn m.wiring m.state waiting e said n) is may))
+pub ask-counted : (m : Machine) (rows : List Row) (asks : AskView) (row : Row) (x : Subject) → Replays m rows asks
+    → MayFollow m.wiring rows row → row.event ≡ ask_event x → ask_place x < length asks.counts
+ask-counted m rows asks row x replays may is =
+    let come = subst (λ (e : Event). MayCome m.wiring rows e row.yes row.number) is may in
+    let waiting : ℕ = asks_waiting (subject_in (ask_event x)) rows in
+    replays.asked.each x (ask-there m.wiring (state_after m.wiring rows) waiting x row.yes row.number come)
 
 -- and where a caller may be told, the count isn't 0
-pub told-counted : (m : Machine) (asks : AskView) (waiting : ℕ) (event : Event) (said : Bool) (n : ℕ) (x : Subject)
-    → waiting ≡ get_or asks.counts (ask_place (subject_in event)) 0 → MayComeIn m.wiring m.state waiting event said n → event ≡ told_event x
-    → 0 < get_or asks.counts (ask_place x) 0
-told-counted m asks waiting event said n x counted_is may is =
-    let some = told-waiting m.wiring m.state waiting x said n (subst (λ (e : Event). MayComeIn m.wiring m.state waiting e said n) is may) in
-    subst (λ k. 0 < k) (counted_is ∙ ap (λ y. get_or asks.counts (ask_place y) 0) (ap subject_in is ∙ subject-told x)) some
-  where
-    subject-told : (y : Subject) → subject_in (told_event y) ≡ y
-    subject-told (OfItem i) = refl
-    subject-told (OfLane q) = refl
+pub told-counted : (m : Machine) (rows : List Row) (asks : AskView) (row : Row) (x : Subject) → Replays m rows asks
+    → MayFollow m.wiring rows row → row.event ≡ told_event x → 0 < get_or asks.counts (ask_place x) 0
+told-counted m rows asks row x replays may is =
+    told-some m.wiring rows asks x row.yes row.number replays.asked.counts
+    (subst (λ (e : Event). MayCome m.wiring rows e row.yes row.number) is may)
 
 -- ---- one more row
 
-pub Replays-follow : (m : Machine) (rows : List Row) (asks : AskView) (row : Row) → Replays m rows asks → MayFollow m.wiring rows row → length rows < max_rows
-    → (0 < asks_waiting (subject_in row.event) rows → 0 < asks.all) → Replays (stepped m (step_of row.event row.yes)) (rows ++ (row ∷ [])) (counted asks row.event row.yes)
-Replays-follow m rows asks row replays may few some = by_event row.event row.yes row.number may some where
-  here : (step : Step) → Lawful m.wiring (state_after m.wiring rows) step → Lawful m.wiring m.state step
-  here step lawful = subst (λ (s : State). Lawful m.wiring s step) (sym replays.replay) lawful
+pub Replays-follow : (m : Machine) (rows : List Row) (asks : AskView) (row : Row) → Replays m rows asks
+    → MayFollow m.wiring rows row → length rows < max_rows
+    → Replays (stepped m (step_of row.event row.yes)) (rows ++ (row ∷ [])) (counted asks row.event row.yes)
+Replays-follow m rows asks row replays may few = by_step (step_of row.event row.yes) refl where
+  now : AskView
+  now = counted asks row.event row.yes
 
-  made : (event : Event) (said : Bool) (n : ℕ) (step : Step) → step_of event said ≡ Some step → Lawful m.wiring (state_after m.wiring rows) step → MayCome m.wiring rows event said n
-      → Replays (machine_after m step) (rows ++ (record { event = event; yes = said; number = n } ∷ [])) asks
-  made event said n step is lawful come = Replays-made m rows asks event said n step replays (here step lawful) is come few
+  asked : AreCounted m.wiring (rows ++ (row ∷ [])) now
+  asked = AreCounted-more m.wiring rows asks row replays.asked may
 
-  nothing : (event : Event) (n : ℕ) → step_of event false ≡ None → is_told event ≡ false → MayCome m.wiring rows event false n
-      → Replays m (rows ++ (record { event = event; yes = false; number = n } ∷ [])) asks
-  nothing event n none told come =
-      let r : Row = record { event = event; yes = false; number = n } in
-      Replays-noted m rows asks asks r replays none come (CountsAsks-same rows r asks (IsNobodys-nothing event n told) replays.asked) refl
-
-  asked : (x : Subject) (n : ℕ) → MayCome m.wiring rows (ask_event x) true n
-      → Replays m (rows ++ (record { event = ask_event x; yes = true; number = n } ∷ [])) (with_ask x asks)
-  asked x n come =
-      let r : Row = record { event = ask_event x; yes = true; number = n } in
-      let there = ask-there m.wiring (state_after m.wiring rows) (asks_waiting (subject_in (ask_event x)) rows) x true n come in
-      Replays-noted m rows asks (with_ask x asks) r replays (step_of-ask_event x true) come
-      (CountsAsks-asked rows asks (with_ask x asks) x n (replays.a_count_each x there) replays.asked refl refl)
-      (length-set asks.counts (ask_place x) (get_or asks.counts (ask_place x) 0 + 1))
-
-  told : (x : Subject) (n : ℕ) → MayCome m.wiring rows (told_event x) true n → 0 < asks_waiting x rows → 0 < asks.all
-      → Replays m (rows ++ (record { event = told_event x; yes = true; number = n } ∷ [])) (without_ask x asks)
-  told x n come waiting all =
-      let r : Row = record { event = told_event x; yes = true; number = n } in
-      let some_wait : 0 < get_or asks.counts (ask_place x) 0 = omega (arith, waiting, asks_waiting-count rows asks x replays.asked) in
-      let within : ask_place x < length asks.counts = within-some asks.counts (ask_place x) some_wait in
-      Replays-noted m rows asks (without_ask x asks) r replays (step_of-told_event x true) come
-      (CountsAsks-told rows asks (without_ask x asks) x n within some_wait all replays.asked refl refl)
-      (length-set asks.counts (ask_place x) (get_or asks.counts (ask_place x) 0 - 1))
-
-  by_event : (event : Event) (said : Bool) (n : ℕ) → MayCome m.wiring rows event said n → (0 < asks_waiting (subject_in event) rows → 0 < asks.all)
-      → Replays (stepped m (step_of event said)) (rows ++ (record { event = event; yes = said; number = n } ∷ [])) (counted asks event said)
-  by_event (Queue i) true n come wait = made (Queue i) true n (QueueStep i) refl come.1.0 come
-  by_event (Queue i) false n come wait = nothing (Queue i) n refl refl come
-  by_event (Cancel i) true n come wait = made (Cancel i) true n (CancelStep i) refl come.1.0 come
-  by_event (Cancel i) false n come wait = nothing (Cancel i) n refl refl come
-  by_event (Start q i) said n come wait = made (Start q i) said n (StartStep q i) refl come.1.0 come
-  by_event (Wait q b) said n come wait = made (Wait q b) said n (WaitStep q b) refl come.1.0 come
-  by_event (Over q b) said n come wait = made (Over q b) said n (OverStep q b) refl come.1.0 come
-  by_event (Finish q i) said n come wait = made (Finish q i) said n (FinishStep q i) refl come.1.0 come
-  by_event (Ask i) true n come wait = asked (OfItem i) n come
-  by_event (Ask i) false n come wait = nothing (Ask i) n refl refl come
-  by_event (Told i) true n come wait = told (OfItem i) n come come.1 (wait come.1)
-  by_event (Told i) false n come wait = let said : false ≡ true = come.0 in absurd cc
-  by_event (WaitAll q b) said n come wait = made (WaitAll q b) said n (WaitAllStep q b) refl come.1.0 come
-  by_event (OverAll q b) said n come wait = made (OverAll q b) said n (OverAllStep q b) refl come.1.0 come
-  by_event (AskLane q) true n come wait = asked (OfLane q) n come
-  by_event (AskLane q) false n come wait = nothing (AskLane q) n refl refl come
-  by_event (ToldLane q) true n come wait = told (OfLane q) n come come.1 (wait come.1)
-  by_event (ToldLane q) false n come wait = let said : false ≡ true = come.0 in absurd cc
-  by_event (Help q h deed) said n come wait = made (Help q h deed) said n (HelperStep q h deed) refl come.1.0 come
+  by_step : (o : Option Step) → step_of row.event row.yes ≡ o → Replays (stepped m o) (rows ++ (row ∷ [])) now
+  by_step None none = Replays-noted m rows asks now row replays none may asked
+  by_step (Some step) makes = Replays-made m rows asks now row step replays makes may asked few
 
 -- ---- judged so far
 
@@ -254,11 +188,12 @@ stepped-wiring m (Some step) = refl
 
 -- one more row is judged
 pub judged-next : (old : Machine) (bytes left front after : List ℕ) (now : Machine) (asks : AskView) (count waiting : ℕ) (row : Row) → JudgedSoFar old bytes left now asks count
-    → IsSplitAt left 12 front after → IsPackedRow front row → waiting ≡ get_or asks.counts (ask_place (subject_in row.event)) 0 → waiting ≤ asks.all
+    → IsSplitAt left 12 front after → IsPackedRow front row → waiting ≡ get_or asks.counts
+    (ask_place (subject_in row.event)) 0
     → length bytes ≤ 12 * max_rows
     → MayComeIn now.wiring now.state waiting row.event row.yes row.number
     → JudgedSoFar old bytes after (stepped now (step_of row.event row.yes)) (counted asks row.event row.yes) (count + 1)
-judged-next old bytes left front after now asks count waiting row so_far split is_row counted_is part few may = record {
+judged-next old bytes left front after now asks count waiting row so_far split is_row counted_is few may = record {
   rows = so_far.rows ++ (row ∷ []);
   judged_bytes = so_far.judged_bytes ++ packed row;
   joined =
@@ -270,8 +205,7 @@ judged-next old bytes left front after now asks count waiting row so_far split i
   wired = stepped-wiring now (step_of row.event row.yes) ∙ so_far.wired;
   replays =
       Replays-follow now so_far.rows asks row so_far.replays ((MayFollow-here now so_far.rows asks row waiting so_far.replays counted_is).0 may)
-      (omega (arith, so_far.counted_rows, judged-length old bytes left now asks count so_far, split.0, few))
-      (λ some. omega (arith, some, part, counted_is, asks_waiting-count so_far.rows asks (subject_in row.event) so_far.replays.asked));
+      (omega (arith, so_far.counted_rows, judged-length old bytes left now asks count so_far, split.0, few));
 }
 
 pub judged-first : (old : Machine) (bytes : List ℕ) (asks : AskView) → IsMachine old → old.state ≡ empty_state old.wiring

@@ -1,6 +1,6 @@
 -- Rows that are kept, and what may come at a place of a legal history.
 use Rattle.std.proofs.Common.{◌≡◌, ℕ, ◌+◌, ◌<◌, ◌≤◌, ◌↔◌, Bool, true, false, cond, List, [], ◌∷◌, ◌++◌, length, append_assoc, refl, sym, ap, subst, ◌∙◌, arith}
-use Rattle.std.specs.Prelude.{Some, IsTrue, ◌&&◌}
+use Rattle.std.specs.Prelude.{Some, None, IsTrue, ◌&&◌}
 use Rattle.std.specs.List.{All, count_by}
 use Rattle.std.specs.Cmp.{both_ways}
 use Rattle.std.proofs.lemmas.List.Elements.{All-head, All-tail}
@@ -9,7 +9,8 @@ use Rattle.wq_core.specs.declared.step.Step.TheVariants.{Queue as QueueStep, Can
 use Rattle.wq_core.specs.declared.step.HelpStep.TheVariants.{Start as DoStart, Wait as DoWait, WaitAll as DoWaitAll, Over as DoOver, OverAll as DoOverAll, Finish as DoFinish}
 use Rattle.wq_core.specs.Wiring.{Wiring, IsWiring, items, lane_of}
 use Rattle.wq_core.specs.State.{State, lane_at, HasUnfinishedOf, IsBusy}
-use Rattle.wq_core.specs.Rules.{effect}
+use Rattle.wq_core.specs.Rules.{Lawful, effect}
+use Rattle.wq_core.specs.Runs.{IsRescuerStep}
 use Rattle.wq_core.specs.Work.{work_left}
 use Rattle.wq_core.specs.Held.{IsSoundState}
 use Rattle.wq_core.proofs.Contexts.{MayStart-first}
@@ -20,9 +21,10 @@ use Rattle.wq_rows.specs.declared.event.Event.{Event}
 use Rattle.wq_rows.specs.declared.event.Event.TheVariants.{Queue, Cancel, Start, Wait, Over, Finish, Ask, Told, WaitAll, OverAll, AskLane, ToldLane, Help}
 use Rattle.wq_rows.specs.declared.event.Row.{Row}
 use Rattle.wq_rows.specs.Packing.{lane_in}
+use Rattle.wq_history.specs.declared.asking.Subject.{Subject}
 use Rattle.wq_history.specs.declared.asking.Subject.TheVariants.{Item as OfItem, Lane as OfLane}
-use Rattle.wq_history.specs.Events.{step_of, subject_in, is_ask, is_told}
-use Rattle.wq_history.specs.History.{state_after, all_asks_waiting, IsThere, MayCome, MayFollow, IsLegal}
+use Rattle.wq_history.specs.Events.{step_of, subject_in, told_event, is_ask, is_told}
+use Rattle.wq_history.specs.History.{state_after, asks_waiting, all_asks_waiting, IsThere, MayCome, MayFollow, IsLegal}
 use Rattle.wq_history.specs.Reserve.{reserved, rows_needed}
 use Rattle.wq_history.proofs.Histories.{state_after-step, state_after-none}
 use Rattle.wq_history.proofs.Counting.{count-more}
@@ -56,43 +58,46 @@ kept_row w rows row legal may none = by_event row.event row.yes row.number may n
       let left : work_left w (state_after w (rows ++ (r ∷ []))) ≡ work_left w (effect w s step) = ap (work_left w) (state_after-step w rows r step makes) in
       omega (arith, left, waiting r no_ask no_told, less)
 
+  acting : (event : Event) (said : Bool) (n : ℕ) (step : Step) → step_of event said ≡ Some step → IsRescuerStep step
+      → (is_ask event && said) ≡ false → is_told event ≡ false → Lawful w s step
+      → reserved w (rows ++ (record { event = event; yes = said; number = n } ∷ [])) + 1 ≤ reserved w rows
+  acting event said n step makes is no_ask no_told lawful =
+      stepping event said n step makes no_ask no_told (omega (arith, work_left-rescuer w s step sound lawful is))
+
+  told : (x : Subject) (said : Bool) (n : ℕ) → step_of (told_event x) said ≡ None
+      → (is_ask (told_event x) && said) ≡ false → is_told (told_event x) ≡ true → 0 < asks_waiting x rows
+      → reserved w (rows ++ (record { event = told_event x; yes = said; number = n } ∷ [])) + 1 ≤ reserved w rows
+  told x said n none no_ask is waits =
+      let r : Row = record { event = told_event x; yes = said; number = n } in
+      let left : work_left w (state_after w (rows ++ (r ∷ []))) ≡ work_left w s =
+      ap (work_left w) (state_after-none w rows r none) in
+      let a = count-more (λ (y : Row). is_ask y.event && y.yes) rows r
+      ∙ ap (λ b. count_by (λ (y : Row). is_ask y.event && y.yes) rows + cond b 1 0) no_ask in
+      let t = count-more (λ (y : Row). is_told y.event) rows r
+      ∙ ap (λ b. count_by (λ (y : Row). is_told y.event) rows + cond b 1 0) is in
+      omega (arith, left, a, t, some-wait w rows x legal waits)
+
   by_event : (event : Event) (said : Bool) (n : ℕ) → MayCome w rows event said n → rows_needed w event said ≡ 0
       → reserved w (rows ++ (record { event = event; yes = said; number = n } ∷ [])) + 1 ≤ reserved w rows
-  by_event (Queue i) true n come none_needed = absurd (omega (arith, none_needed))
-  by_event (Queue i) false n come none_needed = absurd (omega (arith, none_needed))
-  by_event (Cancel i) true n come none_needed =
+  by_event (Queue i) true n come none = absurd (omega (arith, none))
+  by_event (Queue i) false n come none = absurd (omega (arith, none))
+  by_event (Cancel i) true n come none =
       stepping (Cancel i) true n (CancelStep i) refl refl refl (omega (arith, work_left-cancelled w s i sound come.1.0))
-  by_event (Cancel i) false n come none_needed = absurd (omega (arith, none_needed))
-  by_event (Start q i) said n come none_needed =
-      stepping (Start q i) said n (StartStep q i) refl refl refl (omega (arith, work_left-rescuer w s (StartStep q i) sound come.1.0 tt))
-  by_event (Wait q b) said n come none_needed =
-      stepping (Wait q b) said n (WaitStep q b) refl refl refl (omega (arith, work_left-rescuer w s (WaitStep q b) sound come.1.0 tt))
-  by_event (Over q b) said n come none_needed =
-      stepping (Over q b) said n (OverStep q b) refl refl refl (omega (arith, work_left-rescuer w s (OverStep q b) sound come.1.0 tt))
-  by_event (Finish q i) said n come none_needed =
-      stepping (Finish q i) said n (FinishStep q i) refl refl refl (omega (arith, work_left-rescuer w s (FinishStep q i) sound come.1.0 tt))
-  by_event (Ask i) true n come none_needed = absurd (omega (arith, none_needed))
-  by_event (Ask i) false n come none_needed = absurd (omega (arith, none_needed))
-  by_event (Told i) said n come none_needed =
-      let r : Row = record { event = Told i; yes = said; number = n } in
-      let left : work_left w (state_after w (rows ++ (r ∷ []))) ≡ work_left w s = ap (work_left w) (state_after-none w rows r refl) in
-      let a = count-more (λ (x : Row). is_ask x.event && x.yes) rows r in
-      let t = count-more (λ (x : Row). is_told x.event) rows r in
-      omega (arith, left, a, t, some-wait w rows (OfItem i) legal come.1)
-  by_event (WaitAll q b) said n come none_needed =
-      stepping (WaitAll q b) said n (WaitAllStep q b) refl refl refl (omega (arith, work_left-rescuer w s (WaitAllStep q b) sound come.1.0 tt))
-  by_event (OverAll q b) said n come none_needed =
-      stepping (OverAll q b) said n (OverAllStep q b) refl refl refl (omega (arith, work_left-rescuer w s (OverAllStep q b) sound come.1.0 tt))
-  by_event (AskLane q) true n come none_needed = absurd (omega (arith, none_needed))
-  by_event (AskLane q) false n come none_needed = absurd (omega (arith, none_needed))
-  by_event (ToldLane q) said n come none_needed =
-      let r : Row = record { event = ToldLane q; yes = said; number = n } in
-      let left : work_left w (state_after w (rows ++ (r ∷ []))) ≡ work_left w s = ap (work_left w) (state_after-none w rows r refl) in
-      let a = count-more (λ (x : Row). is_ask x.event && x.yes) rows r in
-      let t = count-more (λ (x : Row). is_told x.event) rows r in
-      omega (arith, left, a, t, some-wait w rows (OfLane q) legal come.1)
-  by_event (Help q h deed) said n come none_needed =
-      stepping (Help q h deed) said n (HelperStep q h deed) refl refl refl (omega (arith, work_left-rescuer w s (HelperStep q h deed) sound come.1.0 tt))
+  by_event (Cancel i) false n come none = absurd (omega (arith, none))
+  by_event (Start q i) said n come none = acting (Start q i) said n (StartStep q i) refl tt refl refl come.1.0
+  by_event (Wait q b) said n come none = acting (Wait q b) said n (WaitStep q b) refl tt refl refl come.1.0
+  by_event (Over q b) said n come none = acting (Over q b) said n (OverStep q b) refl tt refl refl come.1.0
+  by_event (Finish q i) said n come none = acting (Finish q i) said n (FinishStep q i) refl tt refl refl come.1.0
+  by_event (Ask i) true n come none = absurd (omega (arith, none))
+  by_event (Ask i) false n come none = absurd (omega (arith, none))
+  by_event (Told i) said n come none = told (OfItem i) said n refl refl refl come.1
+  by_event (WaitAll q b) said n come none = acting (WaitAll q b) said n (WaitAllStep q b) refl tt refl refl come.1.0
+  by_event (OverAll q b) said n come none = acting (OverAll q b) said n (OverAllStep q b) refl tt refl refl come.1.0
+  by_event (AskLane q) true n come none = absurd (omega (arith, none))
+  by_event (AskLane q) false n come none = absurd (omega (arith, none))
+  by_event (ToldLane q) said n come none = told (OfLane q) said n refl refl refl come.1
+  by_event (Help q h deed) said n come none =
+      acting (Help q h deed) said n (HelperStep q h deed) refl tt refl refl come.1.0
 
 pub kept_rows : (w : Wiring) (rows more : List Row) → IsLegal w (rows ++ more) → All (λ (row : Row). rows_needed w row.event row.yes ≡ 0) more
     → length more ≤ reserved w rows

@@ -1,10 +1,10 @@
 -- What holds for legal histories: prefixes, runs, and the asks that wait.
-use Rattle.std.proofs.Common.{◌≡◌, ℕ, zero, suc, ◌+◌, ◌-◌, ◌*◌, ◌<◌, ◌≤◌, ◌↔◌, Bool, true, false, cond, eqb, List, [], ◌∷◌, ◌++◌, length, take, get_or, set, replicate, append_assoc, refl, sym, ap, subst, ◌∙◌, arith}
-use Rattle.std.specs.Prelude.{Option, Some, None, slice_get, sum, max, ◌&&◌}
+use Rattle.std.proofs.Common.{◌≡◌, ℕ, zero, suc, ◌+◌, ◌-◌, ◌*◌, ◌<◌, ◌≤◌, ◌↔◌, Bool, true, false, cond, eqb, List, []}
+use Rattle.std.proofs.Common.{◌∷◌, ◌++◌, length, take, get_or, set, append_assoc, refl, sym, ap, subst, ◌∙◌, arith}
+use Rattle.std.specs.Prelude.{Option, Some, None, slice_get, sum, ◌&&◌}
 use Rattle.std.proofs.lemmas.Bool.{eqb-true}
 use Rattle.std.specs.List.{count_by, cons_option}
 use Rattle.std.proofs.lemmas.List.{append-nil, length-set, take-append-le}
-use Rattle.std.proofs.lemmas.List.Folds.{sum_by-replicate}
 use Rattle.std.proofs.lemmas.List.Sums.{sum_by-set, get_or-le-sum_by}
 use Rattle.std.proofs.lemmas.Option.{slice_get_within}
 use Rattle.wq_core.specs.declared.step.Step.{Step}
@@ -22,11 +22,11 @@ use Rattle.wq_history.specs.declared.asking.Subject.{Subject}
 use Rattle.wq_history.specs.declared.asking.Subject.TheVariants.{Item as OfItem, Lane as OfLane}
 use Rattle.wq_history.specs.Events.{step_of, steps_of, ask_event, told_event, begins_to_wait, ends_a_wait, is_ask, is_told}
 use Rattle.wq_history.specs.History.{state_after, asks_waiting, all_asks_waiting, IsThere, MayCome, MayFollow, IsLegal}
-use Rattle.wq_history.specs.Counts.{AskView, CountsAll, CountsAsks, ask_place}
-use Rattle.wq_history.specs.Judging.{with_ask, without_ask}
+use Rattle.wq_history.specs.Counts.{AskView, AreCounted, ask_place}
+use Rattle.wq_history.specs.Judging.{with_ask, without_ask, counted}
 use Rattle.wq_history.proofs.Histories.{steps_of-more, IsLegal-more, MayCome-lawful}
 use Rattle.wq_history.proofs.Counting.{IsNobodys, IsNobodys-nothing, IsNobodys-step, count-more, CountsAsks-same, CountsAsks-asked, CountsAsks-told, asks_waiting-count, all_asks_waiting-count, within-some}
-use Rattle.wq_history.proofs.Holding.{each-first, asked-first}
+use Rattle.wq_history.proofs.Holding.{asks-first}
 
 -- ---- prefixes
 
@@ -94,21 +94,11 @@ and-left false b both = absurd cc
 -- an ask that begins to wait is about an item or a lane that exists
 begins-there : (w : Wiring) (rows : List Row) (x : Subject) (event : Event) (said : Bool) (n : ℕ) → MayCome w rows event said n
     → begins_to_wait x (record { event = event; yes = said; number = n }) ≡ true → IsThere w x
-begins-there w rows x (Queue i) said n may is = absurd cc
-begins-there w rows x (Cancel i) said n may is = absurd cc
-begins-there w rows x (Start q i) said n may is = absurd cc
-begins-there w rows x (Wait q b) said n may is = absurd cc
-begins-there w rows x (Over q b) said n may is = absurd cc
-begins-there w rows x (Finish q i) said n may is = absurd cc
-begins-there w rows (OfItem j) (Ask i) said n may is = subst (λ k. k < items w) (eqb-true i j (and-left (eqb i j) said is)) may.0
-begins-there w rows (OfLane q) (Ask i) said n may is = absurd cc
-begins-there w rows x (Told i) said n may is = absurd cc
-begins-there w rows x (WaitAll q b) said n may is = absurd cc
-begins-there w rows x (OverAll q b) said n may is = absurd cc
-begins-there w rows (OfItem j) (AskLane p) said n may is = absurd cc
-begins-there w rows (OfLane q) (AskLane p) said n may is = subst (λ k. k < w.lanes) (eqb-true p q (and-left (eqb p q) said is)) may.0
-begins-there w rows x (ToldLane q) said n may is = absurd cc
-begins-there w rows x (Help q h deed) said n may is = absurd cc
+begins-there w rows (OfItem j) (Ask i) said n may is =
+    subst (λ k. k < items w) (eqb-true i j (and-left (eqb i j) said is)) may.0
+begins-there w rows (OfLane q) (AskLane p) said n may is =
+    subst (λ k. k < w.lanes) (eqb-true p q (and-left (eqb p q) said is)) may.0
+begins-there w rows x _ said n may is = absurd cc
 
 -- while rows are legal, what was asked about with yes exists
 abbrev AsksThere : Wiring → List Row → Type 0
@@ -129,72 +119,66 @@ asked-there w rows x legal some =
 
 -- ---- asks that wait
 
--- counts of the asks that wait, one for each item and each lane, whose sum is that of all
-pub record AreCounted (w : Wiring) (rows : List Row) : Type 0 where
-  pub asks : AskView
-  pub each : (x : Subject) → IsThere w x → ask_place x < length asks.counts
-  pub sum_is : CountsAll asks
-  pub counts : CountsAsks rows asks
-
 abbrev GivesCounts : Wiring → List Row → Type 0
-GivesCounts w rows = IsLegal w rows → AreCounted w rows
-
-no_asks : (w : Wiring) → AreCounted w []
-no_asks w =
-    let asks : AskView = record { counts = replicate (2 * max (items w) w.lanes) 0; all = 0 } in
-    record {
-      asks = asks;
-      each = λ x there. each-first w asks x refl there;
-      sum_is = omega (arith, sum_by-replicate (λ (n : ℕ). n) (2 * max (items w) w.lanes) 0);
-      counts = asked-first w asks refl;
-    }
+GivesCounts w rows = IsLegal w rows → (asks : AskView) × AreCounted w rows asks
 
 -- the sum after one count is replaced
 sum-set : (xs : List ℕ) (i y : ℕ) → i < length xs → sum (set xs i y) + get_or xs i 0 ≡ sum xs + y
 sum-set xs i y within = sum_by-set (λ (n : ℕ). n) xs i y 0 within
 
-one_more_count : (w : Wiring) (rows : List Row) (row : Row) → GivesCounts w rows → GivesCounts w (rows ++ (row ∷ []))
-one_more_count w rows row before legal = by_event row.event row.yes row.number (IsLegal-last w rows row legal) where
-  old : AreCounted w rows
-  old = before (IsLegal-prefix w rows (row ∷ []) legal)
-
+pub AreCounted-more : (w : Wiring) (rows : List Row) (asks : AskView) (row : Row) → AreCounted w rows asks
+    → MayFollow w rows row → AreCounted w (rows ++ (row ∷ [])) (counted asks row.event row.yes)
+AreCounted-more w rows asks row old may = by_event row.event row.yes row.number may where
   same : (event : Event) (said : Bool) (n : ℕ) → IsNobodys (record { event = event; yes = said; number = n })
-      → AreCounted w (rows ++ (record { event = event; yes = said; number = n } ∷ []))
+      → AreCounted w (rows ++ (record { event = event; yes = said; number = n } ∷ [])) asks
   same event said n nobody = record {
-    asks = old.asks;
     each = old.each;
     sum_is = old.sum_is;
-    counts = CountsAsks-same rows (record { event = event; yes = said; number = n }) old.asks nobody old.counts;
+    counts = CountsAsks-same rows (record { event = event; yes = said; number = n }) asks nobody old.counts;
   }
 
   -- a count is replaced
-  each_still : (x y : Subject) (k : ℕ) → IsThere w y → ask_place y < length (set old.asks.counts (ask_place x) k)
-  each_still x y k there = subst (λ (n : ℕ). ask_place y < n) (sym (length-set old.asks.counts (ask_place x) k)) (old.each y there)
+  each_still : (x y : Subject) (k : ℕ) → IsThere w y → ask_place y < length (set asks.counts (ask_place x) k)
+  each_still x y k there = subst (λ (n : ℕ). ask_place y < n) (sym (length-set asks.counts (ask_place x) k))
+      (old.each y there)
 
-  asked : (x : Subject) (n : ℕ) → IsThere w x → AreCounted w (rows ++ (record { event = ask_event x; yes = true; number = n } ∷ []))
+  asked : (x : Subject) (n : ℕ) → IsThere w x → AreCounted w
+      (rows ++ (record { event = ask_event x; yes = true; number = n } ∷ [])) (with_ask x asks)
   asked x n there =
       let within = old.each x there in
       record {
-        asks = with_ask x old.asks;
-        each = λ y is. each_still x y (get_or old.asks.counts (ask_place x) 0 + 1) is;
-        sum_is = omega (arith, sum-set old.asks.counts (ask_place x) (get_or old.asks.counts (ask_place x) 0 + 1) within, old.sum_is);
-        counts = CountsAsks-asked rows old.asks (with_ask x old.asks) x n within old.counts refl refl;
+        each = λ y is. each_still x y (get_or asks.counts (ask_place x) 0 + 1) is;
+        sum_is = omega (
+          arith,
+          sum-set asks.counts (ask_place x) (get_or asks.counts (ask_place x) 0 + 1) within,
+          old.sum_is,
+        );
+        counts = CountsAsks-asked rows asks (with_ask x asks) x n within old.counts refl refl;
       }
 
-  told : (x : Subject) (n : ℕ) → 0 < asks_waiting x rows → AreCounted w (rows ++ (record { event = told_event x; yes = true; number = n } ∷ []))
+  told : (x : Subject) (n : ℕ) → 0 < asks_waiting x rows → AreCounted w
+      (rows ++ (record { event = told_event x; yes = true; number = n } ∷ [])) (without_ask x asks)
   told x n waiting =
-      let some : 0 < get_or old.asks.counts (ask_place x) 0 = omega (arith, waiting, asks_waiting-count rows old.asks x old.counts) in
-      let within : ask_place x < length old.asks.counts = within-some old.asks.counts (ask_place x) some in
-      let part : get_or old.asks.counts (ask_place x) 0 ≤ sum old.asks.counts = get_or-le-sum_by (λ (k : ℕ). k) old.asks.counts (ask_place x) 0 within in
-      let all : 0 < old.asks.all = omega (arith, some, part, old.sum_is) in
+      let some : 0 < get_or asks.counts (ask_place x) 0 = omega
+      (arith, waiting, asks_waiting-count rows asks x old.counts) in
+      let within : ask_place x < length asks.counts = within-some asks.counts (ask_place x) some in
+      let part : get_or asks.counts (ask_place x) 0 ≤ sum asks.counts = get_or-le-sum_by (λ (k : ℕ). k) asks.counts
+      (ask_place x) 0 within in
+      let all : 0 < asks.all = omega (arith, some, part, old.sum_is) in
       record {
-        asks = without_ask x old.asks;
-        each = λ y is. each_still x y (get_or old.asks.counts (ask_place x) 0 - 1) is;
-        sum_is = omega (arith, sum-set old.asks.counts (ask_place x) (get_or old.asks.counts (ask_place x) 0 - 1) within, old.sum_is, some, all);
-        counts = CountsAsks-told rows old.asks (without_ask x old.asks) x n within some all old.counts refl refl;
+        each = λ y is. each_still x y (get_or asks.counts (ask_place x) 0 - 1) is;
+        sum_is = omega (
+          arith,
+          sum-set asks.counts (ask_place x) (get_or asks.counts (ask_place x) 0 - 1) within,
+          old.sum_is,
+          some,
+          all,
+        );
+        counts = CountsAsks-told rows asks (without_ask x asks) x n within some all old.counts refl refl;
       }
 
-  by_event : (event : Event) (said : Bool) (n : ℕ) → MayCome w rows event said n → AreCounted w (rows ++ (record { event = event; yes = said; number = n } ∷ []))
+  by_event : (event : Event) (said : Bool) (n : ℕ) → MayCome w rows event said n
+      → AreCounted w (rows ++ (record { event = event; yes = said; number = n } ∷ [])) (counted asks event said)
   by_event (Queue i) true n may = same (Queue i) true n (IsNobodys-step (Queue i) true n (QueueStep i) refl)
   by_event (Queue i) false n may = same (Queue i) false n (IsNobodys-nothing (Queue i) n refl)
   by_event (Cancel i) true n may = same (Cancel i) true n (IsNobodys-step (Cancel i) true n (CancelStep i) refl)
@@ -215,21 +199,29 @@ one_more_count w rows row before legal = by_event row.event row.yes row.number (
   by_event (ToldLane q) true n may = told (OfLane q) n may.1
   by_event (Help q h deed) said n may = same (Help q h deed) said n (IsNobodys-step (Help q h deed) said n (HelperStep q h deed) refl)
 
-pub AreCounted-legal : (w : Wiring) (rows : List Row) → IsLegal w rows → AreCounted w rows
-AreCounted-legal w rows legal = from_front (GivesCounts w) (λ xs x before. one_more_count w xs x before) [] rows (λ none. no_asks w) legal
+one_more_count : (w : Wiring) (rows : List Row) (row : Row) → GivesCounts w rows → GivesCounts w (rows ++ (row ∷ []))
+one_more_count w rows row before legal =
+    let old = before (IsLegal-prefix w rows (row ∷ []) legal) in
+    (counted old.0 row.event row.yes, AreCounted-more w rows old.0 row old.1 (IsLegal-last w rows row legal))
+
+pub AreCounted-legal : (w : Wiring) (rows : List Row) → GivesCounts w rows
+AreCounted-legal w rows legal =
+    from_front (GivesCounts w) (λ xs x before. one_more_count w xs x before) [] rows
+    (λ none. (_, asks-first w _ refl)) legal
 
 -- if an ask about an item or a lane waits, at least one waits in all
 pub some-wait : (w : Wiring) (rows : List Row) (x : Subject) → IsLegal w rows → 0 < asks_waiting x rows → 0 < all_asks_waiting rows
 some-wait w rows x legal some =
     let c = AreCounted-legal w rows legal in
-    let waits : 0 < get_or c.asks.counts (ask_place x) 0 = omega (arith, some, asks_waiting-count rows c.asks x c.counts) in
-    let within : ask_place x < length c.asks.counts = within-some c.asks.counts (ask_place x) waits in
-    let part : get_or c.asks.counts (ask_place x) 0 ≤ sum c.asks.counts = get_or-le-sum_by (λ (n : ℕ). n) c.asks.counts (ask_place x) 0 within in
-    omega (arith, waits, part, c.sum_is, all_asks_waiting-count rows c.asks c.counts)
+    let waits : 0 < get_or c.0.counts (ask_place x) 0 = omega (arith, some, asks_waiting-count rows c.0 x c.1.counts) in
+    let within : ask_place x < length c.0.counts = within-some c.0.counts (ask_place x) waits in
+    let part : get_or c.0.counts (ask_place x) 0 ≤ sum c.0.counts = get_or-le-sum_by (λ (n : ℕ). n) c.0.counts
+    (ask_place x) 0 within in
+    omega (arith, waits, part, c.1.sum_is, all_asks_waiting-count rows c.0 c.1.counts)
 
 pub told-asked : (w : Wiring) (rows : List Row) (x : Subject) → IsLegal w rows → count_by (ends_a_wait x) rows ≤ count_by (begins_to_wait x) rows
-told-asked w rows x legal = let c = AreCounted-legal w rows legal in omega (arith, c.counts.each x)
+told-asked w rows x legal = let c = AreCounted-legal w rows legal in omega (arith, c.1.counts.each x)
 
 pub told-asked_all : (w : Wiring) (rows : List Row) → IsLegal w rows
     → count_by (λ (row : Row). is_told row.event) rows ≤ count_by (λ (row : Row). is_ask row.event && row.yes) rows
-told-asked_all w rows legal = let c = AreCounted-legal w rows legal in omega (arith, c.counts.in_all)
+told-asked_all w rows legal = let c = AreCounted-legal w rows legal in omega (arith, c.1.counts.in_all)

@@ -4,6 +4,7 @@ pub mod Holding
 pub mod Judged
 pub mod LegalRows
 pub mod KeptRows
+pub mod Written
 pub mod WaitEvents
 pub mod Deeds
 pub mod Startable

@@ -3,18 +3,21 @@ use Rattle.std.proofs.Common.{◌≡◌, ℕ, zero, suc, ◌<◌, ◌≤◌, ◌
 use Rattle.std.specs.Prelude.{Some, None, Result, Ok, Err}
 use Rattle.wq_items.specs.Table.{ItemWaitsBy}
 use Rattle.wq_core.specs.declared.step.Context.{Context}
-use Rattle.wq_core.specs.declared.step.HelpStep.TheVariants.{Start as DoStart}
+use Rattle.wq_core.specs.declared.step.HelpStep.{HelpStep}
+use Rattle.wq_core.specs.declared.step.HelpStep.TheVariants.{Start as DoStart, Wait as DoWait, WaitAll as DoWaitAll}
+use Rattle.wq_core.specs.declared.step.HelpStep.TheVariants.{Over as DoOver, OverAll as DoOverAll, Finish as DoFinish}
 use Rattle.wq_core.specs.declared.entry.Running.{Running}
 use Rattle.wq_core.specs.declared.entry.Waiting.{Waiting as WaitOf}
 use Rattle.wq_core.specs.Wiring.{declared_by}
 use Rattle.wq_core.specs.State.{lane_at, run_by, RunsIn, HasUnfinishedBelow, IsBusyBelow}
-use Rattle.wq_core.specs.Rules.{MayWait, MayBeOver, MayFinish, IsHeldBack}
+use Rattle.wq_core.specs.Rules.{MayDo, MayWait, MayBeOver, MayFinish, IsHeldBack}
+use Rattle.wq_core.proofs.Contexts.{MayStart-first}
 use Rattle.wq_rows.specs.declared.event.Event.{Event}
 use Rattle.wq_rows.specs.declared.event.Event.TheVariants.{Queue as QueueEvent, Cancel as CancelEvent, Ask as AskEvent, AskLane as AskLaneEvent}
 use Rattle.wq_rows.specs.declared.event.Row.{Row}
 use Rattle.wq_history.specs.declared.asking.Subject.{Subject}
 use Rattle.wq_history.specs.declared.asking.Subject.TheVariants.{Item as OfItem, Lane as OfLane}
-use Rattle.wq_history.specs.Events.{is_told, told_event, start_event, wait_event, over_event, finish_event}
+use Rattle.wq_history.specs.Events.{event_in, is_told, told_event, start_event, wait_event, over_event, finish_event}
 use Rattle.wq_history.specs.History.{asks_waiting, MayCome, IsLegal}
 use Rattle.wq_history.specs.Reserve.{rows_needed}
 use Rattle.wq_history.specs.Book.{BookView, state, free, IsBook, LacksRows, RunsItem, WaitsFor, HasNothingToStart, IsWrongToStart, IsNotAwake}
@@ -34,31 +37,33 @@ use Rattle.wq_history.proofs.Uniqueness.{same-row, comes, same-event, one-row}
 
 -- ---- what a row of a context shows
 
+-- what a context does, it may do
+may-do : (b : BookView) (q c : ℕ) (deed : HelpStep) (said : Bool) (n : ℕ)
+    → MayCome b.wiring b.rows (event_in q c deed) said n → MayDo b.wiring (state b) q c deed
+may-do b q zero (DoStart i) said n may = MayStart-first (lane_at (state b) q) i may.1.0
+may-do b q zero _ said n may = may.1.0
+may-do b q (suc h) deed said n may = may.1.0.1
+
 wait-lawful : (b : BookView) (whole : Bool) (q c t : ℕ) (said : Bool) (n : ℕ)
     → MayCome b.wiring b.rows (wait_event whole q c t) said n
     → (r : Running) × RunsIn (lane_at (state b) q) c r × MayWait b.wiring whole t r
-wait-lawful b false q zero t said n may = may.1.0
-wait-lawful b false q (suc h) t said n may = may.1.0.1
-wait-lawful b true q zero t said n may = may.1.0
-wait-lawful b true q (suc h) t said n may = may.1.0.1
+wait-lawful b false q c t said n may = may-do b q c (DoWait t) said n may
+wait-lawful b true q c t said n may = may-do b q c (DoWaitAll t) said n may
 
 over-lawful : (b : BookView) (whole : Bool) (q c t : ℕ) (said : Bool) (n : ℕ)
     → MayCome b.wiring b.rows (over_event whole q c t) said n
     → (r : Running) × RunsIn (lane_at (state b) q) c r × MayBeOver b.wiring (state b) whole t r
-over-lawful b false q zero t said n may = may.1.0
-over-lawful b false q (suc h) t said n may = may.1.0.1
-over-lawful b true q zero t said n may = may.1.0
-over-lawful b true q (suc h) t said n may = may.1.0.1
+over-lawful b false q c t said n may = may-do b q c (DoOver t) said n may
+over-lawful b true q c t said n may = may-do b q c (DoOverAll t) said n may
 
-pub finish-lawful : (b : BookView) (q c i : ℕ) (said : Bool) (n : ℕ) → MayCome b.wiring b.rows (finish_event q c i) said n
+pub finish-lawful : (b : BookView) (q c i : ℕ) (said : Bool) (n : ℕ)
+    → MayCome b.wiring b.rows (finish_event q c i) said n
     → (r : Running) × RunsIn (lane_at (state b) q) c r × MayFinish i r
-finish-lawful b q zero i said n may = may.1.0
-finish-lawful b q (suc h) i said n may = may.1.0.1
+finish-lawful b q c i said n may = may-do b q c (DoFinish i) said n may
 
 start-idle : (b : BookView) (q c i : ℕ) (said : Bool) (n : ℕ) → MayCome b.wiring b.rows (start_event q c i) said n
     → run_by (lane_at (state b) q) c ≡ None
-start-idle b q zero i said n may = may.1.0.idle
-start-idle b q (suc h) i said n may = may.1.0.1.idle
+start-idle b q c i said n may = let started = may-do b q c (DoStart i) said n may in started.idle
 
 -- a context runs one thing, or nothing
 same-run : (b : BookView) (q c : ℕ) (r s : Running) → RunsIn (lane_at (state b) q) c r
@@ -92,13 +97,13 @@ told-early b (OfLane q) said n mark may is unfinished = may.2
     (subst (λ (m : ℕ). IsBusyBelow (lane_at (state b) q) m) (sym is) unfinished)
 
 over-early : (b : BookView) (c : Context) (f : Flush) (said : Bool) (n : ℕ)
-    → MayCome b.wiring b.rows (over_event f.whole c.lane c.helper f.target) said n
+    → MayCome b.wiring b.rows (over_event f.whole c.lane c.number f.target) said n
     → IsEarly b (Over c f) → ⊥
 over-early b c f said n may early =
-    let runs = over-lawful b f.whole c.lane c.helper f.target said n may in
+    let runs = over-lawful b f.whole c.lane c.number f.target said n may in
     let over = runs.2 in
     let with = early.1 in
-    let same : with.0 ≡ over.flush = one-wait b c.lane c.helper with.0 over.flush with.1.0
+    let same : with.0 ≡ over.flush = one-wait b c.lane c.number with.0 over.flush with.1.0
     (runs.0, runs.1, over.waits) in
     let marks : early.0 ≡ over.flush.mark = sym with.3 ∙ ap (λ (g : WaitOf). g.mark) same in
     over.done (subst (λ (m : ℕ). IsHeldBack b.wiring (state b) f.whole f.target m) marks
@@ -109,7 +114,7 @@ row-early b new (Told x mark) row is writes early = told-early b x row.yes row.n
     (comes b new row (told_event x) is.0 writes) is.1 early.1
 row-early b new (Start c) row is writes early = let bad : Some is.1.0 ≡ None = sym is.1.1 ∙ early.0.2 in absurd cc
 row-early b new (Over c f) row is writes early = over-early b c f row.yes row.number
-    (comes b new row (over_event f.whole c.lane c.helper f.target) is writes) early
+    (comes b new row (over_event f.whole c.lane c.number f.target) is writes) early
 row-early b new Drain row is writes early = absurd is
 row-early b new _ row is writes early = absurd early
 
@@ -167,38 +172,38 @@ cause-of : (wrong : Type 0) (e : CallError) → RefusesIf wrong e → wrong
 cause-of wrong e why = ((wrong-only wrong e).1 why).1
 
 row-start : (b new : BookView) (c : Context) (row : Row) → IsBook b → IsRowOf b (Start c) row → Writes b row new
-    → IsWrongToStart b c.lane c.helper → ⊥
+    → IsWrongToStart b c.lane c.number → ⊥
 row-start b new c row book is writes (inl missing) =
-    missing (context-appended b.wiring b new c.lane c.helper (DoStart is.0) row.yes row.number refl book
+    missing (context-appended b.wiring b new c.lane c.number (DoStart is.0) row.yes row.number refl book
     (appends-as b new row.event
-    (start_event c.lane c.helper is.0) row.yes row.yes row.number row.number is.2 refl refl writes))
+    (start_event c.lane c.number is.0) row.yes row.yes row.number row.number is.2 refl refl writes))
 row-start b new c row book is writes (inr runs) =
-    not-both b c.lane c.helper runs.0
-    (start-idle b c.lane c.helper is.0 row.yes row.number
-    (comes b new row (start_event c.lane c.helper is.0) is.2 writes)) runs.1
+    not-both b c.lane c.number runs.0
+    (start-idle b c.lane c.number is.0 row.yes row.number
+    (comes b new row (start_event c.lane c.number is.0) is.2 writes)) runs.1
 
 row-wait : (b : BookView) (c : Context) (f : Flush) (e : CallError)
-    → ((r : Running) × RunsIn (lane_at (state b) c.lane) c.helper r × MayWait b.wiring f.whole f.target r)
+    → ((r : Running) × RunsIn (lane_at (state b) c.lane) c.number r × MayWait b.wiring f.whole f.target r)
     → RefusesToWait b c f e → ⊥
 row-wait b c f WrongLane waits why = why waits.0 (waits.1, waits.2.awake)
 row-wait b c f Undeclared waits why =
-    let same : waits.0 ≡ why.0 = same-run b c.lane c.helper waits.0 why.0 waits.1 why.1.0 in
+    let same : waits.0 ≡ why.0 = same-run b c.lane c.number waits.0 why.0 waits.1 why.1.0 in
     why.2 (subst (λ (r : Running). ItemWaitsBy b.wiring.waits f.whole r.entry.item f.target) same waits.2.declared)
 row-wait b c f TooManyWaits waits why =
-    let same : waits.0 ≡ why.0 = same-run b c.lane c.helper waits.0 why.0 waits.1 why.1.0 in
+    let same : waits.0 ≡ why.0 = same-run b c.lane c.number waits.0 why.0 waits.1 why.1.0 in
     let fewer : why.0.made < length (declared_by b.wiring why.0.entry.item) = subst
     (λ (r : Running). r.made < length (declared_by b.wiring r.entry.item)) same waits.2.fewer in
     absurd (omega (arith, fewer, why.3))
 row-wait b c f _ waits why = absurd why
 
 row-over : (b : BookView) (c : Context) (f : Flush)
-    → ((r : Running) × RunsIn (lane_at (state b) c.lane) c.helper r × MayBeOver b.wiring (state b) f.whole f.target r)
-    → WaitsFor b c.lane c.helper f.whole f.target
+    → ((r : Running) × RunsIn (lane_at (state b) c.lane) c.number r × MayBeOver b.wiring (state b) f.whole f.target r)
+    → WaitsFor b c.lane c.number f.whole f.target
 row-over b c f over = (over.2.flush, ((over.0, over.1, over.2.waits), over.2.kind), over.2.target)
 
 row-finish : (b : BookView) (c : Context) (i : ℕ)
-    → ((r : Running) × RunsIn (lane_at (state b) c.lane) c.helper r × MayFinish i r)
-    → (¬ RunsItem b c.lane c.helper i) ⊎ IsNotAwake b c.lane c.helper → ⊥
+    → ((r : Running) × RunsIn (lane_at (state b) c.lane) c.number r × MayFinish i r)
+    → (¬ RunsItem b c.lane c.number i) ⊎ IsNotAwake b c.lane c.number → ⊥
 row-finish b c i finishes (inl missing) = missing (finishes.0, finishes.1, finishes.2.entry)
 row-finish b c i finishes (inr asleep) = asleep finishes.0 (finishes.1, finishes.2.awake)
 
@@ -210,18 +215,18 @@ row-refused b new (Ask x) row e book is writes why = row-ask b new x row e book 
 row-refused b new (Told x mark) row e book is writes why = row-tell b new x mark row e is writes why
 row-refused b new (CancelSync i) row e book is writes why = absurd is
 row-refused b new (Start c) row e book is writes why = row-start b new c row book is writes
-    (cause-of (IsWrongToStart b c.lane c.helper) e why)
+    (cause-of (IsWrongToStart b c.lane c.number) e why)
 row-refused b new (Wait c f) row e book is writes why =
-    row-wait b c f e (wait-lawful b f.whole c.lane c.helper f.target row.yes row.number
-    (comes b new row (wait_event f.whole c.lane c.helper f.target) is writes)) why
+    row-wait b c f e (wait-lawful b f.whole c.lane c.number f.target row.yes row.number
+    (comes b new row (wait_event f.whole c.lane c.number f.target) is writes)) why
 row-refused b new (Over c f) row e book is writes why =
-    cause-of (¬ WaitsFor b c.lane c.helper f.whole f.target) e why
-    (row-over b c f (over-lawful b f.whole c.lane c.helper f.target row.yes row.number
-    (comes b new row (over_event f.whole c.lane c.helper f.target) is writes)))
+    cause-of (¬ WaitsFor b c.lane c.number f.whole f.target) e why
+    (row-over b c f (over-lawful b f.whole c.lane c.number f.target row.yes row.number
+    (comes b new row (over_event f.whole c.lane c.number f.target) is writes)))
 row-refused b new (Finish c i) row e book is writes why =
-    row-finish b c i (finish-lawful b c.lane c.helper i row.yes row.number
-    (comes b new row (finish_event c.lane c.helper i) is writes))
-    (cause-of ((¬ RunsItem b c.lane c.helper i) ⊎ IsNotAwake b c.lane c.helper) e why)
+    row-finish b c i (finish-lawful b c.lane c.number i row.yes row.number
+    (comes b new row (finish_event c.lane c.number i) is writes))
+    (cause-of ((¬ RunsItem b c.lane c.number i) ⊎ IsNotAwake b c.lane c.number) e why)
 row-refused b new Close row e book is writes why = absurd is
 row-refused b new Drain row e book is writes why = absurd is
 
@@ -257,9 +262,9 @@ early-done b (Told x mark) early done = absurd done
 early-done b (Over c f) early done = absurd done
 early-done b _ early done = absurd early
 
-idle-wrong : (b : BookView) (c : Context) → HasNothingToStart b c.lane c.helper → IsWrongToStart b c.lane c.helper → ⊥
+idle-wrong : (b : BookView) (c : Context) → HasNothingToStart b c.lane c.number → IsWrongToStart b c.lane c.number → ⊥
 idle-wrong b c nothing (inl missing) = missing nothing.0
-idle-wrong b c nothing (inr runs) = not-both b c.lane c.helper runs.0 nothing.1 runs.1
+idle-wrong b c nothing (inr runs) = not-both b c.lane c.number runs.0 nothing.1 runs.1
 
 tell-early : (b : BookView) (x : Subject) (e : CallError) → 0 < asks_waiting x b.rows → RefusesToTell b x e → ⊥
 tell-early b x NotAsked some why = absurd (omega (arith, some, why))
@@ -267,14 +272,14 @@ tell-early b x _ some why = absurd why
 
 early-refused : (b : BookView) (call : Call) (e : CallError) → IsEarly b call → Refuses b call e → ⊥
 early-refused b (Told x mark) e early why = tell-early b x e early.0 why
-early-refused b (Start c) e early why = idle-wrong b c early.0 (cause-of (IsWrongToStart b c.lane c.helper) e why)
-early-refused b (Over c f) e early why = cause-of (¬ WaitsFor b c.lane c.helper f.whole f.target) e why
+early-refused b (Start c) e early why = idle-wrong b c early.0 (cause-of (IsWrongToStart b c.lane c.number) e why)
+early-refused b (Over c f) e early why = cause-of (¬ WaitsFor b c.lane c.number f.whole f.target) e why
     (early.1.0, early.1.1, early.1.2)
 early-refused b Drain e early why = absurd why
 early-refused b _ e early why = absurd early
 
 done-refused : (b : BookView) (call : Call) (e : CallError) → IsDone b call → Refuses b call e → ⊥
-done-refused b (Start c) e done why = idle-wrong b c done.0 (cause-of (IsWrongToStart b c.lane c.helper) e why)
+done-refused b (Start c) e done why = idle-wrong b c done.0 (cause-of (IsWrongToStart b c.lane c.number) e why)
 done-refused b Close e done why = absurd why
 done-refused b Drain e done why = absurd why
 done-refused b _ e done why = absurd done
@@ -347,13 +352,13 @@ wait-same b c f WrongLane _ why also = absurd also
 wait-same b c f Undeclared Undeclared why also = refl
 wait-same b c f Undeclared WrongLane why also = absurd (also why.0 why.1)
 wait-same b c f Undeclared TooManyWaits why also =
-    let same : also.0 ≡ why.0 = same-run b c.lane c.helper also.0 why.0 also.1.0 why.1.0 in
+    let same : also.0 ≡ why.0 = same-run b c.lane c.number also.0 why.0 also.1.0 why.1.0 in
     absurd (why.2 (subst (λ (r : Running). ItemWaitsBy b.wiring.waits f.whole r.entry.item f.target) same also.2))
 wait-same b c f Undeclared _ why also = absurd also
 wait-same b c f TooManyWaits TooManyWaits why also = refl
 wait-same b c f TooManyWaits WrongLane why also = absurd (also why.0 why.1)
 wait-same b c f TooManyWaits Undeclared why also =
-    let same : why.0 ≡ also.0 = same-run b c.lane c.helper why.0 also.0 why.1.0 also.1.0 in
+    let same : why.0 ≡ also.0 = same-run b c.lane c.number why.0 also.0 why.1.0 also.1.0 in
     absurd (also.2 (subst (λ (r : Running). ItemWaitsBy b.wiring.waits f.whole r.entry.item f.target) same why.2))
 wait-same b c f TooManyWaits _ why also = absurd also
 wait-same b c f _ other why also = absurd why
@@ -367,11 +372,11 @@ refused-same b (Cancel i) e other why also = cancel-same b i e other why also
 refused-same b (Ask x) e other why also = ask-same b x e other why also
 refused-same b (Told x mark) e other why also = tell-same b x e other why also
 refused-same b (CancelSync i) e other why also = both-same b i e other why also
-refused-same b (Start c) e other why also = if-same (IsWrongToStart b c.lane c.helper) e other why also
+refused-same b (Start c) e other why also = if-same (IsWrongToStart b c.lane c.number) e other why also
 refused-same b (Wait c f) e other why also = wait-same b c f e other why also
-refused-same b (Over c f) e other why also = if-same (¬ WaitsFor b c.lane c.helper f.whole f.target) e other why also
+refused-same b (Over c f) e other why also = if-same (¬ WaitsFor b c.lane c.number f.whole f.target) e other why also
 refused-same b (Finish c i) e other why also = if-same
-    ((¬ RunsItem b c.lane c.helper i) ⊎ IsNotAwake b c.lane c.helper) e other why also
+    ((¬ RunsItem b c.lane c.number i) ⊎ IsNotAwake b c.lane c.number) e other why also
 refused-same b Close e other why also = absurd why
 refused-same b Drain e other why also = absurd why
 

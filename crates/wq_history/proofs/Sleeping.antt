@@ -41,7 +41,7 @@ one-wait b q c g h one other =
 
 one-mark : (b : BookView) (c : Context) (f : Flush) (m n : ℕ) → WaitsWith b c f m → WaitsWith b c f n → m ≡ n
 one-mark b c f m n one other = sym one.3 ∙
-    (ap (λ (g : WaitOf). g.mark) (one-wait b c.lane c.helper one.0 other.0 one.1.0 other.1.0) ∙ other.3)
+    (ap (λ (g : WaitOf). g.mark) (one-wait b c.lane c.number one.0 other.0 one.1.0 other.1.0) ∙ other.3)
 
 -- a lane with nothing to start has no work
 no-work : (b : BookView) (q : ℕ) → next_of (lane_at (state b) q) ≡ None → ¬ IsMet b (WorkOn q)
@@ -62,10 +62,4 @@ early-sleeps b (Over c f) condition early awaits =
     same-condition b (Over c f) (done_below x awaits.0) condition awaits.2
     (not-done b x awaits.0 (subst (λ (m : ℕ). IsUnfinishedBelow (state b) x m) same early.2), among-waiters x awaits.0)
 early-sleeps b Drain condition early awaits = same-condition b Drain AllDone condition awaits (early, refl)
-early-sleeps b (Queue i) condition early awaits = absurd early
-early-sleeps b (Cancel i) condition early awaits = absurd early
-early-sleeps b (Ask x) condition early awaits = absurd early
-early-sleeps b (CancelSync i) condition early awaits = absurd early
-early-sleeps b (Wait c f) condition early awaits = absurd early
-early-sleeps b (Finish c i) condition early awaits = absurd early
-early-sleeps b Close condition early awaits = absurd early
+early-sleeps b _ condition early awaits = absurd early

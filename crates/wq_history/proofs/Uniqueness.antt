@@ -1,13 +1,17 @@
 -- A book writes one row for a call: which one, the call and the book say.
-use Rattle.std.proofs.Common.{◌≡◌, ℕ, zero, suc, Bool, true, false, refl, sym, ap, subst, ◌∙◌}
+use Rattle.std.proofs.Common.{◌≡◌, ℕ, zero, suc, true, false, refl, sym, ap, subst, ◌∙◌}
 use Rattle.std.specs.Prelude.{Some}
 use Rattle.wq_core.specs.declared.entry.Entry.{Entry}
+use Rattle.wq_core.specs.declared.step.HelpStep.{HelpStep}
+use Rattle.wq_core.specs.declared.step.HelpStep.TheVariants.{Start as DoStart, Finish as DoFinish}
+use Rattle.wq_core.specs.Rules.{wait_deed, over_deed}
 use Rattle.wq_rows.specs.declared.event.Event.{Event}
 use Rattle.wq_rows.specs.declared.event.Event.TheVariants.{Queue as QueueEvent, Cancel as CancelEvent}
 use Rattle.wq_rows.specs.declared.event.Row.{Row}
 use Rattle.wq_history.specs.declared.asking.Subject.{Subject}
 use Rattle.wq_history.specs.declared.asking.Subject.TheVariants.{Item as OfItem, Lane as OfLane}
-use Rattle.wq_history.specs.Events.{is_told, ask_event, told_event, start_event, wait_event, over_event, finish_event}
+use Rattle.wq_history.specs.Events.{is_told, event_in, ask_event, told_event, start_event, wait_event, over_event}
+use Rattle.wq_history.specs.Events.{finish_event}
 use Rattle.wq_history.specs.History.{MayCome}
 use Rattle.wq_history.specs.Book.{BookView, IsBook, IsNext}
 use Rattle.wq_history.proofs.KeptRows.{one_answer}
@@ -39,25 +43,10 @@ ask-told : (x : Subject) → is_told (ask_event x) ≡ false
 ask-told (OfItem i) = refl
 ask-told (OfLane q) = refl
 
-start-told : (q c i : ℕ) → is_told (start_event q c i) ≡ false
-start-told q zero i = refl
-start-told q (suc h) i = refl
-
-wait-told : (whole : Bool) (q c b : ℕ) → is_told (wait_event whole q c b) ≡ false
-wait-told false q zero b = refl
-wait-told false q (suc h) b = refl
-wait-told true q zero b = refl
-wait-told true q (suc h) b = refl
-
-over-told : (whole : Bool) (q c b : ℕ) → is_told (over_event whole q c b) ≡ false
-over-told false q zero b = refl
-over-told false q (suc h) b = refl
-over-told true q zero b = refl
-over-told true q (suc h) b = refl
-
-finish-told : (q c i : ℕ) → is_told (finish_event q c i) ≡ false
-finish-told q zero i = refl
-finish-told q (suc h) i = refl
+context-told : (q c : ℕ) (deed : HelpStep) → is_told (event_in q c deed) ≡ false
+context-told q zero (DoStart i) = refl
+context-told q zero _ = refl
+context-told q (suc h) deed = refl
 
 -- ---- starts
 
@@ -85,18 +74,18 @@ one-row b new next (Told x mark) r s book one first other second =
 one-row b new next (CancelSync i) r s book one first other second = absurd one
 one-row b new next (Start c) r s book one first other second =
     let same : other.0 ≡ one.0 = one-next b c.lane other.0 one.0 other.1 one.1 in
-    let event : s.event ≡ start_event c.lane c.helper one.0 = other.2 ∙ ap
-    (λ (k : ℕ). start_event c.lane c.helper k) same in
-    same-event b new next r s (start_event c.lane c.helper one.0) book
-    (start-told c.lane c.helper one.0) one.2 event first second
+    let event : s.event ≡ start_event c.lane c.number one.0 = other.2 ∙ ap
+    (λ (k : ℕ). start_event c.lane c.number k) same in
+    same-event b new next r s (start_event c.lane c.number one.0) book
+    (context-told c.lane c.number (DoStart one.0)) one.2 event first second
 one-row b new next (Wait c f) r s book one first other second =
-    same-event b new next r s (wait_event f.whole c.lane c.helper f.target) book
-    (wait-told f.whole c.lane c.helper f.target) one other first second
+    same-event b new next r s (wait_event f.whole c.lane c.number f.target) book
+    (context-told c.lane c.number (wait_deed f.whole f.target)) one other first second
 one-row b new next (Over c f) r s book one first other second =
-    same-event b new next r s (over_event f.whole c.lane c.helper f.target) book
-    (over-told f.whole c.lane c.helper f.target) one other first second
+    same-event b new next r s (over_event f.whole c.lane c.number f.target) book
+    (context-told c.lane c.number (over_deed f.whole f.target)) one other first second
 one-row b new next (Finish c i) r s book one first other second =
-    same-event b new next r s (finish_event c.lane c.helper i) book
-    (finish-told c.lane c.helper i) one other first second
+    same-event b new next r s (finish_event c.lane c.number i) book
+    (context-told c.lane c.number (DoFinish i)) one other first second
 one-row b new next Close r s book one first other second = absurd one
 one-row b new next Drain r s book one first other second = absurd one

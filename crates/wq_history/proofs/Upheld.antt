@@ -1,101 +1,41 @@
 -- What holds of a book after an answer, and what an answer is about.
-use Rattle.std.proofs.Common.{◌≡◌, ℕ, zero, suc, ◌+◌, ◌<◌, ◌≤◌, inl, inr, Bool, true, false, cond, List, [], ◌∷◌, ◌++◌, length-append, refl, sym, ap, subst, ◌∙◌, arith}
-use Rattle.std.specs.Prelude.{None, Result, Ok, Err, ◌&&◌}
+use Rattle.std.proofs.Common.{◌≡◌, ℕ, zero, suc, ◌+◌, ◌<◌, ◌≤◌, inl, inr, Bool, true, false, cond, [], ◌∷◌, ◌++◌}
+use Rattle.std.proofs.Common.{length-append, refl, sym, ap, subst, ◌∙◌, arith}
+use Rattle.std.specs.Prelude.{Result, Ok, Err, ◌&&◌}
 use Rattle.wq_core.specs.declared.step.Context.{Context}
-use Rattle.wq_core.specs.declared.step.Step.TheVariants.{Queue as QueueStep}
 use Rattle.wq_core.specs.declared.step.HelpStep.{HelpStep}
 use Rattle.wq_core.specs.declared.step.HelpStep.TheVariants.{Start as DoStart, Finish as DoFinish}
-use Rattle.wq_core.specs.Wiring.{Wiring, IsWiring, items, lane_of, HasContext}
-use Rattle.wq_core.specs.State.{State, lane_at, is_running}
-use Rattle.wq_core.specs.Rules.{effect, wait_deed, over_deed}
-use Rattle.wq_core.specs.Work.{work_left}
+use Rattle.wq_core.specs.Wiring.{Wiring, items, lane_of, HasContext}
+use Rattle.wq_core.specs.State.{lane_at, is_running}
+use Rattle.wq_core.specs.Rules.{wait_deed, over_deed}
 use Rattle.wq_core.proofs.Contexts.{next-may}
-use Rattle.wq_core.proofs.WorkChanges.{work_left-queued}
 use Rattle.wq_rows.specs.declared.event.Event.{Event}
-use Rattle.wq_rows.specs.declared.event.Event.TheVariants.{Queue, Cancel, Start, Wait, Over, Finish, Ask, Told, WaitAll, OverAll, AskLane, ToldLane, Help}
 use Rattle.wq_rows.specs.declared.event.Row.{Row}
 use Rattle.wq_rows.specs.Packing.{item_in}
 use Rattle.wq_history.specs.declared.asking.Subject.{Subject}
 use Rattle.wq_history.specs.declared.call.Flush.{Flush}
 use Rattle.wq_history.specs.declared.call.Call.{Call}
-use Rattle.wq_history.specs.declared.call.Call.TheVariants.{Queue as QueueCall, Cancel as CancelCall, Ask as AskCall, Told as ToldCall, CancelSync, Start as StartCall, Wait as WaitCall, Over as OverCall, Finish as FinishCall, Close, Drain}
+use Rattle.wq_history.specs.declared.call.Call.TheVariants.{Queue as QueueCall, Ask as AskCall, CancelSync}
+use Rattle.wq_history.specs.declared.call.Call.TheVariants.{Start as StartCall, Wait as WaitCall, Over as OverCall}
+use Rattle.wq_history.specs.declared.call.Call.TheVariants.{Finish as FinishCall, Close}
 use Rattle.wq_history.specs.declared.call.Reply.{Reply}
 use Rattle.wq_history.specs.declared.call.Reply.TheVariants.{Wrote, WroteTwo, Done, NotYet}
 use Rattle.wq_history.specs.declared.fault.CallError.{CallError}
-use Rattle.wq_history.specs.Events.{step_of, subject_in, event_in, is_ask, is_told, ask_event, start_event, wait_event, over_event, finish_event}
-use Rattle.wq_history.specs.History.{state_after, IsThere, MayCome, IsLegal}
-use Rattle.wq_history.specs.Reserve.{reserved, rows_needed}
+use Rattle.wq_history.specs.Events.{subject_in, event_in, is_ask, ask_event, start_event, wait_event, over_event}
+use Rattle.wq_history.specs.Events.{finish_event}
+use Rattle.wq_history.specs.History.{IsThere, MayCome}
+use Rattle.wq_history.specs.Reserve.{rows_needed}
 use Rattle.wq_history.specs.Book.{BookView, state, free, IsBook, Appends, IsNext}
 use Rattle.wq_history.specs.Calls.{Writes, WritesTwo, after, Replies, Answers}
-use Rattle.wq_history.proofs.Histories.{state_after-step, state_after-none, IsLegal-more}
-use Rattle.wq_history.proofs.Counting.{count-more}
+use Rattle.wq_history.proofs.Histories.{IsLegal-more}
 use Rattle.wq_history.proofs.Holding.{free_rows-noted}
 use Rattle.wq_history.proofs.LegalRows.{IsSoundState-legal}
-use Rattle.wq_history.proofs.KeptRows.{kept_row, exist}
+use Rattle.wq_history.proofs.KeptRows.{exist}
+use Rattle.wq_history.proofs.Written.{paid_row}
 use Rattle.wq_history.proofs.WaitEvents.{step_of-ask_event}
 use Rattle.wq_history.proofs.CallRows.{appends-as, start-item, context-appended}
 use Rattle.wq_history.proofs.Uniqueness.{comes}
 use Rattle.wq_history.proofs.OneAnswer.{finish-lawful}
-
--- ---- a row is paid for by what was kept and by the free rows that its event needs
-
--- a row without a step keeps one more row if an ask begins to wait, and else no more
-noted_row : (w : Wiring) (rows : List Row) (row : Row) → step_of row.event row.yes ≡ None → is_told row.event ≡ false
-    → reserved w (rows ++ (row ∷ [])) ≤ reserved w rows + cond (is_ask row.event && row.yes) 1 0
-noted_row w rows row none not_told =
-    let work : work_left w (state_after w (rows ++ (row ∷ []))) ≡ work_left w (state_after w rows) =
-    ap (work_left w) (state_after-none w rows row none) in
-    let asked = count-more (λ (r : Row). is_ask r.event && r.yes) rows row in
-    let told = count-more (λ (r : Row). is_told r.event) rows row in
-    let none_told = ap {B = ℕ} (λ (b : Bool). cond b 1 0) not_told in
-    omega (arith, work, asked, told, none_told)
-
--- a queueing that is accepted keeps the rows of an execution
-queued_row : (w : Wiring) (rows : List Row) (i n : ℕ) → IsWiring w → IsLegal w rows → i < items w
-    → reserved w (rows ++ (record { event = Queue i; yes = true; number = n } ∷ [])) + 1
-    ≤ reserved w rows + rows_needed w (Queue i) true
-queued_row w rows i n wiring legal there =
-    let row : Row = record { event = Queue i; yes = true; number = n } in
-    let s : State = state_after w rows in
-    let work : work_left w (state_after w (rows ++ (row ∷ []))) ≡ work_left w (effect w s (QueueStep i)) =
-    ap (work_left w) (state_after-step w rows row (QueueStep i) refl) in
-    let more = work_left-queued w s i wiring (IsSoundState-legal w rows legal) there in
-    let asked = count-more (λ (r : Row). is_ask r.event && r.yes) rows row in
-    let told = count-more (λ (r : Row). is_told r.event) rows row in
-    omega (arith, work, more, asked, told)
-
-paid_row : (w : Wiring) (rows : List Row) (event : Event) (said : Bool) (n : ℕ) → IsWiring w → IsLegal w rows
-    → MayCome w rows event said n
-    → reserved w (rows ++ (record { event = event; yes = said; number = n } ∷ [])) + 1
-    ≤ reserved w rows + rows_needed w event said
-paid_row w rows event said n wiring legal may = by_event event said may where
-  row : Event → Bool → Row
-  row e k = record { event = e; yes = k; number = n }
-
-  -- an event that needs no free row
-  kept : (e : Event) (k : Bool) → MayCome w rows e k n → rows_needed w e k ≡ 0
-      → reserved w (rows ++ (row e k ∷ [])) + 1 ≤ reserved w rows + rows_needed w e k
-  kept e k come none = omega (arith, none, kept_row w rows (row e k) legal come none)
-
-  by_event : (e : Event) (k : Bool) → MayCome w rows e k n
-      → reserved w (rows ++ (row e k ∷ [])) + 1 ≤ reserved w rows + rows_needed w e k
-  by_event (Queue i) true come = queued_row w rows i n wiring legal come.0
-  by_event (Queue i) false come = omega (arith, noted_row w rows (row (Queue i) false) refl refl)
-  by_event (Cancel i) true come = kept (Cancel i) true come refl
-  by_event (Cancel i) false come = omega (arith, noted_row w rows (row (Cancel i) false) refl refl)
-  by_event (Start q i) k come = kept (Start q i) k come refl
-  by_event (Wait q b) k come = kept (Wait q b) k come refl
-  by_event (Over q b) k come = kept (Over q b) k come refl
-  by_event (Finish q i) k come = kept (Finish q i) k come refl
-  by_event (Ask i) true come = omega (arith, noted_row w rows (row (Ask i) true) refl refl)
-  by_event (Ask i) false come = omega (arith, noted_row w rows (row (Ask i) false) refl refl)
-  by_event (Told i) k come = kept (Told i) k come refl
-  by_event (WaitAll q b) k come = kept (WaitAll q b) k come refl
-  by_event (OverAll q b) k come = kept (OverAll q b) k come refl
-  by_event (AskLane q) true come = omega (arith, noted_row w rows (row (AskLane q) true) refl refl)
-  by_event (AskLane q) false come = omega (arith, noted_row w rows (row (AskLane q) false) refl refl)
-  by_event (ToldLane q) k come = kept (ToldLane q) k come refl
-  by_event (Help q h deed) k come = kept (Help q h deed) k come refl
 
 -- ---- a book stays one
 
@@ -118,7 +58,7 @@ appended-upheld old event said n book may room =
         length-append old.rows (row ∷ []),
         book.enough,
         room,
-        paid_row old.wiring old.rows event said n book.wiring book.legal may,
+        paid_row old.wiring old.rows row book.wiring book.legal may,
       );
     }
 
@@ -144,15 +84,7 @@ done-upheld old new Close book is =
     subst (λ (b : BookView). IsUpheld old b) (sym is)
     (record { wiring = book.wiring; legal = book.legal; limit = book.limit; enough = book.enough }, refl, refl)
 done-upheld old new (QueueCall i) book is = same-upheld old new book is
-done-upheld old new (CancelCall i) book is = same-upheld old new book is
-done-upheld old new (AskCall x) book is = same-upheld old new book is
-done-upheld old new (ToldCall x mark) book is = same-upheld old new book is
-done-upheld old new (CancelSync i) book is = same-upheld old new book is
-done-upheld old new (StartCall c) book is = same-upheld old new book is
-done-upheld old new (WaitCall c f) book is = same-upheld old new book is
-done-upheld old new (OverCall c f) book is = same-upheld old new book is
-done-upheld old new (FinishCall c i) book is = same-upheld old new book is
-done-upheld old new Drain book is = same-upheld old new book is
+done-upheld old new _ book is = same-upheld old new book is
 
 pub answer-upheld : (old new : BookView) (call : Call) (answer : Result Reply CallError) → IsBook old
     → Answers old call answer new → IsUpheld old new
@@ -194,16 +126,16 @@ next-there b q i book next =
 -- what is started: its context exists, and its item is one of the lane
 pub start_there : (old new : BookView) (c : Context) (row : Row) → IsBook old
     → Replies old (StartCall c) (Wrote row) new
-    → HasContext old.wiring c.lane c.helper × (item_in row.event < items old.wiring)
+    → HasContext old.wiring c.lane c.number × (item_in row.event < items old.wiring)
     × (lane_of old.wiring (item_in row.event) ≡ c.lane)
 start_there old new c row book replies =
     let i : ℕ = replies.0.0 in
-    let item : item_in row.event ≡ i = ap item_in replies.0.2 ∙ start-item c.lane c.helper i in
+    let item : item_in row.event ≡ i = ap item_in replies.0.2 ∙ start-item c.lane c.number i in
     let there = subst (λ (k : ℕ). (k < items old.wiring) × (lane_of old.wiring k ≡ c.lane)) (sym item)
     (next-there old c.lane i book replies.0.1) in (
-      context-appended old.wiring old new c.lane c.helper (DoStart i) row.yes row.number refl book
+      context-appended old.wiring old new c.lane c.number (DoStart i) row.yes row.number refl book
           (appends-as old new row.event
-          (start_event c.lane c.helper i) row.yes row.yes row.number row.number replies.0.2 refl refl replies.1),
+          (start_event c.lane c.number i) row.yes row.yes row.number row.number replies.0.2 refl refl replies.1),
       there.0,
       there.1,
     )
@@ -223,45 +155,45 @@ over-item w true q (suc h) b there = there
 
 -- what a context does: it exists, and so does what the event is about
 deed-exists : (old new : BookView) (c : Context) (deed : HelpStep) (row : Row) → IsBook old
-    → row.event ≡ event_in c.lane c.helper deed → Writes old row new
-    → HasContext old.wiring c.lane c.helper × IsThere old.wiring (subject_in (event_in c.lane c.helper deed))
+    → row.event ≡ event_in c.lane c.number deed → Writes old row new
+    → HasContext old.wiring c.lane c.number × IsThere old.wiring (subject_in (event_in c.lane c.number deed))
 deed-exists old new c deed row book is writes =
-    let event : Event = event_in c.lane c.helper deed in
+    let event : Event = event_in c.lane c.number deed in
     let appends = appends-as old new row.event event row.yes row.yes row.number row.number is refl refl writes in (
-      context-appended old.wiring old new c.lane c.helper deed row.yes row.number refl book appends,
+      context-appended old.wiring old new c.lane c.number deed row.yes row.number refl book appends,
       (exist old.wiring old.rows event row.yes row.number book.wiring book.legal appends.may).0,
     )
 
 -- what waits, and what it waits for
 pub wait-there : (old new : BookView) (c : Context) (f : Flush) (row : Row) → IsBook old
-    → Replies old (WaitCall c f) (Wrote row) new → HasContext old.wiring c.lane c.helper × (f.target < items old.wiring)
+    → Replies old (WaitCall c f) (Wrote row) new → HasContext old.wiring c.lane c.number × (f.target < items old.wiring)
 wait-there old new c f row book replies =
     let there = deed-exists old new c (wait_deed f.whole f.target) row book replies.0 replies.1 in
-    (there.0, wait-item old.wiring f.whole c.lane c.helper f.target there.1)
+    (there.0, wait-item old.wiring f.whole c.lane c.number f.target there.1)
 
 pub over-there : (old new : BookView) (c : Context) (f : Flush) (row : Row) → IsBook old
-    → Replies old (OverCall c f) (Wrote row) new → HasContext old.wiring c.lane c.helper × (f.target < items old.wiring)
+    → Replies old (OverCall c f) (Wrote row) new → HasContext old.wiring c.lane c.number × (f.target < items old.wiring)
 over-there old new c f row book replies =
     let there = deed-exists old new c (over_deed f.whole f.target) row book replies.0 replies.1 in
-    (there.0, over-item old.wiring f.whole c.lane c.helper f.target there.1)
+    (there.0, over-item old.wiring f.whole c.lane c.number f.target there.1)
 
 -- what is finished: its context exists, and its item is one of the lane
 pub finish-there : (old new : BookView) (c : Context) (i : ℕ) (row : Row) → IsBook old
     → Replies old (FinishCall c i) (Wrote row) new
-    → HasContext old.wiring c.lane c.helper × (i < items old.wiring) × (lane_of old.wiring i ≡ c.lane)
+    → HasContext old.wiring c.lane c.number × (i < items old.wiring) × (lane_of old.wiring i ≡ c.lane)
 finish-there old new c i row book replies =
     let there = deed-exists old new c (DoFinish i) row book replies.0 replies.1 in
     let sound = IsSoundState-legal old.wiring old.rows book.legal in
-    let done = finish-lawful old c.lane c.helper i row.yes row.number
-    (comes old new row (finish_event c.lane c.helper i) replies.0 replies.1) in
-    let own = sound.own_lane c.lane done.0.entry (inr (c.helper, done.0, done.1, refl)) in
+    let done = finish-lawful old c.lane c.number i row.yes row.number
+    (comes old new row (finish_event c.lane c.number i) replies.0 replies.1) in
+    let own = sound.own_lane c.lane done.0.entry (inr (c.number, done.0, done.1, refl)) in
     let item = subst (λ (k : ℕ). (k < items old.wiring) × (lane_of old.wiring k ≡ c.lane)) done.2.entry own in
     (there.0, item.0, item.1)
 
 -- the same of a start by name
 pub started_there : (old new : BookView) (q h item : ℕ) (row : Row) → IsBook old → item ≡ item_in row.event
-    → Replies old (StartCall (record { lane = q; helper = h })) (Wrote row) new
+    → Replies old (StartCall (record { lane = q; number = h })) (Wrote row) new
     → (item < items old.wiring) × (lane_of old.wiring item ≡ q)
 started_there old new q h item row book is replies =
-    let there = start_there old new (record { lane = q; helper = h }) row book replies in
+    let there = start_there old new (record { lane = q; number = h }) row book replies in
     subst (λ (k : ℕ). (k < items old.wiring) × (lane_of old.wiring k ≡ q)) (sym is) (there.1, there.2)

@@ -1,5 +1,5 @@
 -- What is waited for, and events of asks, whatever they are about.
-use Rattle.std.proofs.Common.{◌≡◌, ℕ, Bool, true, ◌<◌, ◌↔◌, List, get_or, None, refl, arith}
+use Rattle.std.proofs.Common.{◌≡◌, ℕ, Bool, ◌<◌, ◌↔◌, List, get_or, None, refl, arith}
 use Rattle.std.specs.Prelude.{IsTrue}
 use Rattle.wq_items.specs.Table.{ItemWaitsBy}
 use Rattle.wq_items.proofs.Tables.{ItemWaits-below}
@@ -8,7 +8,6 @@ use Rattle.wq_core.specs.State.{State, lane_at, IsBusy, IsBusyBelow}
 use Rattle.wq_core.specs.Held.{IsSoundState}
 use Rattle.wq_core.proofs.LaneLemmas.{ItemWaits-by}
 use Rattle.wq_rows.specs.declared.event.Row.{Row}
-use Rattle.wq_rows.specs.Packing.{MayAnswer}
 use Rattle.wq_history.specs.declared.asking.Subject.{Subject}
 use Rattle.wq_history.specs.declared.asking.Subject.TheVariants.{Item as OfItem, Lane as OfLane}
 use Rattle.wq_history.specs.Events.{step_of, ask_event, told_event}
@@ -40,26 +39,16 @@ pub step_of-told_event : (x : Subject) (said : Bool) → step_of (told_event x) 
 step_of-told_event (OfItem i) said = refl
 step_of-told_event (OfLane q) said = refl
 
-pub ask-packable : (x : Subject) → MayAnswer (ask_event x) true
-ask-packable (OfItem i) = tt
-ask-packable (OfLane q) = tt
-
-pub told-packable : (x : Subject) → MayAnswer (told_event x) true
-told-packable (OfItem i) = refl
-told-packable (OfLane q) = refl
-
 -- what a caller asks about exists
 pub ask-there : (w : Wiring) (s : State) (waiting : ℕ) (x : Subject) (said : Bool) (n : ℕ) → MayComeIn w s waiting (ask_event x) said n → IsThere w x
 ask-there w s waiting (OfItem i) said n may = may.0
 ask-there w s waiting (OfLane q) said n may = may.0
 
--- a caller is told only where an ask waits
-pub told-waiting : (w : Wiring) (s : State) (waiting : ℕ) (x : Subject) (said : Bool) (n : ℕ) → MayComeIn w s waiting (told_event x) said n → 0 < waiting
-told-waiting w s waiting (OfItem i) said n may = may.1
-told-waiting w s waiting (OfLane q) said n may = may.1
-
--- so the count of such asks isn't 0
-pub told-some : (w : Wiring) (rows : List Row) (asks : AskView) (x : Subject) (n : ℕ) → CountsAsks rows asks → MayCome w rows (told_event x) true n
+-- a caller is told only where an ask waits, so the count of such asks isn't 0
+pub told-some : (w : Wiring) (rows : List Row) (asks : AskView) (x : Subject) (said : Bool) (n : ℕ) → CountsAsks
+    rows asks → MayCome w rows (told_event x) said n
     → 0 < get_or asks.counts (ask_place x) 0
-told-some w rows asks (OfItem i) n counts may = omega (arith, may.1, asks_waiting-count rows asks (OfItem i) counts)
-told-some w rows asks (OfLane q) n counts may = omega (arith, may.1, asks_waiting-count rows asks (OfLane q) counts)
+told-some w rows asks (OfItem i) said n counts may = omega
+    (arith, may.1, asks_waiting-count rows asks (OfItem i) counts)
+told-some w rows asks (OfLane q) said n counts may = omega
+    (arith, may.1, asks_waiting-count rows asks (OfLane q) counts)

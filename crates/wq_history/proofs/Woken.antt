@@ -31,19 +31,10 @@ unchanged old new wake same = subst (λ (b : BookView). WakesEnough old b wake) 
 -- a call that is done without a row
 done-enough : (old new : BookView) (call : Call) (wake : Wake) → new ≡ after old call → wake ≡ woken_by_done call
     → WakesEnough old new wake
-done-enough old new (Queue i) wake is wakes = unchanged old new wake is
-done-enough old new (Cancel i) wake is wakes = unchanged old new wake is
-done-enough old new (Ask x) wake is wakes = unchanged old new wake is
-done-enough old new (Told x mark) wake is wakes = unchanged old new wake is
-done-enough old new (CancelSync i) wake is wakes = unchanged old new wake is
-done-enough old new (Start c) wake is wakes = unchanged old new wake is
-done-enough old new (Wait c f) wake is wakes = unchanged old new wake is
-done-enough old new (Over c f) wake is wakes = unchanged old new wake is
-done-enough old new (Finish c i) wake is wakes = unchanged old new wake is
 done-enough old new Close wake is wakes =
     subst (λ (b : BookView). WakesEnough old b wake) (sym is)
     (subst (λ (k : Wake). WakesEnough old (record old { closed = true }) k) (sym wakes) (closing-enough old))
-done-enough old new Drain wake is wakes = unchanged old new wake is
+done-enough old new _ wake is wakes = unchanged old new wake is
 
 -- ---- an ask, and a cancellation
 
@@ -124,15 +115,7 @@ two-enough old new (CancelSync i) ask taken wake book writes wakes =
     (subst (λ (e : Event). Appends both.0 new e taken.yes taken.number) both.3 both.4)
     (subst (λ (e : Event). WakesBy new e taken.yes wake) both.3 wakes)
 two-enough old new (Queue i) ask taken wake book writes wakes = absurd writes
-two-enough old new (Cancel i) ask taken wake book writes wakes = absurd writes
-two-enough old new (Ask x) ask taken wake book writes wakes = absurd writes
-two-enough old new (Told x mark) ask taken wake book writes wakes = absurd writes
-two-enough old new (Start c) ask taken wake book writes wakes = absurd writes
-two-enough old new (Wait c f) ask taken wake book writes wakes = absurd writes
-two-enough old new (Over c f) ask taken wake book writes wakes = absurd writes
-two-enough old new (Finish c i) ask taken wake book writes wakes = absurd writes
-two-enough old new Close ask taken wake book writes wakes = absurd writes
-two-enough old new Drain ask taken wake book writes wakes = absurd writes
+two-enough old new _ ask taken wake book writes wakes = absurd writes
 
 -- each answer wakes enough
 pub answer-enough : (old new : BookView) (call : Call) (answer : Result Reply CallError) (wake : Wake) → IsBook old

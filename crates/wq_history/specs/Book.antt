@@ -9,7 +9,6 @@ use Rattle.wq_core.specs.Wiring.{Wiring, IsWiring, items, declared_by, HasContex
 use Rattle.wq_core.specs.State.{State, lane_at, run_by, next_of, RunsIn, IsPendingOn}
 use Rattle.wq_core.specs.Rules.{IsHeldBack}
 use Rattle.wq_rows.specs.declared.event.Event.{Event}
-use Rattle.wq_rows.specs.declared.event.Event.TheVariants.{Queue, AskLane}
 use Rattle.wq_rows.specs.declared.event.Row.{Row}
 use Rattle.wq_rows.specs.Stored.{max_rows}
 use Rattle.wq_history.specs.declared.fault.BookError.{BookError}
@@ -109,24 +108,11 @@ RefusesNew w rows TooManyRows = max_rows < rows
 RefusesNew w rows OutOfMemory = (rows ≤ max_rows) × ((0 < rows) ⊎ ((0 < items w) ⊎ (0 < w.lanes)))
 RefusesNew w rows _ = ⊥
 
--- `queue` of item i: no such item; the book is closed; too few rows are free
-abbrev pub RefusesQueue : BookView → ℕ → BookError → Type 0
-RefusesQueue b i NoItem = items b.wiring ≤ i
-RefusesQueue b i Closed = (i < items b.wiring) × (b.closed ≡ true)
-RefusesQueue b i HistoryFull = (i < items b.wiring) × (b.closed ≡ false) × LacksRows b (Queue i)
-RefusesQueue b i _ = ⊥
-
 -- `cancel` or `ask` of item i, whichever has this event: no such item; too few rows are free
 abbrev pub RefusesItem : BookView → ℕ → (ℕ → Event) → BookError → Type 0
 RefusesItem b i event NoItem = items b.wiring ≤ i
 RefusesItem b i event HistoryFull = (i < items b.wiring) × LacksRows b (event i)
 RefusesItem b i event _ = ⊥
-
--- `ask_lane` of lane q: no such lane; too few rows are free
-abbrev pub RefusesAskLane : BookView → ℕ → BookError → Type 0
-RefusesAskLane b q WrongLane = b.wiring.lanes ≤ q
-RefusesAskLane b q HistoryFull = (q < b.wiring.lanes) × LacksRows b (AskLane q)
-RefusesAskLane b q _ = ⊥
 
 -- the call is refused because its lane is the wrong one, which this states
 abbrev pub RefusesLane : Type 0 → BookError → Type 0
@@ -146,21 +132,6 @@ IsNotAwake b q c = (r : Running) → ¬ IsAwake b q c r
 -- it runs nothing, or its entry doesn't wait
 abbrev pub IsNotWaiting : BookView → ℕ → ℕ → Type 0
 IsNotWaiting b q c = (f : Waiting) → ¬ IsWaiting b q c f
-
--- `wait` of context c of lane q for a target, or `wait_all` for its whole lane: the wrong lane or context; what runs
--- declares no such flush; it has made as many waits as its item declares flushes, of both kinds
-abbrev pub RefusesWait : BookView → ℕ → ℕ → Bool → ℕ → BookError → Type 0
-RefusesWait b q c whole target WrongLane = IsNotAwake b q c
-RefusesWait b q c whole target Undeclared =
-    (r : Running) × IsAwake b q c r × (¬ ItemWaitsBy b.wiring.waits whole r.entry.item target)
-RefusesWait b q c whole target TooManyWaits =
-    (r : Running) × IsAwake b q c r × ItemWaitsBy b.wiring.waits whole r.entry.item target
-    × (length (declared_by b.wiring r.entry.item) ≤ r.made)
-RefusesWait b q c whole target NoItem = ⊥
-RefusesWait b q c whole target HistoryFull = ⊥
-RefusesWait b q c whole target Closed = ⊥
-RefusesWait b q c whole target TooManyRows = ⊥
-RefusesWait b q c whole target OutOfMemory = ⊥
 
 -- a call for helper h is refused: there is no helper 0; for any other by the cause that this states
 abbrev pub RefusesHelp : ℕ → (BookError → Type 0) → BookError → Type 0

@@ -4,7 +4,7 @@
 -- What is replied is the row that the call writes. Whether that row may come, and with which `yes` and which number,
 -- is said by MayCome; how many free rows it needs by rows_needed; and both by Appends. Where there is no row to
 -- write, the call is done; or it is too early, and then nothing is changed, and its caller sleeps and calls again.
-use Rattle.std.specs.Prelude.{◌≡◌, ℕ, ◌<◌, ◌≤◌, ◌⊎◌, length, Some, Bool, true, false, Result, Ok, Err}
+use Rattle.std.specs.Prelude.{◌≡◌, ℕ, ◌<◌, ◌≤◌, ◌⊎◌, length, Bool, true, false, Option, Some, None, Result, Ok, Err}
 use Rattle.wq_items.specs.Table.{ItemWaitsBy}
 use Rattle.wq_core.specs.declared.step.Context.{Context}
 use Rattle.wq_core.specs.declared.entry.Running.{Running}
@@ -13,6 +13,7 @@ use Rattle.wq_core.specs.Wiring.{Wiring, items, lane_of, declared_by}
 use Rattle.wq_core.specs.State.{State, lane_at, HasUnfinishedBelow, IsBusyBelow}
 use Rattle.wq_rows.specs.declared.event.Event.TheVariants.{Queue as QueueEvent, Cancel as CancelEvent, Ask as AskEvent}
 use Rattle.wq_rows.specs.declared.event.Event.TheVariants.{AskLane as AskLaneEvent}
+use Rattle.wq_rows.specs.declared.event.Event.{Event}
 use Rattle.wq_rows.specs.declared.event.Row.{Row}
 use Rattle.wq_history.specs.declared.asking.Subject.{Subject}
 use Rattle.wq_history.specs.declared.asking.Subject.TheVariants.{Item as OfItem, Lane as OfLane}
@@ -23,13 +24,16 @@ use Rattle.wq_history.specs.declared.call.Call.TheVariants.{Finish, Close, Drain
 use Rattle.wq_history.specs.declared.call.Reply.{Reply}
 use Rattle.wq_history.specs.declared.call.Reply.TheVariants.{Wrote, WroteTwo, Done, NotYet}
 use Rattle.wq_history.specs.declared.fault.BookError.{BookError}
+use Rattle.wq_history.specs.declared.fault.BookError.TheVariants.{HistoryFull as BookFull, Closed as BookClosed}
+use Rattle.wq_history.specs.declared.fault.BookError.TheVariants.{Undeclared as BookUndeclared}
+use Rattle.wq_history.specs.declared.fault.BookError.TheVariants.{TooManyWaits as BookTooManyWaits}
+use Rattle.wq_history.specs.declared.fault.BookError.TheVariants.{WrongLane as BookWrongLane, NoItem as BookNoItem}
 use Rattle.wq_history.specs.declared.fault.CallError.{CallError}
 use Rattle.wq_history.specs.declared.fault.CallError.TheVariants.{HistoryFull, Closed, Undeclared, TooManyWaits}
 use Rattle.wq_history.specs.declared.fault.CallError.TheVariants.{WrongLane, NotAsked, NoItem}
 use Rattle.wq_history.specs.declared.sleepers.Sleepers.{Sleepers}
 use Rattle.wq_history.specs.declared.sleepers.Sleepers.TheVariants.{Contexts, ItemWaiters, LaneWaiters, Destroyers}
 use Rattle.wq_history.specs.declared.sleepers.Wake.{Wake}
-use Rattle.wq_history.specs.Errors.{call_error}
 use Rattle.wq_history.specs.Events.{ask_event, told_event, start_event, wait_event, over_event, finish_event}
 use Rattle.wq_history.specs.History.{asks_waiting}
 use Rattle.wq_history.specs.Book.{BookView, state, free, Appends, LacksRows, IsAwake, IsWaitingBy, WaitsFor, RunsItem}
@@ -51,7 +55,7 @@ IsUnfinishedBelow s (OfLane q) mark = IsBusyBelow (lane_at s q) mark
 
 -- what the context runs waits so, with this mark
 abbrev pub WaitsWith : BookView → Context → Flush → ℕ → Type 0
-WaitsWith b c f mark = (g : Waiting) × IsWaitingBy b c.lane c.helper f.whole g × (g.target ≡ f.target) × (g.mark ≡ mark)
+WaitsWith b c f mark = (g : Waiting) × IsWaitingBy b c.lane c.number f.whole g × (g.target ≡ f.target) × (g.mark ≡ mark)
 
 -- ---- why a call is refused: the first cause that holds, in this order
 
@@ -91,10 +95,10 @@ RefusesToCancelSync b i _ = ⊥
 -- a wait: there is no such context, it runs nothing, or that waits (64); what runs declares no such flush (62); it
 -- has made as many waits as its item declares flushes, of both kinds (63)
 abbrev pub RefusesToWait : BookView → Context → Flush → CallError → Type 0
-RefusesToWait b c f WrongLane = IsNotAwake b c.lane c.helper
-RefusesToWait b c f Undeclared = (r : Running) × IsAwake b c.lane c.helper r
+RefusesToWait b c f WrongLane = IsNotAwake b c.lane c.number
+RefusesToWait b c f Undeclared = (r : Running) × IsAwake b c.lane c.number r
     × (¬ ItemWaitsBy b.wiring.waits f.whole r.entry.item f.target)
-RefusesToWait b c f TooManyWaits = (r : Running) × IsAwake b c.lane c.helper r
+RefusesToWait b c f TooManyWaits = (r : Running) × IsAwake b c.lane c.number r
     × ItemWaitsBy b.wiring.waits f.whole r.entry.item f.target × (length (declared_by b.wiring r.entry.item) ≤ r.made)
 RefusesToWait b c f _ = ⊥
 
@@ -111,10 +115,10 @@ Refuses b (Cancel i) e = RefusesToCancel b i e
 Refuses b (Ask x) e = RefusesToAsk b x e
 Refuses b (Told x mark) e = RefusesToTell b x e
 Refuses b (CancelSync i) e = RefusesToCancelSync b i e
-Refuses b (Start c) e = RefusesIf (IsWrongToStart b c.lane c.helper) e
+Refuses b (Start c) e = RefusesIf (IsWrongToStart b c.lane c.number) e
 Refuses b (Wait c f) e = RefusesToWait b c f e
-Refuses b (Over c f) e = RefusesIf (¬ WaitsFor b c.lane c.helper f.whole f.target) e
-Refuses b (Finish c i) e = RefusesIf ((¬ RunsItem b c.lane c.helper i) ⊎ IsNotAwake b c.lane c.helper) e
+Refuses b (Over c f) e = RefusesIf (¬ WaitsFor b c.lane c.number f.whole f.target) e
+Refuses b (Finish c i) e = RefusesIf ((¬ RunsItem b c.lane c.number i) ⊎ IsNotAwake b c.lane c.number) e
 Refuses b Close e = ⊥
 Refuses b Drain e = ⊥
 
@@ -128,16 +132,21 @@ IsRowOf b (Cancel i) row = row.event ≡ CancelEvent i
 IsRowOf b (Ask x) row = row.event ≡ ask_event x
 IsRowOf b (Told x mark) row = (row.event ≡ told_event x) × (row.number ≡ mark)
 IsRowOf b (CancelSync i) row = ⊥
-IsRowOf b (Start c) row = (i : ℕ) × IsNext b c.lane i × (row.event ≡ start_event c.lane c.helper i)
-IsRowOf b (Wait c f) row = row.event ≡ wait_event f.whole c.lane c.helper f.target
-IsRowOf b (Over c f) row = row.event ≡ over_event f.whole c.lane c.helper f.target
-IsRowOf b (Finish c i) row = row.event ≡ finish_event c.lane c.helper i
+IsRowOf b (Start c) row = (i : ℕ) × IsNext b c.lane i × (row.event ≡ start_event c.lane c.number i)
+IsRowOf b (Wait c f) row = row.event ≡ wait_event f.whole c.lane c.number f.target
+IsRowOf b (Over c f) row = row.event ≡ over_event f.whole c.lane c.number f.target
+IsRowOf b (Finish c i) row = row.event ≡ finish_event c.lane c.number i
 IsRowOf b Close row = ⊥
 IsRowOf b Drain row = ⊥
 
 -- the row may come, enough rows are free, and it is appended
 abbrev pub Writes : BookView → Row → BookView → Type 0
 Writes old row new = Appends old new row.event row.yes row.number
+
+-- the row of this event is written; or too few rows are free for it, and nothing is changed
+abbrev pub IsWritten : BookView → Event → Option Row → BookView → Type 0
+IsWritten old event (Some row) new = (row.event ≡ event) × Writes old row new
+IsWritten old event None new = LacksRows old event × (new ≡ old)
 
 -- the two rows of a call that writes two, an ask and a cancellation, for which 3 rows were free
 abbrev pub WritesTwo : BookView → Call → Row → Row → BookView → Type 0
@@ -148,7 +157,7 @@ WritesTwo old _ ask taken new = ⊥
 -- the call is done, and there is no row for it: a context has nothing to start, and its lane has ended; the book is
 -- closed; nothing is unfinished
 abbrev pub IsDone : BookView → Call → Type 0
-IsDone b (Start c) = HasNothingToStart b c.lane c.helper × IsMet b (EndOf c.lane)
+IsDone b (Start c) = HasNothingToStart b c.lane c.number × IsMet b (EndOf c.lane)
 IsDone b Close = Unit {0}
 IsDone b Drain = IsMet b AllDone
 IsDone b _ = ⊥
@@ -162,7 +171,7 @@ after b _ = b
 -- an entry is unfinished
 abbrev pub IsEarly : BookView → Call → Type 0
 IsEarly b (Told x mark) = (0 < asks_waiting x b.rows) × IsUnfinishedBelow (state b) x mark
-IsEarly b (Start c) = HasNothingToStart b c.lane c.helper × (¬ IsMet b (EndOf c.lane))
+IsEarly b (Start c) = HasNothingToStart b c.lane c.number × (¬ IsMet b (EndOf c.lane))
 IsEarly b (Over c f) = (mark : ℕ) × WaitsWith b c f mark
     × IsUnfinishedBelow (state b) (subject_of b.wiring f.whole f.target) mark
 IsEarly b Drain = ¬ IsMet b AllDone
@@ -193,7 +202,31 @@ AlwaysWrites _ = ⊥
 
 -- a call is refused, by this error of a named call
 abbrev pub RefusesAs : BookView → Call → BookError → Type 0
-RefusesAs b call e = (c : CallError) × (call_error e ≡ Some c) × Refuses b call c
+RefusesAs b call BookFull = Refuses b call HistoryFull
+RefusesAs b call BookClosed = Refuses b call Closed
+RefusesAs b call BookUndeclared = Refuses b call Undeclared
+RefusesAs b call BookTooManyWaits = Refuses b call TooManyWaits
+RefusesAs b call BookWrongLane = Refuses b call WrongLane
+RefusesAs b call BookNoItem = Refuses b call NoItem
+RefusesAs b call _ = ⊥
+
+-- a call by name writes a row, or it is refused, and then nothing is changed
+abbrev pub AnswersAs : BookView → Call → Result Row BookError → BookView → Type 0
+AnswersAs old call (Ok row) new = Replies old call (Wrote row) new
+AnswersAs old call (Err e) new = RefusesAs old call e × (new ≡ old)
+
+-- `queue` of item i
+abbrev pub RefusesQueue : BookView → ℕ → BookError → Type 0
+RefusesQueue b i e = RefusesAs b (Queue i) e
+
+-- `ask_lane` of lane q
+abbrev pub RefusesAskLane : BookView → ℕ → BookError → Type 0
+RefusesAskLane b q e = RefusesAs b (Ask (OfLane q)) e
+
+-- `wait` of context c of lane q for a target, or `wait_all` for its whole lane
+abbrev pub RefusesWait : BookView → ℕ → ℕ → Bool → ℕ → BookError → Type 0
+RefusesWait b q c whole target e =
+    RefusesAs b (Wait (record { lane = q; number = c }) (record { target = target; whole = whole })) e
 
 -- ---- who is woken, and who sleeps
 

@@ -1,6 +1,7 @@
 -- Counts of the asks that wait.
 use Rattle.std.specs.Prelude.{◌≡◌, ℕ, ◌+◌, ◌*◌, ◌<◌, ◌≤◌, List, length, sum, slice_index, ◌&&◌}
 use Rattle.std.specs.List.{count_by}
+use Rattle.wq_core.specs.Wiring.{Wiring}
 use Rattle.wq_core.specs.Work.{work_left}
 use Rattle.wq_core.specs.Held.{Machine, IsMachine}
 use Rattle.wq_rows.specs.declared.event.Row.{Row}
@@ -32,14 +33,19 @@ pub record CountsAsks (rows : List Row) (asks : AskView) : Type 0 where
   pub in_all : asks.all + count_by (λ (row : Row). is_told row.event) rows
       ≡ count_by (λ (row : Row). is_ask row.event && row.yes) rows
 
--- a machine is the replay of rows: they are legal, the asks that wait are counted, each item and each lane has a count,
--- and no more numbers were given than there are rows
+-- the asks that wait are counted: each item and each lane has a count, and their sum is the number in all
+pub record AreCounted (w : Wiring) (rows : List Row) (asks : AskView) : Type 0 where
+  pub each : (x : Subject) → IsThere w x → ask_place x < length asks.counts
+  pub sum_is : CountsAll asks
+  pub counts : CountsAsks rows asks
+
+-- a machine is the replay of rows: they are legal, the asks that wait are counted, and no more numbers were given than
+-- there are rows
 pub record Replays (machine : Machine) (rows : List Row) (asks : AskView) : Type 0 where
   pub machine_is : IsMachine machine
   pub replay : machine.state ≡ state_after machine.wiring rows
   pub legal : IsLegal machine.wiring rows
-  pub a_count_each : (x : Subject) → IsThere machine.wiring x → ask_place x < length asks.counts
-  pub asked : CountsAsks rows asks
+  pub asked : AreCounted machine.wiring rows asks
   pub numbers : machine.state.next ≤ length rows
 
 -- what holds for the parts of a book: its machine is the replay of its rows, the work that is left is counted, and rows

@@ -5,20 +5,21 @@
 
 ghost use Rattle.std.specs.Prelude.{◌≡◌, ◌<◌, ◌↔◌, IsTrue, IfErr, IfSome, IfNone, OnOk};
 ghost use Rattle.wq_core.specs.declared.entry.Waiting.{Waiting};
-ghost use Rattle.wq_core.specs.Wiring.{items, HasContext};
+ghost use Rattle.wq_core.specs.Wiring.{items};
 ghost use Rattle.wq_rows.specs.declared.event.Event.TheVariants.{Cancel as CancelEvent};
 ghost use Rattle.wq_history.specs.declared.call.Call.TheVariants.{Queue, Cancel, Ask, Told, CancelSync, Start, Wait};
 ghost use Rattle.wq_history.specs.declared.call.Call.TheVariants.{Over, Finish};
 ghost use Rattle.wq_history.specs.Events.{ask_event};
 ghost use Rattle.wq_history.specs.History.{IsThere};
-ghost use Rattle.wq_history.specs.Book.{LacksRows, IsWaitingBy, WaitsFor};
+ghost use Rattle.wq_history.specs.Book.{IsWaitingBy, WaitsFor};
 ghost use Rattle.wq_history.specs.Waits.{EndOf, IsMet};
-ghost use Rattle.wq_history.specs.Calls.{RefusesToAsk, Writes, Answers};
+ghost use Rattle.wq_history.specs.Calls.{RefusesToAsk, IsWritten, Answers};
 
 use crate::asking::Subject;
 use crate::book::Book;
 use crate::call::{Call, Flush, Reply};
 use crate::fault::CallError;
+use crate::waits::{is_item, is_lane};
 use std::alloc::Allocator;
 use wq_core::{Context, HelpStep, Step, Waiting};
 use wq_groups::LaneId;
@@ -63,7 +64,7 @@ impl<A: Allocator> Book<A> {
     fn answer_queue(&mut self, item: ItemId) -> Result<Reply, CallError>
         ensures { Answers self.old (Queue item) result self.new }
     {
-        if !self.is_item(item) {
+        if !is_item(&self.core, item) {
             return Err(CallError::NoItem);
         }
         if self.closed {
@@ -73,7 +74,7 @@ impl<A: Allocator> Book<A> {
             if self.lacks(1) {
                 return Err(CallError::HistoryFull);
             }
-            return Ok(Reply::Wrote(self.note(Event::Queue(item), 0)));
+            return Ok(Reply::Wrote(self.note(Event::Queue(item), false, 0)));
         }
         let waits = self.core.waits(item).len() as u32;
         if self.lacks(3 + 2 * waits) {
@@ -87,7 +88,7 @@ impl<A: Allocator> Book<A> {
     fn answer_cancel(&mut self, item: ItemId) -> Result<Reply, CallError>
         ensures { Answers self.old (Cancel item) result self.new }
     {
-        if !self.is_item(item) {
+        if !is_item(&self.core, item) {
             return Err(CallError::NoItem);
         }
         match self.write_cancel(item) {
@@ -99,10 +100,7 @@ impl<A: Allocator> Book<A> {
     /// Writes the row of a cancellation, where there are enough rows for it.
     fn write_cancel(&mut self, item: ItemId) -> Option<Row>
         requires { item < items self.old.wiring }
-        ensures some { IfSome result (λ row. (row.event ≡ CancelEvent item)
-            × Writes self.old row self.new) }
-        ensures none { IfNone result (LacksRows self.old (CancelEvent item)
-            × (self.new ≡ self.old)) }
+        ensures { IsWritten self.old (CancelEvent item) result self.new }
     {
         if self.core.is_pending(item) {
             let row = self.make(&Step::Cancel(item), Event::Cancel(item), true);
@@ -111,7 +109,7 @@ impl<A: Allocator> Book<A> {
         if self.lacks(1) {
             return None;
         }
-        Some(self.note(Event::Cancel(item), 0))
+        Some(self.note(Event::Cancel(item), false, 0))
     }
 
     /// Asks about an item or a lane.
@@ -132,14 +130,14 @@ impl<A: Allocator> Book<A> {
     {
         match *subject {
             Subject::Item(item) => {
-                if self.is_item(item) {
+                if is_item(&self.core, item) {
                     Ok(())
                 } else {
                     Err(CallError::NoItem)
                 }
             }
             Subject::Lane(q) => {
-                if self.is_lane(q) {
+                if is_lane(&self.core, q) {
                     Ok(())
                 } else {
                     Err(CallError::WrongLane)
@@ -151,22 +149,19 @@ impl<A: Allocator> Book<A> {
     /// Writes the row of an ask, where there are enough rows for it.
     fn write_ask(&mut self, subject: &Subject) -> Option<Row>
         requires { IsThere self.old.wiring subject.now }
-        ensures some { IfSome result (λ row. (row.event ≡ ask_event subject.now)
-            × Writes self.old row self.new) }
-        ensures none { IfNone result (LacksRows self.old (ask_event subject.now)
-            × (self.new ≡ self.old)) }
+        ensures { IsWritten self.old (ask_event subject.now) result self.new }
     {
         let mark = self.core.next_number();
         if self.is_unfinished(subject) {
             if self.lacks(2) {
                 return None;
             }
-            return Some(self.begin_to_wait(*subject, mark));
+            return Some(self.note(subject.ask(), true, mark));
         }
         if self.lacks(1) {
             return None;
         }
-        Some(self.note(subject.ask(), mark))
+        Some(self.note(subject.ask(), false, mark))
     }
 
     /// Tells a caller who asked about an item or a lane, with this mark, whether its wait is over.
@@ -179,14 +174,14 @@ impl<A: Allocator> Book<A> {
         if self.unfinished_below(&subject, mark) {
             return Ok(Reply::NotYet);
         }
-        Ok(Reply::Wrote(self.end_a_wait(subject, mark)))
+        Ok(Reply::Wrote(self.note(subject.told(), true, mark)))
     }
 
     /// Asks about an item, and then removes its pending entry.
     fn answer_cancel_sync(&mut self, item: ItemId) -> Result<Reply, CallError>
         ensures { Answers self.old (CancelSync item) result self.new }
     {
-        if !self.is_item(item) {
+        if !is_item(&self.core, item) {
             return Err(CallError::NoItem);
         }
         if self.lacks(3) {
@@ -214,8 +209,7 @@ impl<A: Allocator> Book<A> {
         ensures { Answers self.old (Start context) result self.new }
     {
         let q = context.lane;
-        let helper = context.helper;
-        if !self.is_idle_context(q, helper) {
+        if !self.is_idle_context(&context) {
             return Err(CallError::WrongLane);
         }
         let Some(next) = self.next_on(q) else {
@@ -224,7 +218,7 @@ impl<A: Allocator> Book<A> {
             }
             return Ok(Reply::NotYet);
         };
-        let row = self.make_in(q, helper, &HelpStep::Start(next.item), true);
+        let row = self.make_in(&context, &HelpStep::Start(next.item), true);
         Ok(Reply::Wrote(row))
     }
 
@@ -232,11 +226,9 @@ impl<A: Allocator> Book<A> {
     fn answer_wait(&mut self, context: Context, flush: Flush) -> Result<Reply, CallError>
         ensures { Answers self.old (Wait context flush) result self.new }
     {
-        let q = context.lane;
-        let helper = context.helper;
         let whole = flush.whole;
         let target = flush.target;
-        let Some(running) = self.awake_in(q, helper) else {
+        let Some(running) = self.awake_in(&context) else {
             return Err(CallError::WrongLane);
         };
         let item = running.entry.item;
@@ -247,21 +239,20 @@ impl<A: Allocator> Book<A> {
         if made as usize >= self.core.waits(item).len() {
             return Err(CallError::TooManyWaits);
         }
-        let unfinished = self.is_awaited(whole, target);
+        let unfinished = self.is_unfinished(&self.subject_of(whole, target));
         let deed = HelpStep::wait_of(whole, target);
-        let row = self.make_in(q, helper, &deed, unfinished);
+        let row = self.make_in(&context, &deed, unfinished);
         Ok(Reply::Wrote(row))
     }
 
     /// The wait of what a context runs, where it is of this kind and for this target.
     fn wait_for(&self, context: &Context, flush: &Flush) -> Option<Waiting>
-        ensures some { IfSome result (λ f. IsWaitingBy self.now context.now.lane context.now.helper flush.now.whole f
+        ensures some { IfSome result (λ f. IsWaitingBy self.now context.now.lane context.now.number flush.now.whole f
             × (f.target ≡ flush.now.target)) }
-        ensures known { IfSome result (λ _. HasContext self.now.wiring context.now.lane context.now.helper) }
         ensures none { IfNone result
-            (¬ WaitsFor self.now context.now.lane context.now.helper flush.now.whole flush.now.target) }
+            (¬ WaitsFor self.now context.now.lane context.now.number flush.now.whole flush.now.target) }
     {
-        let Some(waits) = self.wait_of(context.lane, context.helper) else {
+        let Some(waits) = self.wait_of(context) else {
             return None;
         };
         if waits.whole != flush.whole || waits.target != flush.target {
@@ -274,16 +265,16 @@ impl<A: Allocator> Book<A> {
     fn answer_over(&mut self, context: Context, flush: Flush) -> Result<Reply, CallError>
         ensures { Answers self.old (Over context flush) result self.new }
     {
-        let q = context.lane;
-        let helper = context.helper;
+        self.legal();
         let Some(waits) = self.wait_for(&context, &flush) else {
             return Err(CallError::WrongLane);
         };
-        if self.is_held_back(q, helper, &waits) {
+        let subject = self.subject_of(waits.whole, waits.target);
+        if self.unfinished_below(&subject, waits.mark) {
             return Ok(Reply::NotYet);
         }
         let deed = HelpStep::over_of(waits.whole, waits.target);
-        let row = self.make_in(q, helper, &deed, true);
+        let row = self.make_in(&context, &deed, true);
         Ok(Reply::Wrote(row))
     }
 
@@ -291,15 +282,13 @@ impl<A: Allocator> Book<A> {
     fn answer_finish(&mut self, context: Context, item: ItemId) -> Result<Reply, CallError>
         ensures { Answers self.old (Finish context item) result self.new }
     {
-        let q = context.lane;
-        let helper = context.helper;
-        let Some(running) = self.awake_in(q, helper) else {
+        let Some(running) = self.awake_in(&context) else {
             return Err(CallError::WrongLane);
         };
         if running.entry.item != item {
             return Err(CallError::WrongLane);
         }
-        let row = self.make_in(q, helper, &HelpStep::Finish(item), true);
+        let row = self.make_in(&context, &HelpStep::Finish(item), true);
         Ok(Reply::Wrote(row))
     }
 }

@@ -3,13 +3,16 @@
 //! The counts of an item and of the lane with the same number stand side by side. Every call takes constant time. Only
 //! `new` takes memory: two counts for each item or each lane, whichever are more.
 
-ghost use Rattle.std.specs.Prelude.{◌≡◌, ℕ, ◌+◌, ◌-◌, ◌*◌, ◌<◌, ◌≤◌, ◌⊎◌, max, length, replicate, slice_index};
-ghost use Rattle.std.specs.Prelude.{slice_set, IfOk, OnErr};
-ghost use Rattle.wq_history.specs.Counts.{AskView, CountsAll, ask_place};
+ghost use Rattle.std.specs.Prelude.{◌≡◌, ℕ, ◌*◌, ◌<◌, ◌≤◌, ◌⊎◌, max, length, replicate, slice_index, IfOk, OnErr};
+ghost use Rattle.wq_history.specs.declared.asking.Subject.{Subject as SubjectValue};
+ghost use Rattle.wq_history.specs.Events.{ask_event, told_event};
+ghost use Rattle.wq_history.specs.Counts.{AskView, ask_place};
+ghost use Rattle.wq_history.specs.Judging.{with_ask, without_ask, counted};
 
 use crate::asking::Subject;
 use std::alloc::{AllocError, Allocator};
 use std::marker::Model;
+use wq_rows::Event;
 
 /// The counts. Contracts see them by place, and their sum.
 #[derive(Drop)]
@@ -55,8 +58,7 @@ impl<A: Allocator> AskCounts<A> {
 
     /// How many asks about an item or a lane wait; 0 for one that doesn't exist.
     pub fn of(&self, subject: Subject) -> u32
-        ensures count { result ≡ slice_index self.now.counts (ask_place subject) }
-        ensures part { result ≤ self.now.all }
+        ensures { result ≡ slice_index self.now.counts (ask_place subject) }
     {
         match self.counts.get(place(subject)) {
             Some(count) => *count,
@@ -66,33 +68,53 @@ impl<A: Allocator> AskCounts<A> {
 
     /// How many asks wait in total.
     pub fn all(&self) -> u32
-        ensures all { result ≡ self.now.all }
-        ensures sum { CountsAll self.now }
+        ensures { result ≡ self.now.all }
     {
         self.all
     }
 
     /// Counts another ask that waits.
-    pub fn add(&mut self, subject: Subject)
+    fn add(&mut self, subject: Subject)
         requires place { ask_place subject < length self.old.counts }
         requires few { self.old.all < 4294967295 }
-        ensures counts { self.new.counts
-            ≡ slice_set self.old.counts (ask_place subject) (slice_index self.old.counts (ask_place subject) + 1) }
-        ensures all { self.new.all ≡ self.old.all + 1 }
+        ensures { self.new ≡ with_ask subject self.old }
     {
         self.counts[place(subject)] += 1;
         self.all += 1;
     }
 
     /// Counts that one of the asks about an item or a lane waits no longer.
-    pub fn take_off(&mut self, subject: Subject)
+    fn take_off(&mut self, subject: Subject)
         requires { 0 < slice_index self.old.counts (ask_place subject) }
-        ensures counts { self.new.counts
-            ≡ slice_set self.old.counts (ask_place subject) (slice_index self.old.counts (ask_place subject) - 1) }
-        ensures all { self.new.all ≡ self.old.all - 1 }
-        ensures some { 0 < self.old.all }
+        ensures { self.new ≡ without_ask subject self.old }
     {
         self.counts[place(subject)] -= 1;
         self.all -= 1;
+    }
+
+    /// Counts the ask that waits from this event on, or that is told by it.
+    #[inline(always)]
+    pub fn count(&mut self, event: &Event, yes: bool)
+        requires place { (x : SubjectValue) → event.now ≡ ask_event x → ask_place x < length self.old.counts }
+        requires some { (x : SubjectValue) → event.now ≡ told_event x
+            → 0 < slice_index self.old.counts (ask_place x) }
+        requires few { self.old.all < 4294967295 }
+        ensures { self.new ≡ counted self.old event.now yes }
+    {
+        match *event {
+            Event::Ask(item) => {
+                if yes {
+                    self.add(Subject::Item(item));
+                }
+            }
+            Event::AskLane(q) => {
+                if yes {
+                    self.add(Subject::Lane(q));
+                }
+            }
+            Event::Told(item) => self.take_off(Subject::Item(item)),
+            Event::ToldLane(q) => self.take_off(Subject::Lane(q)),
+            _ => {}
+        }
     }
 }

@@ -71,8 +71,7 @@ pub struct Asked {
 impl Asked {
     /// An ask of an item with this mark.
     pub(crate) fn new(item: ItemId, mark: u32) -> Self
-        ensures item { result.item ≡ item }
-        ensures mark { result.mark ≡ mark }
+        ensures { result ≡ record { item = item; mark = mark } }
     {
         Asked { item, mark }
     }
@@ -128,8 +127,7 @@ pub struct LaneAsked {
 impl LaneAsked {
     /// An ask of a lane with this mark.
     pub(crate) fn new(lane: LaneId, mark: u32) -> Self
-        ensures lane { result.lane ≡ lane }
-        ensures mark { result.mark ≡ mark }
+        ensures { result ≡ record { lane = lane; mark = mark } }
     {
         LaneAsked { lane, mark }
     }

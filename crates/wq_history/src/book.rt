@@ -12,31 +12,29 @@ ghost use Rattle.std.specs.List.{count_by};
 ghost use Rattle.wq_core.specs.declared.entry.Running.{Running};
 ghost use Rattle.wq_core.specs.declared.entry.Waiting.{Waiting};
 ghost use Rattle.wq_core.specs.Wiring.{items, lane_of, helpers_of, HasContext};
-ghost use Rattle.wq_core.specs.State.{empty_state, lane_at, run_by, next_of, HasPending, HasUnfinished, IsBusy};
-ghost use Rattle.wq_core.specs.Rules.{Lawful, Gives, IsHeldBack, step_in};
+ghost use Rattle.wq_core.specs.State.{empty_state, lane_at, run_by, next_of, HasPending, HasUnfinished};
+ghost use Rattle.wq_core.specs.Rules.{Lawful, Gives, step_in};
 ghost use Rattle.wq_rows.specs.declared.event.Event.TheVariants.{Queue, Cancel, Wait, WaitAll, Finish, Ask as AskEvent};
 ghost use Rattle.wq_rows.specs.Packing.{packed_rows};
 ghost use Rattle.wq_rows.specs.Stored.{max_rows};
 ghost use Rattle.wq_history.specs.declared.asking.Subject.{Subject as SubjectValue};
-ghost use Rattle.wq_history.specs.Events.{step_of, event_in, wait_event, finish_event, ask_event, told_event};
+ghost use Rattle.wq_history.specs.Events.{step_of, event_in, wait_event, finish_event};
 ghost use Rattle.wq_history.specs.Events.{begins_to_wait, ends_a_wait};
-ghost use Rattle.wq_history.specs.History.{asks_waiting, all_asks_waiting, MayCome, Says, SaysUnfinished, SaysBusy};
-ghost use Rattle.wq_history.specs.History.{SaysUnfinishedOf};
+ghost use Rattle.wq_history.specs.History.{asks_waiting, all_asks_waiting, MayCome, Says, SaysUnfinishedOf};
 ghost use Rattle.wq_history.specs.Reserve.{rows_needed};
 ghost use Rattle.wq_history.specs.Book.{BookView, state, free, IsBook, AppendsOne, LaneRuns, IsAwake, IsWaiting};
 ghost use Rattle.wq_history.specs.Book.{IsWaitingBy, HelperRuns, HelperWaitsBy, HasPendingOn, IsNotWaiting, IsNotAwake};
-ghost use Rattle.wq_history.specs.Book.{IsWrongToStart, RefusesNew, RefusesQueue, RefusesItem, RefusesAskLane};
-ghost use Rattle.wq_history.specs.Book.{RefusesLane, RefusesWait, RefusesHelp};
+ghost use Rattle.wq_history.specs.Book.{IsWrongToStart, RefusesNew, RefusesItem, RefusesLane, RefusesHelp};
 ghost use Rattle.wq_history.specs.Answers.{AnswersAsk, AnswersTold, AnswersAskLane, AnswersToldLane, AnswersStart};
 ghost use Rattle.wq_history.specs.Answers.{AnswersOver};
-ghost use Rattle.wq_history.specs.declared.call.Reply.TheVariants.{Wrote};
-ghost use Rattle.wq_history.specs.Calls.{IsUnfinishedBelow, AlwaysWrites, Writes, Replies, RefusesAs};
+ghost use Rattle.wq_history.specs.Calls.{IsUnfinishedBelow, AlwaysWrites, Writes, AnswersAs, RefusesQueue};
+ghost use Rattle.wq_history.specs.Calls.{RefusesAskLane, RefusesWait, subject_of};
 
 use crate::ask_counts::AskCounts;
 use crate::asking::{Ask, Asked, LaneAsk, LaneAsked, LaneTold, Subject, Told};
 use crate::call::{Call, Flush, Reply};
 use crate::fault::BookError;
-use crate::waits::{event_of, is_awaited, is_busy};
+use crate::waits::{event_of, is_busy, is_item};
 use std::alloc::Allocator;
 use std::marker::Model;
 use wq_core::{Context, Core, Entry, HelpStep, Running, Step, Waiting};
@@ -124,69 +122,31 @@ impl<A: Allocator> Book<A> {
 
     /// Makes a step of a context, and appends the row of its event.
     #[inline(always)]
-    pub(crate) fn make_in(&mut self, q: LaneId, helper: u8, deed: &HelpStep, yes: bool) -> Row
-        requires lawful { Lawful self.old.wiring (state self.old) (step_in q helper deed.now) }
+    pub(crate) fn make_in(&mut self, context: &Context, deed: &HelpStep, yes: bool) -> Row
+        requires lawful { Lawful self.old.wiring (state self.old)
+            (step_in context.now.lane context.now.number deed.now) }
         requires says { Says self.old.wiring (state self.old) deed.now yes }
-        ensures event { result.event ≡ event_in q helper deed.now }
+        ensures event { result.event ≡ event_in context.now.lane context.now.number deed.now }
         ensures writes { Writes self.old result self.new }
     {
-        let step = Step::of(q, helper, *deed);
-        let event = event_of(q, helper, deed);
+        let step = Step::of(*context, *deed);
+        let event = event_of(context, deed);
         self.make(&step, event, yes)
     }
 
-    /// Appends the row of an event without effect: it makes no step, and no caller waits.
+    /// Appends the row of an event that makes no step: nothing comes of it, or a caller begins to wait, or is told that
+    /// its wait is over.
     #[inline(always)]
-    pub(crate) fn note(&mut self, event: Event, number: u32) -> Row
-        requires event { step_of event false ≡ None }
-        requires may { MayCome self.old.wiring self.old.rows event false number }
-        requires room { rows_needed self.old.wiring event false ≤ free self.old }
+    pub(crate) fn note(&mut self, event: Event, yes: bool, number: u32) -> Row
+        requires event { step_of event yes ≡ None }
+        requires may { MayCome self.old.wiring self.old.rows event yes number }
+        requires room { rows_needed self.old.wiring event yes ≤ free self.old }
         ensures event { result.event ≡ event }
+        ensures number { result.number ≡ number }
         ensures writes { Writes self.old result self.new }
     {
-        let row = Row {
-            event,
-            yes: false,
-            number,
-        };
-        self.history.push(&row);
-        row
-    }
-
-    /// Appends the row of an ask about an item or a lane that has an unfinished entry.
-    #[inline(always)]
-    pub(crate) fn begin_to_wait(&mut self, subject: Subject, mark: u32) -> Row
-        requires may { MayCome self.old.wiring self.old.rows (ask_event subject) true mark }
-        requires room { 2 ≤ free self.old }
-        ensures event { result.event ≡ ask_event subject }
-        ensures writes { Writes self.old result self.new }
-    {
-        let event = subject.ask();
-        self.asks.add(subject);
-        let row = Row {
-            event,
-            yes: true,
-            number: mark,
-        };
-        self.history.push(&row);
-        row
-    }
-
-    /// Appends the row of a caller who waited for an item or a lane and is told that its wait is over.
-    #[inline(always)]
-    pub(crate) fn end_a_wait(&mut self, subject: Subject, mark: u32) -> Row
-        requires { MayCome self.old.wiring self.old.rows (told_event subject) true mark }
-        ensures event { result.event ≡ told_event subject }
-        ensures number { result.number ≡ mark }
-        ensures writes { Writes self.old result self.new }
-    {
-        let event = subject.told();
-        self.asks.take_off(subject);
-        let row = Row {
-            event,
-            yes: true,
-            number: mark,
-        };
+        self.asks.count(&event, yes);
+        let row = Row { event, yes, number };
         self.history.push(&row);
         row
     }
@@ -196,20 +156,6 @@ impl<A: Allocator> Book<A> {
         ensures { IsTrue result ↔ (free self.now < rows) }
     {
         self.free_rows() < rows
-    }
-
-    /// Whether there is such an item.
-    pub(crate) fn is_item(&self, item: ItemId) -> bool
-        ensures { IsTrue result ↔ (item < items self.now.wiring) }
-    {
-        usize::from(item.get()) < self.core.items()
-    }
-
-    /// Whether there is such a lane.
-    pub(crate) fn is_lane(&self, q: LaneId) -> bool
-        ensures { IsTrue result ↔ (q < self.now.wiring.lanes) }
-    {
-        usize::from(q.get()) < self.core.lanes()
     }
 
     /// How many asks about an item or a lane are waiting.
@@ -229,78 +175,63 @@ impl<A: Allocator> Book<A> {
         }
     }
 
-    /// Whether a lane has an unfinished entry.
-    fn is_busy(&self, q: LaneId) -> bool
-        ensures { IsTrue result ↔ IsBusy (lane_at (state self.now) q) }
-    {
-        is_busy(&self.core, q)
-    }
-
     /// Whether an item or a lane has an unfinished entry.
     pub(crate) fn is_unfinished(&self, subject: &Subject) -> bool
         ensures { SaysUnfinishedOf (state self.now) subject.now result }
     {
         match *subject {
             Subject::Item(item) => self.core.has_unfinished(item),
-            Subject::Lane(q) => self.is_busy(q),
+            Subject::Lane(q) => is_busy(&self.core, q),
         }
     }
 
-    /// Whether anything is unfinished that a wait would be for: an entry of the item, or any entry on its lane.
-    pub(crate) fn is_awaited(&self, whole: bool, target: ItemId) -> bool
+    /// What a wait for an item, which exists, or for its whole lane, is for.
+    pub fn subject_of(&self, whole: bool, target: ItemId) -> Subject
         requires { target < items self.now.wiring }
-        ensures item { whole ≡ false → SaysUnfinished (state self.now) target result }
-        ensures lane { whole ≡ true → SaysBusy (state self.now) (lane_of self.now.wiring target) result }
+        ensures { result ≡ subject_of self.now.wiring whole target }
     {
-        is_awaited(&self.core, whole, target)
-    }
-
-    /// Whether what a context waits for isn't done.
-    pub(crate) fn is_held_back(&self, q: LaneId, helper: u8, flush: &Waiting) -> bool
-        requires { IsWaiting self.now q helper flush.now }
-        ensures { IsTrue result
-            ↔ IsHeldBack self.now.wiring (state self.now) flush.now.whole flush.now.target flush.now.mark }
-    {
-        self.core
-            .is_held_back(flush.whole, flush.target, flush.mark)
+        if whole {
+            Subject::Lane(self.core.lane_of(target))
+        } else {
+            Subject::Item(target)
+        }
     }
 
     /// What a context runs; nothing where there is no such lane or no such context.
-    fn entry_in(&self, q: LaneId, helper: u8) -> Option<Running>
-        ensures running { result ≡ run_by (lane_at (state self.now) q) helper }
+    fn entry_in(&self, context: &Context) -> Option<Running>
+        ensures running { result ≡ run_by (lane_at (state self.now) context.now.lane) context.now.number }
         ensures known { IfSome result (λ r. (r.entry.item < items self.now.wiring)
-            × (lane_of self.now.wiring r.entry.item ≡ q) × HasContext self.now.wiring q helper) }
+            × (lane_of self.now.wiring r.entry.item ≡ context.now.lane)
+            × HasContext self.now.wiring context.now.lane context.now.number) }
     {
-        self.core.running_in(q, helper)
+        self.core.running_in(*context)
     }
 
     /// The first pending entry of a lane whose item isn't running; none where there is no such entry, or no such lane.
-    /// It is of an item of this lane.
     pub(crate) fn next_on(&self, q: LaneId) -> Option<Entry>
         ensures next { result ≡ next_of (lane_at (state self.now) q) }
-        ensures known { IfSome result (λ e. (e.item < items self.now.wiring) × (lane_of self.now.wiring e.item ≡ q)) }
     {
         self.core.next_on(q)
     }
 
     /// Whether there is such a context, and it runs nothing.
-    pub(crate) fn is_idle_context(&self, q: LaneId, helper: u8) -> bool
+    pub(crate) fn is_idle_context(&self, context: &Context) -> bool
         ensures { MatchBool result
-            (HasContext self.now.wiring q helper
-            × (run_by (lane_at (state self.now) q) helper ≡ None))
-            (IsWrongToStart self.now q helper) }
+            (HasContext self.now.wiring context.now.lane context.now.number
+            × (run_by (lane_at (state self.now) context.now.lane) context.now.number ≡ None))
+            (IsWrongToStart self.now context.now.lane context.now.number) }
     {
-        self.has_context(q, helper) && self.entry_in(q, helper).is_none()
+        self.has_context(context) && self.entry_in(context).is_none()
     }
 
     /// What a context runs, where it doesn't wait.
-    pub(crate) fn awake_in(&self, q: LaneId, helper: u8) -> Option<Running>
-        ensures some { IfSome result (λ r. IsAwake self.now q helper r) }
+    pub(crate) fn awake_in(&self, context: &Context) -> Option<Running>
+        ensures some { IfSome result (λ r. IsAwake self.now context.now.lane context.now.number r) }
         ensures known { IfSome result (λ r. (r.entry.item < items self.now.wiring)
-            × HasContext self.now.wiring q helper) }
-        ensures none { IfNone result (IsNotAwake self.now q helper) }
+            × HasContext self.now.wiring context.now.lane context.now.number) }
+        ensures none { IfNone result (IsNotAwake self.now context.now.lane context.now.number) }
     {
-        let running = self.entry_in(q, helper)?;
+        let running = self.entry_in(context)?;
         if running.waiting.is_some() {
             return None;
         }
@@ -308,12 +239,11 @@ impl<A: Allocator> Book<A> {
     }
 
     /// What the entry that a context runs waits for.
-    pub(crate) fn wait_of(&self, q: LaneId, helper: u8) -> Option<Waiting>
-        ensures some { IfSome result (λ f. IsWaiting self.now q helper f) }
-        ensures known { IfSome result (λ _. HasContext self.now.wiring q helper) }
-        ensures none { IfNone result (IsNotWaiting self.now q helper) }
+    pub(crate) fn wait_of(&self, context: &Context) -> Option<Waiting>
+        ensures some { IfSome result (λ f. IsWaiting self.now context.now.lane context.now.number f) }
+        ensures none { IfNone result (IsNotWaiting self.now context.now.lane context.now.number) }
     {
-        let running = self.entry_in(q, helper)?;
+        let running = self.entry_in(context)?;
         running.waiting
     }
 
@@ -326,11 +256,10 @@ impl<A: Allocator> Book<A> {
     }
 
     /// Makes a call that isn't refused but with a row, which it gives.
-    #[tactic(auto, using(crate::proofs::Answered::row_of_book, crate::proofs::Answered::never_two, crate::proofs::Answered::never_done, crate::proofs::Answered::never_not_yet))]
+    #[tactic(auto, using(crate::proofs::Answered::row_of_book, crate::proofs::Answered::refused_as))]
     fn row(&mut self, call: Call) -> Result<Row, BookError>
         requires { AlwaysWrites call }
-        ensures row { IfOk result (λ row. Replies self.old call (Wrote row) self.new) }
-        ensures refused { IfErr result (λ e. RefusesAs self.old call e × (self.new ≡ self.old)) }
+        ensures { AnswersAs self.old call result self.new }
     {
         match self.answer(call) {
             Ok(Reply::Wrote(row)) => Ok(row),
@@ -345,7 +274,7 @@ impl<A: Allocator> Book<A> {
     ///
     /// The error is the first of these that holds: `NoItem` (66), `Closed` (61),
     /// `HistoryFull` (60). After an error nothing is changed.
-    #[tactic(auto, using(crate::proofs::Answered::queue_refused, crate::proofs::CallRows::appends_queue))]
+    #[tactic(auto, using(crate::proofs::CallRows::appends_queue))]
     pub fn queue(&mut self, item: ItemId) -> Result<bool, BookError>
         ensures row { IfOk result (λ accepted. AppendsOne self.old self.new (Queue item) accepted) }
         ensures open { IfOk result (λ _. self.old.closed ≡ false) }
@@ -410,7 +339,7 @@ impl<A: Allocator> Book<A> {
     ///
     /// The error is `WrongLane` (64), where there is no such lane, or else
     /// `HistoryFull` (60). After an error nothing is changed.
-    #[tactic(auto, using(crate::proofs::Answered::ask_lane_refused, crate::proofs::Answered::ask_lane_idle, crate::proofs::Answered::ask_lane_waits))]
+    #[tactic(auto, using(crate::proofs::Answered::ask_lane_idle, crate::proofs::Answered::ask_lane_waits))]
     pub fn ask_lane(&mut self, q: LaneId) -> Result<LaneAsk, BookError>
         ensures row { IfOk result (λ answer. AnswersAskLane self.old self.new q answer) }
         ensures left { OnOk result (free self.old ≤ free self.new + 2) }
@@ -449,15 +378,15 @@ impl<A: Allocator> Book<A> {
     /// The error is `WrongLane` (64), exactly where there is no such lane or no such context, or it runs an entry.
     /// After an error nothing is changed.
     #[tactic(auto, using(crate::proofs::Answered::start_some, crate::proofs::Answered::start_none, crate::proofs::Answered::start_later, crate::proofs::Answered::lane_refused, crate::proofs::Answered::lane_of_book))]
-    fn start_in(&mut self, q: LaneId, helper: u8) -> Result<Option<ItemId>, BookError>
-        ensures row { IfOk result (λ answer. AnswersStart self.old self.new q helper answer) }
+    fn start_in(&mut self, context: Context) -> Result<Option<ItemId>, BookError>
+        ensures row { IfOk result (λ answer. AnswersStart self.old self.new context.lane context.number answer) }
         ensures known { IfOk result (λ answer. IfSome answer (λ item.
-            (item < items self.old.wiring) × (lane_of self.old.wiring item ≡ q))) }
-        ensures refused { IfErr result (λ e. RefusesLane (IsWrongToStart self.old q helper) e
+            (item < items self.old.wiring) × (lane_of self.old.wiring item ≡ context.lane))) }
+        ensures refused { IfErr result (λ e. RefusesLane (IsWrongToStart self.old context.lane context.number) e
             × (self.new ≡ self.old)) }
     {
         self.legal();
-        match self.answer(Call::Start(Context { lane: q, helper })) {
+        match self.answer(Call::Start(context)) {
             Ok(Reply::Wrote(row)) => Ok(Some(row.event.item())),
             Ok(Reply::Done) => Ok(None),
             Ok(Reply::NotYet) => Ok(None),
@@ -468,20 +397,13 @@ impl<A: Allocator> Book<A> {
 
     /// Makes what a context runs begin to wait for an item, as `wait`, or for the whole lane of the item, as
     /// `wait_all`: true where that has an unfinished entry. The errors are theirs.
-    #[tactic(auto, using(crate::proofs::Answered::wait_refused, crate::proofs::Answered::wait_row))]
-    fn wait_in(
-        &mut self,
-        q: LaneId,
-        helper: u8,
-        whole: bool,
-        target: ItemId,
-    ) -> Result<bool, BookError>
+    #[tactic(auto, using(crate::proofs::Answered::wait_row))]
+    fn wait_in(&mut self, context: Context, whole: bool, target: ItemId) -> Result<bool, BookError>
         ensures row { IfOk result (λ unfinished.
-            AppendsOne self.old self.new (wait_event whole q helper target) unfinished) }
-        ensures refused { IfErr result (λ e. RefusesWait self.old q helper whole target e
+            AppendsOne self.old self.new (wait_event whole context.lane context.number target) unfinished) }
+        ensures refused { IfErr result (λ e. RefusesWait self.old context.lane context.number whole target e
             × (self.new ≡ self.old)) }
     {
-        let context = Context { lane: q, helper };
         let row = self.row(Call::Wait(context, Flush { target, whole }))?;
         Ok(row.yes)
     }
@@ -492,19 +414,19 @@ impl<A: Allocator> Book<A> {
     /// The error is `WrongLane` (64), exactly where there is no such lane or no such context, it runs nothing, or its
     /// entry doesn't wait. After an error nothing is changed.
     #[tactic(auto, using(crate::proofs::Answered::over_true, crate::proofs::Answered::over_false, crate::proofs::Answered::over_not_refused))]
-    fn over_in(&mut self, q: LaneId, helper: u8) -> Result<bool, BookError>
-        ensures row { IfOk result (λ answer. AnswersOver self.old self.new q helper answer) }
-        ensures refused { IfErr result (λ e. RefusesLane (IsNotWaiting self.old q helper) e
+    fn over_in(&mut self, context: Context) -> Result<bool, BookError>
+        ensures row { IfOk result (λ answer. AnswersOver self.old self.new context.lane context.number answer) }
+        ensures refused { IfErr result (λ e. RefusesLane (IsNotWaiting self.old context.lane context.number) e
             × (self.new ≡ self.old)) }
     {
-        let Some(waits) = self.wait_of(q, helper) else {
+        let Some(waits) = self.wait_of(&context) else {
             return Err(BookError::WrongLane);
         };
         let flush = Flush {
             target: waits.target,
             whole: waits.whole,
         };
-        match self.answer(Call::Over(Context { lane: q, helper }, flush)) {
+        match self.answer(Call::Over(context, flush)) {
             Ok(Reply::Wrote(_)) => Ok(true),
             Ok(Reply::NotYet) => Ok(false),
             Ok(Reply::WroteTwo(_, _)) => unreachable!(),
@@ -518,16 +440,16 @@ impl<A: Allocator> Book<A> {
     /// The error is `WrongLane` (64), exactly where there is no such lane or no such context, it runs nothing, or its
     /// entry waits. After an error nothing is changed.
     #[tactic(auto, using(crate::proofs::Answered::finish_done, crate::proofs::Answered::finish_refused, crate::proofs::Answered::not_awake))]
-    fn finish_in(&mut self, q: LaneId, helper: u8) -> Result<(), BookError>
-        ensures row { IfOk result (λ _. (r : Running) × LaneRuns self.old q helper r
-            × AppendsOne self.old self.new (finish_event q helper r.entry.item) true) }
-        ensures refused { IfErr result (λ e. RefusesLane (IsNotAwake self.old q helper) e
+    fn finish_in(&mut self, context: Context) -> Result<(), BookError>
+        ensures row { IfOk result (λ _. (r : Running) × LaneRuns self.old context.lane context.number r
+            × AppendsOne self.old self.new (finish_event context.lane context.number r.entry.item) true) }
+        ensures refused { IfErr result (λ e. RefusesLane (IsNotAwake self.old context.lane context.number) e
             × (self.new ≡ self.old)) }
     {
-        let Some(item) = self.running_in(q, helper) else {
+        let Some(item) = self.running_in(&context) else {
             return Err(BookError::WrongLane);
         };
-        self.row(Call::Finish(Context { lane: q, helper }, item))?;
+        self.row(Call::Finish(context, item))?;
         Ok(())
     }
 
@@ -542,7 +464,7 @@ impl<A: Allocator> Book<A> {
             IfSome answer (λ item. (item < items self.old.wiring) × (lane_of self.old.wiring item ≡ q))) }
         ensures refused { IfErr result (λ e. RefusesLane (IsWrongToStart self.old q 0) e × (self.new ≡ self.old)) }
     {
-        self.start_in(q, 0)
+        self.start_in(Context { lane: q, number: 0 })
     }
 
     /// Makes what a lane's rescuer runs begin to wait for an item: true where that item has an unfinished entry.
@@ -554,7 +476,7 @@ impl<A: Allocator> Book<A> {
         ensures row { IfOk result (λ unfinished. AppendsOne self.old self.new (Wait q target) unfinished) }
         ensures refused { IfErr result (λ e. RefusesWait self.old q 0 false target e × (self.new ≡ self.old)) }
     {
-        self.wait_in(q, 0, false, target)
+        self.wait_in(Context { lane: q, number: 0 }, false, target)
     }
 
     /// Makes what a lane's rescuer runs begin to wait for the whole lane of an item:
@@ -567,7 +489,7 @@ impl<A: Allocator> Book<A> {
         ensures row { IfOk result (λ unfinished. AppendsOne self.old self.new (WaitAll q target) unfinished) }
         ensures refused { IfErr result (λ e. RefusesWait self.old q 0 true target e × (self.new ≡ self.old)) }
     {
-        self.wait_in(q, 0, true, target)
+        self.wait_in(Context { lane: q, number: 0 }, true, target)
     }
 
     /// Lets what a lane's rescuer runs go on, where its wait is over, for an item or for a whole lane. It gives false
@@ -579,7 +501,7 @@ impl<A: Allocator> Book<A> {
         ensures row { IfOk result (λ answer. AnswersOver self.old self.new q 0 answer) }
         ensures refused { IfErr result (λ e. RefusesLane (IsNotWaiting self.old q 0) e × (self.new ≡ self.old)) }
     {
-        self.over_in(q, 0)
+        self.over_in(Context { lane: q, number: 0 })
     }
 
     /// Finishes what a lane's rescuer runs.
@@ -592,7 +514,7 @@ impl<A: Allocator> Book<A> {
             × AppendsOne self.old self.new (Finish q r.entry.item) true) }
         ensures refused { IfErr result (λ e. RefusesLane (IsNotAwake self.old q 0) e × (self.new ≡ self.old)) }
     {
-        self.finish_in(q, 0)
+        self.finish_in(Context { lane: q, number: 0 })
     }
 
     /// Starts the first pending entry of a lane whose item isn't running, in a helper, and gives its item, which is one
@@ -610,7 +532,7 @@ impl<A: Allocator> Book<A> {
         if h == 0 {
             return Err(BookError::WrongLane);
         }
-        self.start_in(q, h)
+        self.start_in(Context { lane: q, number: h })
     }
 
     /// Makes what a helper runs begin to wait for an item: true where that item has an unfinished entry.
@@ -627,7 +549,7 @@ impl<A: Allocator> Book<A> {
         if h == 0 {
             return Err(BookError::WrongLane);
         }
-        self.wait_in(q, h, false, target)
+        self.wait_in(Context { lane: q, number: h }, false, target)
     }
 
     /// Makes what a helper runs begin to wait for the whole lane of an item: true
@@ -645,7 +567,7 @@ impl<A: Allocator> Book<A> {
         if h == 0 {
             return Err(BookError::WrongLane);
         }
-        self.wait_in(q, h, true, target)
+        self.wait_in(Context { lane: q, number: h }, true, target)
     }
 
     /// Lets what a helper runs go on, where its wait is over, for an item or for a whole lane. It gives false where the
@@ -661,7 +583,7 @@ impl<A: Allocator> Book<A> {
         if h == 0 {
             return Err(BookError::WrongLane);
         }
-        self.over_in(q, h)
+        self.over_in(Context { lane: q, number: h })
     }
 
     /// Finishes what a helper runs.
@@ -677,7 +599,7 @@ impl<A: Allocator> Book<A> {
         if h == 0 {
             return Err(BookError::WrongLane);
         }
-        self.finish_in(q, h)
+        self.finish_in(Context { lane: q, number: h })
     }
 
     /// Closes the book: nothing is queued from now on. It writes no row, and closing twice is the same as closing once.
@@ -726,23 +648,26 @@ impl<A: Allocator> Book<A> {
     }
 
     /// The item that a context runs; nothing where it runs none, or there is no such lane or no such context.
-    pub fn running_in(&self, q: LaneId, helper: u8) -> Option<ItemId>
-        ensures some { IfSome result (λ item. (r : Running) × LaneRuns self.now q helper r × (r.entry.item ≡ item)) }
-        ensures known { IfSome result (λ item. (item < items self.now.wiring) × (lane_of self.now.wiring item ≡ q)) }
-        ensures none { IfNone result ((r : Running) → ¬ LaneRuns self.now q helper r) }
+    pub fn running_in(&self, context: &Context) -> Option<ItemId>
+        ensures some { IfSome result (λ item. (r : Running) × LaneRuns self.now context.now.lane context.now.number r
+            × (r.entry.item ≡ item)) }
+        ensures known { IfSome result (λ item. (item < items self.now.wiring)
+            × (lane_of self.now.wiring item ≡ context.now.lane)) }
+        ensures none { IfNone result ((r : Running) → ¬ LaneRuns self.now context.now.lane context.now.number r) }
     {
-        let running = self.entry_in(q, helper)?;
+        let running = self.entry_in(context)?;
         Some(running.entry.item)
     }
 
     /// The target of the wait of a context, where it waits for an item alone, as `waiting`, or where it waits for a
     /// whole lane, as `waiting_all`.
-    pub fn waiting_in(&self, q: LaneId, helper: u8, whole: bool) -> Option<ItemId>
-        ensures some { IfSome result (λ target. (f : Waiting) × IsWaitingBy self.now q helper whole f
-            × (f.target ≡ target)) }
-        ensures none { IfNone result ((f : Waiting) → ¬ IsWaitingBy self.now q helper whole f) }
+    pub fn waiting_in(&self, context: &Context, whole: bool) -> Option<ItemId>
+        ensures some { IfSome result (λ target. (f : Waiting)
+            × IsWaitingBy self.now context.now.lane context.now.number whole f × (f.target ≡ target)) }
+        ensures none { IfNone result ((f : Waiting) →
+            ¬ IsWaitingBy self.now context.now.lane context.now.number whole f) }
     {
-        let Some(flush) = self.wait_of(q, helper) else {
+        let Some(flush) = self.wait_of(context) else {
             return None;
         };
         if flush.whole == whole {
@@ -758,7 +683,7 @@ impl<A: Allocator> Book<A> {
         ensures known { IfSome result (λ item. (item < items self.now.wiring) × (lane_of self.now.wiring item ≡ q)) }
         ensures none { IfNone result ((r : Running) → ¬ LaneRuns self.now q 0 r) }
     {
-        self.running_in(q, 0)
+        self.running_in(&Context { lane: q, number: 0 })
     }
 
     /// The item that a lane's rescuer waits for, where it waits for an item alone; nothing where it waits for a whole
@@ -769,7 +694,7 @@ impl<A: Allocator> Book<A> {
             × (f.target ≡ target)) }
         ensures none { IfNone result ((f : Waiting) → ¬ IsWaitingBy self.now q 0 false f) }
     {
-        self.waiting_in(q, 0, false)
+        self.waiting_in(&Context { lane: q, number: 0 }, false)
     }
 
     /// The item for whose whole lane a lane's rescuer waits; nothing where it waits for an item alone, doesn't wait,
@@ -778,7 +703,7 @@ impl<A: Allocator> Book<A> {
         ensures some { IfSome result (λ target. (f : Waiting) × IsWaitingBy self.now q 0 true f × (f.target ≡ target)) }
         ensures none { IfNone result ((f : Waiting) → ¬ IsWaitingBy self.now q 0 true f) }
     {
-        self.waiting_in(q, 0, true)
+        self.waiting_in(&Context { lane: q, number: 0 }, true)
     }
 
     /// The item that a helper runs; nothing where it runs none, or there is no such lane or no such helper.
@@ -790,7 +715,7 @@ impl<A: Allocator> Book<A> {
         if h == 0 {
             return None;
         }
-        self.running_in(q, h)
+        self.running_in(&Context { lane: q, number: h })
     }
 
     /// The item that a helper waits for, where it waits for an item alone; nothing where it waits for a whole lane,
@@ -804,7 +729,7 @@ impl<A: Allocator> Book<A> {
         if h == 0 {
             return None;
         }
-        self.waiting_in(q, h, false)
+        self.waiting_in(&Context { lane: q, number: h }, false)
     }
 
     /// The item for whose whole lane a helper waits; nothing where it waits for an item alone, doesn't wait, runs none,
@@ -818,7 +743,7 @@ impl<A: Allocator> Book<A> {
         if h == 0 {
             return None;
         }
-        self.waiting_in(q, h, true)
+        self.waiting_in(&Context { lane: q, number: h }, true)
     }
 
     /// How many helpers a lane has, at most 8; 0 where there is no such lane.
@@ -829,10 +754,10 @@ impl<A: Allocator> Book<A> {
     }
 
     /// Whether there is such a context: the rescuer of a lane, or one of its helpers.
-    pub fn has_context(&self, q: LaneId, helper: u8) -> bool
-        ensures { IsTrue result ↔ HasContext self.now.wiring q helper }
+    pub fn has_context(&self, context: &Context) -> bool
+        ensures { IsTrue result ↔ HasContext self.now.wiring context.now.lane context.now.number }
     {
-        self.core.has_context(q, helper)
+        self.core.has_context(*context)
     }
 
     /// The lane of an item, where there is such an item.
@@ -840,7 +765,7 @@ impl<A: Allocator> Book<A> {
         ensures some { IfSome result (λ q. (item < items self.now.wiring) × (q ≡ lane_of self.now.wiring item)) }
         ensures none { IfNone result (items self.now.wiring ≤ item) }
     {
-        if self.is_item(item) {
+        if is_item(&self.core, item) {
             Some(self.core.lane_of(item))
         } else {
             None

@@ -4,42 +4,26 @@
 //! the step that it records; the row of an ask about a lane takes constant time. Memory is taken before any row: two
 //! counts for each item or each lane, whichever are more.
 
-ghost use Rattle.std.specs.Prelude.{◌≡◌, ◌<◌, ◌≤◌, ◌*◌, ◌↔◌, List, length, slice_index, IfOk, IfErr, IfSome, IsTrue};
+ghost use Rattle.std.specs.Prelude.{◌≡◌, ◌<◌, ◌≤◌, ◌*◌, ◌↔◌, List, length, IfOk, IfErr, IfSome, IsTrue};
 ghost use Rattle.wq_core.specs.Rules.{Lawful, deed_item};
 ghost use Rattle.wq_core.specs.Wiring.{items, lane_of};
 ghost use Rattle.wq_core.specs.declared.step.Step.TheVariants.{WaitAll, Help};
 ghost use Rattle.wq_core.specs.State.{empty_state};
 ghost use Rattle.wq_rows.specs.declared.event.Row.{Row as RowValue};
 ghost use Rattle.wq_rows.specs.Stored.{max_rows};
-ghost use Rattle.wq_history.specs.declared.asking.Subject.{Subject as SubjectValue};
 ghost use Rattle.wq_history.specs.History.{Makes, SaysBusy, Says, MayComeIn};
-ghost use Rattle.wq_history.specs.Events.{step_of as step_of_event, ask_event, told_event};
-ghost use Rattle.wq_history.specs.Counts.{ask_place};
-ghost use Rattle.wq_history.specs.Judging.{IsJudged, IsFaultAt, stepped, counted};
+ghost use Rattle.wq_history.specs.Events.{step_of as step_of_event};
+ghost use Rattle.wq_history.specs.Judging.{IsJudged, IsFaultAt, stepped};
 
 use crate::ask_counts::AskCounts;
 use crate::asking::Subject;
 use crate::row_error::{RowError, RowFault};
-use crate::waits::is_busy;
+use crate::waits::{is_busy, is_item, is_lane};
 use std::alloc::Allocator;
-use wq_core::{Core, HelpStep, Step};
+use wq_core::{Context, Core, HelpStep, Step};
 use wq_groups::LaneId;
 use wq_items::ItemId;
 use wq_rows::{Event, ROW_LEN, Row, unpack};
-
-/// Whether there is such an item.
-fn is_item<A: Allocator>(core: &Core<A>, item: ItemId) -> bool
-    ensures { IsTrue result ↔ (item < items core.now.wiring) }
-{
-    usize::from(item.get()) < core.items()
-}
-
-/// Whether there is such a lane.
-fn is_lane<A: Allocator>(core: &Core<A>, q: LaneId) -> bool
-    ensures { IsTrue result ↔ (q < core.now.wiring.lanes) }
-{
-    usize::from(q.get()) < core.lanes()
-}
 
 /// Whether a step is lawful and gives this number.
 #[inline(always)]
@@ -85,20 +69,19 @@ fn may_wait_all<A: Allocator>(
 /// Whether a step of a helper may come next, with this answer and this number.
 fn may_help<A: Allocator>(
     core: &Core<A>,
-    q: LaneId,
-    helper: u8,
+    helper: Context,
     deed: &HelpStep,
     yes: bool,
     number: u32,
 ) -> bool
     requires { core.now.state.next < 4294967295 }
     ensures { IsTrue result ↔ (Says core.now.wiring core.now.state deed.now yes
-        × Makes core.now.wiring core.now.state (Help q helper deed.now) number) }
+        × Makes core.now.wiring core.now.state (Help helper.lane helper.number deed.now) number) }
 {
     if usize::from(deed.item().get()) >= core.items() {
         return false;
     }
-    says(core, deed, yes) && makes(core, &Step::Help(q, helper, *deed), number)
+    says(core, deed, yes) && makes(core, &Step::Help(helper.lane, helper.number, *deed), number)
 }
 
 /// Whether a row may come next, where this many asks about its item or its lane are waiting.
@@ -140,7 +123,9 @@ fn may_come<A: Allocator>(core: &Core<A>, waiting: u32, row: &Row) -> bool
             is_lane(core, q) && is_busy(core, q) == yes && number == core.next_number()
         }
         Event::ToldLane(q) => yes && waiting > 0 && !core.lane_unfinished_below(q, number),
-        Event::Help(q, helper, deed) => may_help(core, q, helper, &deed, yes, number),
+        Event::Help(lane, h, deed) => {
+            may_help(core, Context { lane, number: h }, &deed, yes, number)
+        }
     }
 }
 
@@ -176,30 +161,6 @@ fn make<A: Allocator>(core: &mut Core<A>, step: Option<Step>)
     if let Some(step) = step {
         let made = core.step(step);
         prove!(made.is_ok());
-    }
-}
-
-/// Counts the ask that waits from this event on, or that is told by it.
-fn count<A: Allocator>(asks: &mut AskCounts<A>, event: &Event, yes: bool)
-    requires place { (x : SubjectValue) → event.now ≡ ask_event x → ask_place x < length asks.old.counts }
-    requires some { (x : SubjectValue) → event.now ≡ told_event x → 0 < slice_index asks.old.counts (ask_place x) }
-    requires few { asks.old.all < 4294967295 }
-    ensures { asks.new ≡ counted asks.old event.now yes }
-{
-    match *event {
-        Event::Ask(item) => {
-            if yes {
-                asks.add(Subject::Item(item));
-            }
-        }
-        Event::AskLane(q) => {
-            if yes {
-                asks.add(Subject::Lane(q));
-            }
-        }
-        Event::Told(item) => asks.take_off(Subject::Item(item)),
-        Event::ToldLane(q) => asks.take_off(Subject::Lane(q)),
-        _ => {}
     }
 }
 
@@ -247,7 +208,7 @@ pub fn check_rows<A: Allocator + Copy>(
             });
         }
         make(core, step_of(&row.event, row.yes));
-        count(&mut asks, &row.event, row.yes);
+        asks.count(&row.event, row.yes);
         left = after;
         rows = at;
     }

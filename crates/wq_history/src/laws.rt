@@ -158,18 +158,18 @@ pub fn an_early_call_sleeps_among_its_own()
 pub fn what_is_answered_exists()
     ensures started { (old new : BookView) (c : Context) (row : Row) → IsBook old →
         Replies old (Start c) (Wrote row) new →
-        HasContext old.wiring c.lane c.helper
+        HasContext old.wiring c.lane c.number
         × (item_in row.event < items old.wiring)
         × (lane_of old.wiring (item_in row.event) ≡ c.lane) }
     ensures waits { (old new : BookView) (c : Context) (f : Flush) (row : Row) → IsBook old →
         Replies old (Wait c f) (Wrote row) new →
-        HasContext old.wiring c.lane c.helper × (f.target < items old.wiring) }
+        HasContext old.wiring c.lane c.number × (f.target < items old.wiring) }
     ensures over { (old new : BookView) (c : Context) (f : Flush) (row : Row) → IsBook old →
         Replies old (Over c f) (Wrote row) new →
-        HasContext old.wiring c.lane c.helper × (f.target < items old.wiring) }
+        HasContext old.wiring c.lane c.number × (f.target < items old.wiring) }
     ensures finished { (old new : BookView) (c : Context) (i : ℕ) (row : Row) → IsBook old →
         Replies old (Finish c i) (Wrote row) new →
-        HasContext old.wiring c.lane c.helper × (i < items old.wiring) × (lane_of old.wiring i ≡ c.lane) }
+        HasContext old.wiring c.lane c.number × (i < items old.wiring) × (lane_of old.wiring i ≡ c.lane) }
 {}
 
 /// An ask takes two of the free rows, at most.

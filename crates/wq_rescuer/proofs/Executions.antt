@@ -11,7 +11,10 @@ use Rattle.wq_counts.specs.Counting.{counts_each, place, HasCountsOf, raised}
 use Rattle.wq_counts.proofs.Places.{place-same, made-raised_same, made-raised_other}
 use Rattle.wq_core.specs.Wiring.{Wiring, HasContext}
 use Rattle.wq_held.specs.Locked.{IsOnLane, seat_rows}
-use Rattle.wq_rescuer.specs.Executing.{NeverRan, RanOnce, RanOnly, finished_of, finished_in_all, faults_of, SameFinished, CountsRuns, Execution, AreExecuted, HasExecuted, HasLeftOne, HasStopped, Executes, RefusesRescue, RefusesServe, RefusesHelper}
+use Rattle.wq_rescuer.specs.Executing.{NeverRan, RanOnce, RanOnly, finished_of, finished_in_all, faults_of}
+use Rattle.wq_rescuer.specs.Executing.{SameFinished, CountsRuns, Execution, AreExecuted, HasExecuted, HasLeftOne}
+use Rattle.wq_rescuer.specs.Executing.{HasStopped, HasEnded, HasCeased, Executes, RefusesRescue, RefusesServe}
+use Rattle.wq_rescuer.specs.Executing.{RefusesHelper, WasDrivenIn}
 use Rattle.wq_history.specs.declared.fault.CallError.{CallError}
 use Rattle.wq_history.specs.declared.fault.CallError.TheVariants.{WrongLane}
 use Rattle.wq_api.specs.WaitingCalls.{IsHelper}
@@ -195,6 +198,22 @@ pub executes : (may : ℕ → Result (Unit {0}) BodyFault → List ℕ → List 
 executes may none old new (Ok rescued) is executed stopped =
     subst (λ (c : List ℕ). HasExecuted may c new rescued.finished rescued.faults) is executed
 executes may none old new (Err e) is executed stopped = subst (λ (c : List ℕ). HasStopped may c new) is stopped
+
+-- why it stopped, by its answer
+pub has_ceased : (w : Wiring) (rows q c : ℕ) (may : ℕ → Result (Unit {0}) BodyFault → List ℕ → List ℕ → Type 0)
+    (none old new : List ℕ) (r : Result Rescued CallError) → old ≡ none → OnOk r (HasEnded w rows q c)
+    → (HasContext w q c → IfErr r (λ e. e ≡ WrongLane → WasDrivenIn w rows q c may old new))
+    → HasCeased w rows q c may none new r
+has_ceased w rows q c may none old new (Ok rescued) is ended cause = ended
+has_ceased w rows q c may none old new (Err e) is ended cause = λ there wrong.
+    subst (λ (counts : List ℕ). WasDrivenIn w rows q c may counts new) is (cause there wrong)
+
+-- if it wasn't refused, its lane had ended
+pub has_ended : (w : Wiring) (rows q c : ℕ) (may : ℕ → Result (Unit {0}) BodyFault → List ℕ → List ℕ → Type 0)
+    (old new : List ℕ) (r : Result Rescued CallError) → HasCeased w rows q c may old new r
+    → OnOk r (HasEnded w rows q c)
+has_ended w rows q c may old new (Ok rescued) ceased = ceased
+has_ended w rows q c may old new (Err e) ceased = tt
 
 -- what is started is on the lane
 pub on_lane_of_next : (w : Wiring) (q i : ℕ) (next : Option ℕ) → IfSome next (λ item. IsOnLane w q item) → next ≡ Some i → IsOnLane w q i

@@ -34,7 +34,8 @@ none_in_all a n (suc items) = omega (arith, sum_by-cons (finished_of (replicate 
 pub is_served : (w : Wiring) (context : Context) (n : ℕ) (before counts : List ℕ) (runs : ℕ → ℕ) (answer : Result Rescued CallError) → before ≡ replicate n 0
     → RanOnly w context.lane runs
     → OnOk answer (CountsRuns before counts runs) → IfOk answer (λ r. finished_in_all (items w) before + r.finished ≡ finished_in_all (items w) counts)
-    → IfOk answer (λ r. r.faults ≤ r.finished) → IfErr answer (λ e. RefusesServe w context.lane context.helper counts e) → OnErr answer (CountsAtMost before counts runs)
+    → IfOk answer (λ r. r.faults ≤ r.finished) → IfErr answer
+    (λ e. RefusesServe w context.lane context.number counts e) → OnErr answer (CountsAtMost before counts runs)
     → IsServed w context counts runs answer
 is_served w context n before counts runs answer none own all in_all few why most =
     from_none w context n counts runs answer own (subst (λ (b : List ℕ). OnOk answer (CountsRuns b counts runs)) none all)
@@ -43,7 +44,9 @@ is_served w context n before counts runs answer none own all in_all few why most
   where
     from_none : (w : Wiring) (context : Context) (n : ℕ) (counts : List ℕ) (runs : ℕ → ℕ) (answer : Result Rescued CallError) → RanOnly w context.lane runs
         → OnOk answer (CountsRuns (replicate n 0) counts runs) → IfOk answer (λ r. finished_in_all (items w) (replicate n 0) + r.finished ≡ finished_in_all (items w) counts)
-        → IfOk answer (λ r. r.faults ≤ r.finished) → IfErr answer (λ e. RefusesServe w context.lane context.helper counts e) → OnErr answer (CountsAtMost (replicate n 0) counts runs)
+        → IfOk answer (λ r. r.faults ≤ r.finished) → IfErr answer
+        (λ e. RefusesServe w context.lane context.number counts e) → OnErr answer
+        (CountsAtMost (replicate n 0) counts runs)
         → IsServed w context counts runs answer
     from_none w context n counts runs (Ok r) own all in_all few why most = record {
       own = own;
@@ -55,8 +58,11 @@ is_served w context n before counts runs answer none own all in_all few why most
     from_none w context n counts runs (Err e) own all in_all few why most = record {
       own = own;
       counts = λ x is. (let wrong : true ≡ false = ap is_err is in cc);
-      refused = λ f is. let same : e ≡ f = cc in
-          (subst (λ (y : CallError). RefusesServe w context.lane context.helper counts y) same why, λ i. omega (arith, (most i).1, none_finished n i));
+      refused = λ f is. let same : e ≡ f = cc in (
+        subst (λ (y : CallError). RefusesServe w context.lane context.number counts y) same why,
+        λ i. omega
+            (arith, (most i).1, none_finished n i),
+      );
     }
 
 -- ---- all contexts

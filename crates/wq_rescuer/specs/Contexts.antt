@@ -6,7 +6,7 @@ use Rattle.wq_core.specs.Wiring.{Wiring, helpers_of}
 
 -- this context of lane q
 abbrev pub context_at : ℕ → ℕ → Context
-context_at q c = record { lane = q; helper = c }
+context_at q c = record { lane = q; number = c }
 
 -- the contexts of lane q: its rescuer, which is context 0, and then its helpers, numbered from 1
 abbrev pub contexts_on : Wiring → ℕ → List Context

@@ -5,12 +5,15 @@ use Rattle.std.specs.List.{sum_by, range_with_len}
 use Rattle.wq_core.specs.Wiring.{Wiring, items, HasContext}
 use Rattle.wq_counts.specs.declared.kind.Kind.TheVariants.{Finish}
 use Rattle.wq_counts.specs.Counting.{counts_each, made, raised}
+use Rattle.wq_history.specs.declared.call.Call.TheVariants.{Start}
+use Rattle.wq_history.specs.declared.call.Reply.TheVariants.{Done}
 use Rattle.wq_history.specs.declared.fault.CallError.{CallError}
-use Rattle.wq_history.specs.declared.fault.CallError.TheVariants.{HistoryFull, Closed, NoItem}
+use Rattle.wq_history.specs.declared.fault.CallError.TheVariants.{HistoryFull, Closed, WrongLane, NoItem}
 use Rattle.wq_history.specs.Errors.{call_code}
 use Rattle.wq_held.specs.Locked.{IsOnLane, SeatHasRoom, seat_rows, slots}
 use Rattle.wq_api.specs.WaitingCalls.{IsHelper}
 use Rattle.wq_api.specs.Locking.{WasWrongToStartIn}
+use Rattle.wq_api.specs.Taking.{context_of, IsAnswered}
 use Rattle.wq_rescuer.specs.declared.body.BodyFault.{BodyFault}
 use Rattle.wq_rescuer.specs.declared.rescuing.Rescued.{Rescued}
 
@@ -113,6 +116,10 @@ abbrev pub Executes : (ℕ → Result (Unit {0}) BodyFault → List ℕ → List
 Executes may old new (Ok rescued) = HasExecuted may old new rescued.finished rescued.faults
 Executes may old new (Err e) = HasStopped may old new
 
+-- context c of lane q was given nothing to start, by a book that the lock may protect: its lane had ended
+abbrev pub HasEnded : Wiring → ℕ → ℕ → ℕ → Type 0
+HasEnded w rows q c = IsAnswered w rows (Start (context_of q c)) (Ok Done)
+
 -- ---- refusals
 
 -- a body that queues item i, through a seat with these counts: no such item; the
@@ -144,3 +151,11 @@ abbrev pub WasDrivenIn : Wiring → ℕ → ℕ → ℕ → (ℕ → Result (Uni
     → List ℕ
     → Type 0
 WasDrivenIn w rows q c may old new = WasWrongToStartIn w rows q c ⊎ HasLeftOne may old new
+
+-- why context c of lane q stopped, by its answer, if it executed so: it was given nothing to start; or it was refused,
+-- and if by 64, then it isn't there, or was driven by another caller
+abbrev pub HasCeased : Wiring → ℕ → ℕ → ℕ → (ℕ → Result (Unit {0}) BodyFault → List ℕ → List ℕ → Type 0) → List ℕ
+    → List ℕ → Result Rescued CallError
+    → Type 0
+HasCeased w rows q c may old new (Ok rescued) = HasEnded w rows q c
+HasCeased w rows q c may old new (Err e) = HasContext w q c → e ≡ WrongLane → WasDrivenIn w rows q c may old new

@@ -7,6 +7,8 @@ use Rattle.wq_core.specs.declared.step.Context.{Context}
 use Rattle.wq_core.specs.Wiring.{Wiring, items}
 use Rattle.wq_counts.specs.Counting.{counts_each}
 use Rattle.wq_history.specs.declared.fault.CallError.{CallError}
+use Rattle.wq_held.specs.declared.fault.SeatError.TheVariants.{TooManySeats as NoSeatLeft}
+use Rattle.wq_api.specs.Taking.{IsSeated}
 use Rattle.wq_rescuer.specs.declared.rescuing.Rescued.{Rescued}
 use Rattle.wq_rescuer.specs.declared.running.RunWhy.{RunWhy}
 use Rattle.wq_rescuer.specs.declared.running.RunWhy.TheVariants.{BodiesDiffer, TooManySeats, OutOfMemory, NoThread}
@@ -22,7 +24,7 @@ pub record IsServed (w : Wiring) (context : Context) (seat : List ℕ) (runs : �
   pub counts : ForOk answer (λ (rescued : Rescued). ((i : ℕ) → finished_of seat i ≡ runs i)
       × (rescued.finished ≡ finished_in_all (items w) seat)
       × (rescued.faults ≤ rescued.finished))
-  pub refused : ForErr answer (λ (e : CallError). RefusesServe w context.lane context.helper seat e
+  pub refused : ForErr answer (λ (e : CallError). RefusesServe w context.lane context.number seat e
       × ((i : ℕ) → finished_of seat i ≤ runs i))
 
 -- how many executions a context finished, if it wasn't refused
@@ -113,6 +115,11 @@ abbrev pub IsNoSeat : RunWhy → Type 0
 IsNoSeat TooManySeats = Unit {0}
 IsNoSeat OutOfMemory = Unit {0}
 IsNoSeat _ = ⊥
+
+-- if seats were lacking (70), then one was refused so, by something that the lock may protect
+abbrev pub WasRefusedASeat : Wiring → ℕ → RunWhy → Type 0
+WasRefusedASeat w rows TooManySeats = IsSeated w rows (Err NoSeatLeft)
+WasRefusedASeat w rows _ = Unit {0}
 
 -- no thread was started
 abbrev pub IsUnstarted : RunWhy → Type 0

@@ -5,7 +5,7 @@
 
 ghost use Rattle.std.specs.Prelude.{◌≡◌, ◌≤◌};
 ghost use Rattle.wq_core.specs.Wiring.{items};
-ghost use Rattle.wq_rescuer.specs.Executing.{Executes, NeverRan, no_counts};
+ghost use Rattle.wq_rescuer.specs.Executing.{Executes, HasCeased, NeverRan, no_counts};
 ghost use Rattle.wq_rescuer.specs.Serving.{IsServed};
 
 use crate::body::Body;
@@ -38,8 +38,8 @@ pub(crate) struct ContextEnd<N: Naming, A: Allocator, B: Body + Drop> {
     ghost served: { IsServed N.wiring context seat (B.runs body) rescued },
 }
 
-/// What is promised of the end of a context: that it is the end of this one, and what it executed, by what this body
-/// may do.
+/// What is promised of the end of a context: that it is the end of this one; what it executed, by what this body may
+/// do; and why it stopped.
 #[derive(Drop)]
 pub(crate) struct EndOfContext<B: Body + Drop> {
     pub(crate) context: Context,
@@ -48,10 +48,12 @@ pub(crate) struct EndOfContext<B: Body + Drop> {
 
 impl<N: Naming, A: Allocator, B: Body + Drop> Promise<ContextEnd<N, A, B>> for EndOfContext<B> {
     ghost use Rattle.std.specs.Prelude.{◌≡◌};
-    ghost use Rattle.wq_rescuer.specs.Executing.{Executes, no_counts};
+    ghost use Rattle.wq_rescuer.specs.Executing.{Executes, HasCeased, no_counts};
 
     ghost kept_by = { λ p end. (end.context ≡ p.context)
-        × Executes (B.may N.wiring p.body.value) (no_counts N.wiring) end.seat end.rescued };
+        × Executes (B.may N.wiring p.body.value) (no_counts N.wiring) end.seat end.rescued
+        × HasCeased N.wiring N.rows p.context.lane p.context.number (B.may N.wiring p.body.value) (no_counts N.wiring)
+        end.seat end.rescued };
 }
 
 impl<N: Naming, A: Allocator, B: Body + Drop> ContextJob<N, A, B> {
@@ -74,6 +76,8 @@ impl<N: Naming, A: Allocator, B: Body + Drop> ContextJob<N, A, B> {
     pub(crate) fn serve<R: Wait>(self, rt: &R, runtime: &WqRuntime<N, A>) -> ContextEnd<N, A, B>
         ensures context { result.context ≡ self.context }
         ensures executed { Executes (B.may N.wiring self.body) (no_counts N.wiring) result.seat result.rescued }
+        ensures ceased { HasCeased N.wiring N.rows self.context.lane self.context.number (B.may N.wiring self.body)
+            (no_counts N.wiring) result.seat result.rescued }
     {
         let ContextJob {
             context,
@@ -84,7 +88,7 @@ impl<N: Naming, A: Allocator, B: Body + Drop> ContextJob<N, A, B> {
             rt,
             runtime,
             context.lane,
-            context.helper,
+            context.number,
             &mut seat,
             &mut body,
         );

@@ -33,11 +33,11 @@ fn add_contexts_on<A: Allocator>(
     ensures { OnOk result (contexts.new.items
         ≡ contexts.old.items ++ (context_at lane 0 ∷ map (context_at lane) (range_with_len 1 helpers))) }
 {
-    contexts.push(Context { lane, helper: 0 })?;
+    contexts.push(Context { lane, number: 0 })?;
     for h in 0..helpers {
         contexts.push(Context {
             lane,
-            helper: h + 1,
+            number: h + 1,
         })?;
     }
     Ok(())

@@ -12,8 +12,8 @@ ghost use Rattle.wq_held.specs.Locked.{IsOnLane};
 ghost use Rattle.wq_api.specs.WaitingCalls.{IsHelper};
 ghost use Rattle.wq_rescuer.specs.declared.body.BodyFault.{BodyFault as Fault};
 ghost use Rattle.wq_rescuer.specs.Executing.{NeverRan, RanOnce, RanOnly, SameFinished, CountsRuns, CountsAtMost};
-ghost use Rattle.wq_rescuer.specs.Executing.{HasExecuted, HasStopped, finished_in_all, faults_of, RefusesRescue};
-ghost use Rattle.wq_rescuer.specs.Executing.{RefusesServe, RefusesHelper, WasDrivenIn};
+ghost use Rattle.wq_rescuer.specs.Executing.{HasExecuted, HasStopped, HasEnded, finished_in_all, faults_of};
+ghost use Rattle.wq_rescuer.specs.Executing.{RefusesRescue, RefusesServe, RefusesHelper, WasDrivenIn};
 
 use crate::body::{Body, BodyFault};
 use crate::work::Work;
@@ -104,6 +104,7 @@ pub fn serve<N: Naming, A: Allocator, R: Wait, B: Body>(
     ensures cause { HasContext N.wiring q helper → IfErr result (λ e. e ≡ WrongLane
         → WasDrivenIn N.wiring N.rows q helper (B.may N.wiring body.old) seat.old seat.new) }
     ensures refused { OnErr result (CountsAtMost seat.old seat.new (B.runs body.new)) }
+    ensures ended { OnOk result (HasEnded N.wiring N.rows q helper) }
     ensures executed { IfOk result (λ r. HasExecuted (B.may N.wiring body.old) seat.old seat.new r.finished r.faults) }
     ensures stopped { OnErr result (HasStopped (B.may N.wiring body.old) seat.old seat.new) }
 {
@@ -156,6 +157,7 @@ pub fn rescue<N: Naming, A: Allocator, R: Wait, B: Body>(
     ensures cause { q < N.wiring.lanes → IfErr result (λ e. e ≡ WrongLane
         → WasDrivenIn N.wiring N.rows q 0 (B.may N.wiring body.old) seat.old seat.new) }
     ensures refused { OnErr result (CountsAtMost seat.old seat.new (B.runs body.new)) }
+    ensures ended { OnOk result (HasEnded N.wiring N.rows q 0) }
     ensures executed { IfOk result (λ r. HasExecuted (B.may N.wiring body.old) seat.old seat.new r.finished r.faults) }
     ensures stopped { OnErr result (HasStopped (B.may N.wiring body.old) seat.old seat.new) }
 {
@@ -189,6 +191,7 @@ pub fn help<N: Naming, A: Allocator, R: Wait, B: Body>(
     ensures cause { IsHelper N.wiring q h → IfErr result (λ e. e ≡ WrongLane
         → WasDrivenIn N.wiring N.rows q h (B.may N.wiring body.old) seat.old seat.new) }
     ensures refused { OnErr result (CountsAtMost seat.old seat.new (B.runs body.new)) }
+    ensures ended { OnOk result (HasEnded N.wiring N.rows q h) }
     ensures executed { IfOk result (λ r. HasExecuted (B.may N.wiring body.old) seat.old seat.new r.finished r.faults) }
     ensures stopped { OnErr result (HasStopped (B.may N.wiring body.old) seat.old seat.new) }
 {

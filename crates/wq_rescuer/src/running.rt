@@ -4,14 +4,14 @@
 //! All memory is taken, and all seats are made, before any thread starts.
 
 ghost use Rattle.std.specs.Prelude.{◌≡◌, ◌≢◌, ℕ, ◌+◌, ◌<◌, ◌≤◌, [], length, map, reverse, take, drop, vec_len};
-ghost use Rattle.std.specs.Prelude.{vec_capacity, IfOk, IfErr};
+ghost use Rattle.std.specs.Prelude.{vec_capacity, IfOk, IfErr, OnOk};
 ghost use Rattle.std.specs.List.{All};
 ghost use Rattle.wq_core.specs.Wiring.{items};
 ghost use Rattle.wq_held.specs.Locked.{slots};
-ghost use Rattle.wq_rescuer.specs.Executing.{NeverRan, Executes, no_counts};
+ghost use Rattle.wq_rescuer.specs.Executing.{NeverRan, Executes, HasEnded, no_counts};
 ghost use Rattle.wq_rescuer.specs.Contexts.{contexts_of};
 ghost use Rattle.wq_rescuer.specs.Serving.{AreFirstSeats, HasRoomFor, HaveCalled, HaveServed, IsNoSeat, IsOneLost};
-ghost use Rattle.wq_rescuer.specs.Serving.{IsRan, RefusesRun, run_code};
+ghost use Rattle.wq_rescuer.specs.Serving.{IsRan, RefusesRun, WasRefusedASeat, run_code};
 ghost use Rattle.wq_rescuer.specs.declared.running.RunWhy.TheVariants.{BodiesDiffer, OutOfMemory, NoThread};
 
 use crate::board::{Unstarted, add_callers, add_contexts};
@@ -183,10 +183,14 @@ pub fn run_all<
     ensures served { IfOk result (λ r. HaveServed
         (λ body seat answer. Executes (B.may N.wiring body) (no_counts N.wiring) seat answer) bodies.items
         (take (length (contexts_of N.wiring)) r.seats.items) r.rescued.items) }
+    ensures ended { IfOk result (λ r. HaveServed
+        (λ context seat answer. OnOk answer (HasEnded N.wiring N.rows context.lane context.number))
+        (contexts_of N.wiring) (take (length (contexts_of N.wiring)) r.seats.items) r.rescued.items) }
     ensures called { IfOk result (λ r. HaveCalled
         (λ before after answer seat. C.did N.wiring before after answer (no_counts N.wiring) seat) callers.items
         r.callers.items r.results.items (drop (length (contexts_of N.wiring)) r.seats.items)) }
     ensures refused { IfErr result (λ f. RefusesRun (length (contexts_of N.wiring)) (vec_len bodies) f.why) }
+    ensures cause { IfErr result (λ f. WasRefusedASeat N.wiring N.rows f.why) }
     ensures no_seats { IfErr result (λ f. f.why ≡ BodiesDiffer → f.seats.items ≡ []) }
     ensures made { IfErr result (λ f. IsNoSeat f.why
         → AreFirstSeats (slots N.wiring) (vec_len bodies + vec_len callers) f.seats.items) }

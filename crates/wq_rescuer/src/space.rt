@@ -11,6 +11,7 @@ ghost use Rattle.wq_counts.specs.Counting.{counts_each};
 ghost use Rattle.wq_held.specs.Locked.{slots};
 ghost use Rattle.wq_rescuer.specs.Contexts.{contexts_of};
 ghost use Rattle.wq_rescuer.specs.Serving.{AreFirstSeats, HasRoomFor, IsNoSeat, IsUnstarted, RefusesRun};
+ghost use Rattle.wq_rescuer.specs.Serving.{WasRefusedASeat};
 ghost use Rattle.wq_rescuer.specs.declared.running.RunWhy.TheVariants.{BodiesDiffer, OutOfMemory};
 
 use crate::board::Board;
@@ -88,6 +89,7 @@ fn make_seats<N: Naming, A: Allocator + Copy, R: Wait>(
     ensures all { OnOk result (vec_len seats.new ≡ wanted) }
     ensures few { OnErr result (vec_len seats.new < wanted) }
     ensures refused { IfErr result (λ why. IsNoSeat why) }
+    ensures cause { IfErr result (λ why. WasRefusedASeat N.wiring N.rows why) }
 {
     for _ in 0..wanted {
         match runtime.seat(rt, alloc) {
@@ -150,6 +152,7 @@ pub(crate) fn reserve<N: Naming, A: Allocator + Copy, R: Wait, B: Body + Drop, C
         × All (λ seat. seat ≡ replicate (counts_each * slots N.wiring) 0) r.seats.items) }
     ensures refused { IfErr result (λ e. RefusesRun (length (contexts_of N.wiring)) bodies e.why) }
     ensures unstarted { IfErr result (λ e. IsUnstarted e.why) }
+    ensures cause { IfErr result (λ e. WasRefusedASeat N.wiring N.rows e.why) }
     ensures no_seats { IfErr result (λ e. e.why ≡ BodiesDiffer → e.seats.items ≡ []) }
     ensures made { IfErr result (λ e. IsNoSeat e.why
         → AreFirstSeats (slots N.wiring) (bodies + callers) e.seats.items) }

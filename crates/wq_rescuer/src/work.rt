@@ -45,13 +45,16 @@ impl<'a, N: Naming, A: Allocator> Work<'a, N, A> {
         ensures same_seat { result.seat.ghost_name ≡ seat.entry.ghost_name }
         ensures counts { result.seat.now ≡ seat.old }
         ensures lane { result.context.lane ≡ q }
-        ensures helper { result.context.helper ≡ helper }
+        ensures helper { result.context.number ≡ helper }
         ensures item { result.item ≡ item }
     {
         Work {
             runtime,
             seat,
-            context: Context { lane: q, helper },
+            context: Context {
+                lane: q,
+                number: helper,
+            },
             item,
             flushed: Ok(false),
         }
@@ -121,18 +124,18 @@ impl<'a, N: Naming, A: Allocator> Work<'a, N, A> {
     /// declares, of both kinds. Then nothing is changed or counted. `WrongLane` (64) comes only where another caller
     /// drives the same context. If that happens during the wait, the wait stays counted.
     pub fn flush<R: Wait>(&mut self, rt: &R, target: ItemId) -> Result<bool, CallError>
-        ensures counted { IfOk result (λ unfinished. HasContext N.wiring self.old.context.lane self.old.context.helper
+        ensures counted { IfOk result (λ unfinished. HasContext N.wiring self.old.context.lane self.old.context.number
             × (target < items N.wiring)
             × SeatHasRoom self.old.seat.now
             × (self.new.seat.now ≡ waited_for self.old.seat.now false target unfinished)) }
         ensures refused { IfErr result (λ e.
-            RefusesWaitIn N.wiring self.old.seat.now self.old.context.lane self.old.context.helper e
-            × RefusedWaitIn N.wiring self.old.seat.now self.new.seat.now self.old.context.lane self.old.context.helper
+            RefusesWaitIn N.wiring self.old.seat.now self.old.context.lane self.old.context.number e
+            × RefusedWaitIn N.wiring self.old.seat.now self.new.seat.now self.old.context.lane self.old.context.number
             false target e) }
-        ensures waiter { HasContext N.wiring self.old.context.lane self.old.context.helper
+        ensures waiter { HasContext N.wiring self.old.context.lane self.old.context.number
             → SeatHasRoom self.old.seat.now → HasWaiter N.wiring self.old.context.lane false target result }
         ensures took { Waits N.wiring N.rows self.old.seat.now
-            (context_of self.old.context.lane self.old.context.helper)
+            (context_of self.old.context.lane self.old.context.number)
             (flush_of false target) result self.new.seat.now }
         ensures finished { SameFinished self.old.seat.now self.new.seat.now }
         ensures same_seat { self.new.seat.ghost_name ≡ self.old.seat.ghost_name }
@@ -141,7 +144,7 @@ impl<'a, N: Naming, A: Allocator> Work<'a, N, A> {
         ensures flushed { self.new.flushed ≡ result }
     {
         let q = self.context.lane;
-        let helper = self.context.helper;
+        let helper = self.context.number;
         self.flushed = self.runtime.wait_for_in(rt, self.seat, q, helper, target);
         self.flushed
     }
@@ -155,18 +158,18 @@ impl<'a, N: Naming, A: Allocator> Work<'a, N, A> {
     /// kinds. Then nothing is changed or counted. `WrongLane` (64) comes only where another caller
     /// drives the same context as this body. If that happens during the wait, the wait stays counted.
     pub fn flush_wq<R: Wait>(&mut self, rt: &R, target: ItemId) -> Result<bool, CallError>
-        ensures counted { IfOk result (λ unfinished. HasContext N.wiring self.old.context.lane self.old.context.helper
+        ensures counted { IfOk result (λ unfinished. HasContext N.wiring self.old.context.lane self.old.context.number
             × (target < items N.wiring)
             × SeatHasRoom self.old.seat.now
             × (self.new.seat.now ≡ waited_for self.old.seat.now true target unfinished)) }
         ensures refused { IfErr result (λ e.
-            RefusesWaitIn N.wiring self.old.seat.now self.old.context.lane self.old.context.helper e
-            × RefusedWaitIn N.wiring self.old.seat.now self.new.seat.now self.old.context.lane self.old.context.helper
+            RefusesWaitIn N.wiring self.old.seat.now self.old.context.lane self.old.context.number e
+            × RefusedWaitIn N.wiring self.old.seat.now self.new.seat.now self.old.context.lane self.old.context.number
             true target e) }
-        ensures waiter { HasContext N.wiring self.old.context.lane self.old.context.helper
+        ensures waiter { HasContext N.wiring self.old.context.lane self.old.context.number
             → SeatHasRoom self.old.seat.now → HasWaiter N.wiring self.old.context.lane true target result }
         ensures took { Waits N.wiring N.rows self.old.seat.now
-            (context_of self.old.context.lane self.old.context.helper) (flush_of true target) result self.new.seat.now }
+            (context_of self.old.context.lane self.old.context.number) (flush_of true target) result self.new.seat.now }
         ensures finished { SameFinished self.old.seat.now self.new.seat.now }
         ensures same_seat { self.new.seat.ghost_name ≡ self.old.seat.ghost_name }
         ensures context { self.new.context ≡ self.old.context }
@@ -174,7 +177,7 @@ impl<'a, N: Naming, A: Allocator> Work<'a, N, A> {
         ensures flushed { self.new.flushed ≡ result }
     {
         let q = self.context.lane;
-        let helper = self.context.helper;
+        let helper = self.context.number;
         self.flushed = self
             .runtime
             .wait_all_for_in(rt, self.seat, q, helper, target);

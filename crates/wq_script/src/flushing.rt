@@ -69,8 +69,8 @@ fn flush_target<N: Naming, S: Allocator, R: Wait>(
     ensures counted { IfOk result (λ unfinished. (target.now.item < items N.wiring)
         × (work.new.seat.now ≡ waited_for work.old.seat.now target.now.whole target.now.item unfinished)) }
     ensures refused { IfErr result (λ e.
-        RefusesWaitIn N.wiring work.old.seat.now work.old.context.lane work.old.context.helper e
-        × RefusedWaitIn N.wiring work.old.seat.now work.new.seat.now work.old.context.lane work.old.context.helper
+        RefusesWaitIn N.wiring work.old.seat.now work.old.context.lane work.old.context.number e
+        × RefusedWaitIn N.wiring work.old.seat.now work.new.seat.now work.old.context.lane work.old.context.number
         target.now.whole target.now.item e) }
     ensures finished { SameFinished work.old.seat.now work.new.seat.now }
     ensures same_seat { work.new.seat.ghost_name ≡ work.old.seat.ghost_name }

@@ -40,11 +40,11 @@ fn put_running(
     context: &Context,
 ) -> Result<(), AllocError> {
     out.push_str(" runs ")?;
-    let running = core.running_in(context.lane, context.helper);
+    let running = core.running_in(*context);
     put_item_or_none(out, table, running.map(|r| r.entry.item))?;
     out.push_str(" waits ")?;
     let (target, whole) = match core
-        .running_in(context.lane, context.helper)
+        .running_in(*context)
         .and_then(|r| r.waiting)
     {
         None => (None, None),
@@ -85,7 +85,7 @@ fn put_helpers(
     for h in 0..helpers {
         let context = Context {
             lane,
-            helper: h + 1,
+            number: h + 1,
         };
         put_context(out, &context)?;
         put_running(out, table, core, &context)?;

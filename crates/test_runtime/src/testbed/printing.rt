@@ -40,10 +40,10 @@ pub fn put_done(out: &mut String, done: Result<(), CallError>) -> Result<(), All
 /// Adds which context it is: a lane's rescuer, or one of its helpers.
 pub fn put_context(out: &mut String, context: &Context) -> Result<(), AllocError> {
     write!(out, "lane {}", context.lane.get())?;
-    if context.helper == 0 {
+    if context.number == 0 {
         return Ok(());
     }
-    write!(out, " helper {}", context.helper)
+    write!(out, " helper {}", context.number)
 }
 
 /// Adds the name of an item, or `-` where it has none.

@@ -38,6 +38,3 @@ pub returns-clause-total : goal.returns-clause-total
 returns-clause-total g c =
     total-gathered (slots g.N.Naming.wiring) g.N.Ledger.parts c.args.ledger.now.total c.args.seats.items c.loop-seat.seats.items c.loop-seat.sums
     c.loop-seat.rest.parts c.loop-seat.rest.amount (vec_len c.loop-seat.seats) c.loop-seat.ledger.total c.loop-seat.invariant c.in_default.ensures.cases.0 c.audit-2.ensures.whole
-
-pub returns-clause-ledger : goal.returns-clause-ledger
-returns-clause-ledger g c = c.audit-2.ensures.total ∙ c.loop-seat.invariant.total_is

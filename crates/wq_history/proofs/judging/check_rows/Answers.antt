@@ -9,7 +9,10 @@ use Rattle.wq_history.specs.declared.asking.Subject.{Subject}
 use Rattle.wq_history.specs.Events.{step_of}
 use Rattle.wq_history.specs.Counts.{AskView, ask_place}
 use Rattle.wq_history.specs.Judging.{stepped}
-use Rattle.wq_history.proofs.Judged.{JudgedSoFar, judged-length, judged-first, judged-next, judged-all, bad-row, cut-off, not-legal, step-lawful, few_asks, ask-counted, told-counted}
+use Rattle.wq_history.proofs.Histories.{step-lawful}
+use Rattle.wq_history.proofs.Judged.{JudgedSoFar, judged-length, judged-first, judged-next, judged-all, bad-row}
+use Rattle.wq_history.proofs.Judged.{cut-off, not-legal, MayFollow-here, few_asks, ask-counted}
+use Rattle.wq_history.proofs.Judged.{told-counted}
 use Rattle.wq_history.proofs.judging.check_rows.Goals as goal
 
 pub loop-bytes-init : goal.loop-bytes-init
@@ -38,7 +41,8 @@ pub returns-then-not-may_come-clause-refused : goal.returns-then-not-may_come-cl
 returns-then-not-may_come-clause-refused g c =
     let l = c.loop-bytes in
     not-legal c.args.core.now c.args.packed.now l.left.now c.in-Some.bytes.now c.in-Some.after.now l.core l.asks l.rows c.of-waiting.result c.in-Some-unpack.row l.invariant
-    c.in-Some.ensures.cases c.in-Some-unpack.ensures.some (c.of-waiting.ensures.count ∙ ap (λ (x : Subject). get_or l.asks.counts (ask_place x) 0) c.of-subject.ensures)
+    c.in-Some.ensures.cases c.in-Some-unpack.ensures.some
+    (c.of-waiting.ensures ∙ ap (λ (x : Subject). get_or l.asks.counts (ask_place x) 0) c.of-subject.ensures)
     (λ may. let both : true ≡ false = sym (c.may_come.ensures.1 may) ∙ c.if-not-may_come.true in absurd cc)
 
 pub make-requires-clause-lawful : goal.make-requires-clause-lawful
@@ -56,15 +60,18 @@ make-requires-clause-numbers g c =
 pub count-requires-clause-place : goal.count-requires-clause-place
 count-requires-clause-place g c x is =
     let l = c.loop-bytes in
-    let row = c.in-Some-unpack.row in
-    ask-counted l.core l.invariant.rows l.asks c.of-waiting.result row.event row.yes row.number x l.invariant.replays (c.may_come.ensures.0 c.if-not-may_come.false) is
+    ask-counted l.core l.invariant.rows l.asks c.in-Some-unpack.row x l.invariant.replays
+    ((MayFollow-here l.core l.invariant.rows l.asks c.in-Some-unpack.row c.of-waiting.result l.invariant.replays
+    (c.of-waiting.ensures ∙ ap (λ (y : Subject). get_or l.asks.counts (ask_place y) 0) c.of-subject.ensures)).0
+    (c.may_come.ensures.0 c.if-not-may_come.false)) is
 
 pub count-requires-clause-some : goal.count-requires-clause-some
 count-requires-clause-some g c x is =
     let l = c.loop-bytes in
-    let row = c.in-Some-unpack.row in
-    told-counted l.core l.asks c.of-waiting.result row.event row.yes row.number x
-    (c.of-waiting.ensures.count ∙ ap (λ (y : Subject). get_or l.asks.counts (ask_place y) 0) c.of-subject.ensures) (c.may_come.ensures.0 c.if-not-may_come.false) is
+    told-counted l.core l.invariant.rows l.asks c.in-Some-unpack.row x l.invariant.replays
+    ((MayFollow-here l.core l.invariant.rows l.asks c.in-Some-unpack.row c.of-waiting.result l.invariant.replays
+    (c.of-waiting.ensures ∙ ap (λ (y : Subject). get_or l.asks.counts (ask_place y) 0) c.of-subject.ensures)).0
+    (c.may_come.ensures.0 c.if-not-may_come.false)) is
 
 pub count-requires-clause-few : goal.count-requires-clause-few
 count-requires-clause-few g c =
@@ -76,10 +83,12 @@ loop-bytes-preserved g c =
     let l = c.loop-bytes in
     let row = c.in-Some-unpack.row in
     let core = c.make.ensures ∙ ap (λ (o : Option Step). stepped l.core o) c.step_of.ensures in
-    subst (λ (m : Machine). JudgedSoFar c.args.core.now c.args.packed.now c.in-Some.after.now m c.count.new.asks (l.rows + 1)) (sym core)
+    subst (λ (m : Machine). JudgedSoFar c.args.core.now c.args.packed.now c.in-Some.after.now m c.count.new.self
+    (l.rows + 1)) (sym core)
     (subst (λ (a : AskView). JudgedSoFar c.args.core.now c.args.packed.now c.in-Some.after.now (stepped l.core (step_of row.event row.yes)) a (l.rows + 1)) (sym c.count.ensures)
     (judged-next c.args.core.now c.args.packed.now l.left.now c.in-Some.bytes.now c.in-Some.after.now l.core l.asks l.rows c.of-waiting.result row l.invariant
-    c.in-Some.ensures.cases c.in-Some-unpack.ensures.some (c.of-waiting.ensures.count ∙ ap (λ (x : Subject). get_or l.asks.counts (ask_place x) 0) c.of-subject.ensures) c.of-waiting.ensures.part
+    c.in-Some.ensures.cases c.in-Some-unpack.ensures.some
+    (c.of-waiting.ensures ∙ ap (λ (x : Subject). get_or l.asks.counts (ask_place x) 0) c.of-subject.ensures)
     c.requires.few (c.may_come.ensures.0 c.if-not-may_come.false)))
 
 pub returns-then-is_empty-clause-legal : goal.returns-then-is_empty-clause-legal

@@ -10,17 +10,22 @@ pub returns-then-not-is_running : goal.returns-then-not-is_running
 returns-then-not-is_running g c =
     let m = c.args.self.now in
     let none : c.running_in.result ≡ None = search rules in
-    let idle : run_by (lane_at m.state c.args.q) c.args.helper ≡ None = sym c.running_in.ensures.running ∙ none in
-    let own : c.lane_of.result ≡ c.args.q = search rules in
-    let free : is_running (lane_at m.state c.args.q) c.args.item ≡ false = sym (ap (λ (l : Lane). is_running l c.args.item) c.lane.ensures.lane) ∙ sym c.is_running.ensures ∙ c.if-not-is_running.true in
+    let idle : run_by (lane_at m.state c.args.context.lane) c.args.context.number ≡ None = sym
+    c.running_in.ensures.running ∙ none in
+    let own : c.lane_of.result ≡ c.args.context.lane = search rules in
+    let free : is_running (lane_at m.state c.args.context.lane) c.args.item ≡ false = sym
+    (ap (λ (l : Lane). is_running l c.args.item) c.lane.ensures.lane) ∙ sym c.is_running.ensures ∙
+    c.if-not-is_running.true in
     let some = c.in_ok-entry.ensures.some in
-    help-lawful m.wiring m.state c.args.q c.running_in.ensures.machine.state c.args.helper c.args.item c.in_ok-entry.entry c.requires (c.has_context.ensures.0 c.if-has_context.true) idle some.0 some.1 (sym c.lane_of.ensures.lane ∙ own) free
+    help-lawful m.wiring m.state c.args.context.lane c.running_in.ensures.machine.state c.args.context.number
+    c.args.item c.in_ok-entry.entry c.requires (c.has_context.ensures.0 c.if-has_context.true) idle some.0 some.1
+    (sym c.lane_of.ensures.lane ∙ own) free
 
 pub returns-else-eq : goal.returns-else-eq
 returns-else-eq g c =
     let m = c.args.self.now in
-    let q = c.args.q in
-    let h = c.args.helper in
+    let q = c.args.context.lane in
+    let h = c.args.context.number in
     let i = c.args.item in
     let sound = c.in_ok-entry.ensures.machine.state in
     elim c.else-eq.branch [

@@ -5,9 +5,11 @@ use Rattle.wq_core.proofs.machine.Core.may_wait.Goals as goal
 pub waits-requires : goal.waits-requires
 waits-requires g c =
     let m = c.args.self.now in
-    running-item m.wiring m.state c.args.q c.args.helper c.in_ok-running.running c.in_ok-running.ensures.machine.state (sym c.in_ok-running.ensures.running)
+    running-item m.wiring m.state c.args.context.lane c.args.context.number c.in_ok-running.running
+    c.in_ok-running.ensures.machine.state (sym c.in_ok-running.ensures.running)
 
 pub declares-requires : goal.declares-requires
 declares-requires g c =
     let m = c.args.self.now in
-    running-item m.wiring m.state c.args.q c.args.helper c.in_ok-running.running c.in_ok-running.ensures.machine.state (sym c.in_ok-running.ensures.running)
+    running-item m.wiring m.state c.args.context.lane c.args.context.number c.in_ok-running.running
+    c.in_ok-running.ensures.machine.state (sym c.in_ok-running.ensures.running)

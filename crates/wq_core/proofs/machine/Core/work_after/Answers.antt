@@ -1,4 +1,6 @@
-use Rattle.std.proofs.Common.{arith}
+use Rattle.std.proofs.Common.{ℕ, ap, ◌∙◌, arith}
+use Rattle.wq_core.specs.State.{lane_at, run_by}
+use Rattle.wq_core.specs.Work.{running_work}
 use Rattle.wq_core.specs.declared.step.Step.TheVariants.{Help}
 use Rattle.wq_core.proofs.WorkChanges.{work_after-queued, work_after-cancelled, work_after-one, work_after-finished, work_after-removed}
 use Rattle.wq_core.proofs.WorkBounds.{work_left-machine, work_left-after}
@@ -62,7 +64,17 @@ pub returns-in-Finish-clause-work : goal.returns-in-Finish-clause-work
 returns-in-Finish-clause-work g c =
     let m = c.args.self.now in
     let machine = c.items-items.ensures.machine in
-    omega (arith, c.requires.work, work_after-finished m.wiring m.state machine.state machine.few_helpers c.args.step.now c.requires.lawful c.in-Finish.q c.in-Finish.field-1 c.in-Finish.is, c.running_work.ensures.work)
+    let left =
+    c.running_work.ensures.work
+    ∙ ap (λ (h : ℕ). running_work m.wiring (run_by (lane_at m.state c.rescuer.result.lane) h)) c.rescuer.ensures.number
+    ∙ ap (λ (q : ℕ). running_work m.wiring (run_by (lane_at m.state q) 0)) c.rescuer.ensures.lane in
+    omega (
+      arith,
+      c.requires.work,
+      left,
+      work_after-finished m.wiring m.state machine.state machine.few_helpers c.args.step.now c.requires.lawful
+          c.in-Finish.q c.in-Finish.field-1 c.in-Finish.is,
+    )
 
 pub returns-in-Finish-clause-few : goal.returns-in-Finish-clause-few
 returns-in-Finish-clause-few g c =
@@ -74,13 +86,25 @@ pub overflow_sub-result-in-Help : goal.overflow_sub-result-in-Help
 overflow_sub-result-in-Help g c =
     let m = c.args.self.now in
     let machine = c.items-items.ensures.machine in
-    omega (arith, c.requires.work, work_after-removed m.wiring m.state machine.state machine.few_helpers c.args.step.now c.requires.lawful (Help c.in-Help.q c.in-Help.helper c.in-Help.deed) c.in-Help.is tt, c.deed_work.ensures)
+    omega (
+      arith,
+      c.requires.work,
+      work_after-removed m.wiring m.state machine.state machine.few_helpers
+          c.args.step.now c.requires.lawful (Help c.in-Help.lane c.in-Help.number c.in-Help.deed) c.in-Help.is tt,
+      c.deed_work.ensures,
+    )
 
 pub returns-in-Help-clause-work : goal.returns-in-Help-clause-work
 returns-in-Help-clause-work g c =
     let m = c.args.self.now in
     let machine = c.items-items.ensures.machine in
-    omega (arith, c.requires.work, work_after-removed m.wiring m.state machine.state machine.few_helpers c.args.step.now c.requires.lawful (Help c.in-Help.q c.in-Help.helper c.in-Help.deed) c.in-Help.is tt, c.deed_work.ensures)
+    omega (
+      arith,
+      c.requires.work,
+      work_after-removed m.wiring m.state machine.state machine.few_helpers
+          c.args.step.now c.requires.lawful (Help c.in-Help.lane c.in-Help.number c.in-Help.deed) c.in-Help.is tt,
+      c.deed_work.ensures,
+    )
 
 pub returns-in-Help-clause-few : goal.returns-in-Help-clause-few
 returns-in-Help-clause-few g c =

@@ -17,6 +17,6 @@ pub make_in-row-requires-clause-lawful : goal.make_in-row-requires-clause-lawful
 make_in-row-requires-clause-lawful g c =
     let b = c.args.self.now in
     let q = c.args.context.lane in
-    let h = c.args.context.helper in
+    let h = c.args.context.number in
     let idle = is_idle b q h _ c.if-not-is_idle_context.false c.is_idle_context.ensures in
     start_is_lawful b.wiring (state b) q h c.in-Some.next idle.0 idle.1 (sym c.in-Some.ensures.next)

@@ -4,7 +4,8 @@ use Rattle.wq_items.specs.Table.{ItemWaitsBy}
 use Rattle.wq_core.specs.Wiring.{declared_by}
 use Rattle.wq_core.specs.Rules.{Lawful, step_in}
 use Rattle.wq_history.specs.Events.{event_in}
-use Rattle.wq_history.specs.History.{Says}
+use Rattle.wq_history.specs.declared.asking.Subject.{Subject}
+use Rattle.wq_history.specs.History.{Says, SaysUnfinishedOf}
 use Rattle.wq_history.specs.Book.{BookView, state}
 use Rattle.wq_history.proofs.Deeds.{wait_says, wait_is_lawful}
 use Rattle.wq_history.proofs.book.Book.answer_wait.Goals as goal
@@ -13,7 +14,7 @@ pub make_in-row-requires-clause-lawful : goal.make_in-row-requires-clause-lawful
 make_in-row-requires-clause-lawful g c =
     let b = c.args.self.now in
     let q = c.args.context.lane in
-    let h = c.args.context.helper in
+    let h = c.args.context.number in
     let r = c.in-Some.running in
     let awake = c.in-Some.ensures.some in
     subst (λ (d : HelpStep). Lawful b.wiring (state b) (step_in q h d)) (sym c.wait_of-deed.ensures)
@@ -29,10 +30,12 @@ make_in-row-requires-clause-lawful g c =
 pub make_in-row-requires-clause-says : goal.make_in-row-requires-clause-says
 make_in-row-requires-clause-says g c =
     let b = c.args.self.now in
-    subst (λ (d : HelpStep). Says b.wiring (state b) d c.is_awaited-unfinished.result) (sym c.wait_of-deed.ensures)
-    (wait_says b.wiring (state b) c.args.flush.whole c.args.flush.target c.is_awaited-unfinished.result c.is_awaited-unfinished.ensures.item c.is_awaited-unfinished.ensures.lane)
+    subst (λ (d : HelpStep). Says b.wiring (state b) d c.is_unfinished-unfinished.result) (sym c.wait_of-deed.ensures)
+    (wait_says b.wiring (state b) c.args.flush.whole c.args.flush.target c.is_unfinished-unfinished.result
+    (subst (λ (x : Subject). SaysUnfinishedOf (state b) x c.is_unfinished-unfinished.result) c.subject_of.ensures
+    c.is_unfinished-unfinished.ensures))
 
 pub returns : goal.returns
 returns g c =
-    let deed = ap (λ (d : HelpStep). event_in c.args.context.lane c.args.context.helper d) c.wait_of-deed.ensures in
+    let deed = ap (λ (d : HelpStep). event_in c.args.context.lane c.args.context.number d) c.wait_of-deed.ensures in
     (c.make_in-row.ensures.event ∙ deed, c.make_in-row.ensures.writes)

@@ -7,4 +7,5 @@ use Rattle.wq_history.proofs.book.Book.asks_waiting.Goals as goal
 pub returns : goal.returns
 returns g c =
     let b = c.self.inside in
-    c.of.ensures.count ∙ asks_waiting-count b.history.rows b.asks c.args.subject.now c.self.invariant.replays.asked ∙ ap (λ (x : BookView). asks_waiting c.args.subject.now x.rows) c.self.view_is
+    c.of.ensures ∙ asks_waiting-count b.history.rows b.asks c.args.subject.now c.self.invariant.replays.asked.counts
+    ∙ ap (λ (x : BookView). asks_waiting c.args.subject.now x.rows) c.self.view_is

@@ -11,12 +11,14 @@ pub returns-clause-some : goal.returns-clause-some
 returns-clause-some g c =
     let b = c.self.inside in
     let waiting : c.all.result ≡ all_asks_waiting c.args.self.now.rows =
-    c.all.ensures.all ∙ all_asks_waiting-count b.history.rows b.asks c.self.invariant.replays.asked ∙ ap (λ (x : BookView). all_asks_waiting x.rows) c.self.view_is in
+    c.all.ensures ∙ all_asks_waiting-count b.history.rows b.asks c.self.invariant.replays.asked.counts ∙ ap
+    (λ (x : BookView). all_asks_waiting x.rows) c.self.view_is in
     ((λ is. omega (arith, waiting, ltb-true 0 c.all.result is)), (λ some. lt-ltb 0 c.all.result (omega (arith, waiting, some))))
 
 pub returns-clause-none : goal.returns-clause-none
 returns-clause-none g c is x =
     let b = c.self.inside in
-    let none : b.asks.all ≡ 0 = omega (arith, c.all.ensures.all, ltb-false 0 c.all.result is) in
+    let none : b.asks.all ≡ 0 = omega (arith, c.all.ensures, ltb-false 0 c.all.result is) in
     subst (λ (v : BookView). count_by (ends_a_wait x) v.rows ≡ count_by (begins_to_wait x) v.rows) c.self.view_is
-    (CountsAsks-none b.history.rows b.asks x c.all.ensures.sum c.self.invariant.replays.asked none)
+    (CountsAsks-none b.history.rows b.asks x c.self.invariant.replays.asked.sum_is
+    c.self.invariant.replays.asked.counts none)

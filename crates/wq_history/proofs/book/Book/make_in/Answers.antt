@@ -17,19 +17,21 @@ make-requires-clause-lawful g c =
 
 pub make-requires-clause-event : goal.make-requires-clause-event
 make-requires-clause-event g c =
-    ap (λ (e : Event). step_of e c.args.yes) c.event_of-event.ensures ∙ step_of-event_in c.args.q c.args.helper c.args.deed.now c.args.yes ∙ ap (λ (s : Step). Some s) (sym c.of-step.ensures)
+    ap (λ (e : Event). step_of e c.args.yes) c.event_of-event.ensures ∙ step_of-event_in c.args.context.now.lane
+    c.args.context.now.number c.args.deed.now c.args.yes ∙ ap (λ (s : Step). Some s) (sym c.of-step.ensures)
 
 pub make-requires-clause-may : goal.make-requires-clause-may
 make-requires-clause-may g c n gives =
     let b = c.args.self.now in
     subst (λ (e : Event). MayCome b.wiring b.rows e c.args.yes n) (sym c.event_of-event.ensures)
-    (deed_may_come b.wiring (state b) _ c.args.q c.args.helper c.args.deed.now c.args.yes n c.requires.says c.requires.lawful
+    (deed_may_come b.wiring (state b) _ c.args.context.now.lane c.args.context.now.number c.args.deed.now c.args.yes
+    n c.requires.says c.requires.lawful
     (subst (λ (s : Step). Gives (state b) s n) c.of-step.ensures gives))
 
 pub make-requires-clause-room : goal.make-requires-clause-room
 make-requires-clause-room g c =
     let b = c.args.self.now in
-    let none = no_rows-event_in b.wiring c.args.q c.args.helper c.args.deed.now c.args.yes in
+    let none = no_rows-event_in b.wiring c.args.context.now.lane c.args.context.now.number c.args.deed.now c.args.yes in
     subst (λ (e : Event). rows_needed b.wiring e c.args.yes ≤ free b) (sym c.event_of-event.ensures) (omega (arith, none))
 
 pub returns-clause-event : goal.returns-clause-event

@@ -1,5 +1,5 @@
 use Rattle.wq_history.specs.declared.asking.Subject.TheVariants.{Item as OfItem, Lane as OfLane}
-use Rattle.wq_history.proofs.judging.count.Goals as goal
+use Rattle.wq_history.proofs.ask_counts.AskCounts.count.Goals as goal
 
 pub add-requires-clause-place : goal.add-requires-clause-place
 add-requires-clause-place g c = c.requires.place (OfItem c.in-Ask.item) c.in-Ask.is
