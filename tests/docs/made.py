@@ -35,7 +35,7 @@ PAGE_WIDTH = 100
 EXPLAINED_WIDTH = 80
 HELP_WIDTH = 80
 RUST_WIDTH = 100
-SPECS_WIDTH = 130
+SPECS_WIDTH = 113
 COUNTS = ["none", "one", "two", "three", "four", "five", "six", "seven", "eight", "nine"]
 # Text, or `bold` or *italic*, with what stands directly behind it.
 TOKEN = re.compile(r"(`[^`]+`|\*[^*]+\*)([,.;:]?)|(\S+)")
