@@ -38,6 +38,7 @@ use Rattle.wq_commands.specs.declared.end.End.{End}
 use Rattle.wq_commands.specs.declared.end.End.TheVariants.{Refused}
 use Rattle.wq_commands.specs.Answer.{ends_of}
 use Rattle.wq_commands.specs.Answer.{Answers, AnswersDeclared, refusal_text, declared_waits}
+pub use Rattle.wq_commands.specs.Declaration.{IsSound}
 use Rattle.wq_commands.specs.Declaration.{Declared, max_declaration, max_declaration_line, unless_refused, by_table, by_groups, declaration}
 
 past_faults : {F : Type 0} (refusal : F → Refusal) (fault : Option F) (rest : Result Declared Refusal) (s : Declared)
@@ -61,12 +62,6 @@ past_table ds (Ok t) s is e =
     let p = past_groups t (groups_of ds t.names) s e in
     record { table = is ∙ ap (λ (u : Table). Ok u) p.0; groups = subst (λ (u : Table). groups_of ds u.names ≡ Ok s.partition) p.0 p.1 }
 past_table ds (Err fault) s is e = absurd cc
-
--- a table, and the groups of its items
-pub record IsSound (s : Declared) : Type 0 where
-  pub table : IsTable s.table
-  pub partition : IsPartition s.partition
-  pub one_group_each : length s.partition.group_of ≡ length s.table.names
 
 -- what a text declares
 pub IsSound-declaration : (text : List ℕ) (s : Declared) → declaration text ≡ Ok s → IsSound s

@@ -20,6 +20,7 @@ pub mod Replaying
 pub mod Deadlocking
 pub mod DeadlockInput
 pub mod Declaration
+pub mod Assigned
 pub mod End
 pub mod PlanInput
 pub mod Stop

@@ -3,17 +3,16 @@
 //! It takes time in the length of the text, and for a circle also the time of its
 //! run (`wq_deadlock`). It takes memory in the length of the text.
 
-ghost use Rattle.std.specs.Prelude.{◌≡◌, IfOk, None, length};
-ghost use Rattle.wq_groups.specs.Declaration.{declaration_of};
+ghost use Rattle.std.specs.Prelude.{◌≡◌, IfOk, None};
 ghost use Rattle.wq_core.specs.Wiring.{wiring, own_lanes};
 ghost use Rattle.wq_core.specs.Deadlock.{Deadlocks};
 ghost use Rattle.wq_deadlock.specs.Verdict.{IsDeadlock};
 ghost use Rattle.wq_plan.specs.Solve.{IsPlanned, IsCircled, Solves};
-ghost use Rattle.wq_commands.specs.Answer.{Answers, AnswersDeclared, PrintsCircle, text_of_plan};
+ghost use Rattle.wq_commands.specs.Answer.{Answers, AnswersDeclared, PrintsCircle, declared_waits, text_of_plan};
 ghost use Rattle.wq_commands.specs.Why.{SaysDeclared};
 
 use crate::arc_ends::ends_of;
-use crate::declaration::{Stop, read_declaration};
+use crate::declaration::{Declaration, Stop, read_declaration};
 use crate::end::End;
 use crate::why::{Answered, Which};
 use std::alloc::{AllocError, Allocator};
@@ -21,105 +20,88 @@ use wq_cert::{circle_text, plan_text};
 use wq_core::Step;
 use wq_deadlock::circle_run;
 use wq_graph::WaitArc;
-use wq_groups::{Assignment, Groups};
-use wq_items::ItemTable;
+use wq_groups::Assignment;
 use wq_plan::{Answer, solve};
 
-/// The text of the plan of a table's items, with the chain that `solve` gave with it.
+/// The text of the plan of the declared items, with the chain that `solve` gave with it.
 fn text_of_plan<A: Allocator + Copy>(
     alloc: A,
-    table: &ItemTable<'_, A>,
-    groups: &Groups<A>,
+    declared: &Declaration<'_, A>,
     assignment: &Assignment<A>,
     chain: &[WaitArc],
 ) -> Result<Vec<u8, A>, AllocError>
-    requires grouped { length groups.now.group_of ≡ length table.now.names }
-    requires planned { IsPlanned (declaration_of table.now groups.now) assignment.now chain.now }
-    ensures { IfOk result (λ text. text.items
-        ≡ text_of_plan (record { table = table.now; partition = groups.now }) assignment.now) }
+    requires planned { IsPlanned (declared_waits declared.now) assignment.now chain.now }
+    ensures { IfOk result (λ text. text.items ≡ text_of_plan declared.now assignment.now) }
 {
-    // What holds of every table and of all groups.
-    let _items = table.len();
-    let _groups = groups.len();
+    let Declaration { table, groups } = declared;
     let chain = ends_of(alloc, chain)?;
     plan_text(alloc, table, groups, assignment, &chain)
 }
 
-/// The run by which the items of a table hang although each group has a workqueue of
+/// The run by which the declared items hang although each group has a workqueue of
 /// its own. The groups wait in a circle.
 fn run_of_groups<A: Allocator + Copy>(
     alloc: A,
-    table: &ItemTable<'_, A>,
-    groups: &Groups<A>,
+    declared: &Declaration<'_, A>,
 ) -> Result<Vec<Step, A>, AllocError>
-    requires grouped { length groups.now.group_of ≡ length table.now.names }
-    requires unsafe_groups { Deadlocks (wiring (declaration_of table.now groups.now) (own_lanes groups.now.groups)) }
+    requires unsafe_groups {
+        Deadlocks (wiring (declared_waits declared.now) (own_lanes declared.now.partition.groups)) }
     ensures { IfOk result (λ steps.
-        IsDeadlock (declaration_of table.now groups.now) (own_lanes groups.now.groups) steps.items) }
+        IsDeadlock (declared_waits declared.now) (own_lanes declared.now.partition.groups) steps.items) }
 {
-    let run = circle_run(alloc, table, groups)?;
+    let run = circle_run(alloc, &declared.table, &declared.groups)?;
     // `None` would say that these workqueues are safe.
     Ok(run.unwrap())
 }
 
-/// The text of the circle in which the groups of a table's items wait, with its run.
+/// The text of the circle in which the declared groups wait, with its run.
 ///
 /// The only error is out of memory (20).
 pub fn text_of_circle<A: Allocator + Copy>(
     alloc: A,
-    table: &ItemTable<'_, A>,
-    groups: &Groups<A>,
+    declared: &Declaration<'_, A>,
     arcs: &[WaitArc],
 ) -> Result<Vec<u8, A>, AllocError>
-    requires grouped { length groups.now.group_of ≡ length table.now.names }
-    requires circled { IsCircled (declaration_of table.now groups.now) arcs.now }
-    ensures { IfOk result (λ text. PrintsCircle (record { table = table.now; partition = groups.now }) text.items) }
+    requires circled { IsCircled (declared_waits declared.now) arcs.now }
+    ensures { IfOk result (λ text. PrintsCircle declared.now text.items) }
 {
-    let _items = table.len();
-    let _groups = groups.len();
     let ends = ends_of(alloc, arcs)?;
-    let steps = run_of_groups(alloc, table, groups)?;
-    circle_text(alloc, table, &ends, Some(steps.as_slice()))
+    let steps = run_of_groups(alloc, declared)?;
+    circle_text(alloc, &declared.table, &ends, Some(steps.as_slice()))
 }
 
-/// What is printed of this answer to these groups.
+/// What is printed of this answer to a declaration.
 fn print_answer<A: Allocator + Copy>(
     alloc: A,
-    table: &ItemTable<'_, A>,
-    groups: &Groups<A>,
+    declared: &Declaration<'_, A>,
     answer: &Answer<A>,
 ) -> Result<Answered<A>, AllocError>
-    requires grouped { length groups.now.group_of ≡ length table.now.names }
-    requires solved { Solves (declaration_of table.now groups.now) answer.now }
-    ensures answer { IfOk result (λ a.
-        AnswersDeclared (record { table = table.now; partition = groups.now }) a.end a.text.items) }
+    requires solved { Solves (declared_waits declared.now) answer.now }
+    ensures answer { IfOk result (λ a. AnswersDeclared declared.now a.end a.text.items) }
     ensures why { IfOk result (λ a. a.why ≡ None) }
 {
     match answer {
         Answer::Plan { assignment, chain } => {
-            let text = text_of_plan(alloc, table, groups, assignment, chain)?;
+            let text = text_of_plan(alloc, declared, assignment, chain)?;
             Ok(Answered::plain(End::Good, text))
         }
         Answer::Circle { arcs } => {
-            let text = text_of_circle(alloc, table, groups, arcs)?;
+            let text = text_of_circle(alloc, declared, arcs)?;
             Ok(Answered::plain(End::Bad, text))
         }
     }
 }
 
-/// The answer to these items and their groups.
+/// The answer to a declaration.
 fn answer_declared<A: Allocator + Copy>(
     alloc: A,
-    table: &ItemTable<'_, A>,
-    groups: &Groups<A>,
+    declared: &Declaration<'_, A>,
 ) -> Result<Answered<A>, AllocError>
-    requires { length groups.now.group_of ≡ length table.now.names }
-    ensures answer { IfOk result (λ a.
-        AnswersDeclared (record { table = table.now; partition = groups.now }) a.end a.text.items) }
+    ensures answer { IfOk result (λ a. AnswersDeclared declared.now a.end a.text.items) }
     ensures why { IfOk result (λ a. a.why ≡ None) }
 {
-    let answer = solve(alloc, table, groups)?;
-    print_answer(alloc, table, groups, &answer)
+    let answer = solve(alloc, &declared.table, &declared.groups)?;
+    print_answer(alloc, declared, &answer)
 }
 
 /// The answer to the text of a declaration, and its refusal, if it is refused.
@@ -133,7 +115,7 @@ pub(crate) fn answer_text<A: Allocator + Copy>(
 {
     match read_declaration(alloc, seed, text) {
         Ok(declared) => {
-            let answer = answer_declared(alloc, &declared.table, &declared.groups);
+            let answer = answer_declared(alloc, &declared);
             // Written as a call, so that the proof has one step for it.
             drop(declared);
             answer

@@ -3,22 +3,21 @@
 //! It takes the time and the memory of reading both texts and of checking.
 
 ghost use Rattle.std.specs.Prelude.{◌≡◌, ◌<◌, ◌++◌, ◌∷◌, [], IfOk, IfErr, OnOk, length, codes, decimal, flat_map};
-ghost use Rattle.wq_groups.specs.Declaration.{declaration_of};
 ghost use Rattle.wq_text.specs.LineText.{spaced, line_text};
 ghost use Rattle.wq_cert.specs.Certificate.{certificate};
 ghost use Rattle.wq_checker.specs.Answers.{IsAsked};
 ghost use Rattle.wq_checker.specs.declared.answer.No.TheVariants.{NotFalling};
+ghost use Rattle.wq_commands.specs.Answer.{declared_waits};
 ghost use Rattle.wq_commands.specs.Checking.{yes_words, no_details, no_words, NamesItems, PrintsCheck, AnswersCheck};
 ghost use Rattle.wq_commands.specs.Checking.{ChecksDeclared, Checks};
 ghost use Rattle.wq_commands.specs.Why.{lack, SaysLack, SaysCertificate, SaysChecked};
 
-use crate::declaration::{Stop, read_declaration};
+use crate::declaration::{Declaration, Stop, read_declaration};
 use crate::end::End;
 use crate::why::{Answered, Which};
 use std::alloc::{AllocError, Allocator};
 use wq_cert::{CertAnswer, CertError, read_answer};
 use wq_checker::{No, Yes, check_answer};
-use wq_groups::Groups;
 use wq_items::{ItemId, ItemTable};
 use wq_text::{put, put_end, put_number, put_word};
 
@@ -136,47 +135,33 @@ fn print_check<A: Allocator + Copy>(
     }
 }
 
-/// The answer to this claim about these items and their groups.
+/// The answer to this claim about a declaration.
 fn check_certificate<A: Allocator + Copy>(
     alloc: A,
-    table: &ItemTable<'_, A>,
-    groups: &Groups<A>,
+    declared: &Declaration<'_, A>,
     claim: &CertAnswer<A>,
 ) -> Result<Answered<A>, AllocError>
-    requires grouped { length groups.now.group_of ≡ length table.now.names }
-    requires asked { IsAsked (declaration_of table.now groups.now) (certificate claim.now) }
-    ensures answer { IfOk result (λ a.
-        AnswersCheck (record { table = table.now; partition = groups.now })
-        (certificate claim.now) a.end a.text.items) }
-    ensures why { IfOk result (λ a.
-        SaysLack (record { table = table.now; partition = groups.now }) (certificate claim.now) a.why) }
+    requires { IsAsked (declared_waits declared.now) (certificate claim.now) }
+    ensures answer { IfOk result (λ a. AnswersCheck declared.now (certificate claim.now) a.end a.text.items) }
+    ensures why { IfOk result (λ a. SaysLack declared.now (certificate claim.now) a.why) }
 {
-    // What holds of every table and of all groups.
-    let _items = table.len();
-    let _groups = groups.len();
+    let Declaration { table, groups } = declared;
     let answer = check_answer(alloc, table, groups, claim)?;
     print_check(alloc, table, answer)
 }
 
-/// The answer to the text of a certificate of these items and their groups.
+/// The answer to the text of a certificate of a declaration.
 fn check_declared<A: Allocator + Copy>(
     alloc: A,
-    table: &ItemTable<'_, A>,
-    groups: &Groups<A>,
+    declared: &Declaration<'_, A>,
     text: &[u8],
 ) -> Result<Answered<A>, AllocError>
-    requires { length groups.now.group_of ≡ length table.now.names }
-    ensures answer { IfOk result (λ a.
-        ChecksDeclared (record { table = table.now; partition = groups.now }) text.now a.end a.text.items) }
-    ensures why { IfOk result (λ a.
-        SaysCertificate (record { table = table.now; partition = groups.now }) text.now a.why) }
+    ensures answer { IfOk result (λ a. ChecksDeclared declared.now text.now a.end a.text.items) }
+    ensures why { IfOk result (λ a. SaysCertificate declared.now text.now a.why) }
 {
-    // What holds of every table and of all groups.
-    let _items = table.len();
-    let _groups = groups.len();
-    match read_answer(alloc, text, table, groups) {
+    match read_answer(alloc, text, &declared.table, &declared.groups) {
         Ok(claim) => {
-            let answer = check_certificate(alloc, table, groups, &claim);
+            let answer = check_certificate(alloc, declared, &claim);
             // Written as a call, so that the proof has one step for it.
             drop(claim);
             answer
@@ -199,7 +184,7 @@ pub(crate) fn check<A: Allocator + Copy>(
 {
     match read_declaration(alloc, seed, text) {
         Ok(declared) => {
-            let answer = check_declared(alloc, &declared.table, &declared.groups, certificate);
+            let answer = check_declared(alloc, &declared, certificate);
             drop(declared);
             answer
         }

@@ -3,24 +3,23 @@
 //! The rule is that of "Deadlocking runs" in docs/FORMAT.md. It takes the time and the memory of reading the two texts
 //! and of the verdict, whose run has 45,056 steps at most.
 
-ghost use Rattle.std.specs.Prelude.{◌≡◌, IfOk, None, length};
-ghost use Rattle.wq_groups.specs.Declaration.{declaration_of};
+ghost use Rattle.std.specs.Prelude.{◌≡◌, IfOk, None};
 ghost use Rattle.wq_cert.specs.RunText.{run_text};
 ghost use Rattle.wq_deadlock.specs.Judging.{IsHang, IsJudged};
+ghost use Rattle.wq_commands.specs.Answer.{declared_waits};
 ghost use Rattle.wq_commands.specs.Deadlocking.{safe_text, JudgesAssigned, JudgesDeclared, Judges};
 ghost use Rattle.wq_cert.specs.Texts.{workqueues_of_text};
 ghost use Rattle.wq_commands.specs.declared.why.Which.TheVariants.{Certificate};
 ghost use Rattle.wq_commands.specs.Why.{SaysFault, SaysAssigned};
 
-use crate::declaration::{Stop, read_declaration};
+use crate::assigned::Assigned;
+use crate::declaration::{Declaration, Stop, read_declaration};
 use crate::end::End;
 use crate::why::{Answered, Which};
 use std::alloc::{AllocError, Allocator};
-use wq_cert::{CertError, read_workqueues, run_text};
-use wq_core::{Step, Workqueues};
+use wq_cert::{CertError, run_text};
+use wq_core::Step;
 use wq_deadlock::{Judged, judge as judge_workqueues};
-use wq_groups::Groups;
-use wq_items::ItemTable;
 use wq_text::{put, put_end};
 
 /// `safe`.
@@ -38,36 +37,25 @@ pub fn safe_text<A: Allocator + Copy>(alloc: A) -> Result<Vec<u8, A>, AllocError
 /// The text of the run by which workqueues hang.
 fn deadlock_text<A: Allocator + Copy>(
     alloc: A,
-    table: &ItemTable<'_, A>,
-    groups: &Groups<A>,
-    workqueues: &Workqueues<A>,
+    assigned: &Assigned<'_, '_, A>,
     steps: &[Step],
 ) -> Result<Vec<u8, A>, AllocError>
-    requires grouped { length groups.now.group_of ≡ length table.now.names }
-    requires assigned { length workqueues.now.assignment.lane_of_group ≡ groups.now.groups }
-    requires deadlock { IsHang (declaration_of table.now groups.now) workqueues.now steps.now }
-    ensures { IfOk result (λ text. text.items ≡ run_text table.now.names steps.now) }
+    requires { IsHang (declared_waits assigned.now.declared) assigned.now.workqueues steps.now }
+    ensures { IfOk result (λ text. text.items ≡ run_text assigned.now.declared.table.names steps.now) }
 {
-    // What holds of every table, of all groups and of every assignment.
-    let _items = table.len();
-    let _groups = groups.len();
-    let _lanes = workqueues.assignment().lanes();
-    run_text(alloc, table, steps)
+    let declared = assigned.declared;
+    run_text(alloc, &declared.table, steps)
 }
 
 /// What is printed of this verdict on workqueues.
 fn print_verdict<A: Allocator + Copy>(
     alloc: A,
-    table: &ItemTable<'_, A>,
-    groups: &Groups<A>,
-    workqueues: &Workqueues<A>,
+    assigned: &Assigned<'_, '_, A>,
     judged: &Judged<A>,
 ) -> Result<Answered<A>, AllocError>
-    requires grouped { length groups.now.group_of ≡ length table.now.names }
-    requires assigned { length workqueues.now.assignment.lane_of_group ≡ groups.now.groups }
-    requires judged { IsJudged (declaration_of table.now groups.now) workqueues.now judged.now }
+    requires { IsJudged (declared_waits assigned.now.declared) assigned.now.workqueues judged.now }
     ensures answer { IfOk result (λ a.
-        JudgesAssigned (record { table = table.now; partition = groups.now }) workqueues.now a.end a.text.items) }
+        JudgesAssigned assigned.now.declared assigned.now.workqueues a.end a.text.items) }
     ensures why { IfOk result (λ a. a.why ≡ None) }
 {
     match judged {
@@ -76,49 +64,41 @@ fn print_verdict<A: Allocator + Copy>(
             Ok(Answered::plain(End::Good, text))
         }
         Judged::Deadlock(steps) => {
-            let text = deadlock_text(alloc, table, groups, workqueues, steps)?;
+            let text = deadlock_text(alloc, assigned, steps)?;
             Ok(Answered::plain(End::Bad, text))
         }
     }
 }
 
-/// The answer to workqueues of these groups.
+/// The answer to workqueues of the declared groups.
 fn judge_assigned<A: Allocator + Copy>(
     alloc: A,
-    table: &ItemTable<'_, A>,
-    groups: &Groups<A>,
-    workqueues: &Workqueues<A>,
+    assigned: &Assigned<'_, '_, A>,
 ) -> Result<Answered<A>, AllocError>
-    requires grouped { length groups.now.group_of ≡ length table.now.names }
-    requires assigned { length workqueues.now.assignment.lane_of_group ≡ groups.now.groups }
     ensures answer { IfOk result (λ a.
-        JudgesAssigned (record { table = table.now; partition = groups.now }) workqueues.now a.end a.text.items) }
+        JudgesAssigned assigned.now.declared assigned.now.workqueues a.end a.text.items) }
     ensures why { IfOk result (λ a. a.why ≡ None) }
 {
-    let judged = judge_workqueues(alloc, table, groups, workqueues)?;
-    print_verdict(alloc, table, groups, workqueues, &judged)
+    let declared = assigned.declared;
+    let judged = judge_workqueues(alloc, &declared.table, &declared.groups, &assigned.workqueues)?;
+    print_verdict(alloc, assigned, &judged)
 }
 
-/// The answer to the text of an assignment of these groups.
+/// The answer to the text of an assignment of the declared groups.
 fn judge_declared<A: Allocator + Copy>(
     alloc: A,
-    table: &ItemTable<'_, A>,
-    groups: &Groups<A>,
+    declared: &Declaration<'_, A>,
     text: &[u8],
 ) -> Result<Answered<A>, AllocError>
-    requires { length groups.now.group_of ≡ length table.now.names }
-    ensures answer { IfOk result (λ a.
-        JudgesDeclared (record { table = table.now; partition = groups.now }) text.now a.end a.text.items) }
+    ensures answer { IfOk result (λ a. JudgesDeclared declared.now text.now a.end a.text.items) }
     ensures why { IfOk result (λ a.
-        SaysFault Certificate (workqueues_of_text table.now.names groups.now text.now) a.why) }
+        SaysFault Certificate (workqueues_of_text declared.now.table.names declared.now.partition text.now) a.why) }
 {
-    // What holds of all groups.
-    let _groups = groups.len();
-    match read_workqueues(alloc, text, table, groups) {
-        Ok(workqueues) => {
-            let answer = judge_assigned(alloc, table, groups, &workqueues);
+    match Assigned::read(alloc, declared, text) {
+        Ok(assigned) => {
+            let answer = judge_assigned(alloc, &assigned);
             // Written as a call, so that the proof has one step for it.
-            drop(workqueues);
+            drop(assigned);
             answer
         }
         Err(CertError::OutOfMemory) => Err(AllocError),
@@ -138,7 +118,7 @@ pub(crate) fn judge<A: Allocator + Copy>(
 {
     match read_declaration(alloc, seed, text) {
         Ok(declared) => {
-            let answer = judge_declared(alloc, &declared.table, &declared.groups, assigned);
+            let answer = judge_declared(alloc, &declared, assigned);
             drop(declared);
             answer
         }

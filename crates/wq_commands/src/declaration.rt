@@ -3,7 +3,7 @@
 //!
 //! They take time in the length of the text, and memory in the number of items and flushes.
 
-ghost use Rattle.std.specs.Prelude.{◌≡◌, Ok, Err, None, Result, IfOk, IfErr};
+ghost use Rattle.std.specs.Prelude.{◌≡◌, Ok, Err, None, Result, IfOk, IfErr, length};
 ghost use Rattle.wq_text.specs.Lines.{lines_of};
 ghost use Rattle.wq_text.specs.Limits.{limit_fault, text_refusal};
 ghost use Rattle.wq_decl.specs.Reading.{first_fault, directives, decl_refusal};
@@ -16,6 +16,7 @@ ghost use Rattle.wq_commands.specs.Stop.{StopsAt, item_stop, group_stop};
 ghost use Rattle.wq_commands.specs.declared.declaration.Stop.TheVariants.{Refused, OutOfMemory};
 
 use std::alloc::Allocator;
+use std::marker::Model;
 use wq_decl::{DeclError, DeclView};
 use wq_groups::{GroupError, Groups};
 use wq_items::{ItemError, ItemId, ItemTable, read_at_once};
@@ -27,11 +28,34 @@ pub const MAX_DECLARATION: u32 = 1_048_576;
 /// How many bytes a line of it may have, without its line feed and a carriage return before that: 4 KiB.
 pub const MAX_DECLARATION_LINE: u32 = 4096;
 
-/// What a text declares: its items with their flushes, and their groups.
+/// What a text declares: its items with their flushes, and the groups of these items.
 #[derive(Drop)]
 pub struct Declaration<'a, A: Allocator> {
     pub table: ItemTable<'a, A>,
     pub groups: Groups<A>,
+}
+
+impl<'a, A: Allocator> Model for Declaration<'a, A> {
+    ghost use Rattle.wq_commands.specs.Declaration.{Declared, IsSound};
+
+    ghost Value = { Declared };
+
+    ghost view = { λ d. record { table = d.table; partition = d.groups } };
+
+    ghost invariant = { λ d. IsSound (record { table = d.table; partition = d.groups }) };
+}
+
+impl<'a, A: Allocator> Declaration<'a, A> {
+    /// These items, in these groups.
+    pub fn new(table: ItemTable<'a, A>, groups: Groups<A>) -> Self
+        requires { length groups.group_of ≡ length table.names }
+        ensures { result ≡ record { table = table.entry; partition = groups } }
+    {
+        // What holds of every table and of all groups.
+        let _items = table.len();
+        let _groups = groups.len();
+        Declaration { table, groups }
+    }
 }
 
 /// Why a text declares nothing.
@@ -130,8 +154,7 @@ pub fn read_declaration<A: Allocator + Copy>(
     seed: u64,
     text: &[u8],
 ) -> Result<Declaration<'_, A>, Stop>
-    ensures declaration { IfOk result (λ d. declaration text.now
-        ≡ Ok (record { table = d.table; partition = d.groups })) }
+    ensures declaration { IfOk result (λ d. declaration text.now ≡ Ok d) }
     ensures stop { IfErr result (λ s. StopsAt s (declaration text.now)) }
     // The first two passes take no memory.
     ensures first_passes { result ≡ Err OutOfMemory → (limit_fault max_declaration max_declaration_line text.now ≡ None)
@@ -141,5 +164,5 @@ pub fn read_declaration<A: Allocator + Copy>(
     let text = Text::new(text, MAX_DECLARATION, MAX_DECLARATION_LINE)?;
     let (view, table, guesses) = read_table(alloc, seed, text)?;
     let groups = Groups::read_guessed(alloc, &view, &table, guesses.as_slice())?;
-    Ok(Declaration { table, groups })
+    Ok(Declaration::new(table, groups))
 }

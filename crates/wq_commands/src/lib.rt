@@ -8,6 +8,7 @@
 
 mod answer;
 mod arc_ends;
+mod assigned;
 mod check;
 mod checking;
 mod deadlock;
@@ -24,6 +25,7 @@ mod replaying;
 mod why;
 
 pub use answer::text_of_circle;
+pub use assigned::Assigned;
 pub use check::{CheckCommand, check_cmd};
 pub use deadlock::{DeadlockCommand, deadlock_cmd};
 pub use deadlocking::safe_text;

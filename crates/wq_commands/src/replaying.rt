@@ -8,15 +8,14 @@ ghost use Rattle.wq_commands.specs.Replaying.{replay_words, replay_end, AnswersR
 ghost use Rattle.wq_commands.specs.Replaying.{ReplaysDeclared, ReplaysRun};
 ghost use Rattle.wq_commands.specs.Why.{unlawful, SaysSteps, SaysRunUnder, SaysRun, SaysReplayed};
 
-use crate::declaration::{Stop, read_declaration};
+use crate::assigned::Assigned;
+use crate::declaration::{Declaration, Stop, read_declaration};
 use crate::end::End;
 use crate::why::{Answered, Which, Why};
 use std::alloc::{AllocError, Allocator};
-use wq_cert::{CertError, read_run, read_workqueues};
+use wq_cert::{CertError, read_run};
 use wq_checker::{RunEnd, check_run_on};
-use wq_core::{Step, Workqueues};
-use wq_groups::Groups;
-use wq_items::ItemTable;
+use wq_core::Step;
 use wq_text::{put, put_end, put_number};
 
 /// `not lawful N`.
@@ -75,21 +74,22 @@ fn unlawful(end: RunEnd) -> Option<Why>
 /// The answer to a run that makes these steps.
 fn replay_steps<A: Allocator + Copy>(
     alloc: A,
-    table: &ItemTable<'_, A>,
-    groups: &Groups<A>,
-    workqueues: &Workqueues<A>,
+    assigned: &Assigned<'_, '_, A>,
     steps: &[Step],
 ) -> Result<Answered<A>, AllocError>
-    requires grouped { length groups.now.group_of ≡ length table.now.names }
-    requires assigned { length workqueues.now.assignment.lane_of_group ≡ groups.now.groups }
-    requires few { length steps.now < 4294967295 }
+    requires { length steps.now < 4294967295 }
     ensures answer { IfOk result (λ a.
-        AnswersReplay
-        (record { table = table.now; partition = groups.now }) workqueues.now steps.now a.end a.text.items) }
-    ensures why { IfOk result (λ a.
-        SaysSteps (record { table = table.now; partition = groups.now }) workqueues.now steps.now a.why) }
+        AnswersReplay assigned.now.declared assigned.now.workqueues steps.now a.end a.text.items) }
+    ensures why { IfOk result (λ a. SaysSteps assigned.now.declared assigned.now.workqueues steps.now a.why) }
 {
-    let end = check_run_on(alloc, table, groups, workqueues, steps)?;
+    let declared = assigned.declared;
+    let end = check_run_on(
+        alloc,
+        &declared.table,
+        &declared.groups,
+        &assigned.workqueues,
+        steps,
+    )?;
     let text = replay_text(alloc, end)?;
     Ok(Answered {
         end: replay_end(end),
@@ -98,28 +98,20 @@ fn replay_steps<A: Allocator + Copy>(
     })
 }
 
-/// The answer to workqueues of these groups and the text of a run.
+/// The answer to workqueues of the declared groups and the text of a run.
 fn replay_assigned<A: Allocator + Copy>(
     alloc: A,
-    table: &ItemTable<'_, A>,
-    groups: &Groups<A>,
-    workqueues: &Workqueues<A>,
+    assigned: &Assigned<'_, '_, A>,
     text: &[u8],
 ) -> Result<Answered<A>, AllocError>
-    requires grouped { length groups.now.group_of ≡ length table.now.names }
-    requires assigned { length workqueues.now.assignment.lane_of_group ≡ groups.now.groups }
     ensures answer { IfOk result (λ a.
-        ReplaysAssigned
-        (record { table = table.now; partition = groups.now }) workqueues.now text.now a.end a.text.items) }
-    ensures why { IfOk result (λ a.
-        SaysRunUnder (record { table = table.now; partition = groups.now }) workqueues.now text.now a.why) }
+        ReplaysAssigned assigned.now.declared assigned.now.workqueues text.now a.end a.text.items) }
+    ensures why { IfOk result (λ a. SaysRunUnder assigned.now.declared assigned.now.workqueues text.now a.why) }
 {
-    // What holds of every table and of all groups.
-    let _items = table.len();
-    let _groups = groups.len();
-    match read_run(alloc, text, table) {
+    let declared = assigned.declared;
+    match read_run(alloc, text, &declared.table) {
         Ok(steps) => {
-            let answer = replay_steps(alloc, table, groups, workqueues, steps.as_slice());
+            let answer = replay_steps(alloc, assigned, steps.as_slice());
             // Written as a call, so that the proof has one step for it.
             drop(steps);
             answer
@@ -129,28 +121,20 @@ fn replay_assigned<A: Allocator + Copy>(
     }
 }
 
-/// The answer to the texts of an assignment of these groups and of a run.
+/// The answer to the texts of an assignment of the declared groups and of a run.
 fn replay_declared<A: Allocator + Copy>(
     alloc: A,
-    table: &ItemTable<'_, A>,
-    groups: &Groups<A>,
-    assigned: &[u8],
+    declared: &Declaration<'_, A>,
+    assignment: &[u8],
     text: &[u8],
 ) -> Result<Answered<A>, AllocError>
-    requires { length groups.now.group_of ≡ length table.now.names }
-    ensures answer { IfOk result (λ a.
-        ReplaysDeclared
-        (record { table = table.now; partition = groups.now }) assigned.now text.now a.end a.text.items) }
-    ensures why { IfOk result (λ a.
-        SaysRun (record { table = table.now; partition = groups.now }) assigned.now text.now a.why) }
+    ensures answer { IfOk result (λ a. ReplaysDeclared declared.now assignment.now text.now a.end a.text.items) }
+    ensures why { IfOk result (λ a. SaysRun declared.now assignment.now text.now a.why) }
 {
-    // What holds of every table and of all groups.
-    let _items = table.len();
-    let _groups = groups.len();
-    match read_workqueues(alloc, assigned, table, groups) {
-        Ok(workqueues) => {
-            let answer = replay_assigned(alloc, table, groups, &workqueues, text);
-            drop(workqueues);
+    match Assigned::read(alloc, declared, assignment) {
+        Ok(assigned) => {
+            let answer = replay_assigned(alloc, &assigned, text);
+            drop(assigned);
             answer
         }
         Err(CertError::OutOfMemory) => Err(AllocError),
@@ -172,7 +156,7 @@ pub(crate) fn replay<A: Allocator + Copy>(
 {
     match read_declaration(alloc, seed, text) {
         Ok(declared) => {
-            let answer = replay_declared(alloc, &declared.table, &declared.groups, assigned, run);
+            let answer = replay_declared(alloc, &declared, assigned, run);
             drop(declared);
             answer
         }
