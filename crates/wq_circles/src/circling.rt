@@ -17,7 +17,7 @@ ghost use Rattle.wq_circles.specs.Circling.{CirclesAssigned, CirclesDeclared, Ci
 use crate::joining::components;
 use crate::printing::circles_text;
 use std::alloc::{AllocError, Allocator};
-use wq_cert::{CertError, read_workqueues};
+use wq_cert::CertError;
 use wq_commands::{Answered, Assigned, Declaration, End, Stop, Texts, Which};
 use wq_commands::{read_declaration, safe_text};
 use wq_core::Workqueues;
@@ -31,16 +31,17 @@ fn print_components<A: Allocator + Copy>(
     components: &[Vec<WaitArc, A>],
     waits: &[WaitArc],
 ) -> Result<Answered<A>, AllocError>
-    requires found { AreComponents (declared_waits @S@) @W@ (map (λ l. l.items) components.now) }
-    requires waits { waits.now ≡ bare_waits (declared_waits @S@) @W@ }
-    ensures answer { IfOk result (λ a. CirclesAssigned @S@ @W@ a.end a.text.items) }
+    requires found { AreComponents (declared_waits assigned.now.declared) assigned.now.workqueues (map (λ l. l.items) components.now) }
+    requires waits { waits.now ≡ bare_waits (declared_waits assigned.now.declared) assigned.now.workqueues }
+    ensures answer { IfOk result (λ a. CirclesAssigned assigned.now.declared assigned.now.workqueues a.end a.text.items) }
     ensures why { IfOk result (λ a. a.why ≡ None) }
 {
     if components.is_empty() && waits.is_empty() {
         let text = safe_text(alloc)?;
         return Ok(Answered::plain(End::Good, text));
     }
-    let text = circles_text(alloc, &assigned.declared.table, components, waits)?;
+    let declared = assigned.declared;
+    let text = circles_text(alloc, &declared.table, components, waits)?;
     Ok(Answered::plain(End::Bad, text))
 }
 
@@ -49,13 +50,13 @@ fn circle_assigned<A: Allocator + Copy>(
     alloc: A,
     assigned: &Assigned<'_, '_, A>,
 ) -> Result<Answered<A>, AllocError>
-    ensures answer { IfOk result (λ a. CirclesAssigned @S@ @W@ a.end a.text.items) }
+    ensures answer { IfOk result (λ a. CirclesAssigned assigned.now.declared assigned.now.workqueues a.end a.text.items) }
     ensures why { IfOk result (λ a. a.why ≡ None) }
 {
-    let Assigned { declared, workqueues } = assigned;
+    let declared = assigned.declared;
     let Declaration { table, groups } = declared;
     let components = components(alloc, assigned)?;
-    let waits = bare_waits(alloc, table, groups, workqueues)?;
+    let waits = bare_waits(alloc, table, groups, &assigned.workqueues)?;
     print_components(alloc, assigned, &components, &waits)
 }
 
@@ -69,11 +70,11 @@ fn circle_declared<A: Allocator + Copy>(
     ensures why { IfOk result (λ a.
         SaysFault Certificate (workqueues_of_text declared.now.table.names declared.now.partition text.now) a.why) }
 {
-    match read_workqueues(alloc, text, &declared.table, &declared.groups) {
-        Ok(workqueues) => {
-            let answer = circle_assigned(alloc, &Assigned { declared, workqueues: &workqueues });
+    match Assigned::read(alloc, declared, text) {
+        Ok(assigned) => {
+            let answer = circle_assigned(alloc, &assigned);
             // Written as a call, so that the proof has one step for it.
-            drop(workqueues);
+            drop(assigned);
             answer
         }
         Err(CertError::OutOfMemory) => Err(AllocError),
@@ -92,7 +93,7 @@ fn circle_groups<A: Allocator + Copy>(
 {
     let assignment = own_lanes(alloc, &declared.groups)?;
     let workqueues = Workqueues::new(assignment, Vec::new(alloc));
-    circle_assigned(alloc, &Assigned { declared, workqueues: &workqueues })
+    circle_assigned(alloc, &Assigned::new(declared, workqueues))
 }
 
 /// The answer to both texts.

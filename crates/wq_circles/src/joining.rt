@@ -23,11 +23,12 @@ fn joined_lanes<A: Allocator + Copy>(
     assigned: &Assigned<'_, '_, A>,
     lowest: &[u16],
 ) -> Result<Vec<LaneId, A>, AllocError>
-    requires { length lowest.now ≡ @W@.assignment.lanes }
-    ensures lanes { IfOk result (λ lanes. lanes.items ≡ (joined @W@.assignment lowest.now).lane_of_group) }
-    ensures memory { OnErr result (0 < @S@.partition.groups) }
+    requires { length lowest.now ≡ assigned.now.workqueues.assignment.lanes }
+    ensures lanes { IfOk result (λ lanes. lanes.items ≡ (joined assigned.now.workqueues.assignment lowest.now).lane_of_group) }
+    ensures memory { OnErr result (0 < assigned.now.declared.partition.groups) }
 {
-    let groups = assigned.declared.groups.len();
+    let declared = assigned.declared;
+    let groups = declared.groups.len();
     let assignment = assigned.workqueues.assignment();
     let mut lanes = Vec::with_capacity(alloc, usize::from(groups))?;
     for g in 0..groups {
@@ -43,10 +44,10 @@ fn join<A: Allocator + Copy>(
     assigned: &Assigned<'_, '_, A>,
     lowest: &[u16],
 ) -> Result<Assignment<A>, AllocError>
-    requires one_each { length lowest.now ≡ @W@.assignment.lanes }
-    requires within { All (λ q. q < @W@.assignment.lanes) lowest.now }
-    ensures joined { IfOk result (λ a. a ≡ joined @W@.assignment lowest.now) }
-    ensures memory { OnErr result (0 < @S@.partition.groups) }
+    requires one_each { length lowest.now ≡ assigned.now.workqueues.assignment.lanes }
+    requires within { All (λ q. q < assigned.now.workqueues.assignment.lanes) lowest.now }
+    ensures joined { IfOk result (λ a. a ≡ joined assigned.now.workqueues.assignment lowest.now) }
+    ensures memory { OnErr result (0 < assigned.now.declared.partition.groups) }
 {
     let lanes = joined_lanes(alloc, assigned, lowest)?;
     Ok(Assignment::new(assigned.workqueues.assignment().lanes(), lanes).unwrap())
@@ -94,13 +95,14 @@ fn loops_joined<A: Allocator + Copy>(
     assigned: &Assigned<'_, '_, A>,
     lowest: &[u16],
 ) -> Result<Vec<Vec<WaitArc, A>, A>, AllocError>
-    requires one_each { length lowest.now ≡ @W@.assignment.lanes }
-    requires within { All (λ q. q < @W@.assignment.lanes) lowest.now }
+    requires one_each { length lowest.now ≡ assigned.now.workqueues.assignment.lanes }
+    requires within { All (λ q. q < assigned.now.workqueues.assignment.lanes) lowest.now }
     ensures loops { IfOk result (λ lists. map (λ l. l.items) lists.items
-        ≡ loops (kept_graph (declared_waits @S@) (joined @W@.assignment lowest.now) @W@.bare)) }
-    ensures memory { OnErr result (0 < @W@.assignment.lanes) }
+        ≡ loops (kept_graph (declared_waits assigned.now.declared) (joined assigned.now.workqueues.assignment lowest.now) assigned.now.workqueues.bare)) }
+    ensures memory { OnErr result (0 < assigned.now.workqueues.assignment.lanes) }
 {
-    let Declaration { table, groups } = assigned.declared;
+    let declared = assigned.declared;
+    let Declaration { table, groups } = declared;
     let joined = join(alloc, assigned, lowest)?;
     let graph = WaitGraph::of_lanes(alloc, table, groups, &joined)?;
     let graph = graph.without(alloc, assigned.workqueues.bare())?;
@@ -115,12 +117,12 @@ pub fn components<A: Allocator + Copy>(
     assigned: &Assigned<'_, '_, A>,
 ) -> Result<Vec<Vec<WaitArc, A>, A>, AllocError>
     ensures components { IfOk result (λ lists.
-        AreComponents (declared_waits @S@) @W@ (map (λ l. l.items) lists.items)) }
-    ensures memory { OnErr result (0 < @W@.assignment.lanes) }
+        AreComponents (declared_waits assigned.now.declared) assigned.now.workqueues (map (λ l. l.items) lists.items)) }
+    ensures memory { OnErr result (0 < assigned.now.workqueues.assignment.lanes) }
 {
-    let Assigned { declared, workqueues } = assigned;
+    let declared = assigned.declared;
     let Declaration { table, groups } = declared;
-    let graph = rescued_graph(alloc, table, groups, workqueues)?;
+    let graph = rescued_graph(alloc, table, groups, &assigned.workqueues)?;
     let lowest = lowest(alloc, &graph)?;
     loops_joined(alloc, assigned, lowest.as_slice())
 }

@@ -27,7 +27,7 @@ use crate::flushes::{bold_flushes, bold_red, hanging_flushes, marked};
 use crate::shortest::shortest_waits;
 use crate::titles::{circles_title, plan_title};
 use std::alloc::{AllocError, Allocator};
-use wq_cert::{CertError, read_workqueues};
+use wq_cert::CertError;
 use wq_circles::components;
 use wq_commands::{Answered, Assigned, Declaration, End, Stop, Texts, Which, read_declaration};
 use wq_core::Workqueues;
@@ -45,11 +45,12 @@ fn draw_plan<A: Allocator + Copy>(
     comments: &[&[u8]],
     chain: &[WaitArc],
 ) -> Result<Vec<u8, A>, AllocError>
-    requires planned { IsPlanned (declared_waits @S@) @W@.assignment chain.now }
-    requires rescued { @W@.bare ≡ [] }
-    ensures { IfOk result (λ text. DrawsPlan @S@ (map (λ c. c.now) comments.now) text.items) }
+    requires planned { IsPlanned (declared_waits assigned.now.declared) assigned.now.workqueues.assignment chain.now }
+    requires rescued { assigned.now.workqueues.bare ≡ [] }
+    ensures { IfOk result (λ text. DrawsPlan assigned.now.declared (map (λ c. c.now) comments.now) text.items) }
 {
-    let table = &assigned.declared.table;
+    let declared = assigned.declared;
+    let table = &declared.table;
     let _flushes = table.flushes();
     let looks = bold_flushes(alloc, table, chain)?;
     let workqueues = assigned.workqueues.assignment().lanes();
@@ -76,13 +77,14 @@ fn draw_components<A: Allocator + Copy>(
     waits: &[WaitArc],
     hops: &[Hop],
 ) -> Result<Vec<u8, A>, AllocError>
-    requires found { AreComponents (declared_waits @S@) @W@ (map (λ l. l.items) components.now) }
-    requires waits { waits.now ≡ bare_waits (declared_waits @S@) @W@ }
-    requires shortest { AreShortest (declared_waits @S@) @W@ hops.now }
-    ensures { IfOk result (λ text. DrawsCircles @S@ (map (λ c. c.now) comments.now) @W@ (map (λ n. n.now) called.now)
+    requires found { AreComponents (declared_waits assigned.now.declared) assigned.now.workqueues (map (λ l. l.items) components.now) }
+    requires waits { waits.now ≡ bare_waits (declared_waits assigned.now.declared) assigned.now.workqueues }
+    requires shortest { AreShortest (declared_waits assigned.now.declared) assigned.now.workqueues hops.now }
+    ensures { IfOk result (λ text. DrawsCircles assigned.now.declared (map (λ c. c.now) comments.now) assigned.now.workqueues (map (λ n. n.now) called.now)
         hanging.now hops.now text.items) }
 {
-    let table = &assigned.declared.table;
+    let declared = assigned.declared;
+    let table = &declared.table;
     let _flushes = table.flushes();
     let bare = assigned.workqueues.bare();
     let looks = hanging_flushes(alloc, table, components, waits, hops)?;
@@ -110,13 +112,13 @@ fn draw_circles<A: Allocator + Copy>(
     hanging: &[u8],
 ) -> Result<Vec<u8, A>, AllocError>
     ensures { IfOk result (λ text. (hops : List Hop) ×
-        DrawsCircles @S@ (map (λ c. c.now) comments.now) @W@ (map (λ n. n.now) called.now)
+        DrawsCircles assigned.now.declared (map (λ c. c.now) comments.now) assigned.now.workqueues (map (λ n. n.now) called.now)
         hanging.now hops text.items) }
 {
-    let Assigned { declared, workqueues } = assigned;
-    let Declaration { table, groups } = *declared;
+    let declared = assigned.declared;
+    let Declaration { table, groups } = declared;
     let components = components(alloc, assigned)?;
-    let waits = bare_waits(alloc, table, groups, workqueues)?;
+    let waits = bare_waits(alloc, table, groups, &assigned.workqueues)?;
     let hops = shortest_waits(alloc, assigned)?;
     draw_components(
         alloc,
@@ -142,7 +144,7 @@ fn draw_planned<A: Allocator + Copy>(
     ensures { IfOk result (λ text. DrawsPlan declared.now (map (λ c. c.now) comments.now) text.items) }
 {
     let workqueues = Workqueues::new(assignment, Vec::new(alloc));
-    draw_plan(alloc, &Assigned { declared, workqueues: &workqueues }, comments, chain)
+    draw_plan(alloc, &Assigned::new(declared, workqueues), comments, chain)
 }
 
 /// The drawing of groups, each of which has a workqueue of its own.
@@ -160,7 +162,7 @@ fn draw_own_lanes<A: Allocator + Copy>(
     let workqueues = Workqueues::new(assignment, Vec::new(alloc));
     draw_circles(
         alloc,
-        &Assigned { declared, workqueues: &workqueues },
+        &Assigned::new(declared, workqueues),
         comments,
         &[],
         b"every assignment can hang",
@@ -207,7 +209,7 @@ fn draw_assigned<A: Allocator + Copy>(
     called: &[&[u8]],
 ) -> Result<Answered<A>, AllocError>
     ensures answer { IfOk result (λ a. (hops : List Hop) ×
-        DrawsAssigned @S@ (map (λ c. c.now) comments.now) @W@ (map (λ n. n.now) called.now)
+        DrawsAssigned assigned.now.declared (map (λ c. c.now) comments.now) assigned.now.workqueues (map (λ n. n.now) called.now)
         hops a.end a.text.items) }
     ensures why { IfOk result (λ a. a.why ≡ None) }
 {
@@ -224,7 +226,7 @@ fn draw_named<A: Allocator + Copy>(
 ) -> Result<Answered<A>, AllocError>
     requires { limit_fault max_certificate max_certificate_line text.now ≡ None }
     ensures answer { IfOk result (λ a. (hops : List Hop) ×
-        DrawsAssigned @S@ (map (λ c. c.now) comments.now) @W@ (names_of text.now) hops a.end a.text.items) }
+        DrawsAssigned assigned.now.declared (map (λ c. c.now) comments.now) assigned.now.workqueues (names_of text.now) hops a.end a.text.items) }
     ensures why { IfOk result (λ a. a.why ≡ None) }
 {
     let called = workqueue_names(alloc, text)?;
@@ -257,12 +259,11 @@ fn draw_declared<A: Allocator + Copy>(
     ensures why { IfOk result (λ a.
         SaysFault Certificate (workqueues_of_text declared.now.table.names declared.now.partition text.now) a.why) }
 {
-    match read_workqueues(alloc, text, &declared.table, &declared.groups) {
-        Ok(workqueues) => {
-            let assigned = Assigned { declared, workqueues: &workqueues };
+    match Assigned::read(alloc, declared, text) {
+        Ok(assigned) => {
             let answer = draw_named(alloc, &assigned, comments, text);
             // Written as a call, so that the proof has one step for it.
-            drop(workqueues);
+            drop(assigned);
             answer
         }
         Err(CertError::OutOfMemory) => Err(AllocError),

@@ -35,13 +35,14 @@ pub fn drawing_text<A: Allocator + Copy>(
     looks: &[FlushLook],
     comments: &[&[u8]],
 ) -> Result<Vec<u8, A>, AllocError>
-    requires { length looks.now ≡ flush_count @S@.table.waits }
+    requires { length looks.now ≡ flush_count assigned.now.declared.table.waits }
     ensures { IfOk result (λ text. text.items
-        ≡ drawing_text @S@.table @S@.partition @W@
+        ≡ drawing_text assigned.now.declared.table assigned.now.declared.partition assigned.now.workqueues
         (map (λ n. n.now) called.now) title.now looks.now (map (λ c. c.now) comments.now)) }
 {
-    let Assigned { declared, workqueues } = assigned;
-    let Declaration { table, groups } = *declared;
+    let declared = assigned.declared;
+    let Declaration { table, groups } = declared;
+    let workqueues = &assigned.workqueues;
     let assignment = workqueues.assignment();
     let lanes = assignment.lanes_of_groups(alloc)?;
     let by_workqueue = Buckets::new(alloc, &lanes, assignment.lanes())?;

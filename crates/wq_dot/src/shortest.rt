@@ -16,11 +16,11 @@ pub(crate) fn shortest_waits<A: Allocator + Copy>(
     alloc: A,
     assigned: &Assigned<'_, '_, A>,
 ) -> Result<Vec<Hop, A>, AllocError>
-    ensures { IfOk result (λ hops. AreShortest (declared_waits @S@) @W@ hops.items) }
+    ensures { IfOk result (λ hops. AreShortest (declared_waits assigned.now.declared) assigned.now.workqueues hops.items) }
 {
-    let Assigned { declared, workqueues } = assigned;
+    let declared = assigned.declared;
     let Declaration { table, groups } = declared;
-    match hang(alloc, table, groups, workqueues)? {
+    match hang(alloc, table, groups, &assigned.workqueues)? {
         Answer::Safe => Ok(Vec::new(alloc)),
         Answer::Hang(hops, _) => Ok(hops),
     }
