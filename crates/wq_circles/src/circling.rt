@@ -31,9 +31,11 @@ fn print_components<A: Allocator + Copy>(
     components: &[Vec<WaitArc, A>],
     waits: &[WaitArc],
 ) -> Result<Answered<A>, AllocError>
-    requires found { AreComponents (declared_waits assigned.now.declared) assigned.now.workqueues (map (λ l. l.items) components.now) }
+    requires found { AreComponents (declared_waits assigned.now.declared) assigned.now.workqueues
+        (map (λ l. l.items) components.now) }
     requires waits { waits.now ≡ bare_waits (declared_waits assigned.now.declared) assigned.now.workqueues }
-    ensures answer { IfOk result (λ a. CirclesAssigned assigned.now.declared assigned.now.workqueues a.end a.text.items) }
+    ensures answer { IfOk result (λ a.
+        CirclesAssigned assigned.now.declared assigned.now.workqueues a.end a.text.items) }
     ensures why { IfOk result (λ a. a.why ≡ None) }
 {
     if components.is_empty() && waits.is_empty() {
@@ -50,7 +52,8 @@ fn circle_assigned<A: Allocator + Copy>(
     alloc: A,
     assigned: &Assigned<'_, '_, A>,
 ) -> Result<Answered<A>, AllocError>
-    ensures answer { IfOk result (λ a. CirclesAssigned assigned.now.declared assigned.now.workqueues a.end a.text.items) }
+    ensures answer { IfOk result (λ a.
+        CirclesAssigned assigned.now.declared assigned.now.workqueues a.end a.text.items) }
     ensures why { IfOk result (λ a. a.why ≡ None) }
 {
     let declared = assigned.declared;
@@ -93,7 +96,8 @@ fn circle_groups<A: Allocator + Copy>(
 {
     let assignment = own_lanes(alloc, &declared.groups)?;
     let workqueues = Workqueues::new(assignment, Vec::new(alloc));
-    circle_assigned(alloc, &Assigned::new(declared, workqueues))
+    let assigned = Assigned::new(declared, workqueues);
+    circle_assigned(alloc, &assigned)
 }
 
 /// The answer to both texts.

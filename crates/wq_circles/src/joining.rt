@@ -15,23 +15,24 @@ use std::alloc::{AllocError, Allocator};
 use wq_commands::{Assigned, Declaration};
 use wq_deadlock::rescued_graph;
 use wq_graph::{WaitArc, WaitGraph};
-use wq_groups::{Assignment, GroupId, LaneId};
+use wq_groups::{Assignment, GroupId, Groups, LaneId};
 
 /// For each group in turn, the lane that represents its own.
 fn joined_lanes<A: Allocator + Copy>(
     alloc: A,
-    assigned: &Assigned<'_, '_, A>,
+    groups: &Groups<A>,
+    assignment: &Assignment<A>,
     lowest: &[u16],
 ) -> Result<Vec<LaneId, A>, AllocError>
-    requires { length lowest.now ≡ assigned.now.workqueues.assignment.lanes }
-    ensures lanes { IfOk result (λ lanes. lanes.items ≡ (joined assigned.now.workqueues.assignment lowest.now).lane_of_group) }
-    ensures memory { OnErr result (0 < assigned.now.declared.partition.groups) }
+    requires assigned { length assignment.now.lane_of_group ≡ groups.now.groups }
+    requires one_each { length lowest.now ≡ assignment.now.lanes }
+    ensures lanes { IfOk result (λ lanes. lanes.items ≡ (joined assignment.now lowest.now).lane_of_group) }
+    ensures memory { OnErr result (0 < groups.now.groups) }
 {
-    let declared = assigned.declared;
-    let groups = declared.groups.len();
-    let assignment = assigned.workqueues.assignment();
-    let mut lanes = Vec::with_capacity(alloc, usize::from(groups))?;
-    for g in 0..groups {
+    // Each group has one of the lanes.
+    let _lanes = assignment.lanes();
+    let mut lanes = Vec::with_capacity(alloc, usize::from(groups.len()))?;
+    for g in 0..groups.len() {
         let lane = assignment.lane(GroupId::new(g));
         lanes.push(LaneId::new(lowest[usize::from(lane.get())]))?;
     }
@@ -41,16 +42,18 @@ fn joined_lanes<A: Allocator + Copy>(
 /// The assignment in which each group is on the lane that represents its own.
 fn join<A: Allocator + Copy>(
     alloc: A,
-    assigned: &Assigned<'_, '_, A>,
+    groups: &Groups<A>,
+    assignment: &Assignment<A>,
     lowest: &[u16],
 ) -> Result<Assignment<A>, AllocError>
-    requires one_each { length lowest.now ≡ assigned.now.workqueues.assignment.lanes }
-    requires within { All (λ q. q < assigned.now.workqueues.assignment.lanes) lowest.now }
-    ensures joined { IfOk result (λ a. a ≡ joined assigned.now.workqueues.assignment lowest.now) }
-    ensures memory { OnErr result (0 < assigned.now.declared.partition.groups) }
+    requires assigned { length assignment.now.lane_of_group ≡ groups.now.groups }
+    requires one_each { length lowest.now ≡ assignment.now.lanes }
+    requires within { All (λ q. q < assignment.now.lanes) lowest.now }
+    ensures joined { IfOk result (λ a. a ≡ joined assignment.now lowest.now) }
+    ensures memory { OnErr result (0 < groups.now.groups) }
 {
-    let lanes = joined_lanes(alloc, assigned, lowest)?;
-    Ok(Assignment::new(assigned.workqueues.assignment().lanes(), lanes).unwrap())
+    let lanes = joined_lanes(alloc, groups, assignment, lowest)?;
+    Ok(Assignment::new(assignment.lanes(), lanes).unwrap())
 }
 
 /// The arcs that leave a vertex and lead back to it, in order of place.
@@ -98,12 +101,13 @@ fn loops_joined<A: Allocator + Copy>(
     requires one_each { length lowest.now ≡ assigned.now.workqueues.assignment.lanes }
     requires within { All (λ q. q < assigned.now.workqueues.assignment.lanes) lowest.now }
     ensures loops { IfOk result (λ lists. map (λ l. l.items) lists.items
-        ≡ loops (kept_graph (declared_waits assigned.now.declared) (joined assigned.now.workqueues.assignment lowest.now) assigned.now.workqueues.bare)) }
+        ≡ loops (kept_graph (declared_waits assigned.now.declared)
+        (joined assigned.now.workqueues.assignment lowest.now) assigned.now.workqueues.bare)) }
     ensures memory { OnErr result (0 < assigned.now.workqueues.assignment.lanes) }
 {
     let declared = assigned.declared;
     let Declaration { table, groups } = declared;
-    let joined = join(alloc, assigned, lowest)?;
+    let joined = join(alloc, groups, assigned.workqueues.assignment(), lowest)?;
     let graph = WaitGraph::of_lanes(alloc, table, groups, &joined)?;
     let graph = graph.without(alloc, assigned.workqueues.bare())?;
     loops(alloc, &graph)
@@ -117,7 +121,8 @@ pub fn components<A: Allocator + Copy>(
     assigned: &Assigned<'_, '_, A>,
 ) -> Result<Vec<Vec<WaitArc, A>, A>, AllocError>
     ensures components { IfOk result (λ lists.
-        AreComponents (declared_waits assigned.now.declared) assigned.now.workqueues (map (λ l. l.items) lists.items)) }
+        AreComponents (declared_waits assigned.now.declared) assigned.now.workqueues
+        (map (λ l. l.items) lists.items)) }
     ensures memory { OnErr result (0 < assigned.now.workqueues.assignment.lanes) }
 {
     let declared = assigned.declared;

@@ -77,11 +77,12 @@ fn draw_components<A: Allocator + Copy>(
     waits: &[WaitArc],
     hops: &[Hop],
 ) -> Result<Vec<u8, A>, AllocError>
-    requires found { AreComponents (declared_waits assigned.now.declared) assigned.now.workqueues (map (λ l. l.items) components.now) }
+    requires found { AreComponents (declared_waits assigned.now.declared) assigned.now.workqueues
+        (map (λ l. l.items) components.now) }
     requires waits { waits.now ≡ bare_waits (declared_waits assigned.now.declared) assigned.now.workqueues }
     requires shortest { AreShortest (declared_waits assigned.now.declared) assigned.now.workqueues hops.now }
-    ensures { IfOk result (λ text. DrawsCircles assigned.now.declared (map (λ c. c.now) comments.now) assigned.now.workqueues (map (λ n. n.now) called.now)
-        hanging.now hops.now text.items) }
+    ensures { IfOk result (λ text. DrawsCircles assigned.now.declared (map (λ c. c.now) comments.now)
+        assigned.now.workqueues (map (λ n. n.now) called.now) hanging.now hops.now text.items) }
 {
     let declared = assigned.declared;
     let table = &declared.table;
@@ -112,8 +113,8 @@ fn draw_circles<A: Allocator + Copy>(
     hanging: &[u8],
 ) -> Result<Vec<u8, A>, AllocError>
     ensures { IfOk result (λ text. (hops : List Hop) ×
-        DrawsCircles assigned.now.declared (map (λ c. c.now) comments.now) assigned.now.workqueues (map (λ n. n.now) called.now)
-        hanging.now hops text.items) }
+        DrawsCircles assigned.now.declared (map (λ c. c.now) comments.now) assigned.now.workqueues
+        (map (λ n. n.now) called.now) hanging.now hops text.items) }
 {
     let declared = assigned.declared;
     let Declaration { table, groups } = declared;
@@ -144,7 +145,8 @@ fn draw_planned<A: Allocator + Copy>(
     ensures { IfOk result (λ text. DrawsPlan declared.now (map (λ c. c.now) comments.now) text.items) }
 {
     let workqueues = Workqueues::new(assignment, Vec::new(alloc));
-    draw_plan(alloc, &Assigned::new(declared, workqueues), comments, chain)
+    let assigned = Assigned::new(declared, workqueues);
+    draw_plan(alloc, &assigned, comments, chain)
 }
 
 /// The drawing of groups, each of which has a workqueue of its own.
@@ -160,9 +162,10 @@ fn draw_own_lanes<A: Allocator + Copy>(
 {
     let assignment = own_lanes(alloc, &declared.groups)?;
     let workqueues = Workqueues::new(assignment, Vec::new(alloc));
+    let assigned = Assigned::new(declared, workqueues);
     draw_circles(
         alloc,
-        &Assigned::new(declared, workqueues),
+        &assigned,
         comments,
         &[],
         b"every assignment can hang",
@@ -209,8 +212,8 @@ fn draw_assigned<A: Allocator + Copy>(
     called: &[&[u8]],
 ) -> Result<Answered<A>, AllocError>
     ensures answer { IfOk result (λ a. (hops : List Hop) ×
-        DrawsAssigned assigned.now.declared (map (λ c. c.now) comments.now) assigned.now.workqueues (map (λ n. n.now) called.now)
-        hops a.end a.text.items) }
+        DrawsAssigned assigned.now.declared (map (λ c. c.now) comments.now) assigned.now.workqueues
+        (map (λ n. n.now) called.now) hops a.end a.text.items) }
     ensures why { IfOk result (λ a. a.why ≡ None) }
 {
     let text = draw_circles(alloc, assigned, comments, called, b"can hang")?;
@@ -226,7 +229,8 @@ fn draw_named<A: Allocator + Copy>(
 ) -> Result<Answered<A>, AllocError>
     requires { limit_fault max_certificate max_certificate_line text.now ≡ None }
     ensures answer { IfOk result (λ a. (hops : List Hop) ×
-        DrawsAssigned assigned.now.declared (map (λ c. c.now) comments.now) assigned.now.workqueues (names_of text.now) hops a.end a.text.items) }
+        DrawsAssigned assigned.now.declared (map (λ c. c.now) comments.now) assigned.now.workqueues
+        (names_of text.now) hops a.end a.text.items) }
     ensures why { IfOk result (λ a. a.why ≡ None) }
 {
     let called = workqueue_names(alloc, text)?;

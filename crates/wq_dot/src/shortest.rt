@@ -16,7 +16,8 @@ pub(crate) fn shortest_waits<A: Allocator + Copy>(
     alloc: A,
     assigned: &Assigned<'_, '_, A>,
 ) -> Result<Vec<Hop, A>, AllocError>
-    ensures { IfOk result (λ hops. AreShortest (declared_waits assigned.now.declared) assigned.now.workqueues hops.items) }
+    ensures { IfOk result (λ hops.
+        AreShortest (declared_waits assigned.now.declared) assigned.now.workqueues hops.items) }
 {
     let declared = assigned.declared;
     let Declaration { table, groups } = declared;
