@@ -18,8 +18,9 @@ use crate::joining::components;
 use crate::printing::circles_text;
 use std::alloc::{AllocError, Allocator};
 use wq_cert::CertError;
-use wq_commands::{Answered, Assigned, Declaration, End, Stop, Texts, Which};
-use wq_commands::{read_declaration, safe_text};
+use wq_commands::{
+    Answered, Assigned, Declaration, End, Stop, Texts, Which, read_declaration, safe_text,
+};
 use wq_core::Workqueues;
 use wq_deadlock::{bare_waits, own_lanes};
 use wq_graph::WaitArc;
@@ -58,8 +59,9 @@ fn circle_assigned<A: Allocator + Copy>(
 {
     let declared = assigned.declared;
     let Declaration { table, groups } = declared;
-    let components = components(alloc, assigned)?;
-    let waits = bare_waits(alloc, table, groups, &assigned.workqueues)?;
+    let workqueues = &assigned.workqueues;
+    let components = components(alloc, table, groups, workqueues)?;
+    let waits = bare_waits(alloc, table, groups, workqueues)?;
     print_components(alloc, assigned, &components, &waits)
 }
 

@@ -7,15 +7,16 @@
 
 ghost use Rattle.std.specs.Prelude.{◌≡◌, ◌<◌, length, map, IfOk, OnErr};
 ghost use Rattle.std.specs.List.{All};
-ghost use Rattle.wq_commands.specs.Answer.{declared_waits};
+ghost use Rattle.wq_groups.specs.Declaration.{declaration_of};
 ghost use Rattle.wq_circles.specs.Components.{joined, kept_graph, loops_at, loops, AreComponents};
 
 use crate::together::lowest;
 use std::alloc::{AllocError, Allocator};
-use wq_commands::{Assigned, Declaration};
+use wq_core::Workqueues;
 use wq_deadlock::rescued_graph;
 use wq_graph::{WaitArc, WaitGraph};
 use wq_groups::{Assignment, GroupId, Groups, LaneId};
+use wq_items::ItemTable;
 
 /// For each group in turn, the lane that represents its own.
 fn joined_lanes<A: Allocator + Copy>(
@@ -95,39 +96,52 @@ fn loops<A: Allocator + Copy>(
 /// The loops where lanes are joined, of those that aren't bare.
 fn loops_joined<A: Allocator + Copy>(
     alloc: A,
-    assigned: &Assigned<'_, '_, A>,
+    table: &ItemTable<'_, A>,
+    groups: &Groups<A>,
+    assignment: &Assignment<A>,
+    bare: &[bool],
     lowest: &[u16],
 ) -> Result<Vec<Vec<WaitArc, A>, A>, AllocError>
-    requires one_each { length lowest.now ≡ assigned.now.workqueues.assignment.lanes }
-    requires within { All (λ q. q < assigned.now.workqueues.assignment.lanes) lowest.now }
+    requires grouped { length groups.now.group_of ≡ length table.now.names }
+    requires assigned { length assignment.now.lane_of_group ≡ groups.now.groups }
+    requires one_each { length lowest.now ≡ assignment.now.lanes }
+    requires within { All (λ q. q < assignment.now.lanes) lowest.now }
     ensures loops { IfOk result (λ lists. map (λ l. l.items) lists.items
-        ≡ loops (kept_graph (declared_waits assigned.now.declared)
-        (joined assigned.now.workqueues.assignment lowest.now) assigned.now.workqueues.bare)) }
-    ensures memory { OnErr result (0 < assigned.now.workqueues.assignment.lanes) }
+        ≡ loops (kept_graph (declaration_of table.now groups.now) (joined assignment.now lowest.now) bare.now)) }
+    ensures memory { OnErr result (0 < assignment.now.lanes) }
 {
-    let declared = assigned.declared;
-    let Declaration { table, groups } = declared;
-    let joined = join(alloc, groups, assigned.workqueues.assignment(), lowest)?;
+    // Each group has one of the lanes.
+    let _lanes = assignment.lanes();
+    let joined = join(alloc, groups, assignment, lowest)?;
     let graph = WaitGraph::of_lanes(alloc, table, groups, &joined)?;
-    let graph = graph.without(alloc, assigned.workqueues.bare())?;
+    let graph = graph.without(alloc, bare)?;
     loops(alloc, &graph)
 }
 
-/// The components of workqueues that have a rescuer, each as its arcs.
+/// The components of workqueues that have a rescuer, each as its arcs. The groups
+/// are those of this table, and each has a workqueue.
 ///
 /// The only error is out of memory (20), which can't occur where there is no workqueue.
 pub fn components<A: Allocator + Copy>(
     alloc: A,
-    assigned: &Assigned<'_, '_, A>,
+    table: &ItemTable<'_, A>,
+    groups: &Groups<A>,
+    workqueues: &Workqueues<A>,
 ) -> Result<Vec<Vec<WaitArc, A>, A>, AllocError>
+    requires grouped { length groups.now.group_of ≡ length table.now.names }
+    requires assigned { length workqueues.now.assignment.lane_of_group ≡ groups.now.groups }
     ensures components { IfOk result (λ lists.
-        AreComponents (declared_waits assigned.now.declared) assigned.now.workqueues
-        (map (λ l. l.items) lists.items)) }
-    ensures memory { OnErr result (0 < assigned.now.workqueues.assignment.lanes) }
+        AreComponents (declaration_of table.now groups.now) workqueues.now (map (λ l. l.items) lists.items)) }
+    ensures memory { OnErr result (0 < workqueues.now.assignment.lanes) }
 {
-    let declared = assigned.declared;
-    let Declaration { table, groups } = declared;
-    let graph = rescued_graph(alloc, table, groups, &assigned.workqueues)?;
+    let graph = rescued_graph(alloc, table, groups, workqueues)?;
     let lowest = lowest(alloc, &graph)?;
-    loops_joined(alloc, assigned, lowest.as_slice())
+    loops_joined(
+        alloc,
+        table,
+        groups,
+        workqueues.assignment(),
+        workqueues.bare(),
+        lowest.as_slice(),
+    )
 }

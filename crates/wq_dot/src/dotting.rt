@@ -118,8 +118,9 @@ fn draw_circles<A: Allocator + Copy>(
 {
     let declared = assigned.declared;
     let Declaration { table, groups } = declared;
-    let components = components(alloc, assigned)?;
-    let waits = bare_waits(alloc, table, groups, &assigned.workqueues)?;
+    let workqueues = &assigned.workqueues;
+    let components = components(alloc, table, groups, workqueues)?;
+    let waits = bare_waits(alloc, table, groups, workqueues)?;
     let hops = shortest_waits(alloc, assigned)?;
     draw_components(
         alloc,

@@ -46,7 +46,15 @@ fn put_workqueues<A: Allocator + Copy>(
         let own = by_workqueue.places(number);
         let name = name_at(called, number);
         let bare = assigned.workqueues.is_bare(LaneId::new(number));
-        put_workqueue(out, declared, name, shared.contains(&name), bare, number, own)?;
+        put_workqueue(
+            out,
+            declared,
+            name,
+            shared.contains(&name),
+            bare,
+            number,
+            own,
+        )?;
     }
     Ok(())
 }
