@@ -35,7 +35,8 @@ module _ (a : Assigned) (is : IsAssigned a) where
         is.assignment.assignment components are)
 
   -- and so are those that lead to a workqueue without a rescuer
-  pub waits_between_items : AreBetween (length a.declared.table.names) (bare_waits (declared_waits a.declared) a.workqueues)
+  pub waits_between_items : AreBetween (length a.declared.table.names)
+      (bare_waits (declared_waits a.declared) a.workqueues)
   waits_between_items =
       subst (λ (items : ℕ). AreBetween items (bare_waits (declared_waits a.declared) a.workqueues))
       is.declared.one_group_each

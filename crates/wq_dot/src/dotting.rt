@@ -51,7 +51,6 @@ fn draw_plan<A: Allocator + Copy>(
 {
     let declared = assigned.declared;
     let table = &declared.table;
-    let _flushes = table.flushes();
     let looks = bold_flushes(alloc, table, chain)?;
     let workqueues = assigned.workqueues.assignment().lanes();
     let title = plan_title(alloc, workqueues, marked(looks.as_slice()))?;
@@ -86,7 +85,6 @@ fn draw_components<A: Allocator + Copy>(
 {
     let declared = assigned.declared;
     let table = &declared.table;
-    let _flushes = table.flushes();
     let bare = assigned.workqueues.bare();
     let looks = hanging_flushes(alloc, table, components, waits, hops)?;
     let red = marked(looks.as_slice());

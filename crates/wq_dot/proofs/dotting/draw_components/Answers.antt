@@ -58,8 +58,7 @@ marked-red-requires g c =
       length-map-range_with_len
           (red_look_at c.args.hops.now (all_arcs (map (λ v. v.items) c.args.components.now) ++ c.args.waits.now)) 0
           (flush_count c.declared.inside.table.waits),
-      c.flushes-flushes.ensures.count,
-      c.flushes-flushes.ensures.limit,
+      c.declared.invariant.table.few_flushes,
     )
 
 pub bold_red-bold-requires : goal.bold_red-bold-requires
@@ -70,8 +69,7 @@ bold_red-bold-requires g c =
       length-map-range_with_len
           (red_look_at c.args.hops.now (all_arcs (map (λ v. v.items) c.args.components.now) ++ c.args.waits.now)) 0
           (flush_count c.declared.inside.table.waits),
-      c.flushes-flushes.ensures.count,
-      c.flushes-flushes.ensures.limit,
+      c.declared.invariant.table.few_flushes,
     )
 
 pub drawing_text-requires : goal.drawing_text-requires

@@ -34,8 +34,7 @@ marked-requires g c =
       arith,
       ap (λ (l : List FlushLook). length l) (c.as_slice.ensures.value ∙ c.in_ok-looks.ensures),
       length-map-range_with_len (look_at Bold c.args.chain.now) 0 (flush_count c.declared.inside.table.waits),
-      c.flushes-flushes.ensures.count,
-      c.flushes-flushes.ensures.limit,
+      c.declared.invariant.table.few_flushes,
     )
 
 pub drawing_text-requires : goal.drawing_text-requires
@@ -71,7 +70,8 @@ returns g c =
           ∙ ap (λ (n : ℕ). drawing_text s.table s.partition ws [] (plan_title a.lanes (marked (looks_of n Bold chain)))
           (looks_of n Bold chain) comments) count
           ∙ ap (λ (bare : List Bool). drawing_of s (record { assignment = a; bare = bare }) []
-          (λ (l : List FlushLook). plan_title a.lanes (marked l)) (declared_looks s Bold chain) comments) c.requires.rescued
+          (λ (l : List FlushLook). plan_title a.lanes (marked l)) (declared_looks s Bold chain) comments)
+          c.requires.rescued
           ∙ ap (λ (l : List WaitArc). drawing_of s (all_rescued a) []
           (λ (ls : List FlushLook). plan_title a.lanes (marked ls)) (declared_looks s Bold l) comments)
           c.requires.planned.longest;

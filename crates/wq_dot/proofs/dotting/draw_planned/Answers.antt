@@ -26,5 +26,6 @@ draw_plan-requires-clause-rescued g c =
 
 pub returns : goal.returns
 returns g c =
-    subst (λ (a : Assigned). IfOk c.draw_plan.result (λ text. DrawsPlan a.declared (map (λ v. v.now) c.args.comments.now)
-    text.items)) c.new-assigned.ensures c.draw_plan.ensures
+    subst (λ (a : Assigned). IfOk c.draw_plan.result
+    (λ text. DrawsPlan a.declared (map (λ v. v.now) c.args.comments.now) text.items)) c.new-assigned.ensures
+    c.draw_plan.ensures

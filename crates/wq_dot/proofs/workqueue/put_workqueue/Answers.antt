@@ -15,7 +15,8 @@ use Rattle.wq_dot.proofs.workqueue.put_workqueue.Goals as goal
 pub put_group-requires : goal.put_group-requires
 put_group-requires g c =
     let n = length c.declared.inside.table.names in
-    subst (λ (is : List ℕ). All (λ i. i < n) is) (sym c.members.ensures) (items_at-below c.declared.inside.groups.group_of n c.new.result c.declared.invariant.one_group_each)
+    subst (λ (is : List ℕ). All (λ i. i < n) is) (sym c.members.ensures)
+    (items_at-below c.declared.inside.groups.group_of n c.new.result c.declared.invariant.one_group_each)
 
 pub loop-group-preserved : goal.loop-group-preserved
 loop-group-preserved g c =
