@@ -11,8 +11,8 @@ mod rdisk;
 mod writer;
 
 ghost use Rattle.std.specs.Prelude.{◌≡◌, length};
-ghost use Rattle.wq_groups.specs.Declaration.{declaration_of};
 ghost use Rattle.wq_core.specs.Wiring.{wiring};
+ghost use Rattle.wq_commands.specs.Answer.{declared_waits};
 
 use anyhow::{Context, Result, anyhow, bail};
 use disk::REQUESTS;
@@ -170,9 +170,8 @@ fn run<N: Naming + Send + Sync, R: Threads + Wait + Sync + Print + AllocGlobal>(
     requires name { blank.name ≡ N.name }
     requires parts { blank.parts ≡ N.parts }
     requires all_parts { N.parts ≡ 65536 }
-    requires grouped { length declared.now.groups.group_of ≡ length declared.now.table.names }
-    requires assigned { length plan.now.lane_of_group ≡ declared.now.groups.groups }
-    requires of_wiring { N.wiring ≡ wiring (declaration_of declared.now.table declared.now.groups) plan.now }
+    requires assigned { length plan.now.lane_of_group ≡ declared.now.partition.groups }
+    requires of_wiring { N.wiring ≡ wiring (declared_waits declared.now) plan.now }
     requires of_rows { N.rows ≡ ROWS }
 {
     let Declaration { table, groups } = declared;
@@ -188,8 +187,7 @@ fn run_plan<R: Threads + Wait + Sync + Print + AllocGlobal>(
     declared: &Declaration<'_, Global>,
     plan: &Assignment<Global>,
 ) -> Result<()>
-    requires grouped { length declared.now.groups.group_of ≡ length declared.now.table.names }
-    requires assigned { length plan.now.lane_of_group ≡ declared.now.groups.groups }
+    requires assigned { length plan.now.lane_of_group ≡ declared.now.partition.groups }
 {
     run::<Brand, R>(rt, Blank::new(65_536), declared, plan)
 }
@@ -198,9 +196,7 @@ fn run_plan<R: Threads + Wait + Sync + Print + AllocGlobal>(
 fn run_declared<R: Threads + Wait + Sync + Print + AllocGlobal>(
     rt: &R,
     declared: &Declaration<'_, Global>,
-) -> Result<()>
-    requires { length declared.now.groups.group_of ≡ length declared.now.table.names }
-{
+) -> Result<()> {
     match solve(rt.alloc(), &declared.table, &declared.groups)? {
         Answer::Plan { assignment, .. } => run_plan(rt, declared, &assignment),
         Answer::Circle { .. } => bail!("the items wait in a circle"),

@@ -2,7 +2,7 @@
 //!
 //! It takes time in the lengths of the texts.
 
-ghost use Rattle.std.specs.Prelude.{◌≡◌, ◌≤◌, length, IfOk};
+ghost use Rattle.std.specs.Prelude.{◌≡◌, ◌≤◌, IfOk};
 ghost use Rattle.wq_core.specs.State.{empty_state};
 
 use std::alloc::{AllocError, Allocator};
@@ -18,14 +18,12 @@ use wq_text::Text;
 pub(crate) fn declared<'a, A: Allocator + Copy>(
     alloc: A,
     text: &'a str,
-) -> Result<Declaration<'a, A>, Fail>
-    ensures { IfOk result (λ d. length d.groups.group_of ≡ length d.table.names) }
-{
+) -> Result<Declaration<'a, A>, Fail> {
     let text = Text::new(text.as_bytes(), 1_048_576, 4096)?;
     let view = DeclView::new(text)?;
     let table = ItemTable::read(alloc, &view)?;
     let groups = Groups::read(alloc, &view, &table)?;
-    Ok(Declaration { table, groups })
+    Ok(Declaration::new(table, groups))
 }
 
 /// The assignment of these lanes, in turn, to the groups, if there is one.

@@ -3,8 +3,6 @@
 //! The arcs and the circles are those of "Items and groups" and "Circle texts" in
 //! docs/FORMAT.md. The tests take time in the lengths of the texts.
 
-ghost use Rattle.std.specs.Prelude.{◌≡◌, length};
-
 use crate::declared::{assigned, declared};
 use std::alloc::{AllocError, Global};
 use std::process::Abort;
@@ -168,9 +166,7 @@ fn ranks_under(
     alloc: Global,
     declared: &Declaration<Global>,
     assignment: &Assignment<Global>,
-) -> Result<Option<Vec<u16>>, AllocError>
-    requires { length declared.now.groups.group_of ≡ length declared.now.table.names }
-{
+) -> Result<Option<Vec<u16>>, AllocError> {
     let Declaration { table, groups } = declared;
     if assignment.groups() != usize::from(groups.len()) {
         return Ok(None);

@@ -3,8 +3,6 @@
 //!
 //! It takes time in the number of flushes times the length of the longest chain.
 
-ghost use Rattle.std.specs.Prelude.{◌≡◌, length};
-
 use crate::declared::declared;
 use crate::groups::assert_lanes;
 use std::alloc::{AllocError, Global};
@@ -86,9 +84,7 @@ fn assert_plan(
     alloc: Global,
     declared: &Declaration<Global>,
     lanes: &[u16],
-) -> Result<(), AllocError>
-    requires { length declared.now.groups.group_of ≡ length declared.now.table.names }
-{
+) -> Result<(), AllocError> {
     match solve(alloc, &declared.table, &declared.groups)? {
         Answer::Plan { assignment, chain } => {
             assert_lanes(rt, &assignment, lanes);

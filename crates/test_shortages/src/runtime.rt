@@ -4,8 +4,8 @@
 //! that refuses none. It takes the time of all runs.
 
 ghost use Rattle.std.specs.Prelude.{◌≡◌, length};
-ghost use Rattle.wq_groups.specs.Declaration.{declaration_of};
 ghost use Rattle.wq_core.specs.Wiring.{wiring};
+ghost use Rattle.wq_commands.specs.Answer.{declared_waits};
 
 use crate::calls::sit;
 use crate::crew::serve;
@@ -47,9 +47,8 @@ fn run<N: Naming + Send + Sync, R: Threads + Wait + Sync, A: Allocator + Copy + 
     requires name { blank.name ≡ N.name }
     requires parts { blank.parts ≡ N.parts }
     requires all_parts { N.parts ≡ 65536 }
-    requires grouped { length declared.now.groups.group_of ≡ length declared.now.table.names }
-    requires assigned { length plan.now.lane_of_group ≡ declared.now.groups.groups }
-    requires of_wiring { N.wiring ≡ wiring (declaration_of declared.now.table declared.now.groups) plan.now }
+    requires assigned { length plan.now.lane_of_group ≡ declared.now.partition.groups }
+    requires of_wiring { N.wiring ≡ wiring (declared_waits declared.now) plan.now }
     requires of_rows { N.rows ≡ ROWS }
 {
     let Declaration { table, groups } = declared;
@@ -75,8 +74,7 @@ fn play<R: Threads + Wait + Sync, A: Allocator + Copy + Send + Sync>(
     declared: &Declaration<'_, A>,
     plan: &Assignment<A>,
 ) -> TrialEnd
-    requires grouped { length declared.now.groups.group_of ≡ length declared.now.table.names }
-    requires assigned { length plan.now.lane_of_group ≡ declared.now.groups.groups }
+    requires assigned { length plan.now.lane_of_group ≡ declared.now.partition.groups }
 {
     run::<Brand, R, A>(rt, part, ample, heap, Blank::new(65_536), declared, plan)
 }
@@ -88,9 +86,7 @@ fn play_declared<R: Threads + Wait + Sync, A: Allocator + Copy + Send + Sync>(
     ample: A,
     heap: A,
     declared: &Declaration<'_, A>,
-) -> TrialEnd
-    requires { length declared.now.groups.group_of ≡ length declared.now.table.names }
-{
+) -> TrialEnd {
     match solve(ample, &declared.table, &declared.groups) {
         Ok(Answer::Plan { assignment, .. }) => {
             play(rt, part, ample, heap, declared, &assignment)

@@ -22,10 +22,9 @@ pub(crate) fn of_circle<'a, A: Allocator + Copy>(
     declared: &Declaration<'a, A>,
     circle: &[WaitArc],
 ) -> Result<Vec<u8, A>, AllocError>
-    requires grouped { length declared.now.groups.group_of ≡ length declared.now.table.names }
-    requires between { AreBetween (length declared.now.groups.group_of) circle.now }
+    requires between { AreBetween (length declared.now.partition.group_of) circle.now }
     ensures { IfOk result (λ text. TellsCircle declaration.entry.file.now
-        (record { table = declared.now.table; partition = declared.now.groups }) circle.now text.items) }
+        declared.now circle.now text.items) }
 {
     let assignment = own_lanes(alloc, &declared.groups)?;
     let workqueues = Workqueues::new(assignment, Vec::new(alloc));

@@ -50,10 +50,9 @@ pub(crate) fn of_few<'a, A: Allocator + Copy>(
     start: &Workqueues<A>,
     names: &[&'a [u8]],
 ) -> Result<Vec<u8, A>, AllocError>
-    requires grouped { length declared.now.groups.group_of ≡ length declared.now.table.names }
-    requires assigned { length start.now.assignment.lane_of_group ≡ declared.now.groups.groups }
+    requires assigned { length start.now.assignment.lane_of_group ≡ declared.now.partition.groups }
     ensures { IfOk result (λ text. TellsFew declaration.entry.file.now assignment.entry.file.now
-        (record { table = declared.now.table; partition = declared.now.groups }) (map (λ n. n.now) names.now) start.now text.items) }
+        declared.now (map (λ n. n.now) names.now) start.now text.items) }
 {
     let flushes = FlushLines::new(alloc, declaration.text)?;
     let subject = Subject {

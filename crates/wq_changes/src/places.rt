@@ -99,7 +99,7 @@ impl<A: Allocator + Copy> Places<A> {
 
     /// The place of a change: of the line of its workqueue, or of the first item of its group.
     pub(crate) fn of_change(&self, declared: &Declaration<'_, A>, change: &Change) -> Place
-        requires { IsOf declared.now.groups.groups change.now }
+        requires { IsOf declared.now.partition.groups change.now }
     {
         match change {
             Change::Given(lane) => self.of_lane(*lane),

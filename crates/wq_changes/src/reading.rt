@@ -4,12 +4,12 @@
 //! repair, and of what is said of it.
 
 ghost use Rattle.std.specs.Prelude.{◌≡◌, ◌≢◌, ◌≤◌, IfOk, Ok, length, map, option_map};
-ghost use Rattle.wq_groups.specs.Declaration.{declaration_of};
 ghost use Rattle.wq_cert.specs.Texts.{workqueues_of_text};
 ghost use Rattle.wq_cert.specs.declared.fault.CertError.TheVariants.{OutOfMemory};
 ghost use Rattle.wq_names.specs.Names.{names_of};
 ghost use Rattle.wq_repair.specs.Repair.{IsAnswer};
 ghost use Rattle.wq_voice.specs.Note.{NotesBare};
+ghost use Rattle.wq_commands.specs.Answer.{declared_waits};
 ghost use Rattle.wq_changes.specs.Few.{TellsFew};
 ghost use Rattle.wq_changes.specs.Told.{TellsChanges};
 ghost use Rattle.wq_changes.specs.Voice.{SaysDeclared, SaysMoving, SaysNamed, SaysRepair};
@@ -50,14 +50,14 @@ fn of_repaired<A: Allocator + Copy>(
     assigned: &Assigned<'_, '_, '_, A>,
     new: &Workqueues<A>,
 ) -> Result<Vec<u8, A>, AllocError>
-    requires grouped { length assigned.now.declared.now.groups.group_of ≡ length assigned.now.declared.now.table.names }
-    requires read { workqueues_of_text assigned.now.declared.now.table.names assigned.now.declared.now.groups assigned.now.assignment.text.now
-        ≡ Ok assigned.now.workqueues.now }
-    requires old { length assigned.now.workqueues.now.assignment.lane_of_group ≡ assigned.now.declared.now.groups.groups }
-    requires new { length new.now.assignment.lane_of_group ≡ assigned.now.declared.now.groups.groups }
+    requires read { workqueues_of_text assigned.now.declared.now.table.names assigned.now.declared.now.partition
+        assigned.now.assignment.text.now ≡ Ok assigned.now.workqueues.now }
+    requires old { length assigned.now.workqueues.now.assignment.lane_of_group
+        ≡ assigned.now.declared.now.partition.groups }
+    requires new { length new.now.assignment.lane_of_group ≡ assigned.now.declared.now.partition.groups }
     requires lanes { assigned.now.workqueues.now.assignment.lanes ≤ new.now.assignment.lanes }
     ensures { IfOk result (λ text. TellsChanges assigned.now.declaration.file.now assigned.now.assignment.file.now
-        (record { table = assigned.now.declared.now.table; partition = assigned.now.declared.now.groups })
+        assigned.now.declared.now
         (names_of assigned.now.assignment.text.now) assigned.now.workqueues.now new.now text.items) }
 {
     let Assigned {
@@ -88,13 +88,13 @@ fn of_safe<A: Allocator + Copy>(
     alloc: A,
     assigned: &Assigned<'_, '_, '_, A>,
 ) -> Result<Option<Vec<u8, A>>, AllocError>
-    requires grouped { length assigned.now.declared.now.groups.group_of ≡ length assigned.now.declared.now.table.names }
-    requires read { workqueues_of_text assigned.now.declared.now.table.names assigned.now.declared.now.groups assigned.now.assignment.text.now
-        ≡ Ok assigned.now.workqueues.now }
-    requires old { length assigned.now.workqueues.now.assignment.lane_of_group ≡ assigned.now.declared.now.groups.groups }
+    requires read { workqueues_of_text assigned.now.declared.now.table.names assigned.now.declared.now.partition
+        assigned.now.assignment.text.now ≡ Ok assigned.now.workqueues.now }
+    requires old { length assigned.now.workqueues.now.assignment.lane_of_group
+        ≡ assigned.now.declared.now.partition.groups }
     ensures { IfOk result (λ said. NotesBare assigned.now.declaration.file.now assigned.now.assignment.file.now
         assigned.now.declaration.text.now assigned.now.assignment.text.now
-        (record { table = assigned.now.declared.now.table; partition = assigned.now.declared.now.groups }) assigned.now.workqueues.now
+        assigned.now.declared.now assigned.now.workqueues.now
         (option_map (λ text. text.items) said)) }
 {
     let Assigned {
@@ -113,13 +113,11 @@ fn of_start<A: Allocator + Copy>(
     assigned: &Assigned<'_, '_, '_, A>,
     start: &Workqueues<A>,
 ) -> Result<Vec<u8, A>, AllocError>
-    requires grouped { length assigned.now.declared.now.groups.group_of ≡ length assigned.now.declared.now.table.names }
-    requires read { workqueues_of_text assigned.now.declared.now.table.names assigned.now.declared.now.groups assigned.now.assignment.text.now
-        ≡ Ok assigned.now.workqueues.now }
-    requires start { length start.now.assignment.lane_of_group ≡ assigned.now.declared.now.groups.groups }
+    requires read { workqueues_of_text assigned.now.declared.now.table.names assigned.now.declared.now.partition
+        assigned.now.assignment.text.now ≡ Ok assigned.now.workqueues.now }
+    requires start { length start.now.assignment.lane_of_group ≡ assigned.now.declared.now.partition.groups }
     ensures { IfOk result (λ text. TellsFew assigned.now.declaration.file.now assigned.now.assignment.file.now
-        (record { table = assigned.now.declared.now.table; partition = assigned.now.declared.now.groups })
-        (names_of assigned.now.assignment.text.now) start.now text.items) }
+        assigned.now.declared.now (names_of assigned.now.assignment.text.now) start.now text.items) }
 {
     let names = workqueue_names(alloc, assigned.assignment.text)?;
     of_few(
@@ -139,11 +137,11 @@ fn of_answer<A: Allocator + Copy>(
     moving: &[ItemId],
     answer: &Answer<A>,
 ) -> Result<Option<Vec<u8, A>>, AllocError>
-    requires grouped { length assigned.now.declared.now.groups.group_of ≡ length assigned.now.declared.now.table.names }
-    requires read { workqueues_of_text assigned.now.declared.now.table.names assigned.now.declared.now.groups assigned.now.assignment.text.now
-        ≡ Ok assigned.now.workqueues.now }
-    requires old { length assigned.now.workqueues.now.assignment.lane_of_group ≡ assigned.now.declared.now.groups.groups }
-    requires answer { IsAnswer (declaration_of assigned.now.declared.now.table assigned.now.declared.now.groups) assigned.now.workqueues.now
+    requires read { workqueues_of_text assigned.now.declared.now.table.names assigned.now.declared.now.partition
+        assigned.now.assignment.text.now ≡ Ok assigned.now.workqueues.now }
+    requires old { length assigned.now.workqueues.now.assignment.lane_of_group
+        ≡ assigned.now.declared.now.partition.groups }
+    requires answer { IsAnswer (declared_waits assigned.now.declared.now) assigned.now.workqueues.now
         moving.now answer.now }
     ensures { IfOk result (λ said. SaysMoving (record {
       first = assigned.now.declaration.file.now;
@@ -151,18 +149,18 @@ fn of_answer<A: Allocator + Copy>(
       text = assigned.now.declaration.text.now;
       lanes = assigned.now.assignment.text.now;
     })
-        (record { table = assigned.now.declared.now.table; partition = assigned.now.declared.now.groups }) assigned.now.workqueues.now
+        assigned.now.declared.now assigned.now.workqueues.now
         moving.now (option_map (λ text. text.items) said)) }
 {
-    // What holds of every table and of all groups.
-    let _items = assigned.declared.table.len();
-    let _groups = assigned.declared.groups.len();
+    let declared = assigned.declared;
+    // What holds of every declaration.
+    let _groups = &declared.groups;
     match answer {
         Answer::Safe => of_safe(alloc, assigned),
         Answer::Repaired(new) => Ok(Some(of_repaired(alloc, assigned, new)?)),
         Answer::TooFewNames(start, _) => Ok(Some(of_start(alloc, assigned, start)?)),
         Answer::Circle(arcs) => {
-            let said = of_circle(alloc, assigned.declaration, assigned.declared, arcs)?;
+            let said = of_circle(alloc, assigned.declaration, declared, arcs)?;
             Ok(Some(said))
         }
     }
@@ -175,20 +173,21 @@ fn of_assigned<A: Allocator + Copy>(
     assigned: &Assigned<'_, '_, '_, A>,
     names: &[&str],
 ) -> Result<Option<Vec<u8, A>>, AllocError>
-    requires grouped { length assigned.now.declared.now.groups.group_of ≡ length assigned.now.declared.now.table.names }
-    requires read { workqueues_of_text assigned.now.declared.now.table.names assigned.now.declared.now.groups assigned.now.assignment.text.now
-        ≡ Ok assigned.now.workqueues.now }
-    requires old { length assigned.now.workqueues.now.assignment.lane_of_group ≡ assigned.now.declared.now.groups.groups }
+    requires read { workqueues_of_text assigned.now.declared.now.table.names assigned.now.declared.now.partition
+        assigned.now.assignment.text.now ≡ Ok assigned.now.workqueues.now }
+    requires old { length assigned.now.workqueues.now.assignment.lane_of_group
+        ≡ assigned.now.declared.now.partition.groups }
     ensures { IfOk result (λ said. SaysNamed (record {
       first = assigned.now.declaration.file.now;
       second = assigned.now.assignment.file.now;
       text = assigned.now.declaration.text.now;
       lanes = assigned.now.assignment.text.now;
     }) (map (λ n. n.now) names.now)
-        (record { table = assigned.now.declared.now.table; partition = assigned.now.declared.now.groups }) assigned.now.workqueues.now
+        assigned.now.declared.now assigned.now.workqueues.now
         (option_map (λ text. text.items) said)) }
 {
-    let Declaration { table, groups } = assigned.declared;
+    let declared = assigned.declared;
+    let Declaration { table, groups } = declared;
     match items_that_may_move(alloc, table, names)? {
         Some(moving) => {
             let answer = repair(alloc, table, groups, assigned.workqueues, &moving)?;
@@ -220,18 +219,14 @@ fn of_declared<'a, A: Allocator + Copy>(
     declared: &Declaration<'a, A>,
     names: &[&str],
 ) -> Result<Option<Vec<u8, A>>, AllocError>
-    requires { length declared.now.groups.group_of ≡ length declared.now.table.names }
     ensures { IfOk result (λ said. SaysDeclared (record {
       first = declaration.entry.file.now;
       second = assignment.entry.file.now;
       text = declaration.entry.text.now;
       lanes = assignment.entry.text.now;
     }) (map (λ n. n.now) names.now)
-        (record { table = declared.now.table; partition = declared.now.groups }) (option_map (λ text. text.items) said)) }
+        declared.now (option_map (λ text. text.items) said)) }
 {
-    // What holds of every table and of all groups.
-    let _items = declared.table.len();
-    let _groups = declared.groups.len();
     match read_workqueues(alloc, assignment.text, &declared.table, &declared.groups) {
         Ok(workqueues) => {
             let assigned = Assigned {

@@ -75,11 +75,11 @@ fn told<A: Allocator + Copy>(
     repair: &Repair<'_, '_, '_, '_, A>,
     change: &Change,
 ) -> Result<Vec<u8, A>, AllocError>
-    requires change { IsOf repair.now.declared.now.groups.groups change.now }
-    requires old { length repair.now.old.now.assignment.lane_of_group ≡ repair.now.declared.now.groups.groups }
-    requires new { length repair.now.new.now.assignment.lane_of_group ≡ repair.now.declared.now.groups.groups }
+    requires change { IsOf repair.now.declared.now.partition.groups change.now }
+    requires old { length repair.now.old.now.assignment.lane_of_group ≡ repair.now.declared.now.partition.groups }
+    requires new { length repair.now.new.now.assignment.lane_of_group ≡ repair.now.declared.now.partition.groups }
     ensures { IfOk result (λ text. IsTold repair.now.assignment.file.now
-        (record { table = repair.now.declared.now.table; partition = repair.now.declared.now.groups })
+        repair.now.declared.now
         (map (λ n. n.now) repair.now.names.now) repair.now.old.now repair.now.new.now change.now text.items) }
 {
     let Repair {
@@ -112,21 +112,21 @@ fn why<A: Allocator + Copy>(
     repair: &Repair<'_, '_, '_, '_, A>,
     change: &Change,
 ) -> Result<Vec<u8, A>, AllocError>
-    requires grouped { length repair.now.declared.now.groups.group_of ≡ length repair.now.declared.now.table.names }
-    requires old { length repair.now.old.now.assignment.lane_of_group ≡ repair.now.declared.now.groups.groups }
-    requires new { length repair.now.new.now.assignment.lane_of_group ≡ repair.now.declared.now.groups.groups }
+    requires old { length repair.now.old.now.assignment.lane_of_group ≡ repair.now.declared.now.partition.groups }
+    requires new { length repair.now.new.now.assignment.lane_of_group ≡ repair.now.declared.now.partition.groups }
     requires lanes { repair.now.old.now.assignment.lanes ≤ repair.now.new.now.assignment.lanes }
     ensures { IfOk result (λ text. GivesWhy repair.now.declaration.file.now
-        (record { table = repair.now.declared.now.table; partition = repair.now.declared.now.groups })
+        repair.now.declared.now
         (map (λ n. n.now) repair.now.names.now) repair.now.old.now repair.now.new.now change.now text.items) }
 {
-    let groups = repair.declared.groups.len();
+    let declared = repair.declared;
+    let groups = declared.groups.len();
     let workqueues = without_change(alloc, repair.old, repair.new, change, groups)?;
     let subject = Subject {
         declaration: repair.declaration,
         assignment: repair.assignment,
         wording: Wording::OnWorkqueues,
-        declared: repair.declared,
+        declared,
         workqueues: &workqueues,
         flushes: repair.flushes,
         names: repair.names,
@@ -141,13 +141,12 @@ fn told_why<A: Allocator + Copy>(
     repair: &Repair<'_, '_, '_, '_, A>,
     change: &Change,
 ) -> Result<Vec<u8, A>, AllocError>
-    requires change { IsOf repair.now.declared.now.groups.groups change.now }
-    requires grouped { length repair.now.declared.now.groups.group_of ≡ length repair.now.declared.now.table.names }
-    requires old { length repair.now.old.now.assignment.lane_of_group ≡ repair.now.declared.now.groups.groups }
-    requires new { length repair.now.new.now.assignment.lane_of_group ≡ repair.now.declared.now.groups.groups }
+    requires change { IsOf repair.now.declared.now.partition.groups change.now }
+    requires old { length repair.now.old.now.assignment.lane_of_group ≡ repair.now.declared.now.partition.groups }
+    requires new { length repair.now.new.now.assignment.lane_of_group ≡ repair.now.declared.now.partition.groups }
     requires lanes { repair.now.old.now.assignment.lanes ≤ repair.now.new.now.assignment.lanes }
     ensures { IfOk result (λ text. IsToldWhy repair.now.declaration.file.now repair.now.assignment.file.now
-        (record { table = repair.now.declared.now.table; partition = repair.now.declared.now.groups })
+        repair.now.declared.now
         (map (λ n. n.now) repair.now.names.now) repair.now.old.now repair.now.new.now change.now text.items) }
 {
     let why = why(alloc, repair, change)?;
@@ -162,13 +161,12 @@ fn all_whys<A: Allocator + Copy>(
     repair: &Repair<'_, '_, '_, '_, A>,
     changes: &[Change],
 ) -> Result<Vec<u8, A>, AllocError>
-    requires changes { All (IsOf repair.now.declared.now.groups.groups) changes.now }
-    requires grouped { length repair.now.declared.now.groups.group_of ≡ length repair.now.declared.now.table.names }
-    requires old { length repair.now.old.now.assignment.lane_of_group ≡ repair.now.declared.now.groups.groups }
-    requires new { length repair.now.new.now.assignment.lane_of_group ≡ repair.now.declared.now.groups.groups }
+    requires changes { All (IsOf repair.now.declared.now.partition.groups) changes.now }
+    requires old { length repair.now.old.now.assignment.lane_of_group ≡ repair.now.declared.now.partition.groups }
+    requires new { length repair.now.new.now.assignment.lane_of_group ≡ repair.now.declared.now.partition.groups }
     requires lanes { repair.now.old.now.assignment.lanes ≤ repair.now.new.now.assignment.lanes }
     ensures { IfOk result (λ text. AreEach (IsToldWhy repair.now.declaration.file.now repair.now.assignment.file.now
-        (record { table = repair.now.declared.now.table; partition = repair.now.declared.now.groups })
+        repair.now.declared.now
         (map (λ n. n.now) repair.now.names.now) repair.now.old.now repair.now.new.now) changes.now text.items) }
 {
     let mut text = Vec::new(alloc);
@@ -185,11 +183,11 @@ fn all_told<A: Allocator + Copy>(
     repair: &Repair<'_, '_, '_, '_, A>,
     changes: &[Change],
 ) -> Result<Vec<u8, A>, AllocError>
-    requires changes { All (IsOf repair.now.declared.now.groups.groups) changes.now }
-    requires old { length repair.now.old.now.assignment.lane_of_group ≡ repair.now.declared.now.groups.groups }
-    requires new { length repair.now.new.now.assignment.lane_of_group ≡ repair.now.declared.now.groups.groups }
+    requires changes { All (IsOf repair.now.declared.now.partition.groups) changes.now }
+    requires old { length repair.now.old.now.assignment.lane_of_group ≡ repair.now.declared.now.partition.groups }
+    requires new { length repair.now.new.now.assignment.lane_of_group ≡ repair.now.declared.now.partition.groups }
     ensures { IfOk result (λ text. AreEach (IsTold repair.now.assignment.file.now
-        (record { table = repair.now.declared.now.table; partition = repair.now.declared.now.groups })
+        repair.now.declared.now
         (map (λ n. n.now) repair.now.names.now) repair.now.old.now repair.now.new.now) changes.now text.items) }
 {
     let mut text = Vec::new(alloc);
@@ -205,18 +203,18 @@ pub(crate) fn of_changes<A: Allocator + Copy>(
     alloc: A,
     repair: &Repair<'_, '_, '_, '_, A>,
 ) -> Result<Vec<u8, A>, AllocError>
-    requires grouped { length repair.now.declared.now.groups.group_of ≡ length repair.now.declared.now.table.names }
-    requires old { length repair.now.old.now.assignment.lane_of_group ≡ repair.now.declared.now.groups.groups }
-    requires new { length repair.now.new.now.assignment.lane_of_group ≡ repair.now.declared.now.groups.groups }
+    requires old { length repair.now.old.now.assignment.lane_of_group ≡ repair.now.declared.now.partition.groups }
+    requires new { length repair.now.new.now.assignment.lane_of_group ≡ repair.now.declared.now.partition.groups }
     requires lanes { repair.now.old.now.assignment.lanes ≤ repair.now.new.now.assignment.lanes }
     ensures { IfOk result (λ text. TellsChanges repair.now.declaration.file.now repair.now.assignment.file.now
-        (record { table = repair.now.declared.now.table; partition = repair.now.declared.now.groups })
+        repair.now.declared.now
         (map (λ n. n.now) repair.now.names.now) repair.now.old.now repair.now.new.now text.items) }
 {
-    let groups = repair.declared.groups.len();
+    let declared = repair.declared;
+    let groups = declared.groups.len();
     let all = changes(alloc, repair.old, repair.new, groups)?;
     let list = all.as_slice();
-    let items = repair.declared.table.len();
+    let items = declared.table.len();
     let (first, others) = list.split_at(list.len().min(most_reasons(items)));
     let mut text = all_whys(alloc, repair, first)?;
     let alone = all_told(alloc, repair, others)?;

@@ -23,8 +23,8 @@ pub(crate) fn first_item<A: Allocator + Copy>(
     declared: &Declaration<'_, A>,
     group: GroupId,
 ) -> ItemId
-    requires { group < declared.now.groups.groups }
-    ensures { result ≡ first_item (record { table = declared.now.table; partition = declared.now.groups }) group }
+    requires { group < declared.now.partition.groups }
+    ensures { result ≡ first_item declared.now group }
 {
     match declared.groups.members(group) {
         [first, ..] => *first,
@@ -38,8 +38,8 @@ fn more_words<A: Allocator + Copy>(
     declared: &Declaration<'_, A>,
     group: GroupId,
 ) -> Result<Vec<u8, A>, AllocError>
-    requires { group < declared.now.groups.groups }
-    ensures { IfOk result (λ words. words.items ≡ more_words (record { table = declared.now.table; partition = declared.now.groups }) group) }
+    requires { group < declared.now.partition.groups }
+    ensures { IfOk result (λ words. words.items ≡ more_words declared.now group) }
 {
     let size = declared.groups.members(group).len();
     let mut words = Vec::new(alloc);
@@ -58,8 +58,8 @@ fn group_words<A: Allocator + Copy>(
     declared: &Declaration<'_, A>,
     group: GroupId,
 ) -> Result<Vec<u8, A>, AllocError>
-    requires { group < declared.now.groups.groups }
-    ensures { IfOk result (λ words. words.items ≡ group_words (record { table = declared.now.table; partition = declared.now.groups }) group) }
+    requires { group < declared.now.partition.groups }
+    ensures { IfOk result (λ words. words.items ≡ group_words declared.now group) }
 {
     let more = more_words(alloc, declared, group)?;
     let mut words = item_words(alloc, declared, first_item(declared, group))?;
@@ -103,10 +103,10 @@ fn moved_words<A: Allocator + Copy>(
     new: &Workqueues<A>,
     group: GroupId,
 ) -> Result<Vec<u8, A>, AllocError>
-    requires group { group < declared.now.groups.groups }
-    requires old { length old.now.assignment.lane_of_group ≡ declared.now.groups.groups }
-    requires new { length new.now.assignment.lane_of_group ≡ declared.now.groups.groups }
-    ensures { IfOk result (λ words. words.items ≡ change_words (record { table = declared.now.table; partition = declared.now.groups })
+    requires group { group < declared.now.partition.groups }
+    requires old { length old.now.assignment.lane_of_group ≡ declared.now.partition.groups }
+    requires new { length new.now.assignment.lane_of_group ≡ declared.now.partition.groups }
+    ensures { IfOk result (λ words. words.items ≡ change_words declared.now
         (map (λ n. n.now) names.now) old.now new.now (kind.Moved group)) }
 {
     let from = workqueue_words(alloc, names, lane_in(old, group))?;
@@ -141,10 +141,10 @@ pub(crate) fn change_words<A: Allocator + Copy>(
     new: &Workqueues<A>,
     change: &Change,
 ) -> Result<Vec<u8, A>, AllocError>
-    requires change { IsOf declared.now.groups.groups change.now }
-    requires old { length old.now.assignment.lane_of_group ≡ declared.now.groups.groups }
-    requires new { length new.now.assignment.lane_of_group ≡ declared.now.groups.groups }
-    ensures { IfOk result (λ words. words.items ≡ change_words (record { table = declared.now.table; partition = declared.now.groups })
+    requires change { IsOf declared.now.partition.groups change.now }
+    requires old { length old.now.assignment.lane_of_group ≡ declared.now.partition.groups }
+    requires new { length new.now.assignment.lane_of_group ≡ declared.now.partition.groups }
+    ensures { IfOk result (λ words. words.items ≡ change_words declared.now
         (map (λ n. n.now) names.now) old.now new.now change.now) }
 {
     match change {

@@ -19,7 +19,7 @@ use Rattle.wq_deadlock.proofs.OnlyRun.{same_run_of}
 use Rattle.wq_deadlock.proofs.Renumbered.{not_safe-by}
 use Rattle.wq_cert.specs.declared.fault.CertError.{CertError}
 use Rattle.wq_text.specs.LineText.{line_text}
-use Rattle.wq_cert.specs.Ranges.{AreWorkqueuesOf}
+use Rattle.wq_cert.specs.Ranges.{IsAssignmentOf}
 use Rattle.wq_cert.specs.RunText.{run_text}
 use Rattle.wq_cert.specs.Texts.{workqueues_of_text, run_of, cert_refusal}
 use Rattle.wq_cert.proofs.PrintedRuns.{run_of-printed}
@@ -38,20 +38,22 @@ use Rattle.wq_commands.proofs.NamedSteps.{IsStepOf-hang, length-hang}
 
 -- ---- a declaration and an assignment of it
 
-module _ (s : Declared) (sound : IsSound s) (a : Workqueues) (assigned : AreWorkqueuesOf s.partition.groups a) where
+module _ (s : Declared) (sound : IsSound s) (a : Workqueues) (assigned : IsAssignmentOf s.partition.groups a.assignment)
+    where
   is_declaration : IsDeclaration (declared_waits s)
   is_declaration = IsDeclaration-sound s sound
 
   graph : IsGraph (rescued_graph (declared_waits s) a)
-  graph = IsGraph-without a.bare (lane_graph (declared_waits s) a.assignment) (IsGraph-lane_graph (declared_waits s) a.assignment is_declaration assigned.assignment.assignment assigned.assignment.few)
+  graph = IsGraph-without a.bare (lane_graph (declared_waits s) a.assignment)
+  (IsGraph-lane_graph (declared_waits s) a.assignment is_declaration assigned.assignment assigned.few)
 
   -- ---- the run is printed and read back
 
   -- so its text says them
   run_of-deadlock : (steps : List Step) → DeadlocksBy (wiring_of (declared_waits s) a) steps → run_of s.table.names (run_text s.table.names steps) ≡ Ok steps
   run_of-deadlock steps deadlocks =
-      let named = IsStepOf-hang s sound a assigned.assignment steps deadlocks in
-      let few : length steps ≤ 65536 = omega (arith, length-hang s sound a assigned.assignment steps deadlocks) in
+      let named = IsStepOf-hang s sound a assigned steps deadlocks in
+      let few : length steps ≤ 65536 = omega (arith, length-hang s sound a assigned steps deadlocks) in
       run_of-printed s.table sound.table steps named (length-run_text s.table.names sound.table.named steps named few)
 
   ReplaysAssigned-judged : (out : List ℕ) → JudgesAssigned s a Bad out → ReplaysAssigned s a out Bad (line_text (replay_words Deadlock))
@@ -88,9 +90,11 @@ module _ (s : Declared) (sound : IsSound s) (a : Workqueues) (assigned : AreWork
   IsHang-exists : (first : List ℕ) → AreFirst (declared_waits s) a (bare_waits (declared_waits s) a) first → (steps : List Step) × IsHang (declared_waits s) a steps
   IsHang-exists first are =
       let w = wiring_of (declared_waits s) a in
-      let knot = IsKnot-first (declared_waits s) a is_declaration assigned.assignment.assignment (bare_waits (declared_waits s) a) refl first are in
-      let run = IsRunOf-exists w first (IsWiring-workqueues (declared_waits s) a is_declaration assigned.assignment.assignment) knot in
-      (run.0, IsHang-run (declared_waits s) a is_declaration assigned.assignment.assignment first run.0 are run.1)
+      let knot = IsKnot-first (declared_waits s) a is_declaration assigned.assignment (bare_waits (declared_waits s) a)
+      refl first are in
+      let run = IsRunOf-exists w first (IsWiring-workqueues (declared_waits s) a is_declaration assigned.assignment)
+      knot in
+      (run.0, IsHang-run (declared_waits s) a is_declaration assigned.assignment first run.0 are run.1)
 
   hangs : (first : List ℕ) → AreFirst (declared_waits s) a (bare_waits (declared_waits s) a) first → (end : End) × (out : List ℕ) × JudgesAssigned s a end out
   hangs first are = let hang = IsHang-exists first are in (Bad, run_text s.table.names hang.0, (hang.0, hang.1, refl))
@@ -102,7 +106,8 @@ module _ (s : Declared) (sound : IsSound s) (a : Workqueues) (assigned : AreWork
       by_waits (x ∷ more) is = hangs (x.src ∷ []) (subst (λ (l : List WaitArc). AreFirst (declared_waits s) a l (x.src ∷ [])) (sym is) refl)
       by_waits [] is = elim (AreRanks-or_walk (rescued_graph (declared_waits s) a) graph) [
         | inl ranks ↦
-            let safe = AreSafe-ranks (declared_waits s) a is_declaration assigned.assignment.assignment assigned.assignment.few is ranks.0 ranks.1 in
+            let safe = AreSafe-ranks (declared_waits s) a is_declaration assigned.assignment assigned.few is ranks.0
+            ranks.1 in
             (Good, safe_text, (safe.assignment, safe.safe, refl))
         | inr walk ↦ hangs (flushing_items walk.0) (subst (λ (l : List WaitArc). AreFirst (declared_waits s) a l (flushing_items walk.0)) (sym is) (walk.0, walk.1, refl))
       ]
@@ -112,10 +117,11 @@ module _ (s : Declared) (sound : IsSound s) (a : Workqueues) (assigned : AreWork
 module _ (s : Declared) (sound : IsSound s) where
   -- what is read of it
   abbrev IsKnown : Result Workqueues CertError → Type 0
-  IsKnown r = (a : Workqueues) → r ≡ Ok a → AreWorkqueuesOf s.partition.groups a
+  IsKnown r = (a : Workqueues) → r ≡ Ok a → IsAssignmentOf s.partition.groups a.assignment
 
   known : (text : List ℕ) → IsKnown (workqueues_of_text s.table.names s.partition text)
-  known text a is = AreWorkqueuesOf-workqueues_of_text s.table.names s.partition sound.partition (sym sound.one_group_each) text a is
+  known text a is = (AreWorkqueuesOf-workqueues_of_text s.table.names s.partition sound.partition
+  (sym sound.one_group_each) text a is).assignment
 
   judged_once : (r : Result Workqueues CertError) → IsKnown r → (end other : End) (out printed : List ℕ)
       → MatchResult r (λ a. JudgesAssigned s a end out) (λ fault. PrintsRefusal (cert_refusal fault) end out)

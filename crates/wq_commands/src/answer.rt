@@ -44,8 +44,7 @@ fn run_of_groups<A: Allocator + Copy>(
     alloc: A,
     declared: &Declaration<'_, A>,
 ) -> Result<Vec<Step, A>, AllocError>
-    requires unsafe_groups {
-        Deadlocks (wiring (declared_waits declared.now) (own_lanes declared.now.partition.groups)) }
+    requires { Deadlocks (wiring (declared_waits declared.now) (own_lanes declared.now.partition.groups)) }
     ensures { IfOk result (λ steps.
         IsDeadlock (declared_waits declared.now) (own_lanes declared.now.partition.groups) steps.items) }
 {

@@ -48,11 +48,7 @@ impl<'t, 'a, A: Allocator + Copy> Assigned<'t, 'a, A> {
     /// Reads the workqueues in the text of an assignment of the declared groups.
     ///
     /// The errors are those of `read_workqueues`.
-    pub fn read(
-        alloc: A,
-        declared: &'t Declaration<'a, A>,
-        text: &[u8],
-    ) -> Result<Self, CertError>
+    pub fn read(alloc: A, declared: &'t Declaration<'a, A>, text: &[u8]) -> Result<Self, CertError>
         ensures declared { IfOk result (λ a. a.declared ≡ declared.now) }
         ensures workqueues { IfOk result (λ a.
             workqueues_of_text declared.now.table.names declared.now.partition text.now ≡ Ok a.workqueues) }

@@ -80,7 +80,12 @@ fn judge_assigned<A: Allocator + Copy>(
     ensures why { IfOk result (λ a. a.why ≡ None) }
 {
     let declared = assigned.declared;
-    let judged = judge_workqueues(alloc, &declared.table, &declared.groups, &assigned.workqueues)?;
+    let judged = judge_workqueues(
+        alloc,
+        &declared.table,
+        &declared.groups,
+        &assigned.workqueues,
+    )?;
     print_verdict(alloc, assigned, &judged)
 }
 

@@ -45,7 +45,7 @@ impl<'a, A: Allocator> Model for Declaration<'a, A> {
     ghost invariant = { λ d. IsSound (record { table = d.table; partition = d.groups }) };
 }
 
-impl<'a, A: Allocator> Declaration<'a, A> {
+impl<'a, A: Allocator + Copy> Declaration<'a, A> {
     /// These items, in these groups.
     pub fn new(table: ItemTable<'a, A>, groups: Groups<A>) -> Self
         requires { length groups.group_of ≡ length table.names }

@@ -266,9 +266,7 @@ fn find_fault<'a, A: Allocator + Copy>(
     declaration: &'a [u8],
     text: &Text<'a>,
     refusal: Refusal,
-) -> Result<Found<'a>, AllocError>
-    requires { length declared.now.groups.group_of ≡ length declared.now.table.names }
-{
+) -> Result<Found<'a>, AllocError> {
     let Declaration { table, groups } = declared;
     let declaration = lines_of(declaration);
     let refused = Refused {
@@ -290,7 +288,6 @@ fn of_fault<A: Allocator + Copy>(
     certificate: Source<'_>,
     refusal: Refusal,
 ) -> Result<Vec<u8, A>, AllocError>
-    requires { length declared.now.groups.group_of ≡ length declared.now.table.names }
     ensures { IfOk result (λ said.
         IsDiagnosis certificate.entry.file.now refusal.word.now refusal.code refusal.line said.items) }
 {

@@ -12,7 +12,7 @@ ghost use Rattle.wq_diagnosis.specs.Words.{item_words, workqueue_words};
 use crate::unlawful::{Unlawful, named_item, named_workqueue};
 use crate::words::{item_words, put_name, workqueue_of, workqueue_words};
 use std::alloc::{AllocError, Allocator};
-use wq_commands::Declaration;
+use wq_commands::{Assigned, Declaration};
 use wq_core::{Step, Waiting, Workqueues};
 use wq_groups::LaneId;
 use wq_items::ItemId;
@@ -21,18 +21,19 @@ use wq_text::put;
 
 /// The name of the workqueue of an item; no byte where it has none, or where there is no such item.
 fn workqueue_name<'a, A: Allocator + Copy>(
-    declared: &Declaration<'_, A>,
-    workqueues: &Workqueues<A>,
+    assigned: &Assigned<'_, '_, A>,
     names: &[&'a [u8]],
     item: ItemId,
 ) -> &'a [u8]
-    requires grouped { length declared.now.groups.group_of ≡ length declared.now.table.names }
-    requires assigned { length workqueues.now.assignment.lane_of_group ≡ declared.now.groups.groups }
-    ensures { result.now ≡ workqueue_name (record { table = declared.now.table; partition = declared.now.groups })
-        workqueues.now (map (λ n. n.now) names.now) item }
+    ensures { result.now ≡ workqueue_name assigned.now.declared
+        assigned.now.workqueues (map (λ n. n.now) names.now) item }
 {
+    let declared = assigned.declared;
     if item.get() < declared.table.len() {
-        name_at(names, workqueue_of(declared, workqueues, item).get())
+        name_at(
+            names,
+            workqueue_of(declared, &assigned.workqueues, item).get(),
+        )
     } else {
         &[]
     }
@@ -41,25 +42,18 @@ fn workqueue_name<'a, A: Allocator + Copy>(
 /// The whole workqueue of an item.
 fn whole_words<A: Allocator + Copy>(
     alloc: A,
-    declared: &Declaration<'_, A>,
-    workqueues: &Workqueues<A>,
+    assigned: &Assigned<'_, '_, A>,
     names: &[&[u8]],
     item: ItemId,
 ) -> Result<Vec<u8, A>, AllocError>
-    requires grouped { length declared.now.groups.group_of ≡ length declared.now.table.names }
-    requires assigned { length workqueues.now.assignment.lane_of_group ≡ declared.now.groups.groups }
     ensures { IfOk result (λ words. words.items
-        ≡ whole_words (record { table = declared.now.table; partition = declared.now.groups })
-        workqueues.now (map (λ n. n.now) names.now) item) }
+        ≡ whole_words assigned.now.declared assigned.now.workqueues (map (λ n. n.now) names.now) item) }
 {
-    let item_words = item_words(alloc, declared, item)?;
+    let item_words = item_words(alloc, assigned.declared, item)?;
     let mut words = Vec::new(alloc);
     put(&mut words, b"the workqueue of ")?;
     put(&mut words, &item_words)?;
-    put_name(
-        &mut words,
-        workqueue_name(declared, workqueues, names, item),
-    )?;
+    put_name(&mut words, workqueue_name(assigned, names, item))?;
     Ok(words)
 }
 
@@ -71,9 +65,7 @@ fn runner_words<A: Allocator + Copy>(
     q: LaneId,
     item: ItemId,
 ) -> Result<Vec<u8, A>, AllocError>
-    ensures { IfOk result (λ words. words.items
-        ≡ runner_words (record { table = declared.now.table; partition = declared.now.groups })
-        (map (λ n. n.now) names.now) q item) }
+    ensures { IfOk result (λ words. words.items ≡ runner_words declared.now (map (λ n. n.now) names.now) q item) }
 {
     let workqueue = workqueue_words(alloc, names, q)?;
     let mut words = item_words(alloc, declared, item)?;
@@ -100,7 +92,7 @@ fn runs_words<A: Allocator + Copy>(
     item: ItemId,
 ) -> Result<Vec<u8, A>, AllocError>
     ensures { IfOk result (λ words. words.items ≡ (workqueue_words (map (λ n. n.now) names.now) q ++ codes " runs ")
-        ++ item_words (record { table = declared.now.table; partition = declared.now.groups }) item) }
+        ++ item_words declared.now item) }
 {
     let item = item_words(alloc, declared, item)?;
     let mut words = workqueue_words(alloc, names, q)?;
@@ -145,10 +137,10 @@ fn first_words<A: Allocator + Copy>(
     first: ItemId,
 ) -> Result<Vec<u8, A>, AllocError>
     ensures { IfOk result (λ words. words.items
-        ≡ (((item_words (record { table = declared.now.table; partition = declared.now.groups }) item
+        ≡ (((item_words declared.now item
         ++ codes " isn't the first entry of ") ++ workqueue_words (map (λ n. n.now) names.now) q)
         ++ codes ", which is ")
-        ++ item_words (record { table = declared.now.table; partition = declared.now.groups }) first) }
+        ++ item_words declared.now first) }
 {
     let workqueue = workqueue_words(alloc, names, q)?;
     let first = item_words(alloc, declared, first)?;
@@ -163,44 +155,35 @@ fn first_words<A: Allocator + Copy>(
 /// For what an item waits.
 fn waits_words<A: Allocator + Copy>(
     alloc: A,
-    declared: &Declaration<'_, A>,
-    workqueues: &Workqueues<A>,
+    assigned: &Assigned<'_, '_, A>,
     names: &[&[u8]],
     flush: Waiting,
 ) -> Result<Vec<u8, A>, AllocError>
-    requires grouped { length declared.now.groups.group_of ≡ length declared.now.table.names }
-    requires assigned { length workqueues.now.assignment.lane_of_group ≡ declared.now.groups.groups }
     ensures { IfOk result (λ words. words.items
-        ≡ waits_words (record { table = declared.now.table; partition = declared.now.groups })
-        workqueues.now (map (λ n. n.now) names.now) flush) }
+        ≡ waits_words assigned.now.declared assigned.now.workqueues (map (λ n. n.now) names.now) flush) }
 {
     if flush.whole {
-        whole_words(alloc, declared, workqueues, names, flush.target)
+        whole_words(alloc, assigned, names, flush.target)
     } else {
-        item_words(alloc, declared, flush.target)
+        item_words(alloc, assigned.declared, flush.target)
     }
 }
 
 /// That an item runs on a workqueue and waits.
 fn waiting_words<A: Allocator + Copy>(
     alloc: A,
-    declared: &Declaration<'_, A>,
-    workqueues: &Workqueues<A>,
+    assigned: &Assigned<'_, '_, A>,
     names: &[&[u8]],
     q: LaneId,
     item: ItemId,
     flush: Waiting,
 ) -> Result<Vec<u8, A>, AllocError>
-    requires grouped { length declared.now.groups.group_of ≡ length declared.now.table.names }
-    requires assigned { length workqueues.now.assignment.lane_of_group ≡ declared.now.groups.groups }
     ensures { IfOk result (λ words. words.items
-        ≡ (runner_words (record { table = declared.now.table; partition = declared.now.groups })
-        (map (λ n. n.now) names.now) q item ++ codes ", waits for ")
-        ++ waits_words (record { table = declared.now.table; partition = declared.now.groups })
-        workqueues.now (map (λ n. n.now) names.now) flush) }
+        ≡ (runner_words assigned.now.declared (map (λ n. n.now) names.now) q item ++ codes ", waits for ")
+        ++ waits_words assigned.now.declared assigned.now.workqueues (map (λ n. n.now) names.now) flush) }
 {
-    let target = waits_words(alloc, declared, workqueues, names, flush)?;
-    let mut words = runner_words(alloc, declared, names, q, item)?;
+    let target = waits_words(alloc, assigned, names, flush)?;
+    let mut words = runner_words(alloc, assigned.declared, names, q, item)?;
     put(&mut words, b", waits for ")?;
     put(&mut words, &target)?;
     Ok(words)
@@ -224,9 +207,9 @@ fn undeclared_words<A: Allocator + Copy>(
     target: ItemId,
 ) -> Result<Vec<u8, A>, AllocError>
     ensures { IfOk result (λ words. words.items
-        ≡ (((runner_words (record { table = declared.now.table; partition = declared.now.groups })
+        ≡ (((runner_words declared.now
         (map (λ n. n.now) names.now) q item ++ codes ", declares no ") ++ flush_words whole) ++ codes " of ")
-        ++ item_words (record { table = declared.now.table; partition = declared.now.groups }) target) }
+        ++ item_words declared.now target) }
 {
     let target = item_words(alloc, declared, target)?;
     let mut words = runner_words(alloc, declared, names, q, item)?;
@@ -257,8 +240,7 @@ fn made_words<A: Allocator + Copy>(
     item: ItemId,
 ) -> Result<Vec<u8, A>, AllocError>
     ensures { IfOk result (λ words. words.items
-        ≡ (runner_words (record { table = declared.now.table; partition = declared.now.groups })
-        (map (λ n. n.now) names.now) q item ++ codes ", has made all of its waits: ")
+        ≡ (runner_words declared.now (map (λ n. n.now) names.now) q item ++ codes ", has made all of its waits: ")
         ++ decimal (length (targets_of declared.now.table.waits item))) }
 {
     let flushes = flushes_of(declared, item).to_string(alloc)?;
@@ -271,17 +253,13 @@ fn made_words<A: Allocator + Copy>(
 /// That an entry of an item is unfinished, or one on its whole workqueue.
 fn unfinished_words<A: Allocator + Copy>(
     alloc: A,
-    declared: &Declaration<'_, A>,
-    workqueues: &Workqueues<A>,
+    assigned: &Assigned<'_, '_, A>,
     names: &[&[u8]],
     whole: bool,
     item: ItemId,
 ) -> Result<Vec<u8, A>, AllocError>
-    requires grouped { length declared.now.groups.group_of ≡ length declared.now.table.names }
-    requires assigned { length workqueues.now.assignment.lane_of_group ≡ declared.now.groups.groups }
     ensures { IfOk result (λ words. words.items
-        ≡ unfinished_words (record { table = declared.now.table; partition = declared.now.groups })
-        workqueues.now (map (λ n. n.now) names.now) whole item) }
+        ≡ unfinished_words assigned.now.declared assigned.now.workqueues (map (λ n. n.now) names.now) whole item) }
 {
     let mut words = Vec::new(alloc);
     if whole {
@@ -289,14 +267,11 @@ fn unfinished_words<A: Allocator + Copy>(
             &mut words,
             b"an entry from before this wait is unfinished on ",
         )?;
-        put(
-            &mut words,
-            &whole_words(alloc, declared, workqueues, names, item)?,
-        )?;
+        put(&mut words, &whole_words(alloc, assigned, names, item)?)?;
         return Ok(words);
     }
     put(&mut words, b"an entry of ")?;
-    put(&mut words, &item_words(alloc, declared, item)?)?;
+    put(&mut words, &item_words(alloc, assigned.declared, item)?)?;
     put(&mut words, b" from before this wait is unfinished")?;
     Ok(words)
 }
@@ -304,47 +279,53 @@ fn unfinished_words<A: Allocator + Copy>(
 /// Why a step isn't lawful, in words.
 pub(crate) fn reason_words<A: Allocator + Copy>(
     alloc: A,
-    declared: &Declaration<'_, A>,
-    workqueues: &Workqueues<A>,
+    assigned: &Assigned<'_, '_, A>,
     names: &[&[u8]],
     step: Step,
     reason: Unlawful,
 ) -> Result<Vec<u8, A>, AllocError>
-    requires grouped { length declared.now.groups.group_of ≡ length declared.now.table.names }
-    requires assigned { length workqueues.now.assignment.lane_of_group ≡ declared.now.groups.groups }
     ensures { IfOk result (λ words. words.items
-        ≡ reason_words (record { table = declared.now.table; partition = declared.now.groups })
-        workqueues.now (map (λ n. n.now) names.now) step reason) }
+        ≡ reason_words assigned.now.declared assigned.now.workqueues (map (λ n. n.now) names.now) step reason) }
 {
     let q = named_workqueue(step);
     let item = named_item(step);
     match reason {
         Unlawful::NoItem => Vec::from_slice(alloc, b"there is no such item"),
         Unlawful::Pending => {
-            followed(item_words(alloc, declared, item)?, b" is pending already")
+            followed(
+                item_words(alloc, assigned.declared, item)?,
+                b" is pending already",
+            )
         }
-        Unlawful::NotPending => followed(item_words(alloc, declared, item)?, b" isn't pending"),
-        Unlawful::Runs(other) => runs_words(alloc, declared, names, q, other),
+        Unlawful::NotPending => followed(
+            item_words(alloc, assigned.declared, item)?,
+            b" isn't pending",
+        ),
+        Unlawful::Runs(other) => runs_words(alloc, assigned.declared, names, q, other),
         Unlawful::NothingPending => {
-            nothing_words(alloc, workqueues, names, q, b"nothing is pending on ")
+            nothing_words(
+                alloc,
+                &assigned.workqueues,
+                names,
+                q,
+                b"nothing is pending on ",
+            )
         }
-        Unlawful::First(first) => first_words(alloc, declared, names, q, item, first),
-        Unlawful::NothingRuns => { nothing_words(alloc, workqueues, names, q, b"nothing runs on ") }
-        Unlawful::Waits(other, flush) => {
-            waiting_words(alloc, declared, workqueues, names, q, other, flush)
+        Unlawful::First(first) => first_words(alloc, assigned.declared, names, q, item, first),
+        Unlawful::NothingRuns => {
+            nothing_words(alloc, &assigned.workqueues, names, q, b"nothing runs on ")
         }
+        Unlawful::Waits(other, flush) => { waiting_words(alloc, assigned, names, q, other, flush) }
         Unlawful::Undeclared(other, whole) => {
-            undeclared_words(alloc, declared, names, q, other, whole, item)
+            undeclared_words(alloc, assigned.declared, names, q, other, whole, item)
         }
-        Unlawful::AllMade(other) => made_words(alloc, declared, names, q, other),
+        Unlawful::AllMade(other) => made_words(alloc, assigned.declared, names, q, other),
         Unlawful::Awake(other) => {
             followed(
-                runner_words(alloc, declared, names, q, other)?,
+                runner_words(alloc, assigned.declared, names, q, other)?,
                 b", doesn't wait",
             )
         }
-        Unlawful::Unfinished(whole) => {
-            unfinished_words(alloc, declared, workqueues, names, whole, item)
-        }
+        Unlawful::Unfinished(whole) => { unfinished_words(alloc, assigned, names, whole, item) }
     }
 }

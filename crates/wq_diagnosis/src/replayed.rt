@@ -19,9 +19,9 @@ use crate::layout::{lines_of, put_line, put_lines};
 use crate::reasons::reason_words;
 use crate::unlawful::{Unlawful, reason_of};
 use std::alloc::{AllocError, Allocator};
-use wq_cert::{CertError, read_run, read_workqueues};
-use wq_commands::{Declaration, Stop, read_declaration};
-use wq_core::{Core, Step, Workqueues};
+use wq_cert::{CertError, read_run};
+use wq_commands::{Assigned, Declaration, Stop, read_declaration};
+use wq_core::{Core, Step};
 use wq_findings::{Excerpt, Hint, Mark, Marks, put_place};
 use wq_names::workqueue_names;
 use wq_text::{Line, Text, put};
@@ -177,19 +177,16 @@ fn said_of<A: Allocator + Copy>(
 /// What is said of the first of these steps that isn't lawful.
 fn of_first<A: Allocator + Copy>(
     alloc: A,
-    declared: &Declaration<'_, A>,
-    workqueues: &Workqueues<A>,
+    assigned: &Assigned<'_, '_, A>,
     names: &[&[u8]],
     run: Source<'_>,
     first: &UnlawfulStep,
 ) -> Result<Vec<u8, A>, AllocError>
-    requires grouped { length declared.now.groups.group_of ≡ length declared.now.table.names }
-    requires assigned { length workqueues.now.assignment.lane_of_group ≡ declared.now.groups.groups }
     ensures { IfOk result (λ said. IsUnlawfulText run.entry.file.now
-        (reason_words (record { table = declared.now.table; partition = declared.now.groups }) workqueues.now
-        (map (λ n. n.now) names.now) first.now.step first.now.why) first.now.number said.items) }
+        (reason_words assigned.now.declared assigned.now.workqueues (map (λ n. n.now) names.now) first.now.step
+        first.now.why) first.now.number said.items) }
 {
-    let what = reason_words(alloc, declared, workqueues, names, first.step, first.why)?;
+    let what = reason_words(alloc, assigned, names, first.step, first.why)?;
     said_of(alloc, run, &what, first.number)
 }
 
@@ -197,30 +194,31 @@ fn of_first<A: Allocator + Copy>(
 /// lawful.
 fn of_steps<A: Allocator + Copy>(
     alloc: A,
-    declared: &Declaration<'_, A>,
-    workqueues: &Workqueues<A>,
+    assigned: &Assigned<'_, '_, A>,
     names: &[&[u8]],
     steps: &[Step],
     run: Source<'_>,
     number: u32,
 ) -> Result<Option<Vec<u8, A>>, AllocError>
-    requires grouped { length declared.now.groups.group_of ≡ length declared.now.table.names }
-    requires assigned { length workqueues.now.assignment.lane_of_group ≡ declared.now.groups.groups }
     requires few { length steps.now < 4294967295 }
     requires no_help { HasNoHelp steps.now }
-    ensures { IfOk result (λ said. SaysStep run.entry.file.now
-        (record { table = declared.now.table; partition = declared.now.groups })
-        workqueues.now (map (λ n. n.now) names.now) steps.now number (option_map (λ text. text.items) said)) }
+    ensures { IfOk result (λ said. SaysStep run.entry.file.now assigned.now.declared assigned.now.workqueues
+        (map (λ n. n.now) names.now) steps.now number (option_map (λ text. text.items) said)) }
 {
-    let Declaration { table, groups } = declared;
-    let mut core = Core::on_workqueues(alloc, table, groups, workqueues)?;
+    let declared = assigned.declared;
+    let mut core = Core::on_workqueues(
+        alloc,
+        &declared.table,
+        &declared.groups,
+        &assigned.workqueues,
+    )?;
     let Some(first) = find(&mut core, steps) else {
         return Ok(None);
     };
     if first.number != number {
         return Ok(None);
     }
-    let said = of_first(alloc, declared, workqueues, names, run, &first)?;
+    let said = of_first(alloc, assigned, names, run, &first)?;
     Ok(Some(said))
 }
 
@@ -228,29 +226,18 @@ fn of_steps<A: Allocator + Copy>(
 /// that isn't lawful.
 fn of_run<A: Allocator + Copy>(
     alloc: A,
-    declared: &Declaration<'_, A>,
-    workqueues: &Workqueues<A>,
+    assigned: &Assigned<'_, '_, A>,
     names: &[&[u8]],
     run: Source<'_>,
     number: u32,
 ) -> Result<Option<Vec<u8, A>>, AllocError>
-    requires grouped { length declared.now.groups.group_of ≡ length declared.now.table.names }
-    requires assigned { length workqueues.now.assignment.lane_of_group ≡ declared.now.groups.groups }
-    ensures { IfOk result (λ said. SaysStepOn run.entry.file.now
-        (record { table = declared.now.table; partition = declared.now.groups })
-        workqueues.now (map (λ n. n.now) names.now) run.entry.text.now number (option_map (λ text. text.items) said)) }
+    ensures { IfOk result (λ said. SaysStepOn run.entry.file.now assigned.now.declared assigned.now.workqueues
+        (map (λ n. n.now) names.now) run.entry.text.now number (option_map (λ text. text.items) said)) }
 {
+    let declared = assigned.declared;
     match read_run(alloc, run.text, &declared.table) {
         Ok(steps) => {
-            let said = of_steps(
-                alloc,
-                declared,
-                workqueues,
-                names,
-                steps.as_slice(),
-                run,
-                number,
-            );
+            let said = of_steps(alloc, assigned, names, steps.as_slice(), run, number);
             drop(steps);
             said
         }
@@ -267,21 +254,18 @@ fn of_run<A: Allocator + Copy>(
 /// The same on the workqueues with this text.
 fn of_named<A: Allocator + Copy>(
     alloc: A,
-    declared: &Declaration<'_, A>,
-    workqueues: &Workqueues<A>,
+    assigned: &Assigned<'_, '_, A>,
     assignment: &[u8],
     run: Source<'_>,
     number: u32,
 ) -> Result<Option<Vec<u8, A>>, AllocError>
-    requires grouped { length declared.now.groups.group_of ≡ length declared.now.table.names }
-    requires read { workqueues_of_text declared.now.table.names declared.now.groups assignment.now ≡ Ok workqueues.now }
-    requires assigned { length workqueues.now.assignment.lane_of_group ≡ declared.now.groups.groups }
-    ensures { IfOk result (λ said. SaysStepOn run.entry.file.now
-        (record { table = declared.now.table; partition = declared.now.groups })
-        workqueues.now (names_of assignment.now) run.entry.text.now number (option_map (λ text. text.items) said)) }
+    requires { workqueues_of_text assigned.now.declared.table.names assigned.now.declared.partition assignment.now
+        ≡ Ok assigned.now.workqueues }
+    ensures { IfOk result (λ said. SaysStepOn run.entry.file.now assigned.now.declared assigned.now.workqueues
+        (names_of assignment.now) run.entry.text.now number (option_map (λ text. text.items) said)) }
 {
     let names = workqueue_names(alloc, assignment)?;
-    of_run(alloc, declared, workqueues, &names, run, number)
+    of_run(alloc, assigned, &names, run, number)
 }
 
 /// What is said of a run of this declaration: nothing where the assignment or the run is refused, or the step of this
@@ -293,18 +277,13 @@ fn of_declared<A: Allocator + Copy>(
     run: Source<'_>,
     number: u32,
 ) -> Result<Option<Vec<u8, A>>, AllocError>
-    requires { length declared.now.groups.group_of ≡ length declared.now.table.names }
     ensures { IfOk result (λ said. SaysStepUnder run.entry.file.now
-        (record { table = declared.now.table; partition = declared.now.groups })
-        assignment.now run.entry.text.now number (option_map (λ text. text.items) said)) }
+        declared.now assignment.now run.entry.text.now number (option_map (λ text. text.items) said)) }
 {
-    // What holds of every table and of all groups.
-    let _items = declared.table.len();
-    let _groups = declared.groups.len();
-    match read_workqueues(alloc, assignment, &declared.table, &declared.groups) {
-        Ok(workqueues) => {
-            let said = of_named(alloc, declared, &workqueues, assignment, run, number);
-            drop(workqueues);
+    match Assigned::read(alloc, declared, assignment) {
+        Ok(assigned) => {
+            let said = of_named(alloc, &assigned, assignment, run, number);
+            drop(assigned);
             said
         }
         Err(CertError::OutOfMemory) => Err(AllocError),

@@ -51,10 +51,9 @@ pub fn workqueue_of<A: Allocator + Copy>(
     workqueues: &Workqueues<A>,
     item: ItemId,
 ) -> LaneId
-    requires item { item < length declared.now.groups.group_of }
-    requires assigned { length workqueues.now.assignment.lane_of_group ≡ declared.now.groups.groups }
-    ensures { result
-        ≡ workqueue_of (record { table = declared.now.table; partition = declared.now.groups }) workqueues.now item }
+    requires item { item < length declared.now.partition.group_of }
+    requires assigned { length workqueues.now.assignment.lane_of_group ≡ declared.now.partition.groups }
+    ensures { result ≡ workqueue_of declared.now workqueues.now item }
 {
     workqueues.assignment().lane(declared.groups.of(item))
 }
@@ -76,8 +75,7 @@ pub fn item_words<A: Allocator + Copy>(
     declared: &Declaration<'_, A>,
     item: ItemId,
 ) -> Result<Vec<u8, A>, AllocError>
-    ensures { IfOk result (λ words. words.items
-        ≡ item_words (record { table = declared.now.table; partition = declared.now.groups }) item) }
+    ensures { IfOk result (λ words. words.items ≡ item_words declared.now item) }
 {
     let mut words = Vec::new(alloc);
     put(&mut words, b"`")?;

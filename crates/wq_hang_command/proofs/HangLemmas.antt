@@ -7,7 +7,7 @@ use Rattle.wq_core.specs.declared.step.Step.TheVariants.{Queue, Cancel, Start, W
 use Rattle.wq_core.specs.Wiring.{Wiring, items}
 use Rattle.wq_core.specs.Workqueues.{Workqueues, wiring_of}
 use Rattle.wq_core.specs.Runs.{IsHelp, HasNoHelp}
-use Rattle.wq_cert.specs.Ranges.{IsStepOf, AreWorkqueuesOf}
+use Rattle.wq_cert.specs.Ranges.{IsStepOf, IsAssignmentOf}
 use Rattle.wq_cert.specs.RunText.{step_item}
 use Rattle.wq_deadlock.proofs.BareLanes.{IsWiring-workqueues}
 use Rattle.wq_deadlock.proofs.Named.{IsNamed-run}
@@ -33,7 +33,8 @@ needs-help w (WaitAll q b) is = absurd is
 needs-help w (OverAll q b) is = absurd is
 needs-help w (Finish q i) is = absurd is
 
-module _ (s : Declared) (sound : IsSound s) (ws : Workqueues) (known : AreWorkqueuesOf s.partition.groups ws) (steps : List Step) (hang : IsShortestHang (wiring_of (declared_waits s) ws) steps) where
+module _ (s : Declared) (sound : IsSound s) (ws : Workqueues) (known : IsAssignmentOf s.partition.groups ws.assignment)
+    (steps : List Step) (hang : IsShortestHang (wiring_of (declared_waits s) ws) steps) where
   -- the run that `deadlock` prints is no shorter, and has few steps
   pub length-shortest : length steps ≤ 45056
   length-shortest = let judged = JudgesAssigned-exist s sound ws known in few judged.0 judged.1 judged.2
@@ -42,7 +43,12 @@ module _ (s : Declared) (sound : IsSound s) (ws : Workqueues) (known : AreWorkqu
       few Good out judged = let stuck = hang.hangs 0 (omega arith) in absurd (judged.1 0 (omega arith) steps stuck.0 stuck.1)
       few Bad out judged =
           let deadlocks = judged.1.deadlocks in
-          omega (arith, hang.shortest 0 (omega arith) judged.0 (deadlocks.run, deadlocks.stuck), length-hang s sound ws known.assignment judged.0 deadlocks)
+          omega (
+            arith,
+            hang.shortest 0 (omega arith) judged.0 (deadlocks.run, deadlocks.stuck),
+            length-hang s sound ws
+                known judged.0 deadlocks,
+          )
       few Refused out judged = absurd judged
 
   pub no_help-shortest : HasNoHelp steps
@@ -54,7 +60,8 @@ module _ (s : Declared) (sound : IsSound s) (ws : Workqueues) (known : AreWorkqu
   pub step_item-shortest : All (λ (step : Step). step_item step < length s.table.names) steps
   step_item-shortest =
       let w = wiring_of (declared_waits s) ws in
-      let named = IsNamed-run w steps (IsWiring-workqueues (declared_waits s) ws (IsDeclaration-sound s sound) known.assignment.assignment) (hang.hangs 0 (omega arith)).0 in
-      let of_items : All (IsStepOf (items w)) steps = steps_of-named w known.assignment.few steps named no_help-shortest in
+      let named = IsNamed-run w steps (IsWiring-workqueues (declared_waits s) ws (IsDeclaration-sound s sound)
+      known.assignment) (hang.hangs 0 (omega arith)).0 in
+      let of_items : All (IsStepOf (items w)) steps = steps_of-named w known.few steps named no_help-shortest in
       All-weaker (IsStepOf (length s.table.names)) (λ (step : Step). step_item step < length s.table.names) (λ (step : Step) named. named.0) steps
       (subst (λ n. All (IsStepOf n) steps) sound.table.one_list_each of_items)

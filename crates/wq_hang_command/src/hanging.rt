@@ -3,59 +3,45 @@
 //! The rule is that of "The command `hang`" in docs/FORMAT.md. It takes the time and the memory of reading the two
 //! texts and of the search for the shortest run.
 
-ghost use Rattle.std.specs.Prelude.{◌≡◌, IfOk, None, length};
-ghost use Rattle.wq_groups.specs.Declaration.{declaration_of};
+ghost use Rattle.std.specs.Prelude.{◌≡◌, IfOk, None};
 ghost use Rattle.wq_core.specs.Workqueues.{wiring_of};
 ghost use Rattle.wq_hang.specs.Answer.{IsAnswer};
 ghost use Rattle.wq_hang.specs.Shortest.{IsShortestHang};
-ghost use Rattle.wq_cert.specs.Ranges.{AreWorkqueuesOf};
 ghost use Rattle.wq_cert.specs.RunText.{run_text};
 ghost use Rattle.wq_cert.specs.Texts.{workqueues_of_text};
+ghost use Rattle.wq_commands.specs.Answer.{declared_waits};
 ghost use Rattle.wq_commands.specs.declared.why.Which.TheVariants.{Certificate};
 ghost use Rattle.wq_commands.specs.Why.{SaysFault, SaysAssigned};
 ghost use Rattle.wq_hang_command.specs.Hanging.{HangsAssigned, HangsDeclared, Hangs};
 
 use std::alloc::{AllocError, Allocator};
-use wq_cert::{CertError, read_workqueues, run_text};
-use wq_commands::{Answered, End, Stop, Which, read_declaration, safe_text};
-use wq_core::{Step, Workqueues};
-use wq_groups::Groups;
+use wq_cert::{CertError, run_text};
+use wq_commands::{Answered, Assigned, Declaration, End, Stop, Which, read_declaration, safe_text};
+use wq_core::Step;
 use wq_hang::{Answer, hang as shortest_hang};
-use wq_items::ItemTable;
 
 /// The text of a shortest run that ends stuck.
 fn hang_text<A: Allocator + Copy>(
     alloc: A,
-    table: &ItemTable<'_, A>,
-    groups: &Groups<A>,
-    workqueues: &Workqueues<A>,
+    assigned: &Assigned<'_, '_, A>,
     steps: &[Step],
 ) -> Result<Vec<u8, A>, AllocError>
-    requires grouped { length groups.now.group_of ≡ length table.now.names }
-    requires assigned { AreWorkqueuesOf groups.now.groups workqueues.now }
-    requires shortest { IsShortestHang (wiring_of (declaration_of table.now groups.now) workqueues.now) steps.now }
-    ensures { IfOk result (λ text. text.items ≡ run_text table.now.names steps.now) }
+    requires { IsShortestHang (wiring_of (declared_waits assigned.now.declared) assigned.now.workqueues) steps.now }
+    ensures { IfOk result (λ text. text.items ≡ run_text assigned.now.declared.table.names steps.now) }
 {
-    // What holds of every table, of all groups and of every assignment.
-    let _items = table.len();
-    let _groups = groups.len();
-    let _lanes = workqueues.assignment().lanes();
-    run_text(alloc, table, steps)
+    let declared = assigned.declared;
+    run_text(alloc, &declared.table, steps)
 }
 
 /// What is printed of this answer.
 fn print_answer<A: Allocator + Copy>(
     alloc: A,
-    table: &ItemTable<'_, A>,
-    groups: &Groups<A>,
-    workqueues: &Workqueues<A>,
+    assigned: &Assigned<'_, '_, A>,
     answer: &Answer<A>,
 ) -> Result<Answered<A>, AllocError>
-    requires grouped { length groups.now.group_of ≡ length table.now.names }
-    requires assigned { AreWorkqueuesOf groups.now.groups workqueues.now }
-    requires answer { IsAnswer (declaration_of table.now groups.now) workqueues.now answer.now }
+    requires { IsAnswer (declared_waits assigned.now.declared) assigned.now.workqueues answer.now }
     ensures answer { IfOk result (λ a.
-        HangsAssigned (record { table = table.now; partition = groups.now }) workqueues.now a.end a.text.items) }
+        HangsAssigned assigned.now.declared assigned.now.workqueues a.end a.text.items) }
     ensures why { IfOk result (λ a. a.why ≡ None) }
 {
     match answer {
@@ -64,49 +50,46 @@ fn print_answer<A: Allocator + Copy>(
             Ok(Answered::plain(End::Good, text))
         }
         Answer::Hang(_, steps) => {
-            let text = hang_text(alloc, table, groups, workqueues, steps)?;
+            let text = hang_text(alloc, assigned, steps)?;
             Ok(Answered::plain(End::Bad, text))
         }
     }
 }
 
-/// The answer to workqueues of these groups.
+/// The answer to workqueues of the declared groups.
 fn hang_assigned<A: Allocator + Copy>(
     alloc: A,
-    table: &ItemTable<'_, A>,
-    groups: &Groups<A>,
-    workqueues: &Workqueues<A>,
+    assigned: &Assigned<'_, '_, A>,
 ) -> Result<Answered<A>, AllocError>
-    requires grouped { length groups.now.group_of ≡ length table.now.names }
-    requires assigned { AreWorkqueuesOf groups.now.groups workqueues.now }
     ensures answer { IfOk result (λ a.
-        HangsAssigned (record { table = table.now; partition = groups.now }) workqueues.now a.end a.text.items) }
+        HangsAssigned assigned.now.declared assigned.now.workqueues a.end a.text.items) }
     ensures why { IfOk result (λ a. a.why ≡ None) }
 {
-    let answer = shortest_hang(alloc, table, groups, workqueues)?;
-    print_answer(alloc, table, groups, workqueues, &answer)
+    let declared = assigned.declared;
+    let answer = shortest_hang(
+        alloc,
+        &declared.table,
+        &declared.groups,
+        &assigned.workqueues,
+    )?;
+    print_answer(alloc, assigned, &answer)
 }
 
-/// The answer to the text of an assignment of these groups.
+/// The answer to the text of an assignment of the declared groups.
 fn hang_declared<A: Allocator + Copy>(
     alloc: A,
-    table: &ItemTable<'_, A>,
-    groups: &Groups<A>,
+    declared: &Declaration<'_, A>,
     text: &[u8],
 ) -> Result<Answered<A>, AllocError>
-    requires { length groups.now.group_of ≡ length table.now.names }
-    ensures answer { IfOk result (λ a.
-        HangsDeclared (record { table = table.now; partition = groups.now }) text.now a.end a.text.items) }
+    ensures answer { IfOk result (λ a. HangsDeclared declared.now text.now a.end a.text.items) }
     ensures why { IfOk result (λ a.
-        SaysFault Certificate (workqueues_of_text table.now.names groups.now text.now) a.why) }
+        SaysFault Certificate (workqueues_of_text declared.now.table.names declared.now.partition text.now) a.why) }
 {
-    // What holds of all groups.
-    let _groups = groups.len();
-    match read_workqueues(alloc, text, table, groups) {
-        Ok(workqueues) => {
-            let answer = hang_assigned(alloc, table, groups, &workqueues);
+    match Assigned::read(alloc, declared, text) {
+        Ok(assigned) => {
+            let answer = hang_assigned(alloc, &assigned);
             // Written as a call, so that the proof has one step for it.
-            drop(workqueues);
+            drop(assigned);
             answer
         }
         Err(CertError::OutOfMemory) => Err(AllocError),
@@ -126,7 +109,7 @@ pub(crate) fn hang<A: Allocator + Copy>(
 {
     match read_declaration(alloc, seed, text) {
         Ok(declared) => {
-            let answer = hang_declared(alloc, &declared.table, &declared.groups, assigned);
+            let answer = hang_declared(alloc, &declared, assigned);
             drop(declared);
             answer
         }

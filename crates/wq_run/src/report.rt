@@ -11,9 +11,10 @@ ghost use Rattle.wq_run.specs.Report.{workqueues_line, kind_count_words, item_li
 
 use std::alloc::{AllocError, Allocator};
 use wq_api::{Closed, Naming};
+use wq_commands::Declaration;
 use wq_counts::Counts;
-use wq_groups::{Assignment, Groups};
-use wq_items::{ItemId, ItemTable};
+use wq_groups::Assignment;
+use wq_items::ItemId;
 use wq_rescuer::{Body, Caller, Ran};
 use wq_text::{put, put_count, put_end, put_number, put_word};
 
@@ -49,20 +50,17 @@ fn put_counts<A: Allocator + Copy>(
 /// Adds `item NAME wq Q queued N cancelled N finished N`.
 fn put_item_line<A: Allocator + Copy>(
     out: &mut Vec<u8, A>,
-    table: &ItemTable<'_, A>,
-    groups: &Groups<A>,
+    declared: &Declaration<'_, A>,
     assignment: &Assignment<A>,
     counts: &Counts<A>,
     item: ItemId,
 ) -> Result<(), AllocError>
-    requires item { item < length table.now.names }
-    requires grouped { length groups.now.group_of ≡ length table.now.names }
-    requires assigned { length assignment.now.lane_of_group ≡ groups.now.groups }
+    requires item { item < length declared.now.table.names }
+    requires assigned { length assignment.now.lane_of_group ≡ declared.now.partition.groups }
     ensures { OnOk result (out.new.items ≡ out.old.items
-        ++ line_text
-        (item_line (record { table = table.now; partition = groups.now }) assignment.now (λ i kind.
-        made counts.now i kind true) item)) }
+        ++ line_text (item_line declared.now assignment.now (λ i kind. made counts.now i kind true) item)) }
 {
+    let Declaration { table, groups } = declared;
     let lane = assignment.lane(groups.of(item));
     put(out, b"item")?;
     put_word(out, table.name(item))?;
@@ -86,27 +84,23 @@ fn put_faults_line<A: Allocator + Copy>(out: &mut Vec<u8, A>, faults: u64) -> Re
 /// the counts of the closed runtime; and how many executions ended with a fault. Nothing else decides on the text. The
 /// seats aren't looked at, so they may have been taken out to close the runtime with.
 ///
-/// The groups are those of the table's items, and the assignment is one of these
-/// groups. The only error is out of memory (20).
+/// The assignment is one of the declared groups. The only error is out of memory (20).
 pub fn report_text<N: Naming, A: Allocator + Copy, B: Body + Drop, C: Caller + Drop>(
     alloc: A,
-    table: &ItemTable<'_, A>,
-    groups: &Groups<A>,
+    declared: &Declaration<'_, A>,
     assignment: &Assignment<A>,
     closed: &Closed<N, A>,
     ran: &Ran<N, A, B, C>,
 ) -> Result<Vec<u8, A>, AllocError>
-    requires grouped { length groups.now.group_of ≡ length table.now.names }
-    requires assigned { length assignment.now.lane_of_group ≡ groups.now.groups }
+    requires assigned { length assignment.now.lane_of_group ≡ declared.now.partition.groups }
     ensures { IfOk result (λ text. text.items
-        ≡ report_text (record { table = table.now; partition = groups.now }) assignment.now (λ i kind.
-        made closed.now.counts i kind true) ran.now.faults) }
+        ≡ report_text declared.now assignment.now (λ i kind. made closed.now.counts i kind true) ran.now.faults) }
 {
     let mut out = Vec::new(alloc);
     put_workqueues_line(&mut out, assignment.lanes())?;
-    for i in 0..table.len() {
+    for i in 0..declared.table.len() {
         let item = ItemId::new(i);
-        put_item_line(&mut out, table, groups, assignment, &closed.counts, item)?;
+        put_item_line(&mut out, declared, assignment, &closed.counts, item)?;
     }
     put_faults_line(&mut out, ran.faults)?;
     Ok(out)

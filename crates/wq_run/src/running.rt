@@ -5,14 +5,13 @@
 //! rows of the history: for each item a seat has 176 bytes and a body 4.
 
 ghost use Rattle.std.specs.Prelude.{◌≡◌, ◌≢◌, ◌≤◌, ◌+◌, ◌*◌, ℕ, IfOk, IfErr, length};
-ghost use Rattle.wq_groups.specs.Declaration.{declaration_of};
 ghost use Rattle.wq_core.specs.Wiring.{wiring, with_helpers, max_helpers};
 ghost use Rattle.wq_plan.specs.Plan.{IsPlan};
 ghost use Rattle.wq_items.specs.Table.{flush_count};
 ghost use Rattle.wq_plan.specs.Solve.{IsCircled};
 ghost use Rattle.wq_held.specs.declared.fault.NewError.TheVariants.{OutOfMemory as NoMemory};
 ghost use Rattle.wq_held.specs.Errors.{new_code};
-ghost use Rattle.wq_commands.specs.Answer.{PrintsRefusal};
+ghost use Rattle.wq_commands.specs.Answer.{declared_waits, PrintsRefusal};
 ghost use Rattle.wq_run.specs.declared.fault.RunStop.TheVariants.{OutOfMemory};
 ghost use Rattle.wq_run.specs.Fault.{Stops};
 ghost use Rattle.wq_run.specs.Running.{RunsPlan, RunsDeclared, HasRuntime, IsRunnable, SaysUnrun, rows_for, run_why};
@@ -26,10 +25,11 @@ use std::sync::ledger::Blank;
 use std::thread::Threads;
 use wq_api::{Naming, NewError, WqRuntime};
 use wq_commands::{
-    Answered, End, Stop, TOO_MANY_LANES, Which, Why, read_declaration, refuse, text_of_circle,
+    Answered, Declaration, End, Stop, TOO_MANY_LANES, Which, Why, read_declaration, refuse,
+    text_of_circle,
 };
 use wq_graph::WaitArc;
-use wq_groups::{Assignment, Groups};
+use wq_groups::Assignment;
 use wq_items::ItemTable;
 use wq_plan::{Answer, solve};
 
@@ -62,8 +62,7 @@ fn run_named<N: Naming + Send + Sync, A: Allocator + Copy + Send + Sync, R: Thre
     rt: &R,
     alloc: A,
     blank: Blank,
-    table: &ItemTable<'_, A>,
-    groups: &Groups<A>,
+    declared: &Declaration<'_, A>,
     assignment: &Assignment<A>,
     rows: u32,
     helpers: u8,
@@ -71,22 +70,18 @@ fn run_named<N: Naming + Send + Sync, A: Allocator + Copy + Send + Sync, R: Thre
     requires name { blank.name ≡ N.name }
     requires parts { blank.parts ≡ N.parts }
     requires all_parts { N.parts ≡ 65536 }
-    requires grouped { length groups.now.group_of ≡ length table.now.names }
-    requires plan { IsPlan (declaration_of table.now groups.now) assignment.now }
-    requires of_wiring { N.wiring ≡ with_helpers (wiring (declaration_of table.now groups.now) assignment.now) helpers }
+    requires plan { IsPlan (declared_waits declared.now) assignment.now }
+    requires of_wiring { N.wiring ≡ with_helpers (wiring (declared_waits declared.now) assignment.now) helpers }
     requires few_helpers { helpers ≤ max_helpers }
-    requires few_rows { rows ≡ rows_for (record { table = table.now; partition = groups.now }) }
+    requires few_rows { rows ≡ rows_for declared.now }
     requires of_rows { N.rows ≡ rows }
-    ensures ran { IfOk result (λ printed.
-        RunsDeclared helpers (record { table = table.now; partition = groups.now }) printed.0 printed.1.items) }
-    ensures stopped { IfErr result (Stops (HasRuntime (record { table = table.now; partition = groups.now }))) }
+    ensures ran { IfOk result (λ printed. RunsDeclared helpers declared.now printed.0 printed.1.items) }
+    ensures stopped { IfErr result (Stops (HasRuntime declared.now)) }
 {
-    // What holds of every table and of all groups.
-    let _items = table.len();
-    let _groups = groups.len();
+    let Declaration { table, groups } = declared;
     match WqRuntime::<N, A>::with_helpers(alloc, blank, table, groups, assignment, rows, helpers) {
         Ok(runtime) => {
-            let text = serve(rt, alloc, runtime, table, groups, assignment)?;
+            let text = serve(rt, alloc, runtime, declared, assignment)?;
             Ok((End::Good, text))
         }
         Err(error) => refuse_runtime(alloc, error),
@@ -97,59 +92,50 @@ fn run_named<N: Naming + Send + Sync, A: Allocator + Copy + Send + Sync, R: Thre
 fn run_plan<A: Allocator + Copy + Send + Sync, R: Threads + Wait + Sync>(
     rt: &R,
     alloc: A,
-    table: &ItemTable<'_, A>,
-    groups: &Groups<A>,
+    declared: &Declaration<'_, A>,
     assignment: &Assignment<A>,
     helpers: u8,
 ) -> Result<(End, Vec<u8, A>), RunStop>
-    requires grouped { length groups.now.group_of ≡ length table.now.names }
-    requires plan { IsPlan (declaration_of table.now groups.now) assignment.now }
+    requires plan { IsPlan (declared_waits declared.now) assignment.now }
     requires few_helpers { helpers ≤ max_helpers }
-    ensures ran { IfOk result (λ printed.
-        RunsDeclared helpers (record { table = table.now; partition = groups.now }) printed.0 printed.1.items) }
-    ensures stopped { IfErr result (Stops (HasRuntime (record { table = table.now; partition = groups.now }))) }
+    ensures ran { IfOk result (λ printed. RunsDeclared helpers declared.now printed.0 printed.1.items) }
+    ensures stopped { IfErr result (Stops (HasRuntime declared.now)) }
 {
     let blank = Blank::new(65_536);
-    let rows = rows_for(table);
-    run_named::<Brand, A, R>(rt, alloc, blank, table, groups, assignment, rows, helpers)
+    let rows = rows_for(&declared.table);
+    run_named::<Brand, A, R>(rt, alloc, blank, declared, assignment, rows, helpers)
 }
 
-/// Makes the text of the circle in which groups wait.
+/// Makes the text of the circle in which the declared groups wait.
 fn print_circle<A: Allocator + Copy>(
     alloc: A,
-    table: &ItemTable<'_, A>,
-    groups: &Groups<A>,
+    declared: &Declaration<'_, A>,
     arcs: &[WaitArc],
 ) -> Result<(End, Vec<u8, A>), RunStop>
-    requires grouped { length groups.now.group_of ≡ length table.now.names }
-    requires circled { IsCircled (declaration_of table.now groups.now) arcs.now }
+    requires circled { IsCircled (declared_waits declared.now) arcs.now }
     ensures printed { (helpers : ℕ)
-        → IfOk result (λ printed.
-        RunsDeclared helpers (record { table = table.now; partition = groups.now }) printed.0 printed.1.items) }
-    ensures stopped { IfErr result (Stops (HasRuntime (record { table = table.now; partition = groups.now }))) }
+        → IfOk result (λ printed. RunsDeclared helpers declared.now printed.0 printed.1.items) }
+    ensures stopped { IfErr result (Stops (HasRuntime declared.now)) }
 {
-    let text = text_of_circle(alloc, table, groups, arcs)?;
+    let text = text_of_circle(alloc, declared, arcs)?;
     Ok((End::Bad, text))
 }
 
-/// How a run that is given these items and their groups ends, and what it prints.
+/// How a run that is given a declaration ends, and what it prints.
 fn run_declared<A: Allocator + Copy + Send + Sync, R: Threads + Wait + Sync>(
     rt: &R,
     alloc: A,
-    table: &ItemTable<'_, A>,
-    groups: &Groups<A>,
+    declared: &Declaration<'_, A>,
     helpers: u8,
 ) -> Result<(End, Vec<u8, A>), RunStop>
-    requires grouped { length groups.now.group_of ≡ length table.now.names }
     requires few_helpers { helpers ≤ max_helpers }
-    ensures ran { IfOk result (λ printed.
-        RunsDeclared helpers (record { table = table.now; partition = groups.now }) printed.0 printed.1.items) }
-    ensures stopped { IfErr result (Stops (HasRuntime (record { table = table.now; partition = groups.now }))) }
+    ensures ran { IfOk result (λ printed. RunsDeclared helpers declared.now printed.0 printed.1.items) }
+    ensures stopped { IfErr result (Stops (HasRuntime declared.now)) }
 {
-    let answer = solve(alloc, table, groups)?;
+    let answer = solve(alloc, &declared.table, &declared.groups)?;
     let printed = match &answer {
-        Answer::Plan { assignment, .. } => run_plan(rt, alloc, table, groups, assignment, helpers),
-        Answer::Circle { arcs } => print_circle(alloc, table, groups, arcs),
+        Answer::Plan { assignment, .. } => run_plan(rt, alloc, declared, assignment, helpers),
+        Answer::Circle { arcs } => print_circle(alloc, declared, arcs),
     };
     drop(answer);
     printed
@@ -175,22 +161,19 @@ fn explained<A: Allocator + Copy>(end: End, text: Vec<u8, A>) -> Answered<A>
     }
 }
 
-/// The answer to these items and their groups.
+/// The answer to a declaration.
 fn run_explained<A: Allocator + Copy + Send + Sync, R: Threads + Wait + Sync>(
     rt: &R,
     alloc: A,
-    table: &ItemTable<'_, A>,
-    groups: &Groups<A>,
+    declared: &Declaration<'_, A>,
     helpers: u8,
 ) -> Result<Answered<A>, RunStop>
-    requires grouped { length groups.now.group_of ≡ length table.now.names }
     requires few_helpers { helpers ≤ max_helpers }
-    ensures ran { IfOk result (λ a.
-        RunsDeclared helpers (record { table = table.now; partition = groups.now }) a.end a.text.items) }
+    ensures ran { IfOk result (λ a. RunsDeclared helpers declared.now a.end a.text.items) }
     ensures why { IfOk result (λ a. a.why ≡ run_why a.end) }
-    ensures stopped { IfErr result (Stops (HasRuntime (record { table = table.now; partition = groups.now }))) }
+    ensures stopped { IfErr result (Stops (HasRuntime declared.now)) }
 {
-    let (end, text) = run_declared(rt, alloc, table, groups, helpers)?;
+    let (end, text) = run_declared(rt, alloc, declared, helpers)?;
     Ok(explained(end, text))
 }
 
@@ -209,7 +192,7 @@ pub(crate) fn answer_run<A: Allocator + Copy + Send + Sync, R: Threads + Wait + 
 {
     match read_declaration(alloc, seed, text) {
         Ok(declared) => {
-            let answer = run_explained(rt, alloc, &declared.table, &declared.groups, helpers);
+            let answer = run_explained(rt, alloc, &declared, helpers);
             // Written as a call, so that the proof has one step for it.
             drop(declared);
             answer

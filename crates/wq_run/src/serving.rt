@@ -6,7 +6,6 @@
 
 ghost use Rattle.std.specs.Prelude.{◌≡◌, ◌≤◌, ℕ, List, length, map, drop, IfOk, IfErr, is_ok, IsTrue, true};
 ghost use Rattle.std.specs.List.{All};
-ghost use Rattle.wq_groups.specs.Declaration.{declaration_of};
 ghost use Rattle.wq_core.specs.Wiring.{items, wiring, with_helpers};
 ghost use Rattle.wq_plan.specs.Plan.{IsPlan};
 ghost use Rattle.wq_counts.specs.Counting.{made};
@@ -18,6 +17,7 @@ ghost use Rattle.wq_rescuer.specs.Contexts.{contexts_of};
 ghost use Rattle.wq_rescuer.specs.Serving.{IsRan};
 ghost use Rattle.wq_script.specs.Scripts.{runs_of};
 ghost use Rattle.wq_script.specs.Crews.{shared_by_two};
+ghost use Rattle.wq_commands.specs.Answer.{declared_waits};
 ghost use Rattle.wq_run.specs.Fault.{Stops};
 ghost use Rattle.wq_run.specs.Report.{report_text};
 ghost use Rattle.wq_run.specs.Running.{PrintsRun, HasRuntime, HaveMade, rows_for};
@@ -29,7 +29,8 @@ use std::mem;
 use std::sync::Wait;
 use std::thread::Threads;
 use wq_api::{CallError, Closed, Naming, Seat, WqRuntime};
-use wq_groups::{Assignment, Groups};
+use wq_commands::Declaration;
+use wq_groups::Assignment;
 use wq_items::ItemTable;
 use wq_rescuer::{Body, Caller, Ran, count_contexts, run_all};
 use wq_script::{ScriptBody, ScriptCaller, script_bodies, script_callers};
@@ -132,23 +133,19 @@ fn close<N: Naming, A: Allocator>(
 fn conclude<N: Naming, A: Allocator + Copy, B: Body + Drop, C: Caller + Drop>(
     alloc: A,
     runtime: WqRuntime<N, A>,
-    table: &ItemTable<'_, A>,
-    groups: &Groups<A>,
+    declared: &Declaration<'_, A>,
     assignment: &Assignment<A>,
     mut ran: Ran<N, A, B, C>,
 ) -> Result<Vec<u8, A>, RunStop>
-    requires grouped { length groups.now.group_of ≡ length table.now.names }
-    requires assigned { length assignment.now.lane_of_group ≡ groups.now.groups }
+    requires assigned { length assignment.now.lane_of_group ≡ declared.now.partition.groups }
     ensures reported { IfOk result (λ text. (book : BookView)
         × (counts : List ℕ) × IsClosed N.wiring N.rows ran.seats.items book counts true
-        × (text.items
-        ≡ report_text (record { table = table.now; partition = groups.now }) assignment.now (λ i kind.
-        made counts i kind true) ran.faults)) }
+        × (text.items ≡ report_text declared.now assignment.now (λ i kind. made counts i kind true) ran.faults)) }
 {
     let seats = mem::replace(&mut ran.seats, Vec::new(alloc));
     match close(runtime, seats) {
         Ok(closed) => {
-            let text = report_text(alloc, table, groups, assignment, &closed, &ran);
+            let text = report_text(alloc, declared, assignment, &closed, &ran);
             drop(closed);
             drop(ran);
             Ok(text?)
@@ -169,24 +166,21 @@ pub(crate) fn serve<
     rt: &R,
     alloc: A,
     runtime: WqRuntime<N, A>,
-    table: &ItemTable<'_, A>,
-    groups: &Groups<A>,
+    declared: &Declaration<'_, A>,
     assignment: &Assignment<A>,
 ) -> Result<Vec<u8, A>, RunStop>
-    requires grouped { length groups.now.group_of ≡ length table.now.names }
-    requires assigned { length assignment.now.lane_of_group ≡ groups.now.groups }
-    requires plan { IsPlan (declaration_of table.now groups.now) assignment.now }
+    requires assigned { length assignment.now.lane_of_group ≡ declared.now.partition.groups }
+    requires plan { IsPlan (declared_waits declared.now) assignment.now }
     requires few { assignment.now.lanes ≤ max_runtime_lanes }
-    requires items { items N.wiring ≡ length table.now.names }
+    requires items { items N.wiring ≡ length declared.now.table.names }
     requires of_wiring { N.wiring
-        ≡ with_helpers (wiring (declaration_of table.now groups.now) assignment.now) N.wiring.helpers }
-    requires of_rows { N.rows ≡ rows_for (record { table = table.now; partition = groups.now }) }
-    ensures ran { IfOk result (λ text.
-        PrintsRun N.wiring.helpers (record { table = table.now; partition = groups.now }) text.items) }
-    ensures stopped { IfErr result (Stops (HasRuntime (record { table = table.now; partition = groups.now }))) }
+        ≡ with_helpers (wiring (declared_waits declared.now) assignment.now) N.wiring.helpers }
+    requires of_rows { N.rows ≡ rows_for declared.now }
+    ensures ran { IfOk result (λ text. PrintsRun N.wiring.helpers declared.now text.items) }
+    ensures stopped { IfErr result (Stops (HasRuntime declared.now)) }
 {
-    match run_crew(rt, alloc, &runtime, table) {
-        Ok(ran) => conclude(alloc, runtime, table, groups, assignment, ran),
+    match run_crew(rt, alloc, &runtime, &declared.table) {
+        Ok(ran) => conclude(alloc, runtime, declared, assignment, ran),
         Err(stop) => {
             drop(runtime);
             Err(stop)

@@ -4,11 +4,11 @@
 //! components, and of a search from each item on one.
 
 ghost use Rattle.std.specs.Prelude.{◌≡◌, ◌<◌, IfOk, OnOk, Ok, length, map, option_map};
-ghost use Rattle.wq_groups.specs.Declaration.{declaration_of};
 ghost use Rattle.wq_deadlock.specs.Judging.{bare_waits};
 ghost use Rattle.wq_cert.specs.Texts.{workqueues_of_text};
 ghost use Rattle.wq_circles.specs.Components.{AreComponents};
 ghost use Rattle.wq_circles.specs.ComponentsText.{AreBetween};
+ghost use Rattle.wq_commands.specs.Answer.{declared_waits};
 ghost use Rattle.wq_voice.specs.Components.{first_told, hop_of, is_of_whole, GivesOwnReasons, GivesReasons};
 ghost use Rattle.wq_voice.specs.Components.{GivesReasonsOf, GivesReasonsOfGroups, GivesReasonsOfTexts};
 ghost use Rattle.wq_voice.specs.Reasons.{AddsSaid};
@@ -22,9 +22,9 @@ use crate::rounds::put_rounds;
 use crate::subject::{Subject, put_walk};
 use crate::waits::Wording;
 use std::alloc::{AllocError, Allocator};
-use wq_cert::{CertError, read_workqueues};
+use wq_cert::CertError;
 use wq_circles::components;
-use wq_commands::{Declaration, Stop, read_declaration};
+use wq_commands::{Assigned, Declaration, Stop, read_declaration};
 use wq_core::Workqueues;
 use wq_deadlock::{bare_waits, own_lanes};
 use wq_diagnosis::Source;
@@ -47,7 +47,7 @@ fn is_of_whole<A: Allocator + Copy>(table: &ItemTable<'_, A>, item: ItemId, plac
 /// The wait in a flush that leads to no rescuer.
 fn hop_of<A: Allocator + Copy>(declared: &Declaration<'_, A>, arc: &WaitArc) -> Hop
     requires { arc.now.src < length declared.now.table.names }
-    ensures { result ≡ hop_of (record { table = declared.now.table; partition = declared.now.groups }) arc.now }
+    ensures { result ≡ hop_of declared.now arc.now }
 {
     Hop {
         item: arc.src,
@@ -67,17 +67,12 @@ fn put_first<A: Allocator + Copy>(
     subject: &Subject<'_, '_, '_, '_, A>,
     waits: &[WaitArc],
 ) -> Result<(), AllocError>
-    requires between { AreBetween (length subject.now.declared.now.groups.group_of) waits.now }
-    requires grouped { length subject.now.declared.now.groups.group_of ≡ length subject.now.declared.now.table.names }
+    requires between { AreBetween (length subject.now.declared.now.partition.group_of) waits.now }
     requires assigned { length subject.now.workqueues.now.assignment.lane_of_group
-        ≡ subject.now.declared.now.groups.groups }
+        ≡ subject.now.declared.now.partition.groups }
     ensures { OnOk result (AddsSaid subject.now.declaration.file.now (first_told (λ h. words_of subject.now.wording
-        (record { table = subject.now.declared.now.table; partition = subject.now.declared.now.groups })
-        subject.now.workqueues.now (map (λ n. n.now) subject.now.names.now) h)
-        (record {
-          table = subject.now.declared.now.table;
-          partition = subject.now.declared.now.groups;
-        }) waits.now) out.old.items out.new.items) }
+        subject.now.declared.now subject.now.workqueues.now (map (λ n. n.now) subject.now.names.now) h)
+        subject.now.declared.now waits.now) out.old.items out.new.items) }
 {
     match waits {
         [] => Ok(()),
@@ -95,28 +90,22 @@ fn of_components<A: Allocator + Copy>(
     components: &[Vec<WaitArc, A>],
     waits: &[WaitArc],
 ) -> Result<Vec<u8, A>, AllocError>
-    requires grouped { length subject.now.declared.now.groups.group_of ≡ length subject.now.declared.now.table.names }
     requires assigned { length subject.now.workqueues.now.assignment.lane_of_group
-        ≡ subject.now.declared.now.groups.groups }
+        ≡ subject.now.declared.now.partition.groups }
     requires are { AreComponents
-        (declaration_of subject.now.declared.now.table subject.now.declared.now.groups) subject.now.workqueues.now
+        (declared_waits subject.now.declared.now) subject.now.workqueues.now
         (map (λ l. l.items) components.now) }
     requires waits { waits.now
         ≡ bare_waits
-        (declaration_of subject.now.declared.now.table subject.now.declared.now.groups) subject.now.workqueues.now }
+        (declared_waits subject.now.declared.now) subject.now.workqueues.now }
     ensures { IfOk result (λ said. GivesReasons subject.now.declaration.file.now (λ h. words_of subject.now.wording
-        (record { table = subject.now.declared.now.table; partition = subject.now.declared.now.groups })
-        subject.now.workqueues.now (map (λ n. n.now) subject.now.names.now) h)
-        (record {
-          table = subject.now.declared.now.table;
-          partition = subject.now.declared.now.groups;
-        }) subject.now.workqueues.now said.items) }
+        subject.now.declared.now subject.now.workqueues.now (map (λ n. n.now) subject.now.names.now) h)
+        subject.now.declared.now subject.now.workqueues.now said.items) }
 {
-    // What holds of every table, of all groups and of every assignment.
-    let Declaration { table, groups } = subject.declared;
-    let _items = table.len();
-    let _groups = groups.len();
+    // What holds of every assignment.
     let _lanes = subject.workqueues.assignment().lanes();
+    let declared = subject.declared;
+    let Declaration { table, groups } = declared;
     let mut rounds = Rounds::new(alloc, table, groups, subject.workqueues)?;
     let mut said = Vec::new(alloc);
     put_rounds(alloc, &mut said, subject, &mut rounds, components)?;
@@ -129,18 +118,14 @@ fn of_subject<A: Allocator + Copy>(
     alloc: A,
     subject: &Subject<'_, '_, '_, '_, A>,
 ) -> Result<Vec<u8, A>, AllocError>
-    requires grouped { length subject.now.declared.now.groups.group_of ≡ length subject.now.declared.now.table.names }
     requires assigned { length subject.now.workqueues.now.assignment.lane_of_group
-        ≡ subject.now.declared.now.groups.groups }
+        ≡ subject.now.declared.now.partition.groups }
     ensures { IfOk result (λ said. GivesReasons subject.now.declaration.file.now (λ h. words_of subject.now.wording
-        (record { table = subject.now.declared.now.table; partition = subject.now.declared.now.groups })
-        subject.now.workqueues.now (map (λ n. n.now) subject.now.names.now) h)
-        (record {
-          table = subject.now.declared.now.table;
-          partition = subject.now.declared.now.groups;
-        }) subject.now.workqueues.now said.items) }
+        subject.now.declared.now subject.now.workqueues.now (map (λ n. n.now) subject.now.names.now) h)
+        subject.now.declared.now subject.now.workqueues.now said.items) }
 {
-    let Declaration { table, groups } = subject.declared;
+    let declared = subject.declared;
+    let Declaration { table, groups } = declared;
     let components = components(alloc, table, groups, subject.workqueues)?;
     let waits = bare_waits(alloc, table, groups, subject.workqueues)?;
     of_components(alloc, subject, &components, &waits)
@@ -151,17 +136,13 @@ fn of_assigned<'a, A: Allocator + Copy>(
     alloc: A,
     declaration: Source<'a>,
     assignment: Source<'a>,
-    declared: &Declaration<'a, A>,
-    workqueues: &Workqueues<A>,
+    assigned: &Assigned<'_, 'a, A>,
 ) -> Result<Vec<u8, A>, AllocError>
-    requires grouped { length declared.now.groups.group_of ≡ length declared.now.table.names }
-    requires read { workqueues_of_text declared.now.table.names declared.now.groups assignment.text.now
-        ≡ Ok workqueues.now }
-    requires assigned { length workqueues.now.assignment.lane_of_group ≡ declared.now.groups.groups }
+    requires { workqueues_of_text assigned.now.declared.table.names assigned.now.declared.partition
+        assignment.text.now ≡ Ok assigned.now.workqueues }
     ensures { IfOk result (λ said. GivesReasons declaration.entry.file.now (λ h. words_of OnWorkqueues
-        (record { table = declared.now.table; partition = declared.now.groups }) workqueues.now
-        (names_of assignment.entry.text.now) h)
-        (record { table = declared.now.table; partition = declared.now.groups }) workqueues.now said.items) }
+        assigned.now.declared assigned.now.workqueues (names_of assignment.entry.text.now) h)
+        assigned.now.declared assigned.now.workqueues said.items) }
 {
     let names = workqueue_names(alloc, assignment.text)?;
     let flushes = FlushLines::new(alloc, declaration.text)?;
@@ -169,8 +150,8 @@ fn of_assigned<'a, A: Allocator + Copy>(
         declaration,
         assignment,
         wording: Wording::OnWorkqueues,
-        declared,
-        workqueues,
+        declared: assigned.declared,
+        workqueues: &assigned.workqueues,
         flushes: &flushes,
         names: &names,
     };
@@ -184,18 +165,13 @@ fn of_declared<'a, A: Allocator + Copy>(
     assignment: Source<'a>,
     declared: &Declaration<'a, A>,
 ) -> Result<Option<Vec<u8, A>>, AllocError>
-    requires { length declared.now.groups.group_of ≡ length declared.now.table.names }
     ensures { IfOk result (λ said. GivesReasonsOf declaration.entry.file.now assignment.entry.text.now
-        (record { table = declared.now.table; partition = declared.now.groups })
-        (option_map (λ text. text.items) said)) }
+        declared.now (option_map (λ text. text.items) said)) }
 {
-    // What holds of every table and of all groups.
-    let _items = declared.table.len();
-    let _groups = declared.groups.len();
-    match read_workqueues(alloc, assignment.text, &declared.table, &declared.groups) {
-        Ok(workqueues) => {
-            let said = of_assigned(alloc, declaration, assignment, declared, &workqueues);
-            drop(workqueues);
+    match Assigned::read(alloc, declared, assignment.text) {
+        Ok(assigned) => {
+            let said = of_assigned(alloc, declaration, assignment, &assigned);
+            drop(assigned);
             Ok(Some(said?))
         }
         Err(CertError::OutOfMemory) => Err(AllocError),
@@ -238,9 +214,8 @@ fn of_groups<'a, A: Allocator + Copy>(
     declaration: Source<'a>,
     declared: &Declaration<'a, A>,
 ) -> Result<Vec<u8, A>, AllocError>
-    requires { length declared.now.groups.group_of ≡ length declared.now.table.names }
     ensures { IfOk result (λ said. GivesReasonsOfGroups declaration.entry.file.now
-        (record { table = declared.now.table; partition = declared.now.groups }) said.items) }
+        declared.now said.items) }
 {
     let assignment = own_lanes(alloc, &declared.groups)?;
     let workqueues = Workqueues::new(assignment, Vec::new(alloc));

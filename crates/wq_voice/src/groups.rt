@@ -19,8 +19,7 @@ fn group_to_all_words<A: Allocator + Copy>(
     declared: &Declaration<'_, A>,
     hop: &Hop,
 ) -> Result<Vec<u8, A>, AllocError>
-    ensures { IfOk result (λ words. words.items
-        ≡ group_to_all_words (record { table = declared.now.table; partition = declared.now.groups }) hop.now) }
+    ensures { IfOk result (λ words. words.items ≡ group_to_all_words declared.now hop.now) }
 {
     if hop.next == hop.item {
         return Vec::from_slice(alloc, b"its workqueue");
@@ -42,8 +41,7 @@ fn group_to_next_words<A: Allocator + Copy>(
     declared: &Declaration<'_, A>,
     hop: &Hop,
 ) -> Result<Vec<u8, A>, AllocError>
-    ensures { IfOk result (λ words. words.items
-        ≡ group_to_next_words (record { table = declared.now.table; partition = declared.now.groups }) hop.now) }
+    ensures { IfOk result (λ words. words.items ≡ group_to_next_words declared.now hop.now) }
 {
     if hop.next == hop.item {
         return Vec::from_slice(alloc, b"itself");
@@ -59,8 +57,7 @@ fn behind_words<A: Allocator + Copy>(
     declared: &Declaration<'_, A>,
     hop: &Hop,
 ) -> Result<Vec<u8, A>, AllocError>
-    ensures { IfOk result (λ words. words.items
-        ≡ group_behind_words (record { table = declared.now.table; partition = declared.now.groups }) hop.now) }
+    ensures { IfOk result (λ words. words.items ≡ group_behind_words declared.now hop.now) }
 {
     if hop.next == hop.item {
         Vec::from_slice(alloc, b"it")
@@ -75,8 +72,7 @@ fn group_to_behind_words<A: Allocator + Copy>(
     declared: &Declaration<'_, A>,
     hop: &Hop,
 ) -> Result<Vec<u8, A>, AllocError>
-    ensures { IfOk result (λ words. words.items
-        ≡ group_to_behind_words (record { table = declared.now.table; partition = declared.now.groups }) hop.now) }
+    ensures { IfOk result (λ words. words.items ≡ group_to_behind_words declared.now hop.now) }
 {
     let behind = behind_words(alloc, declared, hop)?;
     let mut words = item_words(alloc, declared, hop.flush.item)?;
@@ -92,8 +88,7 @@ fn group_to_words<A: Allocator + Copy>(
     declared: &Declaration<'_, A>,
     hop: &Hop,
 ) -> Result<Vec<u8, A>, AllocError>
-    ensures { IfOk result (λ words. words.items
-        ≡ group_to_words (record { table = declared.now.table; partition = declared.now.groups }) hop.now) }
+    ensures { IfOk result (λ words. words.items ≡ group_to_words declared.now hop.now) }
 {
     if hop.flush.whole {
         group_to_all_words(alloc, declared, hop)
@@ -110,8 +105,7 @@ pub(crate) fn group_wait_words<A: Allocator + Copy>(
     declared: &Declaration<'_, A>,
     hop: &Hop,
 ) -> Result<Vec<u8, A>, AllocError>
-    ensures { IfOk result (λ words. words.items
-        ≡ group_wait_words (record { table = declared.now.table; partition = declared.now.groups }) hop.now) }
+    ensures { IfOk result (λ words. words.items ≡ group_wait_words declared.now hop.now) }
 {
     let target = group_to_words(alloc, declared, hop)?;
     let mut words = item_words(alloc, declared, hop.item)?;

@@ -36,10 +36,9 @@ fn of_lacking<'a, A: Allocator + Copy>(
     declared: &Declaration<'a, A>,
     no: &No,
 ) -> Result<Vec<u8, A>, AllocError>
-    requires { length declared.now.groups.group_of ≡ length declared.now.table.names }
     ensures { IfOk result (λ said.
         SaysLacking declaration.entry.file.now certificate.entry.file.now certificate.entry.text.now
-        (record { table = declared.now.table; partition = declared.now.groups }) no.now (Some said.items)) }
+        declared.now no.now (Some said.items)) }
 {
     let diagnosis = of_lack(alloc, declared, certificate, no)?;
     match no {

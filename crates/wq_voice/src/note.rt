@@ -21,10 +21,9 @@ pub(crate) fn bare_items<A: Allocator + Copy>(
     declared: &Declaration<'_, A>,
     workqueues: &Workqueues<A>,
 ) -> Result<Vec<ItemId, A>, AllocError>
-    requires grouped { length declared.now.groups.group_of ≡ length declared.now.table.names }
-    requires assigned { length workqueues.now.assignment.lane_of_group ≡ declared.now.groups.groups }
+    requires assigned { length workqueues.now.assignment.lane_of_group ≡ declared.now.partition.groups }
     ensures items { IfOk result (λ items. items.items
-        ≡ bare_items (record { table = declared.now.table; partition = declared.now.groups }) workqueues.now) }
+        ≡ bare_items declared.now workqueues.now) }
     ensures within { IfOk result (λ items. All (λ i. i < length declared.now.table.names) items.items) }
 {
     let mut items = Vec::new(alloc);
@@ -46,10 +45,9 @@ fn placed_item<A: Allocator + Copy>(
     item: ItemId,
 ) -> Result<Vec<u8, A>, AllocError>
     requires item { item < length declared.now.table.names }
-    requires grouped { length declared.now.groups.group_of ≡ length declared.now.table.names }
-    requires assigned { length workqueues.now.assignment.lane_of_group ≡ declared.now.groups.groups }
+    requires assigned { length workqueues.now.assignment.lane_of_group ≡ declared.now.partition.groups }
     ensures { IfOk result (λ words. words.items
-        ≡ placed_item (record { table = declared.now.table; partition = declared.now.groups }) workqueues.now
+        ≡ placed_item declared.now workqueues.now
         (map (λ n. n.now) names.now) item) }
 {
     let workqueue = workqueue_words(alloc, names, workqueue_of(declared, workqueues, item))?;
@@ -70,11 +68,10 @@ pub(crate) fn placed_items<A: Allocator + Copy>(
     items: &[ItemId],
 ) -> Result<Vec<Vec<u8, A>, A>, AllocError>
     requires items { All (λ i. i < length declared.now.table.names) items.now }
-    requires grouped { length declared.now.groups.group_of ≡ length declared.now.table.names }
-    requires assigned { length workqueues.now.assignment.lane_of_group ≡ declared.now.groups.groups }
+    requires assigned { length workqueues.now.assignment.lane_of_group ≡ declared.now.partition.groups }
     ensures { IfOk result (λ placed. map (λ words. words.items) placed.items
         ≡ map
-        (placed_item (record { table = declared.now.table; partition = declared.now.groups }) workqueues.now
+        (placed_item declared.now workqueues.now
         (map (λ n. n.now) names.now)) items.now) }
 {
     let mut placed = Vec::new(alloc);

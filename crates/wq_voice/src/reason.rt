@@ -4,10 +4,10 @@
 //! the search for a shortest run.
 
 ghost use Rattle.std.specs.Prelude.{◌≡◌, IfOk, Ok, length, map, option_map};
-ghost use Rattle.wq_groups.specs.Declaration.{declaration_of};
 ghost use Rattle.wq_hang.specs.Answer.{IsAnswer};
 ghost use Rattle.wq_cert.specs.Texts.{workqueues_of_text};
 ghost use Rattle.wq_names.specs.Names.{names_of};
+ghost use Rattle.wq_commands.specs.Answer.{declared_waits};
 ghost use Rattle.wq_voice.specs.Reasons.{can_hang, GivesReason, GivesReasonOf, GivesReasonOfCircle};
 ghost use Rattle.wq_voice.specs.Reasons.{GivesReasonOfGroups, GivesReasonOfTexts};
 ghost use Rattle.wq_voice.specs.Waits.{words_of};
@@ -17,8 +17,8 @@ use crate::flush_lines::FlushLines;
 use crate::subject::{Subject, put_walk};
 use crate::waits::Wording;
 use std::alloc::{AllocError, Allocator};
-use wq_cert::{CertError, read_workqueues};
-use wq_commands::{Declaration, Stop, read_declaration};
+use wq_cert::CertError;
+use wq_commands::{Assigned, Declaration, Stop, read_declaration};
 use wq_core::Workqueues;
 use wq_deadlock::own_lanes;
 use wq_diagnosis::Source;
@@ -38,22 +38,20 @@ fn of_answer<A: Allocator + Copy>(
     lead: &[u8],
     answer: &Answer<A>,
 ) -> Result<Option<Vec<u8, A>>, AllocError>
-    requires grouped { length subject.now.declared.now.groups.group_of ≡ length subject.now.declared.now.table.names }
     requires assigned { length subject.now.workqueues.now.assignment.lane_of_group
-        ≡ subject.now.declared.now.groups.groups }
+        ≡ subject.now.declared.now.partition.groups }
     requires answer { IsAnswer
-        (declaration_of subject.now.declared.now.table subject.now.declared.now.groups) subject.now.workqueues.now
+        (declared_waits subject.now.declared.now) subject.now.workqueues.now
         answer.now }
     ensures { IfOk result (λ said.
         GivesReason subject.now.declaration.file.now lead.now (λ h. words_of subject.now.wording
-        (record { table = subject.now.declared.now.table; partition = subject.now.declared.now.groups })
-        subject.now.workqueues.now (map (λ n. n.now) subject.now.names.now) h)
-        (declaration_of subject.now.declared.now.table subject.now.declared.now.groups) subject.now.workqueues.now
+        subject.now.declared.now subject.now.workqueues.now (map (λ n. n.now) subject.now.names.now) h)
+        (declared_waits subject.now.declared.now) subject.now.workqueues.now
         (option_map (λ text. text.items) said)) }
 {
-    // What holds of every table and of all groups.
-    let _items = subject.declared.table.len();
-    let _groups = subject.declared.groups.len();
+    let declared = subject.declared;
+    // What holds of every declaration.
+    let _groups = &declared.groups;
     match answer {
         Answer::Safe => Ok(None),
         Answer::Hang(hops, _) => {
@@ -70,17 +68,16 @@ pub fn of_subject<A: Allocator + Copy>(
     subject: &Subject<'_, '_, '_, '_, A>,
     lead: &[u8],
 ) -> Result<Option<Vec<u8, A>>, AllocError>
-    requires grouped { length subject.now.declared.now.groups.group_of ≡ length subject.now.declared.now.table.names }
     requires assigned { length subject.now.workqueues.now.assignment.lane_of_group
-        ≡ subject.now.declared.now.groups.groups }
+        ≡ subject.now.declared.now.partition.groups }
     ensures { IfOk result (λ said.
         GivesReason subject.now.declaration.file.now lead.now (λ h. words_of subject.now.wording
-        (record { table = subject.now.declared.now.table; partition = subject.now.declared.now.groups })
-        subject.now.workqueues.now (map (λ n. n.now) subject.now.names.now) h)
-        (declaration_of subject.now.declared.now.table subject.now.declared.now.groups) subject.now.workqueues.now
+        subject.now.declared.now subject.now.workqueues.now (map (λ n. n.now) subject.now.names.now) h)
+        (declared_waits subject.now.declared.now) subject.now.workqueues.now
         (option_map (λ text. text.items) said)) }
 {
-    let Declaration { table, groups } = subject.declared;
+    let declared = subject.declared;
+    let Declaration { table, groups } = declared;
     let answer = hang(alloc, table, groups, subject.workqueues)?;
     of_answer(alloc, subject, lead, &answer)
 }
@@ -90,17 +87,13 @@ fn of_assigned<'a, A: Allocator + Copy>(
     alloc: A,
     declaration: Source<'a>,
     assignment: Source<'a>,
-    declared: &Declaration<'a, A>,
-    workqueues: &Workqueues<A>,
+    assigned: &Assigned<'_, 'a, A>,
 ) -> Result<Option<Vec<u8, A>>, AllocError>
-    requires grouped { length declared.now.groups.group_of ≡ length declared.now.table.names }
-    requires read { workqueues_of_text declared.now.table.names declared.now.groups assignment.text.now
-        ≡ Ok workqueues.now }
-    requires assigned { length workqueues.now.assignment.lane_of_group ≡ declared.now.groups.groups }
+    requires { workqueues_of_text assigned.now.declared.table.names assigned.now.declared.partition
+        assignment.text.now ≡ Ok assigned.now.workqueues }
     ensures { IfOk result (λ said. GivesReason declaration.entry.file.now can_hang (λ h. words_of OnWorkqueues
-        (record { table = declared.now.table; partition = declared.now.groups }) workqueues.now
-        (names_of assignment.entry.text.now) h)
-        (declaration_of declared.now.table declared.now.groups) workqueues.now (option_map (λ text. text.items) said)) }
+        assigned.now.declared assigned.now.workqueues (names_of assignment.entry.text.now) h)
+        (declared_waits assigned.now.declared) assigned.now.workqueues (option_map (λ text. text.items) said)) }
 {
     let names = workqueue_names(alloc, assignment.text)?;
     let flushes = FlushLines::new(alloc, declaration.text)?;
@@ -108,8 +101,8 @@ fn of_assigned<'a, A: Allocator + Copy>(
         declaration,
         assignment,
         wording: Wording::OnWorkqueues,
-        declared,
-        workqueues,
+        declared: assigned.declared,
+        workqueues: &assigned.workqueues,
         flushes: &flushes,
         names: &names,
     };
@@ -123,18 +116,13 @@ pub(crate) fn of_declared<'a, A: Allocator + Copy>(
     assignment: Source<'a>,
     declared: &Declaration<'a, A>,
 ) -> Result<Option<Vec<u8, A>>, AllocError>
-    requires { length declared.now.groups.group_of ≡ length declared.now.table.names }
     ensures { IfOk result (λ said. GivesReasonOf declaration.entry.file.now assignment.entry.text.now
-        (record { table = declared.now.table; partition = declared.now.groups })
-        (option_map (λ text. text.items) said)) }
+        declared.now (option_map (λ text. text.items) said)) }
 {
-    // What holds of every table and of all groups.
-    let _items = declared.table.len();
-    let _groups = declared.groups.len();
-    match read_workqueues(alloc, assignment.text, &declared.table, &declared.groups) {
-        Ok(workqueues) => {
-            let said = of_assigned(alloc, declaration, assignment, declared, &workqueues);
-            drop(workqueues);
+    match Assigned::read(alloc, declared, assignment.text) {
+        Ok(assigned) => {
+            let said = of_assigned(alloc, declaration, assignment, &assigned);
+            drop(assigned);
             said
         }
         Err(CertError::OutOfMemory) => Err(AllocError),
@@ -177,10 +165,8 @@ fn of_groups<'a, A: Allocator + Copy>(
     declaration: Source<'a>,
     declared: &Declaration<'a, A>,
 ) -> Result<Option<Vec<u8, A>>, AllocError>
-    requires { length declared.now.groups.group_of ≡ length declared.now.table.names }
     ensures { IfOk result (λ said. GivesReasonOfGroups declaration.entry.file.now
-        (record { table = declared.now.table; partition = declared.now.groups })
-        (option_map (λ text. text.items) said)) }
+        declared.now (option_map (λ text. text.items) said)) }
 {
     let assignment = own_lanes(alloc, &declared.groups)?;
     let workqueues = Workqueues::new(assignment, Vec::new(alloc));

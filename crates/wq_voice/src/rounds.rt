@@ -5,9 +5,9 @@
 
 ghost use Rattle.std.specs.Prelude.{◌≡◌, ◌∷◌, [], ◌<◌, IfOk, OnOk, length, map};
 ghost use Rattle.std.specs.List.{All};
-ghost use Rattle.wq_groups.specs.Declaration.{declaration_of};
 ghost use Rattle.wq_core.specs.Workqueues.{wiring_of};
 ghost use Rattle.wq_circles.specs.ComponentsText.{AreBetween};
+ghost use Rattle.wq_commands.specs.Answer.{declared_waits};
 ghost use Rattle.wq_voice.specs.Components.{begins_on, lanes_of, AddsRounds};
 ghost use Rattle.wq_voice.specs.Waits.{words_of};
 
@@ -28,10 +28,9 @@ fn begins_on<A: Allocator + Copy>(
     arcs: &[WaitArc],
     q: LaneId,
 ) -> bool
-    requires between { AreBetween (length declared.now.groups.group_of) arcs.now }
-    requires assigned { length workqueues.now.assignment.lane_of_group ≡ declared.now.groups.groups }
-    ensures { result
-        ≡ begins_on (record { table = declared.now.table; partition = declared.now.groups }) workqueues.now arcs.now q }
+    requires between { AreBetween (length declared.now.partition.group_of) arcs.now }
+    requires assigned { length workqueues.now.assignment.lane_of_group ≡ declared.now.partition.groups }
+    ensures { result ≡ begins_on declared.now workqueues.now arcs.now q }
 {
     for arc in arcs {
         let lane = workqueue_of(declared, workqueues, arc.src);
@@ -49,10 +48,10 @@ fn lanes_of<A: Allocator + Copy>(
     workqueues: &Workqueues<A>,
     arcs: &[WaitArc],
 ) -> Result<Vec<u32, A>, AllocError>
-    requires between { AreBetween (length declared.now.groups.group_of) arcs.now }
-    requires assigned { length workqueues.now.assignment.lane_of_group ≡ declared.now.groups.groups }
+    requires between { AreBetween (length declared.now.partition.group_of) arcs.now }
+    requires assigned { length workqueues.now.assignment.lane_of_group ≡ declared.now.partition.groups }
     ensures { IfOk result (λ lanes. lanes.items
-        ≡ lanes_of (record { table = declared.now.table; partition = declared.now.groups }) workqueues.now arcs.now) }
+        ≡ lanes_of declared.now workqueues.now arcs.now) }
 {
     let mut lanes = Vec::new(alloc);
     for number in 0..workqueues.assignment().lanes() {
@@ -71,28 +70,22 @@ pub fn put_round<A: Allocator + Copy>(
     rounds: &mut Rounds<A>,
     arcs: &[WaitArc],
 ) -> Result<(), AllocError>
-    requires between { AreBetween (length subject.now.declared.now.groups.group_of) arcs.now }
-    requires grouped { length subject.now.declared.now.groups.group_of ≡ length subject.now.declared.now.table.names }
+    requires between { AreBetween (length subject.now.declared.now.partition.group_of) arcs.now }
     requires assigned { length subject.now.workqueues.now.assignment.lane_of_group
-        ≡ subject.now.declared.now.groups.groups }
+        ≡ subject.now.declared.now.partition.groups }
     requires rounds { rounds.old
-        ≡ wiring_of
-        (declaration_of subject.now.declared.now.table subject.now.declared.now.groups) subject.now.workqueues.now }
+        ≡ wiring_of (declared_waits subject.now.declared.now) subject.now.workqueues.now }
     ensures added { OnOk result (AddsRounds subject.now.declaration.file.now (λ h. words_of subject.now.wording
-        (record { table = subject.now.declared.now.table; partition = subject.now.declared.now.groups })
-        subject.now.workqueues.now (map (λ n. n.now) subject.now.names.now) h)
-        (record {
-          table = subject.now.declared.now.table;
-          partition = subject.now.declared.now.groups;
-        }) subject.now.workqueues.now
+        subject.now.declared.now subject.now.workqueues.now (map (λ n. n.now) subject.now.names.now) h)
+        subject.now.declared.now subject.now.workqueues.now
         (arcs.now ∷ []) out.old.items out.new.items) }
     ensures rounds { rounds.new ≡ rounds.old }
 {
-    // What holds of every table, of all groups and of every assignment.
-    let _items = subject.declared.table.len();
-    let _groups = subject.declared.groups.len();
+    let declared = subject.declared;
+    // What holds of every declaration and of every assignment.
+    let _groups = &declared.groups;
     let _lanes = subject.workqueues.assignment().lanes();
-    let lanes = lanes_of(alloc, subject.declared, subject.workqueues, arcs)?;
+    let lanes = lanes_of(alloc, declared, subject.workqueues, arcs)?;
     match rounds.least_on(alloc, &lanes)? {
         Some(hops) => put_walk(alloc, out, subject, CAN_HANG, &hops),
         None => Ok(()),
@@ -107,21 +100,15 @@ pub(crate) fn put_rounds<A: Allocator + Copy>(
     rounds: &mut Rounds<A>,
     components: &[Vec<WaitArc, A>],
 ) -> Result<(), AllocError>
-    requires between { All (AreBetween (length subject.now.declared.now.groups.group_of))
+    requires between { All (AreBetween (length subject.now.declared.now.partition.group_of))
         (map (λ l. l.items) components.now) }
-    requires grouped { length subject.now.declared.now.groups.group_of ≡ length subject.now.declared.now.table.names }
     requires assigned { length subject.now.workqueues.now.assignment.lane_of_group
-        ≡ subject.now.declared.now.groups.groups }
+        ≡ subject.now.declared.now.partition.groups }
     requires rounds { rounds.old
-        ≡ wiring_of
-        (declaration_of subject.now.declared.now.table subject.now.declared.now.groups) subject.now.workqueues.now }
+        ≡ wiring_of (declared_waits subject.now.declared.now) subject.now.workqueues.now }
     ensures { OnOk result (AddsRounds subject.now.declaration.file.now (λ h. words_of subject.now.wording
-        (record { table = subject.now.declared.now.table; partition = subject.now.declared.now.groups })
-        subject.now.workqueues.now (map (λ n. n.now) subject.now.names.now) h)
-        (record {
-          table = subject.now.declared.now.table;
-          partition = subject.now.declared.now.groups;
-        }) subject.now.workqueues.now
+        subject.now.declared.now subject.now.workqueues.now (map (λ n. n.now) subject.now.names.now) h)
+        subject.now.declared.now subject.now.workqueues.now
         (map (λ l. l.items) components.now) out.old.items out.new.items) }
 {
     for arcs in components {

@@ -11,8 +11,8 @@ ghost use Rattle.wq_voice.specs.Note.{NotesBare, SaysIfBoth};
 use crate::bare_lines::has_bare_line;
 use crate::note::{bare_items, of_items, placed_items};
 use std::alloc::{AllocError, Allocator};
-use wq_cert::{CertError, read_workqueues};
-use wq_commands::{Declaration, Stop, read_declaration};
+use wq_cert::CertError;
+use wq_commands::{Assigned, Declaration, Stop, read_declaration};
 use wq_core::Workqueues;
 use wq_diagnosis::{Source, of_no_item};
 use wq_names::workqueue_names;
@@ -26,14 +26,13 @@ pub fn safe_assigned<A: Allocator + Copy>(
     declared: &Declaration<'_, A>,
     workqueues: &Workqueues<A>,
 ) -> Result<Option<Vec<u8, A>>, AllocError>
-    requires grouped { length declared.now.groups.group_of ≡ length declared.now.table.names }
-    requires read { workqueues_of_text declared.now.table.names declared.now.groups assignment.text.now
+    requires read { workqueues_of_text declared.now.table.names declared.now.partition assignment.text.now
         ≡ Ok workqueues.now }
-    requires assigned { length workqueues.now.assignment.lane_of_group ≡ declared.now.groups.groups }
+    requires assigned { length workqueues.now.assignment.lane_of_group ≡ declared.now.partition.groups }
     ensures { IfOk result (λ said.
         NotesBare declaration.entry.file.now assignment.entry.file.now declaration.entry.text.now
         assignment.entry.text.now
-        (record { table = declared.now.table; partition = declared.now.groups }) workqueues.now
+        declared.now workqueues.now
         (option_map (λ text. text.items) said)) }
 {
     let names = workqueue_names(alloc, assignment.text)?;
@@ -50,24 +49,21 @@ fn safe_declared<A: Allocator + Copy>(
     assignment: Source<'_>,
     declared: &Declaration<'_, A>,
 ) -> Result<Option<Vec<u8, A>>, AllocError>
-    requires { length declared.now.groups.group_of ≡ length declared.now.table.names }
     ensures { IfOk result (λ said.
-        MatchResult (workqueues_of_text declared.now.table.names declared.now.groups assignment.entry.text.now)
+        MatchResult (workqueues_of_text declared.now.table.names declared.now.partition assignment.entry.text.now)
         (λ ws.
         NotesBare declaration.entry.file.now assignment.entry.file.now declaration.entry.text.now
         assignment.entry.text.now
-        (record { table = declared.now.table; partition = declared.now.groups }) ws
+        declared.now ws
         (option_map (λ text. text.items) said))
         (λ _.
         NotesNoItem declaration.entry.file.now declaration.entry.text.now (option_map (λ text. text.items) said))) }
 {
-    // What holds of every table and of all groups.
-    let _items = declared.table.len();
-    let _groups = declared.groups.len();
-    match read_workqueues(alloc, assignment.text, &declared.table, &declared.groups) {
-        Ok(workqueues) => {
-            let said = safe_assigned(alloc, seed, declaration, assignment, declared, &workqueues);
-            drop(workqueues);
+    match Assigned::read(alloc, declared, assignment.text) {
+        Ok(assigned) => {
+            let workqueues = &assigned.workqueues;
+            let said = safe_assigned(alloc, seed, declaration, assignment, declared, workqueues);
+            drop(assigned);
             said
         }
         Err(CertError::OutOfMemory) => Err(AllocError),

@@ -45,9 +45,9 @@ fn push_bare<A: Allocator + Copy>(
     subject: &Subject<'_, '_, '_, '_, A>,
     hop: &Hop,
 ) -> Result<(), AllocError>
-    requires target { hop.now.flush.item < length subject.now.declared.now.groups.group_of }
+    requires target { hop.now.flush.item < length subject.now.declared.now.partition.group_of }
     requires assigned { length subject.now.workqueues.now.assignment.lane_of_group
-        ≡ subject.now.declared.now.groups.groups }
+        ≡ subject.now.declared.now.partition.groups }
 {
     let Subject {
         assignment,
@@ -72,13 +72,14 @@ fn below<A: Allocator + Copy>(
     spot: Spot<'_>,
     hop: &Hop,
 ) -> Result<Vec<Vec<u8, A>, A>, AllocError>
-    requires target { hop.now.flush.item < length subject.now.declared.now.groups.group_of }
+    requires target { hop.now.flush.item < length subject.now.declared.now.partition.group_of }
     requires assigned { length subject.now.workqueues.now.assignment.lane_of_group
-        ≡ subject.now.declared.now.groups.groups }
+        ≡ subject.now.declared.now.partition.groups }
 {
     let mut lines = Vec::new(alloc);
     spot.push(alloc, &mut lines)?;
-    if is_on_bare(&subject.declared.groups, subject.workqueues, hop.flush.item) {
+    let declared = subject.declared;
+    if is_on_bare(&declared.groups, subject.workqueues, hop.flush.item) {
         push_bare(alloc, &mut lines, subject, hop)?;
     }
     Ok(lines)
@@ -91,9 +92,9 @@ fn block_of<A: Allocator + Copy>(
     hop: &Hop,
     what: &[u8],
 ) -> Result<Vec<u8, A>, AllocError>
-    requires target { hop.now.flush.item < length subject.now.declared.now.groups.group_of }
+    requires target { hop.now.flush.item < length subject.now.declared.now.partition.group_of }
     requires assigned { length subject.now.workqueues.now.assignment.lane_of_group
-        ≡ subject.now.declared.now.groups.groups }
+        ≡ subject.now.declared.now.partition.groups }
     ensures { IfOk result (λ said. IsSaidOf subject.now.declaration.file.now what.now said.items) }
 {
     let spot = subject.flushes.spot(hop.flush.place);
@@ -115,13 +116,12 @@ fn what_of<A: Allocator + Copy>(
     lead: &[u8],
     hop: &Hop,
 ) -> Result<Vec<u8, A>, AllocError>
-    requires item { hop.now.item < length subject.now.declared.now.groups.group_of }
-    requires target { hop.now.flush.item < length subject.now.declared.now.groups.group_of }
+    requires item { hop.now.item < length subject.now.declared.now.partition.group_of }
+    requires target { hop.now.flush.item < length subject.now.declared.now.partition.group_of }
     requires assigned { length subject.now.workqueues.now.assignment.lane_of_group
-        ≡ subject.now.declared.now.groups.groups }
+        ≡ subject.now.declared.now.partition.groups }
     ensures { IfOk result (λ what. what.items ≡ lead.now ++ words_of subject.now.wording
-        (record { table = subject.now.declared.now.table; partition = subject.now.declared.now.groups })
-        subject.now.workqueues.now (map (λ n. n.now) subject.now.names.now) hop.now) }
+        subject.now.declared.now subject.now.workqueues.now (map (λ n. n.now) subject.now.names.now) hop.now) }
 {
     let Subject {
         wording,
@@ -145,13 +145,12 @@ fn put_wait<A: Allocator + Copy>(
     lead: &[u8],
     hop: &Hop,
 ) -> Result<(), AllocError>
-    requires item { hop.now.item < length subject.now.declared.now.groups.group_of }
-    requires target { hop.now.flush.item < length subject.now.declared.now.groups.group_of }
+    requires item { hop.now.item < length subject.now.declared.now.partition.group_of }
+    requires target { hop.now.flush.item < length subject.now.declared.now.partition.group_of }
     requires assigned { length subject.now.workqueues.now.assignment.lane_of_group
-        ≡ subject.now.declared.now.groups.groups }
+        ≡ subject.now.declared.now.partition.groups }
     ensures { OnOk result (AddsSaid subject.now.declaration.file.now ((lead.now ++ words_of subject.now.wording
-        (record { table = subject.now.declared.now.table; partition = subject.now.declared.now.groups })
-        subject.now.workqueues.now (map (λ n. n.now) subject.now.names.now) hop.now)
+        subject.now.declared.now subject.now.workqueues.now (map (λ n. n.now) subject.now.names.now) hop.now)
         ∷ []) out.old.items out.new.items) }
 {
     let what = what_of(alloc, subject, lead, hop)?;
@@ -166,13 +165,13 @@ fn put_further<A: Allocator + Copy>(
     subject: &Subject<'_, '_, '_, '_, A>,
     hops: &[Hop],
 ) -> Result<(), AllocError>
-    requires items { All (λ h. h.item < length subject.now.declared.now.groups.group_of) hops.now }
-    requires targets { All (λ h. h.flush.item < length subject.now.declared.now.groups.group_of) hops.now }
+    requires items { All (λ h. h.item < length subject.now.declared.now.partition.group_of) hops.now }
+    requires targets { All (λ h. h.flush.item < length subject.now.declared.now.partition.group_of) hops.now }
     requires assigned { length subject.now.workqueues.now.assignment.lane_of_group
-        ≡ subject.now.declared.now.groups.groups }
+        ≡ subject.now.declared.now.partition.groups }
     ensures { OnOk result
         (AddsSaid subject.now.declaration.file.now (map (λ h. codes "and " ++ words_of subject.now.wording
-        (record { table = subject.now.declared.now.table; partition = subject.now.declared.now.groups })
+        subject.now.declared.now
         subject.now.workqueues.now (map (λ n. n.now) subject.now.names.now) h) hops.now) out.old.items out.new.items) }
 {
     for hop in hops {
@@ -189,12 +188,12 @@ pub(crate) fn put_walk<A: Allocator + Copy>(
     lead: &[u8],
     hops: &[Hop],
 ) -> Result<(), AllocError>
-    requires items { All (λ h. h.item < length subject.now.declared.now.groups.group_of) hops.now }
-    requires targets { All (λ h. h.flush.item < length subject.now.declared.now.groups.group_of) hops.now }
+    requires items { All (λ h. h.item < length subject.now.declared.now.partition.group_of) hops.now }
+    requires targets { All (λ h. h.flush.item < length subject.now.declared.now.partition.group_of) hops.now }
     requires assigned { length subject.now.workqueues.now.assignment.lane_of_group
-        ≡ subject.now.declared.now.groups.groups }
+        ≡ subject.now.declared.now.partition.groups }
     ensures { OnOk result (AddsSaid subject.now.declaration.file.now (told lead.now (λ h. words_of subject.now.wording
-        (record { table = subject.now.declared.now.table; partition = subject.now.declared.now.groups })
+        subject.now.declared.now
         subject.now.workqueues.now (map (λ n. n.now) subject.now.names.now) h) hops.now) out.old.items out.new.items) }
 {
     match hops {

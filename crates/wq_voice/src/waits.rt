@@ -34,10 +34,10 @@ pub(crate) fn bare_words<A: Allocator + Copy>(
     names: &[&[u8]],
     item: ItemId,
 ) -> Result<Vec<u8, A>, AllocError>
-    requires item { item < length declared.now.groups.group_of }
-    requires assigned { length workqueues.now.assignment.lane_of_group ≡ declared.now.groups.groups }
+    requires item { item < length declared.now.partition.group_of }
+    requires assigned { length workqueues.now.assignment.lane_of_group ≡ declared.now.partition.groups }
     ensures { IfOk result (λ words. words.items
-        ≡ bare_words (record { table = declared.now.table; partition = declared.now.groups }) workqueues.now
+        ≡ bare_words declared.now workqueues.now
         (map (λ n. n.now) names.now) item) }
 {
     let mut words = workqueue_words(alloc, names, workqueue_of(declared, workqueues, item))?;
@@ -60,10 +60,10 @@ fn to_bare_words<A: Allocator + Copy>(
     names: &[&[u8]],
     flush: &Target,
 ) -> Result<Vec<u8, A>, AllocError>
-    requires target { flush.now.item < length declared.now.groups.group_of }
-    requires assigned { length workqueues.now.assignment.lane_of_group ≡ declared.now.groups.groups }
+    requires target { flush.now.item < length declared.now.partition.group_of }
+    requires assigned { length workqueues.now.assignment.lane_of_group ≡ declared.now.partition.groups }
     ensures { IfOk result (λ words. words.items
-        ≡ to_bare_words (record { table = declared.now.table; partition = declared.now.groups }) workqueues.now
+        ≡ to_bare_words declared.now workqueues.now
         (map (λ n. n.now) names.now) flush.now) }
 {
     let target = item_words(alloc, declared, flush.item)?;
@@ -84,10 +84,10 @@ fn to_all_words<A: Allocator + Copy>(
     names: &[&[u8]],
     hop: &Hop,
 ) -> Result<Vec<u8, A>, AllocError>
-    requires target { hop.now.flush.item < length declared.now.groups.group_of }
-    requires assigned { length workqueues.now.assignment.lane_of_group ≡ declared.now.groups.groups }
+    requires target { hop.now.flush.item < length declared.now.partition.group_of }
+    requires assigned { length workqueues.now.assignment.lane_of_group ≡ declared.now.partition.groups }
     ensures { IfOk result (λ words. words.items
-        ≡ to_all_words (record { table = declared.now.table; partition = declared.now.groups }) workqueues.now
+        ≡ to_all_words declared.now workqueues.now
         (map (λ n. n.now) names.now) hop.now) }
 {
     if hop.next == hop.item {
@@ -113,10 +113,10 @@ fn to_next_words<A: Allocator + Copy>(
     names: &[&[u8]],
     hop: &Hop,
 ) -> Result<Vec<u8, A>, AllocError>
-    requires target { hop.now.flush.item < length declared.now.groups.group_of }
-    requires assigned { length workqueues.now.assignment.lane_of_group ≡ declared.now.groups.groups }
+    requires target { hop.now.flush.item < length declared.now.partition.group_of }
+    requires assigned { length workqueues.now.assignment.lane_of_group ≡ declared.now.partition.groups }
     ensures { IfOk result (λ words. words.items
-        ≡ to_next_words (record { table = declared.now.table; partition = declared.now.groups }) workqueues.now
+        ≡ to_next_words declared.now workqueues.now
         (map (λ n. n.now) names.now) hop.now) }
 {
     if hop.next == hop.item {
@@ -138,10 +138,10 @@ fn to_behind_words<A: Allocator + Copy>(
     names: &[&[u8]],
     hop: &Hop,
 ) -> Result<Vec<u8, A>, AllocError>
-    requires target { hop.now.flush.item < length declared.now.groups.group_of }
-    requires assigned { length workqueues.now.assignment.lane_of_group ≡ declared.now.groups.groups }
+    requires target { hop.now.flush.item < length declared.now.partition.group_of }
+    requires assigned { length workqueues.now.assignment.lane_of_group ≡ declared.now.partition.groups }
     ensures { IfOk result (λ words. words.items
-        ≡ to_behind_words (record { table = declared.now.table; partition = declared.now.groups }) workqueues.now
+        ≡ to_behind_words declared.now workqueues.now
         (map (λ n. n.now) names.now) hop.now) }
 {
     let mut words = item_words(alloc, declared, hop.flush.item)?;
@@ -167,10 +167,10 @@ fn to_words<A: Allocator + Copy>(
     names: &[&[u8]],
     hop: &Hop,
 ) -> Result<Vec<u8, A>, AllocError>
-    requires target { hop.now.flush.item < length declared.now.groups.group_of }
-    requires assigned { length workqueues.now.assignment.lane_of_group ≡ declared.now.groups.groups }
+    requires target { hop.now.flush.item < length declared.now.partition.group_of }
+    requires assigned { length workqueues.now.assignment.lane_of_group ≡ declared.now.partition.groups }
     ensures { IfOk result (λ words. words.items
-        ≡ to_words (record { table = declared.now.table; partition = declared.now.groups }) workqueues.now
+        ≡ to_words declared.now workqueues.now
         (map (λ n. n.now) names.now) hop.now) }
 {
     if is_on_bare(&declared.groups, workqueues, hop.flush.item) {
@@ -192,11 +192,11 @@ fn wait_words<A: Allocator + Copy>(
     names: &[&[u8]],
     hop: &Hop,
 ) -> Result<Vec<u8, A>, AllocError>
-    requires item { hop.now.item < length declared.now.groups.group_of }
-    requires target { hop.now.flush.item < length declared.now.groups.group_of }
-    requires assigned { length workqueues.now.assignment.lane_of_group ≡ declared.now.groups.groups }
+    requires item { hop.now.item < length declared.now.partition.group_of }
+    requires target { hop.now.flush.item < length declared.now.partition.group_of }
+    requires assigned { length workqueues.now.assignment.lane_of_group ≡ declared.now.partition.groups }
     ensures { IfOk result (λ words. words.items
-        ≡ wait_words (record { table = declared.now.table; partition = declared.now.groups }) workqueues.now
+        ≡ wait_words declared.now workqueues.now
         (map (λ n. n.now) names.now) hop.now) }
 {
     let q = workqueue_of(declared, workqueues, hop.item);
@@ -219,11 +219,11 @@ pub(crate) fn words_of<A: Allocator + Copy>(
     names: &[&[u8]],
     hop: &Hop,
 ) -> Result<Vec<u8, A>, AllocError>
-    requires item { hop.now.item < length declared.now.groups.group_of }
-    requires target { hop.now.flush.item < length declared.now.groups.group_of }
-    requires assigned { length workqueues.now.assignment.lane_of_group ≡ declared.now.groups.groups }
+    requires item { hop.now.item < length declared.now.partition.group_of }
+    requires target { hop.now.flush.item < length declared.now.partition.group_of }
+    requires assigned { length workqueues.now.assignment.lane_of_group ≡ declared.now.partition.groups }
     ensures { IfOk result (λ words. words.items
-        ≡ words_of wording (record { table = declared.now.table; partition = declared.now.groups }) workqueues.now
+        ≡ words_of wording declared.now workqueues.now
         (map (λ n. n.now) names.now) hop.now) }
 {
     match wording {

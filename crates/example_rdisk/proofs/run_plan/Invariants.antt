@@ -1,10 +1,10 @@
-use Rattle.wq_groups.specs.Declaration.{declaration_of}
 use Rattle.wq_core.specs.Wiring.{wiring}
+use Rattle.wq_commands.specs.Answer.{declared_waits}
 use Rattle.example_rdisk.proofs.run_plan.Given as goal
 
 -- what the runtime is made of
 abbrev pub ghosts-run-N-Naming : goal.ghosts-run-N-Naming
-ghosts-run-N-Naming g a = record { wiring = wiring (declaration_of a.declared.now.table a.declared.now.groups) a.plan.now; rows = 4096 }
+ghosts-run-N-Naming g a = record { wiring = wiring (declared_waits a.declared.now) a.plan.now; rows = 4096 }
 
 -- its ledger, in which the seats count
 abbrev pub ghosts-run-N-Ledger : goal.ghosts-run-N-Ledger

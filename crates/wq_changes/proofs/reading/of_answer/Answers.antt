@@ -3,6 +3,7 @@ use Rattle.wq_groups.specs.Declaration.{IsDeclaration, declaration_of}
 use Rattle.wq_groups.proofs.Declarations.{IsDeclaration-of}
 use Rattle.wq_graph.specs.declared.arc.WaitArc.{WaitArc}
 use Rattle.wq_circles.specs.ComponentsText.{AreBetween}
+use Rattle.wq_commands.specs.Declaration.{IsSound}
 use Rattle.wq_repair.specs.Repair.{IsNeededCircle}
 use Rattle.wq_changes.proofs.Circled.{AreBetween-walked}
 use Rattle.wq_changes.proofs.reading.of_answer.Goals as goal
@@ -11,8 +12,10 @@ pub of_circle-requires-clause-between : goal.of_circle-requires-clause-between
 of_circle-requires-clause-between g c =
     let a = c.args.assigned.now in
     let t = a.declared.now.table in
-    let p = a.declared.now.groups in
-    let declaration : IsDeclaration (declaration_of t p) = IsDeclaration-of t p c.len-items.ensures.table c.len-groups.ensures.partition c.requires.grouped in
+    let p = a.declared.now.partition in
+    let sound : IsSound a.declared.now = subst IsSound c.declared.view_is c.declared.invariant in
+    let declaration : IsDeclaration (declaration_of t p) = IsDeclaration-of t p sound.table sound.partition
+    sound.one_group_each in
     let needed : IsNeededCircle (declaration_of t p) a.workqueues.now c.in-Circle.arcs.items = rw c.in-Circle.is at c.requires.answer in
     subst (λ (arcs : List WaitArc). AreBetween (length p.group_of) arcs) (sym c.deref.ensures.value)
     (AreBetween-walked (declaration_of t p) declaration needed.out c.in-Circle.arcs.items needed.walked)

@@ -6,7 +6,7 @@ use Rattle.wq_changes.proofs.reading.of_assigned.Goals as goal
 
 pub repair-requires-clause-names : goal.repair-requires-clause-names
 repair-requires-clause-names g c =
-    let names = c.args.assigned.now.declared.now.table.names in
+    let names = c.declared.inside.table.names in
     let given = map (λ n. n.now) c.args.names.now in
     subst (All (λ i. i < length names)) (sym c.deref.ensures.value)
     (movers-below names given c.in-Some.moving.items (sym c.in_ok-moving.ensures ∙ ap (option_map (λ v. v.items)) c.in-Some.is))

@@ -1,16 +1,22 @@
-use Rattle.std.proofs.Common.{map, sym}
+use Rattle.std.proofs.Common.{◌≡◌, None, map, sym, ap, subst, ◌∙◌}
 use Rattle.wq_cert.proofs.LanesRead.{AreWorkqueuesOf-workqueues_of_text}
 use Rattle.wq_commands.specs.Declaration.{Declared}
-use Rattle.wq_changes.specs.Voice.{Files}
+use Rattle.wq_changes.specs.Voice.{Files, SaysDeclared}
 use Rattle.wq_changes.proofs.Refused.{nothing_said}
 use Rattle.wq_changes.proofs.reading.of_declared.Goals as goal
 
 pub of_assigned-said-requires-clause-old : goal.of_assigned-said-requires-clause-old
 of_assigned-said-requires-clause-old g c =
-    (AreWorkqueuesOf-workqueues_of_text c.args.declared.now.table.names c.args.declared.now.groups c.len-groups.ensures.partition (sym c.requires) c.args.assignment.text.now c.in-Ok.workqueues c.in-Ok.ensures.workqueues).assignment.assignment.one_each
+    let s : Declared = record { table = c.declared.inside.table; partition = c.declared.inside.groups } in
+    let sound = c.declared.invariant in
+    (AreWorkqueuesOf-workqueues_of_text s.table.names s.partition sound.partition (sym sound.one_group_each)
+    c.args.assignment.text.now c.in-Ok.workqueues c.in-Ok.ensures.workqueues).assignment.assignment.one_each
+    ∙ ap (λ (d : Declared). d.partition.groups) c.declared.view_is
 
 pub returns-in_ok-unless_memory-in-Err : goal.returns-in_ok-unless_memory-in-Err
 returns-in_ok-unless_memory-in-Err g c =
-    let s : Declared = record { table = c.args.declared.now.table; partition = c.args.declared.now.groups } in
+    let s : Declared = record { table = c.declared.inside.table; partition = c.declared.inside.groups } in
+    let names = map (λ n. n.now) c.args.names.now in
     let f : Files = record { first = c.args.declaration.file.now; second = c.args.assignment.file.now; text = c.args.declaration.text.now; lanes = c.args.assignment.text.now } in
-    nothing_said f (map (λ n. n.now) c.args.names.now) s c.in-Err.fault c.in_ok-unless_memory-in-Err.ensures c.in-Err.ensures.fault
+    subst (λ (d : Declared). SaysDeclared f names d None) c.declared.view_is
+    (nothing_said f names s c.in-Err.fault c.in_ok-unless_memory-in-Err.ensures c.in-Err.ensures.fault)

@@ -10,7 +10,7 @@ pub returns : goal.returns
 returns g c =
     let a = c.args.assigned.now in
     let t = a.declared.now.table in
-    let p = a.declared.now.groups in
+    let p = a.declared.now.partition in
     let s : Declared = record { table = t; partition = p } in
     let text = a.assignment.text.now in
     let names : map (λ n. n.now) c.deref.result.now ≡ names_of text =

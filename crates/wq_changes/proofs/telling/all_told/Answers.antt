@@ -9,7 +9,7 @@ use Rattle.wq_changes.proofs.telling.all_told.Goals as goal
 pub loop-change-preserved : goal.loop-change-preserved
 loop-change-preserved g c =
     let r = c.args.repair.now in
-    let s : Declared = record { table = r.declared.now.table; partition = r.declared.now.groups } in
+    let s : Declared = r.declared.now in
     AreEach-next (IsTold r.assignment.file.now s (map (λ n. n.now) r.names.now) r.old.now r.new.now)
     c.args.changes.now c.loop-change.change-index c.change-item.result c.loop-change.text.items c.put.new.out.items c.in_ok-one.one.items
     c.loop-change-test.true c.change-item.is c.loop-change.invariant c.in_ok-one.ensures
@@ -18,6 +18,6 @@ loop-change-preserved g c =
 pub returns : goal.returns
 returns g c =
     let r = c.args.repair.now in
-    let s : Declared = record { table = r.declared.now.table; partition = r.declared.now.groups } in
+    let s : Declared = r.declared.now in
     subst (λ (cs : List Change). AreEach (IsTold r.assignment.file.now s (map (λ n. n.now) r.names.now) r.old.now r.new.now) cs c.loop-change.text.items)
     (take_all c.loop-change.change-index c.args.changes.now c.loop-change-test.false) c.loop-change.invariant

@@ -11,29 +11,36 @@ use Rattle.wq_changes.proofs.telling.of_changes.Goals as goal
 pub all_whys-requires-clause-changes : goal.all_whys-requires-clause-changes
 all_whys-requires-clause-changes g c =
     let r = c.args.repair.now in
-    let groups = r.declared.now.groups.groups in
-    let all : c.as_slice-list.result.now ≡ changes_of groups r.old.now r.new.now = c.as_slice-list.ensures.value ∙ c.in_ok-all.ensures ∙ ap (λ (n : ℕ). changes_of n r.old.now r.new.now) c.len-groups.ensures.len in
+    let groups = r.declared.now.partition.groups in
+    let all : c.as_slice-list.result.now ≡ changes_of groups r.old.now r.new.now = c.as_slice-list.ensures.value
+    ∙ c.in_ok-all.ensures ∙ ap (λ (n : ℕ). changes_of n r.old.now r.new.now)
+    (c.len-groups.ensures.len ∙ ap (λ (d : Declared). d.partition.groups) c.declared.view_is) in
     subst (All (IsOf groups)) (sym c.split_at.ensures.front)
     (All-take (IsOf groups) c.min.result c.as_slice-list.result.now (subst (All (IsOf groups)) (sym all) (All-IsOf groups r.old.now r.new.now)))
 
 pub all_told-requires-clause-changes : goal.all_told-requires-clause-changes
 all_told-requires-clause-changes g c =
     let r = c.args.repair.now in
-    let groups = r.declared.now.groups.groups in
-    let all : c.as_slice-list.result.now ≡ changes_of groups r.old.now r.new.now = c.as_slice-list.ensures.value ∙ c.in_ok-all.ensures ∙ ap (λ (n : ℕ). changes_of n r.old.now r.new.now) c.len-groups.ensures.len in
+    let groups = r.declared.now.partition.groups in
+    let all : c.as_slice-list.result.now ≡ changes_of groups r.old.now r.new.now = c.as_slice-list.ensures.value
+    ∙ c.in_ok-all.ensures ∙ ap (λ (n : ℕ). changes_of n r.old.now r.new.now)
+    (c.len-groups.ensures.len ∙ ap (λ (d : Declared). d.partition.groups) c.declared.view_is) in
     subst (All (IsOf groups)) (sym c.split_at.ensures.back)
     (All-drop (IsOf groups) c.min.result c.as_slice-list.result.now (subst (All (IsOf groups)) (sym all) (All-IsOf groups r.old.now r.new.now)))
 
 pub returns : goal.returns
 returns g c =
     let r = c.args.repair.now in
-    let groups = r.declared.now.groups.groups in
-    let s : Declared = record { table = r.declared.now.table; partition = r.declared.now.groups } in
+    let groups = r.declared.now.partition.groups in
+    let s : Declared = r.declared.now in
     let names = map (λ n. n.now) r.names.now in
     let cs = changes_of groups r.old.now r.new.now in
-    let all : c.as_slice-list.result.now ≡ cs = c.as_slice-list.ensures.value ∙ c.in_ok-all.ensures ∙ ap (λ (n : ℕ). changes_of n r.old.now r.new.now) c.len-groups.ensures.len in
+    let all : c.as_slice-list.result.now ≡ cs = c.as_slice-list.ensures.value ∙ c.in_ok-all.ensures
+    ∙ ap (λ (n : ℕ). changes_of n r.old.now r.new.now) (c.len-groups.ensures.len
+    ∙ ap (λ (d : Declared). d.partition.groups) c.declared.view_is) in
     let most : ℕ = most_reasons (length s.table.names) in
-    let is_most : c.most_reasons.result ≡ most = c.most_reasons.ensures ∙ ap most_reasons c.len-items.ensures.len in
+    let is_most : c.most_reasons.result ≡ most = c.most_reasons.ensures
+    ∙ ap most_reasons (c.len-items.ensures.len ∙ ap (λ (d : Declared). length d.table.names) c.declared.view_is) in
     let mid : c.min.result ≡ min (length cs) most =
     c.min.ensures ∙ ap (λ (l : List Change). min (length l) c.most_reasons.result) all ∙ ap (min (length cs)) is_most in
     let front : c.split_at.result.0.now ≡ take most cs =

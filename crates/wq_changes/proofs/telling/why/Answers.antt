@@ -20,7 +20,7 @@ of_subject-requires-clause-assigned g c =
 pub returns : goal.returns
 returns g c =
     let r = c.args.repair.now in
-    let s : Declared = record { table = r.declared.now.table; partition = r.declared.now.groups } in
+    let s : Declared = r.declared.now in
     let names = map (λ n. n.now) r.names.now in
     let said : Option (List ℕ) = option_map (λ v. v.items) c.in_ok-said.said in
     let first = r.declaration.file.now in (

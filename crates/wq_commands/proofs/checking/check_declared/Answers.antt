@@ -1,11 +1,14 @@
+use Rattle.std.proofs.Common.{subst}
 use Rattle.wq_cert.specs.Certificate.{certificate}
+use Rattle.wq_checker.specs.Answers.{IsAsked}
+use Rattle.wq_commands.specs.Answer.{declared_waits}
 use Rattle.wq_commands.specs.Declaration.{Declared}
-use Rattle.wq_commands.proofs.AnswerLemmas.{IsSound}
 use Rattle.wq_commands.proofs.CheckLemmas.{IsAsked-read}
 use Rattle.wq_commands.proofs.checking.check_declared.Goals as goal
 
-pub check_certificate-answer-requires-clause-asked : goal.check_certificate-answer-requires-clause-asked
-check_certificate-answer-requires-clause-asked g c =
-    let s : Declared = record { table = c.args.table.now; partition = c.args.groups.now } in
-    let sound : IsSound s = record { table = c.len-items.ensures.table; partition = c.len-groups.ensures.partition; one_group_each = c.requires } in
-    IsAsked-read s c.args.text.now (certificate c.in-Ok.claim) sound c.in-Ok.ensures.answer
+pub check_certificate-answer-requires : goal.check_certificate-answer-requires
+check_certificate-answer-requires g c =
+    let s : Declared = record { table = c.declared.inside.table; partition = c.declared.inside.groups } in
+    let claim = certificate c.in-Ok.claim in
+    subst (λ (d : Declared). IsAsked (declared_waits d) claim) c.declared.view_is
+    (IsAsked-read s c.args.text.now claim c.declared.invariant c.in-Ok.ensures.answer)

@@ -7,10 +7,11 @@ use Rattle.wq_diagnosis.proofs.replayed.of_run.Goals as goal
 
 pub of_steps-said-requires-clause-few : goal.of_steps-said-requires-clause-few
 of_steps-said-requires-clause-few g c =
-    let few = (IsRunOf-run_of c.args.declared.now.table.names c.args.run.text.now c.in-Ok.steps.items c.in-Ok.ensures.steps).few in
+    let few = (IsRunOf-run_of c.declared.inside.table.names c.args.run.text.now c.in-Ok.steps.items
+    c.in-Ok.ensures.steps).few in
     subst (λ (steps : List Step). length steps < 4294967295) (sym c.as_slice.ensures.value) few
 
 pub of_steps-said-requires-clause-no_help : goal.of_steps-said-requires-clause-no_help
 of_steps-said-requires-clause-no_help g c =
     subst HasNoHelp (sym c.as_slice.ensures.value)
-    (no_help c.args.declared.now.table.names c.args.run.text.now c.in-Ok.steps.items c.in-Ok.ensures.steps)
+    (no_help c.declared.inside.table.names c.args.run.text.now c.in-Ok.steps.items c.in-Ok.ensures.steps)

@@ -13,7 +13,7 @@ use Rattle.wq_run.proofs.report.report_text.Goals as goal
 
 pub loop-i-preserved : goal.loop-i-preserved
 loop-i-preserved g c =
-    let s : Declared = record { table = c.args.table.now; partition = c.args.groups.now } in
+    let s = c.args.declared.now in
     let first = line_text (workqueues_line c.args.assignment.now.lanes) in
     let line = item_line s c.args.assignment.now (λ (j : ℕ) (kind : Kind). made c.args.closed.now.counts j kind true) in
     let i = c.loop-i.i in
@@ -22,11 +22,18 @@ loop-i-preserved g c =
 
 pub returns : goal.returns
 returns g c =
-    let s : Declared = record { table = c.args.table.now; partition = c.args.groups.now } in
+    let s = c.args.declared.now in
     let first = workqueues_line c.args.assignment.now.lanes in
     let line = item_line s c.args.assignment.now (λ (j : ℕ) (kind : Kind). made c.args.closed.now.counts j kind true) in
     let last = faults_line c.args.ran.now.faults in
-    let all : c.loop-i.i ≡ length c.args.table.now.names = omega (arith, c.loop-i-test.false, c.len-i-end.ensures.len, c.loop-i.auto.i-end) in
+    let same = ap (λ (d : Declared). length d.table.names) c.declared.view_is in
+    let all : c.loop-i.i ≡ length s.table.names = omega (
+      arith,
+      c.loop-i-test.false,
+      c.len-i-end.ensures.len,
+      c.loop-i.auto.i-end,
+      same,
+    ) in
     c.in_ok-put_faults_line.ensures
     ∙ ap (λ (o : List ℕ). o ++ line_text last) (c.loop-i.invariant ∙ ap (λ (n : ℕ). line_text first ++ lines line (range_with_len 0 n)) all)
-    ∙ report_text-parts first (map line (range_with_len 0 (length c.args.table.now.names))) last
+    ∙ report_text-parts first (map line (range_with_len 0 (length s.table.names))) last

@@ -11,4 +11,4 @@ use Rattle.wq_run.proofs.report.report_text.Given as goal
 abbrev pub invariant-loop-i : goal.invariant-loop-i
 invariant-loop-i g l =
     l.out.items ≡ line_text (workqueues_line l.assignment.lanes)
-    ++ lines (item_line (record { table = l.table; partition = l.groups }) l.assignment (λ i kind. made l.closed.counts i kind true)) (range_with_len 0 l.i)
+    ++ lines (item_line l.declared l.assignment (λ i kind. made l.closed.counts i kind true)) (range_with_len 0 l.i)

@@ -1,7 +1,7 @@
 use Rattle.std.proofs.Common.{◌≡◌, ℕ, List, map, ap, subst, ◌∙◌}
 use Rattle.std.specs.Prelude.{IfOk}
 use Rattle.wq_names.specs.Names.{names_of}
-use Rattle.wq_commands.specs.Declaration.{Declared}
+use Rattle.wq_commands.specs.Assigned.{Assigned}
 use Rattle.wq_voice.specs.Components.{GivesReasons}
 use Rattle.wq_voice.specs.Waits.{words_of}
 use Rattle.wq_voice.specs.declared.waits.Wording.TheVariants.{OnWorkqueues}
@@ -10,11 +10,15 @@ use Rattle.wq_voice.proofs.components.of_assigned.Goals as goal
 
 pub returns : goal.returns
 returns g c =
-    let t = c.args.declared.now.table in
-    let p = c.args.declared.now.groups in
-    let s : Declared = record { table = t; partition = p } in
-    let ws = c.args.workqueues.now in
+    let s = c.args.assigned.now.declared in
+    let ws = c.args.assigned.now.workqueues in
     let text = c.args.assignment.text.now in
     let names : map (λ n. n.now) c.deref.result.now ≡ names_of text =
-    ap (λ ns. map (λ n. n.now) ns) c.deref.ensures.value ∙ c.in_ok-names.ensures (limits-read t.names p text ws c.requires.read) in
-    subst (λ (ns : List (List ℕ)). IfOk c.of_subject.result (λ said. GivesReasons c.args.declaration.file.now (λ h. words_of OnWorkqueues s ws ns h) s ws said.items)) names c.of_subject.ensures
+    ap (λ ns. map (λ n. n.now) ns) c.deref.ensures.value
+    ∙ c.in_ok-names.ensures (limits-read s.table.names s.partition text ws c.requires) in
+    subst (λ (ns : List (List ℕ)). IfOk c.of_subject.result
+    (λ said. GivesReasons c.args.declaration.file.now (λ h. words_of OnWorkqueues s ws ns h) s ws said.items))
+    names (subst (λ (a : Assigned). IfOk c.of_subject.result
+    (λ said. GivesReasons c.args.declaration.file.now (λ h. words_of OnWorkqueues a.declared a.workqueues
+    (map (λ n. n.now) c.deref.result.now) h) a.declared a.workqueues said.items))
+    c.assigned.view_is c.of_subject.ensures)

@@ -9,7 +9,7 @@ use Rattle.wq_hang.specs.declared.hop.Hop.{Hop}
 use Rattle.wq_circles.specs.ComponentsText.{AreBetween}
 use Rattle.wq_circles.proofs.ForBare.{AreBetween-waits}
 use Rattle.wq_circles.proofs.Loops.{AreBetween-components}
-use Rattle.wq_commands.specs.Declaration.{Declared}
+use Rattle.wq_commands.specs.Declaration.{Declared, IsSound}
 use Rattle.wq_voice.specs.Components.{first_told, AddsRounds}
 use Rattle.wq_voice.specs.Reasons.{can_hang, told, AddsSaid}
 use Rattle.wq_voice.specs.Waits.{words_of}
@@ -19,10 +19,11 @@ use Rattle.wq_voice.proofs.components.of_components.Goals as goal
 pub put_rounds-requires-clause-between : goal.put_rounds-requires-clause-between
 put_rounds-requires-clause-between g c =
     let t = c.args.subject.now.declared.now.table in
-    let p = c.args.subject.now.declared.now.groups in
+    let p = c.args.subject.now.declared.now.partition in
     let ws = c.args.subject.now.workqueues.now in
     let d = declaration_of t p in
-    let declaration : IsDeclaration d = IsDeclaration-of t p c.len-items.ensures.table c.len-groups.ensures.partition c.requires.grouped in
+    let sound : IsSound c.args.subject.now.declared.now = subst IsSound c.declared.view_is c.declared.invariant in
+    let declaration : IsDeclaration d = IsDeclaration-of t p sound.table sound.partition sound.one_group_each in
     let assignment : IsAssignment d.groups ws.assignment =
     subst (IsAssignment d.groups) c.assignment.ensures (record { one_each = ap (λ (a : Assignment). length a.lane_of_group) c.assignment.ensures ∙ c.requires.assigned; within = c.lanes-lanes.ensures.within }) in
     AreBetween-components d ws.assignment ws.bare declaration assignment _ c.requires.are
@@ -30,10 +31,11 @@ put_rounds-requires-clause-between g c =
 pub put_first-requires-clause-between : goal.put_first-requires-clause-between
 put_first-requires-clause-between g c =
     let t = c.args.subject.now.declared.now.table in
-    let p = c.args.subject.now.declared.now.groups in
+    let p = c.args.subject.now.declared.now.partition in
     let ws = c.args.subject.now.workqueues.now in
     let d = declaration_of t p in
-    let declaration : IsDeclaration d = IsDeclaration-of t p c.len-items.ensures.table c.len-groups.ensures.partition c.requires.grouped in
+    let sound : IsSound c.args.subject.now.declared.now = subst IsSound c.declared.view_is c.declared.invariant in
+    let declaration : IsDeclaration d = IsDeclaration-of t p sound.table sound.partition sound.one_group_each in
     let assignment : IsAssignment d.groups ws.assignment =
     subst (IsAssignment d.groups) c.assignment.ensures (record { one_each = ap (λ (a : Assignment). length a.lane_of_group) c.assignment.ensures ∙ c.requires.assigned; within = c.lanes-lanes.ensures.within }) in
     subst (λ (l : List WaitArc). AreBetween (length p.group_of) l) (sym c.requires.waits) (AreBetween-waits d ws declaration assignment)
@@ -41,7 +43,7 @@ put_first-requires-clause-between g c =
 pub returns : goal.returns
 returns g c =
     let subject = c.args.subject.now in
-    let s : Declared = record { table = subject.declared.now.table; partition = subject.declared.now.groups } in
+    let s : Declared = subject.declared.now in
     let ws = subject.workqueues.now in
     let d = declaration_of s.table s.partition in
     let file = subject.declaration.file.now in

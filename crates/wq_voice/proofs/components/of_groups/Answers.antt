@@ -13,15 +13,17 @@ use Rattle.wq_voice.proofs.components.of_groups.Goals as goal
 pub of_subject-requires-clause-assigned : goal.of_subject-requires-clause-assigned
 of_subject-requires-clause-assigned g c =
     ap (λ (ws : Workqueues). length ws.assignment.lane_of_group) c.new-workqueues.ensures
-    ∙ ap (λ (a : Assignment). length a.lane_of_group) c.in_ok-assignment.ensures.lanes ∙ length-range_with_len 0 c.args.declared.now.groups.groups
+    ∙ ap (λ (a : Assignment). length a.lane_of_group) c.in_ok-assignment.ensures.lanes
+    ∙ length-range_with_len 0 c.declared.inside.groups.groups
+    ∙ ap (λ (d : Declared). d.partition.groups) c.declared.view_is
 
 pub returns : goal.returns
 returns g c =
-    let t = c.args.declared.now.table in
-    let p = c.args.declared.now.groups in
-    let s : Declared = record { table = t; partition = p } in
-    let own : c.new-workqueues.result ≡ all_rescued (own_lanes p.groups) =
+    let s = c.args.declared.now in
+    let own : c.new-workqueues.result ≡ all_rescued (own_lanes s.partition.groups) =
     c.new-workqueues.ensures
     ∙ ap (λ (a : Assignment). record { assignment = a; bare = c.new.result.items }) c.in_ok-assignment.ensures.lanes
-    ∙ ap (λ (bare : List Bool). record { assignment = own_lanes p.groups; bare = bare }) c.new.ensures.items in
+    ∙ ap (λ (bare : List Bool). record { assignment = own_lanes c.declared.inside.groups.groups; bare = bare })
+    c.new.ensures.items
+    ∙ ap (λ (d : Declared). all_rescued (own_lanes d.partition.groups)) c.declared.view_is in
     subst (λ (ws : Workqueues). IfOk c.of_subject.result (λ said. GivesReasons c.args.declaration.file.now (λ h. words_of OfGroups s ws [] h) s ws said.items)) own c.of_subject.ensures

@@ -11,7 +11,7 @@ use Rattle.wq_voice.proofs.components.put_first.Goals as goal
 pub returns-in-len1-up : goal.returns-in-len1-up
 returns-in-len1-up g c =
     let subject = c.args.subject.now in
-    let s : Declared = record { table = subject.declared.now.table; partition = subject.declared.now.groups } in
+    let s : Declared = subject.declared.now in
     let file = subject.declaration.file.now in
     let words = λ (h : Hop). words_of subject.wording s subject.workqueues.now (map (λ n. n.now) subject.names.now) h in
     let waits = c.args.waits.now in

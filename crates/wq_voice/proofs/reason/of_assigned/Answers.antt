@@ -1,8 +1,8 @@
 use Rattle.std.proofs.Common.{◌≡◌, ℕ, List, map, ap, subst, ◌∙◌}
 use Rattle.std.specs.Prelude.{IfOk, option_map}
-use Rattle.wq_groups.specs.Declaration.{declaration_of}
 use Rattle.wq_names.specs.Names.{names_of}
-use Rattle.wq_commands.specs.Declaration.{Declared}
+use Rattle.wq_commands.specs.Answer.{declared_waits}
+use Rattle.wq_commands.specs.Assigned.{Assigned}
 use Rattle.wq_voice.specs.Reasons.{can_hang, GivesReason}
 use Rattle.wq_voice.specs.Waits.{words_of}
 use Rattle.wq_voice.specs.declared.waits.Wording.TheVariants.{OnWorkqueues}
@@ -11,12 +11,17 @@ use Rattle.wq_voice.proofs.reason.of_assigned.Goals as goal
 
 pub returns : goal.returns
 returns g c =
-    let t = c.args.declared.now.table in
-    let p = c.args.declared.now.groups in
-    let s : Declared = record { table = t; partition = p } in
-    let ws = c.args.workqueues.now in
+    let s = c.args.assigned.now.declared in
+    let ws = c.args.assigned.now.workqueues in
     let text = c.args.assignment.text.now in
     let names : map (λ n. n.now) c.deref.result.now ≡ names_of text =
-    ap (λ ns. map (λ n. n.now) ns) c.deref.ensures.value ∙ c.in_ok-names.ensures (limits-read t.names p text ws c.requires.read) in
-    subst (λ (ns : List (List ℕ)). IfOk c.of_subject.result (λ said. GivesReason c.args.declaration.file.now can_hang (λ h. words_of OnWorkqueues s ws ns h) (declaration_of t p) ws (option_map (λ v. v.items) said)))
-    names c.of_subject.ensures
+    ap (λ ns. map (λ n. n.now) ns) c.deref.ensures.value
+    ∙ c.in_ok-names.ensures (limits-read s.table.names s.partition text ws c.requires) in
+    subst (λ (ns : List (List ℕ)). IfOk c.of_subject.result
+    (λ said. GivesReason c.args.declaration.file.now can_hang (λ h. words_of OnWorkqueues s ws ns h) (declared_waits s)
+    ws (option_map (λ v. v.items) said)))
+    names (subst (λ (a : Assigned). IfOk c.of_subject.result
+    (λ said. GivesReason c.args.declaration.file.now can_hang
+    (λ h. words_of OnWorkqueues a.declared a.workqueues (map (λ n. n.now) c.deref.result.now) h)
+    (declared_waits a.declared) a.workqueues (option_map (λ v. v.items) said)))
+    c.assigned.view_is c.of_subject.ensures)

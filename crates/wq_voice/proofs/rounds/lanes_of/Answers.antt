@@ -9,7 +9,7 @@ use Rattle.wq_voice.proofs.rounds.lanes_of.Goals.{then-begins_on+in_ok-push, els
 
 pub loop-number-preserved : goal.loop-number-preserved
 loop-number-preserved g c =
-    let s : Declared = record { table = c.args.declared.now.table; partition = c.args.declared.now.groups } in
+    let s : Declared = c.args.declared.now in
     let p = begins_on s c.args.workqueues.now c.args.arcs.now in
     let n = c.loop-number.number in
     let bare = rw c.new.ensures at c.begins_on.ensures in

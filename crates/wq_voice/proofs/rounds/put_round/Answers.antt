@@ -8,7 +8,7 @@ use Rattle.wq_core.specs.Wiring.{Wiring}
 use Rattle.wq_core.specs.Workqueues.{wiring_of}
 use Rattle.wq_hang.specs.declared.hop.Hop.{Hop}
 use Rattle.wq_hang.specs.Walk.{IsLeastRoundOn, IsRound, IsRoundOn}
-use Rattle.wq_commands.specs.Declaration.{Declared}
+use Rattle.wq_commands.specs.Declaration.{Declared, IsSound}
 use Rattle.wq_voice.specs.Components.{lanes_of}
 use Rattle.wq_voice.specs.Reasons.{can_hang, told, AddsSaid}
 use Rattle.wq_voice.specs.Waits.{words_of}
@@ -19,10 +19,11 @@ use Rattle.wq_voice.proofs.rounds.put_round.Goals as goal
 pub put_walk-requires-clause-items : goal.put_walk-requires-clause-items
 put_walk-requires-clause-items g c =
     let t = c.args.subject.now.declared.now.table in
-    let p = c.args.subject.now.declared.now.groups in
+    let p = c.args.subject.now.declared.now.partition in
     let ws = c.args.subject.now.workqueues.now in
     let d = declaration_of t p in
-    let declaration : IsDeclaration d = IsDeclaration-of t p c.len-items.ensures.table c.len-groups.ensures.partition c.requires.grouped in
+    let sound : IsSound c.args.subject.now.declared.now = subst IsSound c.declared.view_is c.declared.invariant in
+    let declaration : IsDeclaration d = IsDeclaration-of t p sound.table sound.partition sound.one_group_each in
     let assignment : IsAssignment d.groups ws.assignment =
     subst (IsAssignment d.groups) c.assignment.ensures (record { one_each = ap (λ (a : Assignment). length a.lane_of_group) c.assignment.ensures ∙ c.requires.assigned; within = c.lanes-lanes.ensures.within }) in
     let hops = c.in-Some.hops.items in
@@ -33,10 +34,11 @@ put_walk-requires-clause-items g c =
 pub put_walk-requires-clause-targets : goal.put_walk-requires-clause-targets
 put_walk-requires-clause-targets g c =
     let t = c.args.subject.now.declared.now.table in
-    let p = c.args.subject.now.declared.now.groups in
+    let p = c.args.subject.now.declared.now.partition in
     let ws = c.args.subject.now.workqueues.now in
     let d = declaration_of t p in
-    let declaration : IsDeclaration d = IsDeclaration-of t p c.len-items.ensures.table c.len-groups.ensures.partition c.requires.grouped in
+    let sound : IsSound c.args.subject.now.declared.now = subst IsSound c.declared.view_is c.declared.invariant in
+    let declaration : IsDeclaration d = IsDeclaration-of t p sound.table sound.partition sound.one_group_each in
     let assignment : IsAssignment d.groups ws.assignment =
     subst (IsAssignment d.groups) c.assignment.ensures (record { one_each = ap (λ (a : Assignment). length a.lane_of_group) c.assignment.ensures ∙ c.requires.assigned; within = c.lanes-lanes.ensures.within }) in
     let hops = c.in-Some.hops.items in
@@ -47,7 +49,7 @@ put_walk-requires-clause-targets g c =
 pub returns-in-Some-clause-added : goal.returns-in-Some-clause-added
 returns-in-Some-clause-added g c =
     let subject = c.args.subject.now in
-    let s : Declared = record { table = subject.declared.now.table; partition = subject.declared.now.groups } in
+    let s : Declared = subject.declared.now in
     let ws = subject.workqueues.now in
     let file = subject.declaration.file.now in
     let words = λ (h : Hop). words_of subject.wording s ws (map (λ n. n.now) subject.names.now) h in
@@ -63,7 +65,7 @@ returns-in-Some-clause-added g c =
 pub returns-clause-added : goal.returns-clause-added
 returns-clause-added g c =
     let subject = c.args.subject.now in
-    let s : Declared = record { table = subject.declared.now.table; partition = subject.declared.now.groups } in
+    let s : Declared = subject.declared.now in
     let ws = subject.workqueues.now in
     let words = λ (h : Hop). words_of subject.wording s ws (map (λ n. n.now) subject.names.now) h in
     let arcs = c.args.arcs.now in

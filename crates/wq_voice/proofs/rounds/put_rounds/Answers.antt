@@ -12,7 +12,7 @@ use Rattle.wq_voice.proofs.rounds.put_rounds.Goals as goal
 pub loop-arcs-init : goal.loop-arcs-init
 loop-arcs-init g c =
     let subject = c.args.subject.now in
-    let s : Declared = record { table = subject.declared.now.table; partition = subject.declared.now.groups } in
+    let s : Declared = subject.declared.now in
     let words = λ (h : Hop). words_of subject.wording s subject.workqueues.now (map (λ n. n.now) subject.names.now) h in
     (c.requires.rounds, AddsRounds-none s subject.workqueues.now subject.declaration.file.now words c.args.out.now.items)
 
@@ -21,13 +21,13 @@ put_round-requires-clause-between g c =
     let item = c.arcs-item.result in
     let components = c.args.components.now in
     let at = get_or-map (λ v. v.items) components c.loop-arcs.arcs-index item item.items c.loop-arcs-test.true ∙ ap (λ v. v.items) (sym c.arcs-item.is) ∙ sym c.deref.ensures.value in
-    subst (AreBetween (length c.args.subject.now.declared.now.groups.group_of)) at
+    subst (AreBetween (length c.args.subject.now.declared.now.partition.group_of)) at
     (c.requires.between c.loop-arcs.arcs-index item.items (omega (arith, c.loop-arcs-test.true, length-map components (λ v. v.items))))
 
 pub loop-arcs-preserved : goal.loop-arcs-preserved
 loop-arcs-preserved g c =
     let subject = c.args.subject.now in
-    let s : Declared = record { table = subject.declared.now.table; partition = subject.declared.now.groups } in
+    let s : Declared = subject.declared.now in
     let ws = subject.workqueues.now in
     let file = subject.declaration.file.now in
     let words = λ (h : Hop). words_of subject.wording s ws (map (λ n. n.now) subject.names.now) h in
@@ -43,7 +43,7 @@ loop-arcs-preserved g c =
 pub returns : goal.returns
 returns g c =
     let subject = c.args.subject.now in
-    let s : Declared = record { table = subject.declared.now.table; partition = subject.declared.now.groups } in
+    let s : Declared = subject.declared.now in
     let words = λ (h : Hop). words_of subject.wording s subject.workqueues.now (map (λ n. n.now) subject.names.now) h in
     subst (λ components. AddsRounds subject.declaration.file.now words s subject.workqueues.now (map (λ v. v.items) components) c.args.out.now.items c.loop-arcs.out.items)
     (take_all c.loop-arcs.arcs-index c.args.components.now c.loop-arcs-test.false) c.loop-arcs.invariant.1

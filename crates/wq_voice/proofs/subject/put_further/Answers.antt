@@ -14,7 +14,7 @@ loop-hop-init g c = AddsSaid-none c.args.subject.now.declaration.file.now c.args
 pub loop-hop-preserved : goal.loop-hop-preserved
 loop-hop-preserved g c =
     let subject = c.args.subject.now in
-    let s : Declared = record { table = subject.declared.now.table; partition = subject.declared.now.groups } in
+    let s : Declared = subject.declared.now in
     AddsSaid-next subject.declaration.file.now (λ (h : Hop). codes "and " ++ words_of subject.wording s subject.workqueues.now (map (λ n. n.now) subject.names.now) h)
     c.args.hops.now c.loop-hop.hop-index c.hop-item.result c.args.out.now.items c.loop-hop.out.items c.put_wait.new.out.items
     c.loop-hop-test.true c.hop-item.is c.loop-hop.invariant c.in_ok-put_wait.ensures
@@ -22,7 +22,7 @@ loop-hop-preserved g c =
 pub returns : goal.returns
 returns g c =
     let subject = c.args.subject.now in
-    let s : Declared = record { table = subject.declared.now.table; partition = subject.declared.now.groups } in
+    let s : Declared = subject.declared.now in
     subst (λ (hops : List Hop). AddsSaid subject.declaration.file.now
     (map (λ (h : Hop). codes "and " ++ words_of subject.wording s subject.workqueues.now (map (λ n. n.now) subject.names.now) h) hops) c.args.out.now.items c.loop-hop.out.items)
     (take_all c.loop-hop.hop-index c.args.hops.now c.loop-hop-test.false) c.loop-hop.invariant

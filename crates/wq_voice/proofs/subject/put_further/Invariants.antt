@@ -8,6 +8,7 @@ use Rattle.wq_voice.proofs.subject.put_further.Given as goal
 abbrev pub invariant-loop-hop : goal.invariant-loop-hop
 invariant-loop-hop g l =
     AddsSaid l.subject.declaration.file.now
-    (map (λ h. codes "and " ++ words_of l.subject.wording (record { table = l.subject.declared.now.table; partition = l.subject.declared.now.groups }) l.subject.workqueues.now (map (λ n. n.now) l.subject.names.now) h)
+    (map (λ h. codes "and " ++ words_of l.subject.wording l.subject.declared.now l.subject.workqueues.now
+    (map (λ n. n.now) l.subject.names.now) h)
     (take l.hop-index l.hops))
     l.fn.out.items l.out.items

@@ -9,7 +9,7 @@ use Rattle.wq_voice.proofs.subject.put_wait.Goals as goal
 pub returns : goal.returns
 returns g c =
     let subject = c.args.subject.now in
-    let s : Declared = record { table = subject.declared.now.table; partition = subject.declared.now.groups } in
+    let s : Declared = subject.declared.now in
     let file = subject.declaration.file.now in
     let what = c.args.lead.now ++ words_of subject.wording s subject.workqueues.now (map (λ n. n.now) subject.names.now) c.args.hop.now in
     let out = c.args.out.now.items in

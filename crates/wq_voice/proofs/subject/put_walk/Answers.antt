@@ -9,7 +9,7 @@ use Rattle.wq_voice.proofs.subject.put_walk.Goals as goal
 pub returns-in_ok-put_wait-in-len1-up : goal.returns-in_ok-put_wait-in-len1-up
 returns-in_ok-put_wait-in-len1-up g c =
     let subject = c.args.subject.now in
-    let s : Declared = record { table = subject.declared.now.table; partition = subject.declared.now.groups } in
+    let s : Declared = subject.declared.now in
     on_ok_weaker c.put_further.result (λ more.
     AddsSaid-told subject.declaration.file.now c.args.lead.now (λ (h : Hop). words_of subject.wording s subject.workqueues.now (map (λ n. n.now) subject.names.now) h)
     c.args.hops.now c.first-item.result c.args.out.now.items c.put_wait.new.out.items c.put_further.new.out.items

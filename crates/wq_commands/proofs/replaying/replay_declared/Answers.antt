@@ -1,7 +1,0 @@
-use Rattle.std.proofs.Common.{sym}
-use Rattle.wq_cert.proofs.LanesRead.{AreWorkqueuesOf-workqueues_of_text}
-use Rattle.wq_commands.proofs.replaying.replay_declared.Goals as goal
-
-pub replay_assigned-answer-requires-clause-assigned : goal.replay_assigned-answer-requires-clause-assigned
-replay_assigned-answer-requires-clause-assigned g c =
-    (AreWorkqueuesOf-workqueues_of_text c.args.table.now.names c.args.groups.now c.len-groups.ensures.partition (sym c.requires) c.args.assigned.now c.in-Ok.workqueues c.in-Ok.ensures.workqueues).assignment.assignment.one_each
