@@ -120,8 +120,9 @@ module _ (s : Declared) (sound : IsSound s) where
   IsKnown r = (a : Workqueues) → r ≡ Ok a → IsAssignmentOf s.partition.groups a.assignment
 
   known : (text : List ℕ) → IsKnown (workqueues_of_text s.table.names s.partition text)
-  known text a is = (AreWorkqueuesOf-workqueues_of_text s.table.names s.partition sound.partition
-  (sym sound.one_group_each) text a is).assignment
+  known text a is =
+      let one = sym sound.one_group_each in
+      (AreWorkqueuesOf-workqueues_of_text s.table.names s.partition sound.partition one text a is).assignment
 
   judged_once : (r : Result Workqueues CertError) → IsKnown r → (end other : End) (out printed : List ℕ)
       → MatchResult r (λ a. JudgesAssigned s a end out) (λ fault. PrintsRefusal (cert_refusal fault) end out)
