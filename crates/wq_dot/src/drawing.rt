@@ -99,7 +99,7 @@ pub fn drawing_text<A: Allocator + Copy>(
     looks: &[FlushLook],
     comments: &[&[u8]],
 ) -> Result<Vec<u8, A>, AllocError>
-    requires { length looks.now ≡ flush_count assigned.now.declared.table.waits }
+    requires looks { length looks.now ≡ flush_count assigned.now.declared.table.waits }
     ensures { IfOk result (λ text. text.items
         ≡ drawing_text assigned.now.declared.table assigned.now.declared.partition assigned.now.workqueues
         (map (λ n. n.now) called.now) title.now looks.now (map (λ c. c.now) comments.now)) }

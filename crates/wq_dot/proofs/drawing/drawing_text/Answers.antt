@@ -10,7 +10,7 @@ use Rattle.wq_dot.proofs.drawing.drawing_text.Goals as goal
 
 pub put_flushes-requires : goal.put_flushes-requires
 put_flushes-requires g c =
-    c.requires ∙ sym (ap (λ (a : Assigned). flush_count a.declared.table.waits) c.assigned.view_is)
+    c.requires.looks ∙ sym (ap (λ (a : Assigned). flush_count a.declared.table.waits) c.assigned.view_is)
 
 pub returns : goal.returns
 returns g c =
