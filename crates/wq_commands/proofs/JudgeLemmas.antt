@@ -39,78 +39,78 @@ use Rattle.wq_commands.proofs.NamedSteps.{IsStepOf-hang, length-hang}
 -- ---- a declaration and an assignment of it
 
 module _ (s : Declared) (sound : IsSound s) (a : Workqueues) (assigned : IsAssignmentOf s.partition.groups a.assignment)
-    where
-  is_declaration : IsDeclaration (declared_waits s)
-  is_declaration = IsDeclaration-sound s sound
+  where
+    is_declaration : IsDeclaration (declared_waits s)
+    is_declaration = IsDeclaration-sound s sound
 
-  graph : IsGraph (rescued_graph (declared_waits s) a)
-  graph = IsGraph-without a.bare (lane_graph (declared_waits s) a.assignment)
-  (IsGraph-lane_graph (declared_waits s) a.assignment is_declaration assigned.assignment assigned.few)
+    graph : IsGraph (rescued_graph (declared_waits s) a)
+    graph = IsGraph-without a.bare (lane_graph (declared_waits s) a.assignment)
+        (IsGraph-lane_graph (declared_waits s) a.assignment is_declaration assigned.assignment assigned.few)
 
-  -- ---- the run is printed and read back
+    -- ---- the run is printed and read back
 
-  -- so its text says them
-  run_of-deadlock : (steps : List Step) → DeadlocksBy (wiring_of (declared_waits s) a) steps → run_of s.table.names (run_text s.table.names steps) ≡ Ok steps
-  run_of-deadlock steps deadlocks =
-      let named = IsStepOf-hang s sound a assigned steps deadlocks in
-      let few : length steps ≤ 65536 = omega (arith, length-hang s sound a assigned steps deadlocks) in
-      run_of-printed s.table sound.table steps named (length-run_text s.table.names sound.table.named steps named few)
+    -- so its text says them
+    run_of-deadlock : (steps : List Step) → DeadlocksBy (wiring_of (declared_waits s) a) steps → run_of s.table.names (run_text s.table.names steps) ≡ Ok steps
+    run_of-deadlock steps deadlocks =
+        let named = IsStepOf-hang s sound a assigned steps deadlocks in
+        let few : length steps ≤ 65536 = omega (arith, length-hang s sound a assigned steps deadlocks) in
+        run_of-printed s.table sound.table steps named (length-run_text s.table.names sound.table.named steps named few)
 
-  ReplaysAssigned-judged : (out : List ℕ) → JudgesAssigned s a Bad out → ReplaysAssigned s a out Bad (line_text (replay_words Deadlock))
-  ReplaysAssigned-judged out (steps, deadlock, is) =
-      MatchResult-ok (run_of s.table.names out) steps (λ made. AnswersReplay s a made Bad (line_text (replay_words Deadlock))) (λ fault. PrintsRefusal (cert_refusal fault) Bad (line_text (replay_words Deadlock)))
-      (ap (run_of s.table.names) is ∙ run_of-deadlock steps deadlock.deadlocks) (record { run_end = Deadlock; ends = deadlock.deadlocks; status = refl; printed = refl })
+    ReplaysAssigned-judged : (out : List ℕ) → JudgesAssigned s a Bad out → ReplaysAssigned s a out Bad (line_text (replay_words Deadlock))
+    ReplaysAssigned-judged out (steps, deadlock, is) =
+        MatchResult-ok (run_of s.table.names out) steps (λ made. AnswersReplay s a made Bad (line_text (replay_words Deadlock))) (λ fault. PrintsRefusal (cert_refusal fault) Bad (line_text (replay_words Deadlock)))
+        (ap (run_of s.table.names) is ∙ run_of-deadlock steps deadlock.deadlocks) (record { run_end = Deadlock; ends = deadlock.deadlocks; status = refl; printed = refl })
 
-  -- ---- the one verdict
+    -- ---- the one verdict
 
-  -- the same items are queued first
-  same_first : (waits : List WaitArc) (one other : List ℕ) → AreFirst (declared_waits s) a waits one → AreFirst (declared_waits s) a waits other → one ≡ other
-  same_first (x ∷ more) one other first second = first ∙ sym second
-  same_first [] one other (circle, walked, is) (round, walked_too, is_too) =
-      is ∙ ap flushing_items (IsWalkedCircle-unique (rescued_graph (declared_waits s) a) graph circle round walked walked_too) ∙ sym is_too
+    -- the same items are queued first
+    same_first : (waits : List WaitArc) (one other : List ℕ) → AreFirst (declared_waits s) a waits one → AreFirst (declared_waits s) a waits other → one ≡ other
+    same_first (x ∷ more) one other first second = first ∙ sym second
+    same_first [] one other (circle, walked, is) (round, walked_too, is_too) =
+        is ∙ ap flushing_items (IsWalkedCircle-unique (rescued_graph (declared_waits s) a) graph circle round walked walked_too) ∙ sym is_too
 
-  same_run : (one other : List Step) → IsHang (declared_waits s) a one → IsHang (declared_waits s) a other → one ≡ other
-  same_run one other first second =
-      let w = wiring_of (declared_waits s) a in
-      let same : first.first ≡ second.first = same_first (bare_waits (declared_waits s) a) first.first second.first first.are_first second.are_first in
-      same_run_of w second.first one other (subst (λ (is : List ℕ). IsRunOf w is one) same first.is_run) second.is_run
+    same_run : (one other : List Step) → IsHang (declared_waits s) a one → IsHang (declared_waits s) a other → one ≡ other
+    same_run one other first second =
+        let w = wiring_of (declared_waits s) a in
+        let same : first.first ≡ second.first = same_first (bare_waits (declared_waits s) a) first.first second.first first.are_first second.are_first in
+        same_run_of w second.first one other (subst (λ (is : List ℕ). IsRunOf w is one) same first.is_run) second.is_run
 
-  not_both : (steps : List Step) → IsSafe (wiring_of (declared_waits s) a) → IsHang (declared_waits s) a steps → ⊥
-  not_both steps safe deadlock = not_safe-by (wiring_of (declared_waits s) a) steps deadlock.deadlocks safe
+    not_both : (steps : List Step) → IsSafe (wiring_of (declared_waits s) a) → IsHang (declared_waits s) a steps → ⊥
+    not_both steps safe deadlock = not_safe-by (wiring_of (declared_waits s) a) steps deadlock.deadlocks safe
 
-  JudgesAssigned-unique : (end other : End) (out printed : List ℕ) → JudgesAssigned s a end out → JudgesAssigned s a other printed → (end ≡ other) × (out ≡ printed)
-  JudgesAssigned-unique Good Good out printed one two = (refl, one.2 ∙ sym two.2)
-  JudgesAssigned-unique Good Bad out printed one two = absurd (not_both two.0 one.1 two.1)
-  JudgesAssigned-unique Good Refused out printed one two = absurd two
-  JudgesAssigned-unique Bad Good out printed one two = absurd (not_both one.0 two.1 one.1)
-  JudgesAssigned-unique Bad Bad out printed one two = (refl, one.2 ∙ ap (run_text s.table.names) (same_run one.0 two.0 one.1 two.1) ∙ sym two.2)
-  JudgesAssigned-unique Bad Refused out printed one two = absurd two
-  JudgesAssigned-unique Refused other out printed one two = absurd one
+    JudgesAssigned-unique : (end other : End) (out printed : List ℕ) → JudgesAssigned s a end out → JudgesAssigned s a other printed → (end ≡ other) × (out ≡ printed)
+    JudgesAssigned-unique Good Good out printed one two = (refl, one.2 ∙ sym two.2)
+    JudgesAssigned-unique Good Bad out printed one two = absurd (not_both two.0 one.1 two.1)
+    JudgesAssigned-unique Good Refused out printed one two = absurd two
+    JudgesAssigned-unique Bad Good out printed one two = absurd (not_both one.0 two.1 one.1)
+    JudgesAssigned-unique Bad Bad out printed one two = (refl, one.2 ∙ ap (run_text s.table.names) (same_run one.0 two.0 one.1 two.1) ∙ sym two.2)
+    JudgesAssigned-unique Bad Refused out printed one two = absurd two
+    JudgesAssigned-unique Refused other out printed one two = absurd one
 
-  IsHang-exists : (first : List ℕ) → AreFirst (declared_waits s) a (bare_waits (declared_waits s) a) first → (steps : List Step) × IsHang (declared_waits s) a steps
-  IsHang-exists first are =
-      let w = wiring_of (declared_waits s) a in
-      let knot = IsKnot-first (declared_waits s) a is_declaration assigned.assignment (bare_waits (declared_waits s) a)
-      refl first are in
-      let run = IsRunOf-exists w first (IsWiring-workqueues (declared_waits s) a is_declaration assigned.assignment)
-      knot in
-      (run.0, IsHang-run (declared_waits s) a is_declaration assigned.assignment first run.0 are run.1)
+    IsHang-exists : (first : List ℕ) → AreFirst (declared_waits s) a (bare_waits (declared_waits s) a) first → (steps : List Step) × IsHang (declared_waits s) a steps
+    IsHang-exists first are =
+        let w = wiring_of (declared_waits s) a in
+        let knot = IsKnot-first (declared_waits s) a is_declaration assigned.assignment (bare_waits (declared_waits s) a)
+        refl first are in
+        let run = IsRunOf-exists w first (IsWiring-workqueues (declared_waits s) a is_declaration assigned.assignment)
+        knot in
+        (run.0, IsHang-run (declared_waits s) a is_declaration assigned.assignment first run.0 are run.1)
 
-  hangs : (first : List ℕ) → AreFirst (declared_waits s) a (bare_waits (declared_waits s) a) first → (end : End) × (out : List ℕ) × JudgesAssigned s a end out
-  hangs first are = let hang = IsHang-exists first are in (Bad, run_text s.table.names hang.0, (hang.0, hang.1, refl))
+    hangs : (first : List ℕ) → AreFirst (declared_waits s) a (bare_waits (declared_waits s) a) first → (end : End) × (out : List ℕ) × JudgesAssigned s a end out
+    hangs first are = let hang = IsHang-exists first are in (Bad, run_text s.table.names hang.0, (hang.0, hang.1, refl))
 
-  pub JudgesAssigned-exist : (end : End) × (out : List ℕ) × JudgesAssigned s a end out
-  JudgesAssigned-exist = by_waits (bare_waits (declared_waits s) a) refl
-    where
-      by_waits : (waits : List WaitArc) → bare_waits (declared_waits s) a ≡ waits → (end : End) × (out : List ℕ) × JudgesAssigned s a end out
-      by_waits (x ∷ more) is = hangs (x.src ∷ []) (subst (λ (l : List WaitArc). AreFirst (declared_waits s) a l (x.src ∷ [])) (sym is) refl)
-      by_waits [] is = elim (AreRanks-or_walk (rescued_graph (declared_waits s) a) graph) [
-        | inl ranks ↦
-            let safe = AreSafe-ranks (declared_waits s) a is_declaration assigned.assignment assigned.few is ranks.0
-            ranks.1 in
-            (Good, safe_text, (safe.assignment, safe.safe, refl))
-        | inr walk ↦ hangs (flushing_items walk.0) (subst (λ (l : List WaitArc). AreFirst (declared_waits s) a l (flushing_items walk.0)) (sym is) (walk.0, walk.1, refl))
-      ]
+    pub JudgesAssigned-exist : (end : End) × (out : List ℕ) × JudgesAssigned s a end out
+    JudgesAssigned-exist = by_waits (bare_waits (declared_waits s) a) refl
+      where
+        by_waits : (waits : List WaitArc) → bare_waits (declared_waits s) a ≡ waits → (end : End) × (out : List ℕ) × JudgesAssigned s a end out
+        by_waits (x ∷ more) is = hangs (x.src ∷ []) (subst (λ (l : List WaitArc). AreFirst (declared_waits s) a l (x.src ∷ [])) (sym is) refl)
+        by_waits [] is = elim (AreRanks-or_walk (rescued_graph (declared_waits s) a) graph) [
+          | inl ranks ↦
+              let safe = AreSafe-ranks (declared_waits s) a is_declaration assigned.assignment assigned.few is ranks.0
+              ranks.1 in
+              (Good, safe_text, (safe.assignment, safe.safe, refl))
+          | inr walk ↦ hangs (flushing_items walk.0) (subst (λ (l : List WaitArc). AreFirst (declared_waits s) a l (flushing_items walk.0)) (sym is) (walk.0, walk.1, refl))
+        ]
 
 -- ---- a text of an assignment
 

@@ -23,6 +23,13 @@ loop-number-preserved g c =
       | else-is_on_bare w ↦ rw w.items-is (left p n c.loop-number.items.items c.loop-number.invariant (sym bare ∙ w.if-is_on_bare.false))
     ]
 
+pub returns-clause-items : goal.returns-clause-items
+returns-clause-items g c =
+    let p = is_on_bare c.args.workqueues.now c.args.declared.now.partition.group_of in
+    let same = ap (λ (d : Declared). length d.table.names) c.declared.view_is in
+    c.loop-number.invariant ∙ ap (λ (n : ℕ). filter p (range_with_len 0 n))
+    (omega (arith, c.loop-number-test.false, c.loop-number.auto.number-end, c.len-number-end.ensures.len, same))
+
 pub returns-clause-within : goal.returns-clause-within
 returns-clause-within g c =
     let s = c.args.declared.now in
