@@ -1,5 +1,6 @@
 -- The components of workqueues that the groups of a declaration are on: what it takes to print them.
-use Rattle.std.proofs.Common.{ℕ, ◌≤◌, List, length, subst, arith}
+use Rattle.std.proofs.Common.{◌≡◌, ◌==◌, ℕ, ◌≤◌, Bool, false, List, [], ◌∷◌, length, subst, arith}
+use Rattle.std.specs.Prelude.{◌≢◌}
 use Rattle.std.specs.List.{All}
 use Rattle.wq_groups.specs.Declaration.{IsDeclaration}
 use Rattle.wq_graph.specs.declared.arc.WaitArc.{WaitArc}
@@ -11,6 +12,10 @@ use Rattle.wq_circles.specs.Components.{AreComponents}
 use Rattle.wq_circles.specs.ComponentsText.{AreBetween}
 use Rattle.wq_circles.proofs.ForBare.{AreBetween-waits}
 use Rattle.wq_circles.proofs.Loops.{AreBetween-components, length-components}
+
+pub not_empty : {X : Type 0} (xs : List X) → false ≡ (length xs == 0) → xs ≢ []
+not_empty [] full = absurd cc
+not_empty (x ∷ xs) full = λ same. (let bad : x ∷ xs ≡ [] = same in absurd cc)
 
 module _ (a : Assigned) (is : IsAssigned a) where
   declaration : IsDeclaration (declared_waits a.declared)

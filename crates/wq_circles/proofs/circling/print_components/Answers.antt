@@ -1,12 +1,19 @@
-use Rattle.std.proofs.Common.{◌≡◌, ℕ, List, length, map, sym, ap, subst, ◌∙◌, arith}
+use Rattle.std.proofs.Common.{◌≡◌, ◌==◌, ◌⊎◌, inl, inr, ℕ, List, [], length, map, sym, ap, ap₂, subst, ◌∙◌, arith}
+use Rattle.std.specs.Prelude.{◌≢◌}
 use Rattle.std.specs.List.{All}
 use Rattle.std.proofs.lemmas.List.{length-map}
 use Rattle.wq_graph.specs.declared.arc.WaitArc.{WaitArc}
+use Rattle.wq_deadlock.specs.Judging.{bare_waits}
+use Rattle.wq_commands.specs.declared.end.End.{End}
+use Rattle.wq_commands.specs.Answer.{declared_waits}
 use Rattle.wq_commands.specs.Assigned.{Assigned, IsAssigned}
 use Rattle.wq_commands.specs.Declaration.{Declared}
-use Rattle.wq_circles.specs.ComponentsText.{AreBetween}
-use Rattle.wq_circles.proofs.OfAssigned.{few_components, between_items, waits_between_items}
+use Rattle.wq_circles.specs.Circling.{CirclesAssigned}
+use Rattle.wq_circles.specs.ComponentsText.{AreBetween, circles_text}
+use Rattle.wq_circles.proofs.OfAssigned.{few_components, between_items, not_empty, waits_between_items}
 use Rattle.wq_circles.proofs.circling.print_components.Goals as goal
+use Rattle.wq_circles.proofs.circling.print_components.Goals.{else-is_empty-via-then-is_empty+else-is_empty-2}
+use Rattle.wq_circles.proofs.circling.print_components.Goals.{else-is_empty-via-else-is_empty}
 
 pub circles_text-requires-clause-few : goal.circles_text-requires-clause-few
 circles_text-requires-clause-few g c =
@@ -34,3 +41,29 @@ circles_text-requires-clause-waits g c =
     subst (λ (n : ℕ). AreBetween n c.args.waits.now) (sym items)
     (subst (λ (l : List WaitArc). AreBetween (length a.declared.table.names) l) (sym c.requires.waits)
     (waits_between_items a is))
+
+pub returns-clause-answer : goal.returns-clause-answer
+returns-clause-answer g c =
+    let s = c.args.assigned.now.declared in
+    let ws = c.args.assigned.now.workqueues in
+    let components : List (List WaitArc) = map (λ v. v.items) c.args.components.now in
+    let waits = bare_waits (declared_waits s) ws in
+    let names : c.declared.inside.table.names ≡ s.table.names =
+    ap (λ (d : Declared). d.table.names) c.declared.view_is
+    ∙ ap (λ (x : Assigned). x.declared.table.names) c.assigned.view_is in
+    let some : (components ≢ []) ⊎ (waits ≢ []) = elim c.else-is_empty.branch [
+      | else-is_empty-via-then-is_empty+else-is_empty-2 w ↦
+          inr
+          (subst (λ (l : List WaitArc). l ≢ []) c.requires.waits
+          (not_empty c.args.waits.now (sym w.if-is_empty-2.false ∙ w.is_empty-then-is_empty.ensures)))
+      | else-is_empty-via-else-is_empty w ↦
+          inl
+          (not_empty components
+          (sym w.if-is_empty.false ∙ c.is_empty.ensures
+          ∙ ap (λ (n : ℕ). n == 0) (sym (length-map c.args.components.now (λ v. v.items)))))
+    ] in
+    let text =
+    ap (λ v. v.items) c.plain-2.ensures.text ∙ c.in_ok-text-2.ensures
+    ∙ ap₂ (λ (n : List (List ℕ)) (l : List WaitArc). circles_text n components l) names c.requires.waits in
+    subst (λ (end : End). CirclesAssigned s ws end c.plain-2.result.text.items) (sym c.plain-2.ensures.end)
+    (record { components = components; some = some; are = c.requires.found; text = text })
