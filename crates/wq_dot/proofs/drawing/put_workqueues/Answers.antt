@@ -71,7 +71,7 @@ loop-number-preserved g c =
     (omega (arith, c.loop-number-test.true, lanes)) c.places-own.ensures in
     let called = map (λ v. v.now) c.args.called.now in
     let name = slice_index_or called number [] in
-    let bare = c.is_bare-bare.ensures ∙ ap (λ (q : ℕ). slice_index_or ws.bare q false) c.new-2.ensures in
+    let bare = c.is_bare-bare.ensures ∙ ap (λ (q : ℕ). slice_index_or ws.bare q false) c.new-in-loop-number.ensures in
     let lines = workqueue_box_lines names group_of ws called in
     let so_far = c.loop-number.out.items in
     c.in_ok-put_workqueue.ensures
