@@ -1,4 +1,4 @@
-use Rattle.std.proofs.Common.{◌≡◌, ◌++◌, ℕ, Bool, List, length, map, sym, ap, ap₂, subst, ◌∙◌, arith}
+use Rattle.std.proofs.Common.{◌++◌, ℕ, Bool, List, length, map, sym, ap, ap₂, subst, ◌∙◌, arith}
 use Rattle.std.specs.List.{All}
 use Rattle.std.proofs.lemmas.List.FromFn.{length-map-range_with_len}
 use Rattle.std.proofs.lemmas.Result.{IfOk-weaker}
@@ -73,13 +73,15 @@ bold_red-bold-requires g c =
     )
 
 pub drawing_text-requires : goal.drawing_text-requires
-drawing_text-requires g c =
-    ap (λ (l : List FlushLook). length l) (c.as_slice-4.ensures.value ∙ c.in_ok-looks.ensures)
-    ∙ length-map-range_with_len
-    (red_look_at c.args.hops.now (all_arcs (map (λ v. v.items) c.args.components.now) ++ c.args.waits.now)) 0
-    (flush_count c.declared.inside.table.waits)
-    ∙ ap (λ (s : Declared). flush_count s.table.waits) c.declared.view_is
-    ∙ ap (λ (x : Assigned). flush_count x.declared.table.waits) c.assigned.view_is
+drawing_text-requires g c = record {
+  looks =
+      ap (λ (l : List FlushLook). length l) (c.as_slice-4.ensures.value ∙ c.in_ok-looks.ensures)
+      ∙ length-map-range_with_len
+      (red_look_at c.args.hops.now (all_arcs (map (λ v. v.items) c.args.components.now) ++ c.args.waits.now)) 0
+      (flush_count c.declared.inside.table.waits)
+      ∙ ap (λ (s : Declared). flush_count s.table.waits) c.declared.view_is
+      ∙ ap (λ (x : Assigned). flush_count x.declared.table.waits) c.assigned.view_is;
+}
 
 pub overflow_cast-waits : goal.overflow_cast-waits
 overflow_cast-waits g c =

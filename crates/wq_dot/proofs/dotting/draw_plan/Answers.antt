@@ -1,4 +1,4 @@
-use Rattle.std.proofs.Common.{◌≡◌, ℕ, Bool, List, [], length, map, sym, ap, ap₂, subst, ◌∙◌, arith}
+use Rattle.std.proofs.Common.{ℕ, Bool, List, [], length, map, sym, ap, ap₂, subst, ◌∙◌, arith}
 use Rattle.std.proofs.lemmas.List.FromFn.{length-map-range_with_len}
 use Rattle.std.proofs.lemmas.Result.{IfOk-weaker}
 use Rattle.wq_items.specs.Table.{flush_count}
@@ -38,11 +38,13 @@ marked-requires g c =
     )
 
 pub drawing_text-requires : goal.drawing_text-requires
-drawing_text-requires g c =
-    ap (λ (l : List FlushLook). length l) (c.as_slice-3.ensures.value ∙ c.in_ok-looks.ensures)
-    ∙ length-map-range_with_len (look_at Bold c.args.chain.now) 0 (flush_count c.declared.inside.table.waits)
-    ∙ ap (λ (s : Declared). flush_count s.table.waits) c.declared.view_is
-    ∙ ap (λ (x : Assigned). flush_count x.declared.table.waits) c.assigned.view_is
+drawing_text-requires g c = record {
+  looks =
+      ap (λ (l : List FlushLook). length l) (c.as_slice-3.ensures.value ∙ c.in_ok-looks.ensures)
+      ∙ length-map-range_with_len (look_at Bold c.args.chain.now) 0 (flush_count c.declared.inside.table.waits)
+      ∙ ap (λ (s : Declared). flush_count s.table.waits) c.declared.view_is
+      ∙ ap (λ (x : Assigned). flush_count x.declared.table.waits) c.assigned.view_is;
+}
 
 pub returns : goal.returns
 returns g c =

@@ -1,6 +1,6 @@
-use Rattle.std.proofs.Common.{◌≡◌, Bool, List, [], length, map, sym, ap, subst, ◌∙◌}
+use Rattle.std.proofs.Common.{length, map, sym, ap, subst, ◌∙◌}
 use Rattle.std.specs.Prelude.{IfOk}
-use Rattle.wq_core.specs.Workqueues.{Workqueues, all_rescued}
+use Rattle.wq_core.specs.Workqueues.{Workqueues}
 use Rattle.wq_plan.specs.Solve.{IsPlanned}
 use Rattle.wq_commands.specs.Answer.{declared_waits}
 use Rattle.wq_commands.specs.Assigned.{Assigned}
