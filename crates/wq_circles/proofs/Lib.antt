@@ -8,6 +8,7 @@ pub mod Settled
 pub mod Completed
 pub mod Joined
 pub mod Loops
+pub mod OfAssigned
 pub mod OnCircles
 pub mod InOrder
 pub mod Safe

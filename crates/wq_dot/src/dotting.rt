@@ -3,9 +3,7 @@
 //! The rule is that of "The command `dot`" in docs/FORMAT.md. It takes the time and the memory of reading the texts, of
 //! the plan, of the components, of the search for a shortest run and of the drawing.
 
-ghost use Rattle.std.specs.Prelude.{◌≡◌, [], IfOk, List, None, codes, length, map};
-ghost use Rattle.wq_items.specs.Chain.{HasCircle};
-ghost use Rattle.wq_groups.specs.Declaration.{GroupWaits, declaration_of};
+ghost use Rattle.std.specs.Prelude.{◌≡◌, [], IfOk, List, None, codes, map};
 ghost use Rattle.wq_core.specs.Wiring.{own_lanes};
 ghost use Rattle.wq_core.specs.Workqueues.{all_rescued};
 ghost use Rattle.wq_deadlock.specs.Judging.{bare_waits};
@@ -14,6 +12,7 @@ ghost use Rattle.wq_hang.specs.declared.hop.Hop.{Hop};
 ghost use Rattle.wq_cert.specs.Texts.{max_certificate, max_certificate_line, workqueues_of_text};
 ghost use Rattle.wq_names.specs.Names.{names_of};
 ghost use Rattle.wq_text.specs.Limits.{limit_fault};
+ghost use Rattle.wq_commands.specs.Answer.{declared_waits};
 ghost use Rattle.wq_commands.specs.Declaration.{max_declaration, max_declaration_line};
 ghost use Rattle.wq_commands.specs.declared.why.Which.TheVariants.{Certificate};
 ghost use Rattle.wq_commands.specs.Why.{SaysFault, SaysAssigned, SaysDeclared};
@@ -28,44 +27,36 @@ use crate::flushes::{bold_flushes, bold_red, hanging_flushes, marked};
 use crate::shortest::shortest_waits;
 use crate::titles::{circles_title, plan_title};
 use std::alloc::{AllocError, Allocator};
-use wq_cert::{CertError, read_workqueues};
+use wq_cert::CertError;
 use wq_circles::components;
-use wq_commands::{Answered, End, Stop, Texts, Which, read_declaration};
+use wq_commands::{Answered, Assigned, Declaration, End, Stop, Texts, Which, read_declaration};
 use wq_core::Workqueues;
 use wq_deadlock::{bare_waits, own_lanes};
 use wq_graph::WaitArc;
-use wq_groups::{Assignment, Groups};
+use wq_groups::Assignment;
 use wq_hang::Hop;
-use wq_items::ItemTable;
 use wq_names::workqueue_names;
 use wq_plan::{Answer, solve};
 
-/// The drawing of the plan of a table's items, with the chain that `solve` gave with it.
+/// The drawing of a plan, with the chain that `solve` gave with it.
 fn draw_plan<A: Allocator + Copy>(
     alloc: A,
-    table: &ItemTable<'_, A>,
-    groups: &Groups<A>,
+    assigned: &Assigned<'_, '_, A>,
     comments: &[&[u8]],
-    assignment: &Assignment<A>,
     chain: &[WaitArc],
 ) -> Result<Vec<u8, A>, AllocError>
-    requires grouped { length groups.now.group_of ≡ length table.now.names }
-    requires planned { IsPlanned (declaration_of table.now groups.now) assignment.now chain.now }
-    ensures { IfOk result (λ text.
-        DrawsPlan (record { table = table.now; partition = groups.now }) (map (λ c. c.now) comments.now) text.items) }
+    requires planned { IsPlanned (declared_waits assigned.now.declared) assigned.now.workqueues.assignment chain.now }
+    requires rescued { assigned.now.workqueues.bare ≡ [] }
+    ensures { IfOk result (λ text. DrawsPlan assigned.now.declared (map (λ c. c.now) comments.now) text.items) }
 {
-    // What holds of every table and of all groups.
-    let _items = table.len();
-    let _flushes = table.flushes();
-    let _groups = groups.len();
+    let declared = assigned.declared;
+    let table = &declared.table;
     let looks = bold_flushes(alloc, table, chain)?;
-    let title = plan_title(alloc, assignment.lanes(), marked(looks.as_slice()))?;
+    let workqueues = assigned.workqueues.assignment().lanes();
+    let title = plan_title(alloc, workqueues, marked(looks.as_slice()))?;
     drawing_text(
         alloc,
-        table,
-        groups,
-        assignment,
-        &[],
+        assigned,
         &[],
         title.as_slice(),
         looks.as_slice(),
@@ -77,44 +68,31 @@ fn draw_plan<A: Allocator + Copy>(
 /// rescuer. `hanging` says what hangs if there are any, and `hops` are the waits of a shortest run that ends stuck.
 fn draw_components<A: Allocator + Copy>(
     alloc: A,
-    table: &ItemTable<'_, A>,
-    groups: &Groups<A>,
+    assigned: &Assigned<'_, '_, A>,
     comments: &[&[u8]],
-    workqueues: &Workqueues<A>,
     called: &[&[u8]],
     hanging: &[u8],
     components: &[Vec<WaitArc, A>],
     waits: &[WaitArc],
     hops: &[Hop],
 ) -> Result<Vec<u8, A>, AllocError>
-    requires grouped { length groups.now.group_of ≡ length table.now.names }
-    requires assigned { length workqueues.now.assignment.lane_of_group ≡ groups.now.groups }
-    requires found { AreComponents (declaration_of table.now groups.now) workqueues.now
+    requires found { AreComponents (declared_waits assigned.now.declared) assigned.now.workqueues
         (map (λ l. l.items) components.now) }
-    requires waits { waits.now ≡ bare_waits (declaration_of table.now groups.now) workqueues.now }
-    requires shortest { AreShortest (declaration_of table.now groups.now) workqueues.now hops.now }
-    ensures { IfOk result (λ text.
-        DrawsCircles (record { table = table.now; partition = groups.now })
-        (map (λ c. c.now) comments.now) workqueues.now (map (λ n. n.now) called.now)
-        hanging.now hops.now text.items) }
+    requires waits { waits.now ≡ bare_waits (declared_waits assigned.now.declared) assigned.now.workqueues }
+    requires shortest { AreShortest (declared_waits assigned.now.declared) assigned.now.workqueues hops.now }
+    ensures { IfOk result (λ text. DrawsCircles assigned.now.declared (map (λ c. c.now) comments.now)
+        assigned.now.workqueues (map (λ n. n.now) called.now) hanging.now hops.now text.items) }
 {
-    // What holds of every table, of all groups and of every assignment.
-    let _items = table.len();
-    let _flushes = table.flushes();
-    let _groups = groups.len();
-    let assignment = workqueues.assignment();
-    let _lanes = assignment.lanes();
-    let bare = workqueues.bare();
+    let declared = assigned.declared;
+    let table = &declared.table;
+    let bare = assigned.workqueues.bare();
     let looks = hanging_flushes(alloc, table, components, waits, hops)?;
     let red = marked(looks.as_slice());
     let bold = bold_red(looks.as_slice());
     let title = circles_title(alloc, hanging, waits.len() as u32, bare, red, bold)?;
     drawing_text(
         alloc,
-        table,
-        groups,
-        assignment,
-        bare,
+        assigned,
         called,
         title.as_slice(),
         looks.as_slice(),
@@ -127,29 +105,25 @@ fn draw_components<A: Allocator + Copy>(
 /// run waits that ends stuck. `hanging` says what hangs if there are any.
 fn draw_circles<A: Allocator + Copy>(
     alloc: A,
-    table: &ItemTable<'_, A>,
-    groups: &Groups<A>,
+    assigned: &Assigned<'_, '_, A>,
     comments: &[&[u8]],
-    workqueues: &Workqueues<A>,
     called: &[&[u8]],
     hanging: &[u8],
 ) -> Result<Vec<u8, A>, AllocError>
-    requires grouped { length groups.now.group_of ≡ length table.now.names }
-    requires assigned { length workqueues.now.assignment.lane_of_group ≡ groups.now.groups }
     ensures { IfOk result (λ text. (hops : List Hop) ×
-        DrawsCircles (record { table = table.now; partition = groups.now })
-        (map (λ c. c.now) comments.now) workqueues.now (map (λ n. n.now) called.now)
-        hanging.now hops text.items) }
+        DrawsCircles assigned.now.declared (map (λ c. c.now) comments.now) assigned.now.workqueues
+        (map (λ n. n.now) called.now) hanging.now hops text.items) }
 {
+    let declared = assigned.declared;
+    let Declaration { table, groups } = declared;
+    let workqueues = &assigned.workqueues;
     let components = components(alloc, table, groups, workqueues)?;
     let waits = bare_waits(alloc, table, groups, workqueues)?;
-    let hops = shortest_waits(alloc, table, groups, workqueues)?;
+    let hops = shortest_waits(alloc, assigned)?;
     draw_components(
         alloc,
-        table,
-        groups,
+        assigned,
         comments,
-        workqueues,
         called,
         hanging,
         &components,
@@ -158,27 +132,40 @@ fn draw_circles<A: Allocator + Copy>(
     )
 }
 
+/// The drawing of a plan with this assignment and this chain.
+fn draw_planned<A: Allocator + Copy>(
+    alloc: A,
+    declared: &Declaration<'_, A>,
+    comments: &[&[u8]],
+    assignment: Assignment<A>,
+    chain: &[WaitArc],
+) -> Result<Vec<u8, A>, AllocError>
+    requires { IsPlanned (declared_waits declared.now) assignment chain.now }
+    ensures { IfOk result (λ text. DrawsPlan declared.now (map (λ c. c.now) comments.now) text.items) }
+{
+    let workqueues = Workqueues::new(assignment, Vec::new(alloc));
+    let assigned = Assigned::new(declared, workqueues);
+    draw_plan(alloc, &assigned, comments, chain)
+}
+
 /// The drawing of groups, each of which has a workqueue of its own.
 fn draw_own_lanes<A: Allocator + Copy>(
     alloc: A,
-    table: &ItemTable<'_, A>,
-    groups: &Groups<A>,
+    declared: &Declaration<'_, A>,
     comments: &[&[u8]],
 ) -> Result<Vec<u8, A>, AllocError>
-    requires { length groups.now.group_of ≡ length table.now.names }
     ensures { IfOk result (λ text. (hops : List Hop) ×
-        DrawsCircles (record { table = table.now; partition = groups.now }) (map (λ c. c.now) comments.now)
-        (all_rescued (own_lanes groups.now.groups)) []
+        DrawsCircles declared.now (map (λ c. c.now) comments.now)
+        (all_rescued (own_lanes declared.now.partition.groups)) []
         (codes "every assignment can hang") hops text.items) }
 {
-    let assignment = own_lanes(alloc, groups)?;
+    let assignment = own_lanes(alloc, &declared.groups)?;
     let workqueues = Workqueues::new(assignment, Vec::new(alloc));
+    let assigned = Assigned::new(declared, workqueues);
     draw_circles(
         alloc,
-        table,
-        groups,
+        &assigned,
         comments,
-        &workqueues,
         &[],
         b"every assignment can hang",
     )
@@ -187,131 +174,99 @@ fn draw_own_lanes<A: Allocator + Copy>(
 /// The drawing of groups with this answer.
 fn draw_answer<A: Allocator + Copy>(
     alloc: A,
-    table: &ItemTable<'_, A>,
-    groups: &Groups<A>,
+    declared: &Declaration<'_, A>,
     comments: &[&[u8]],
-    answer: &Answer<A>,
+    answer: Answer<A>,
 ) -> Result<Vec<u8, A>, AllocError>
-    requires grouped { length groups.now.group_of ≡ length table.now.names }
-    requires solved { Solves (declaration_of table.now groups.now) answer.now }
+    requires { Solves (declared_waits declared.now) answer }
     ensures { IfOk result (λ text. (hops : List Hop) ×
-        DrawsGroups (record { table = table.now; partition = groups.now })
-        (map (λ c. c.now) comments.now) hops text.items) }
+        DrawsGroups declared.now (map (λ c. c.now) comments.now) hops text.items) }
 {
     match answer {
-        Answer::Plan { assignment, chain } => draw_plan(
-            alloc, table, groups, comments, assignment, chain,
+        Answer::Plan { assignment, chain } => draw_planned(
+            alloc, declared, comments, assignment, &chain,
         ),
-        Answer::Circle { .. } => draw_own_lanes(alloc, table, groups, comments),
+        Answer::Circle { .. } => draw_own_lanes(alloc, declared, comments),
     }
 }
 
 /// The drawing of groups: of their plan, or of the circles in which they wait.
 fn draw_groups<A: Allocator + Copy>(
     alloc: A,
-    table: &ItemTable<'_, A>,
-    groups: &Groups<A>,
+    declared: &Declaration<'_, A>,
     comments: &[&[u8]],
 ) -> Result<Vec<u8, A>, AllocError>
-    requires { length groups.now.group_of ≡ length table.now.names }
     ensures { IfOk result (λ text. (hops : List Hop) ×
-        DrawsGroups (record { table = table.now; partition = groups.now })
-        (map (λ c. c.now) comments.now) hops text.items) }
+        DrawsGroups declared.now (map (λ c. c.now) comments.now) hops text.items) }
 {
-    let answer = solve(alloc, table, groups)?;
-    draw_answer(alloc, table, groups, comments, &answer)
+    let answer = solve(alloc, &declared.table, &declared.groups)?;
+    draw_answer(alloc, declared, comments, answer)
 }
 
-/// The answer to workqueues of these groups, with these names.
+/// The answer to workqueues of a declaration, with these names.
 fn draw_assigned<A: Allocator + Copy>(
     alloc: A,
-    table: &ItemTable<'_, A>,
-    groups: &Groups<A>,
+    assigned: &Assigned<'_, '_, A>,
     comments: &[&[u8]],
-    workqueues: &Workqueues<A>,
     called: &[&[u8]],
 ) -> Result<Answered<A>, AllocError>
-    requires grouped { length groups.now.group_of ≡ length table.now.names }
-    requires assigned { length workqueues.now.assignment.lane_of_group ≡ groups.now.groups }
     ensures answer { IfOk result (λ a. (hops : List Hop) ×
-        DrawsAssigned (record { table = table.now; partition = groups.now })
-        (map (λ c. c.now) comments.now) workqueues.now (map (λ n. n.now) called.now)
-        hops a.end a.text.items) }
+        DrawsAssigned assigned.now.declared (map (λ c. c.now) comments.now) assigned.now.workqueues
+        (map (λ n. n.now) called.now) hops a.end a.text.items) }
     ensures why { IfOk result (λ a. a.why ≡ None) }
 {
-    let text = draw_circles(
-        alloc,
-        table,
-        groups,
-        comments,
-        workqueues,
-        called,
-        b"can hang",
-    )?;
+    let text = draw_circles(alloc, assigned, comments, called, b"can hang")?;
     Ok(Answered::plain(End::Good, text))
 }
 
-/// The answer to workqueues of these groups, whose names are in this text.
+/// The answer to workqueues of a declaration, whose names are in this text.
 fn draw_named<A: Allocator + Copy>(
     alloc: A,
-    table: &ItemTable<'_, A>,
-    groups: &Groups<A>,
+    assigned: &Assigned<'_, '_, A>,
     comments: &[&[u8]],
-    workqueues: &Workqueues<A>,
     text: &[u8],
 ) -> Result<Answered<A>, AllocError>
-    requires grouped { length groups.now.group_of ≡ length table.now.names }
-    requires assigned { length workqueues.now.assignment.lane_of_group ≡ groups.now.groups }
-    requires limits { limit_fault max_certificate max_certificate_line text.now ≡ None }
+    requires { limit_fault max_certificate max_certificate_line text.now ≡ None }
     ensures answer { IfOk result (λ a. (hops : List Hop) ×
-        DrawsAssigned (record { table = table.now; partition = groups.now })
-        (map (λ c. c.now) comments.now) workqueues.now (names_of text.now)
-        hops a.end a.text.items) }
+        DrawsAssigned assigned.now.declared (map (λ c. c.now) comments.now) assigned.now.workqueues
+        (names_of text.now) hops a.end a.text.items) }
     ensures why { IfOk result (λ a. a.why ≡ None) }
 {
     let called = workqueue_names(alloc, text)?;
-    draw_assigned(alloc, table, groups, comments, workqueues, &called)
+    draw_assigned(alloc, assigned, comments, &called)
 }
 
-/// The answer to these groups without an assignment.
+/// The answer to a declaration without an assignment.
 fn draw_unassigned<A: Allocator + Copy>(
     alloc: A,
-    table: &ItemTable<'_, A>,
-    groups: &Groups<A>,
+    declared: &Declaration<'_, A>,
     comments: &[&[u8]],
 ) -> Result<Answered<A>, AllocError>
-    requires { length groups.now.group_of ≡ length table.now.names }
     ensures answer { IfOk result (λ a. (hops : List Hop) ×
-        DrawsOwn (record { table = table.now; partition = groups.now })
-        (map (λ c. c.now) comments.now) hops a.end a.text.items) }
+        DrawsOwn declared.now (map (λ c. c.now) comments.now) hops a.end a.text.items) }
     ensures why { IfOk result (λ a. a.why ≡ None) }
 {
-    let text = draw_groups(alloc, table, groups, comments)?;
+    let text = draw_groups(alloc, declared, comments)?;
     Ok(Answered::plain(End::Good, text))
 }
 
-/// The answer to the text of an assignment of these groups.
+/// The answer to the text of an assignment of a declaration.
 fn draw_declared<A: Allocator + Copy>(
     alloc: A,
-    table: &ItemTable<'_, A>,
-    groups: &Groups<A>,
+    declared: &Declaration<'_, A>,
     comments: &[&[u8]],
     text: &[u8],
 ) -> Result<Answered<A>, AllocError>
-    requires { length groups.now.group_of ≡ length table.now.names }
     ensures answer { IfOk result (λ a. (hops : List Hop) ×
-        DrawsDeclared (record { table = table.now; partition = groups.now })
-        (map (λ c. c.now) comments.now) text.now hops a.end a.text.items) }
+        DrawsDeclared declared.now (map (λ c. c.now) comments.now) text.now hops a.end a.text.items) }
     ensures why { IfOk result (λ a.
-        SaysFault Certificate (workqueues_of_text table.now.names groups.now text.now) a.why) }
+        SaysFault Certificate (workqueues_of_text declared.now.table.names declared.now.partition text.now) a.why) }
 {
-    // What holds of all groups.
-    let _groups = groups.len();
-    match read_workqueues(alloc, text, table, groups) {
-        Ok(workqueues) => {
-            let answer = draw_named(alloc, table, groups, comments, &workqueues, text);
+    match Assigned::read(alloc, declared, text) {
+        Ok(assigned) => {
+            let answer = draw_named(alloc, &assigned, comments, text);
             // Written as a call, so that the proof has one step for it.
-            drop(workqueues);
+            drop(assigned);
             answer
         }
         Err(CertError::OutOfMemory) => Err(AllocError),
@@ -319,42 +274,36 @@ fn draw_declared<A: Allocator + Copy>(
     }
 }
 
-/// The answer to the text of an assignment of these groups, whose declaration has this text.
+/// The answer to the text of an assignment of a declaration with this text.
 fn draw_commented<A: Allocator + Copy>(
     alloc: A,
-    table: &ItemTable<'_, A>,
-    groups: &Groups<A>,
-    declared: &[u8],
+    declared: &Declaration<'_, A>,
+    declaration: &[u8],
     text: &[u8],
 ) -> Result<Answered<A>, AllocError>
-    requires grouped { length groups.now.group_of ≡ length table.now.names }
-    requires limits { limit_fault max_declaration max_declaration_line declared.now ≡ None }
+    requires { limit_fault max_declaration max_declaration_line declaration.now ≡ None }
     ensures answer { IfOk result (λ a. (hops : List Hop) ×
-        DrawsDeclared (record { table = table.now; partition = groups.now })
-        (comments_of declared.now) text.now hops a.end a.text.items) }
+        DrawsDeclared declared.now (comments_of declaration.now) text.now hops a.end a.text.items) }
     ensures why { IfOk result (λ a.
-        SaysFault Certificate (workqueues_of_text table.now.names groups.now text.now) a.why) }
+        SaysFault Certificate (workqueues_of_text declared.now.table.names declared.now.partition text.now) a.why) }
 {
-    let comments = comments(alloc, declared)?;
-    draw_declared(alloc, table, groups, &comments, text)
+    let comments = comments(alloc, declaration)?;
+    draw_declared(alloc, declared, &comments, text)
 }
 
-/// The answer to these groups without an assignment, whose declaration has this text.
+/// The answer to a declaration with this text, without an assignment.
 fn draw_own_commented<A: Allocator + Copy>(
     alloc: A,
-    table: &ItemTable<'_, A>,
-    groups: &Groups<A>,
-    declared: &[u8],
+    declared: &Declaration<'_, A>,
+    declaration: &[u8],
 ) -> Result<Answered<A>, AllocError>
-    requires grouped { length groups.now.group_of ≡ length table.now.names }
-    requires limits { limit_fault max_declaration max_declaration_line declared.now ≡ None }
+    requires { limit_fault max_declaration max_declaration_line declaration.now ≡ None }
     ensures answer { IfOk result (λ a. (hops : List Hop) ×
-        DrawsOwn (record { table = table.now; partition = groups.now })
-        (comments_of declared.now) hops a.end a.text.items) }
+        DrawsOwn declared.now (comments_of declaration.now) hops a.end a.text.items) }
     ensures why { IfOk result (λ a. a.why ≡ None) }
 {
-    let comments = comments(alloc, declared)?;
-    draw_unassigned(alloc, table, groups, &comments)
+    let comments = comments(alloc, declaration)?;
+    draw_unassigned(alloc, declared, &comments)
 }
 
 /// The answer to the texts of a declaration and an assignment.
@@ -369,7 +318,7 @@ fn draw_both<A: Allocator + Copy>(
 {
     match read_declaration(alloc, seed, text) {
         Ok(declared) => {
-            let answer = draw_commented(alloc, &declared.table, &declared.groups, text, assigned);
+            let answer = draw_commented(alloc, &declared, text, assigned);
             drop(declared);
             answer
         }
@@ -391,7 +340,7 @@ fn draw_own<A: Allocator + Copy>(
 {
     match read_declaration(alloc, seed, text) {
         Ok(declared) => {
-            let answer = draw_own_commented(alloc, &declared.table, &declared.groups, text);
+            let answer = draw_own_commented(alloc, &declared, text);
             drop(declared);
             answer
         }

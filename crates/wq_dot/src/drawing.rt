@@ -4,9 +4,11 @@
 //! memory in the number of items, groups, workqueues and flushes, and in the length of
 //! the text, and as many comparisons of names as sorting those of the workqueues.
 
-ghost use Rattle.std.specs.Prelude.{◌≡◌, false, length, map, slice_index_or, IfOk};
+ghost use Rattle.std.specs.Prelude.{◌≡◌, ◌++◌, flat_map, length, map, IfOk, OnOk};
+ghost use Rattle.std.specs.List.{range_with_len};
 ghost use Rattle.wq_items.specs.Table.{flush_count};
-ghost use Rattle.wq_dot.specs.Drawing.{drawing_text};
+ghost use Rattle.wq_graph.specs.Graph.{arcs_by_place};
+ghost use Rattle.wq_dot.specs.Drawing.{drawing_text, ended, flush_line, workqueue_box_lines};
 
 use crate::arrow::put_flush;
 use crate::comments::comment_at;
@@ -16,77 +18,96 @@ use crate::shared::shared_names;
 use crate::workqueue::put_workqueue;
 use std::alloc::{AllocError, Allocator};
 use wq_buckets::Buckets;
+use wq_commands::{Assigned, Declaration};
 use wq_graph::group_arcs_by_place;
-use wq_groups::{Assignment, Groups};
-use wq_items::ItemTable;
+use wq_groups::LaneId;
 use wq_names::name_at;
 use wq_text::put;
 
-/// Whether a workqueue has no rescuer: those past the end of the list have one.
-fn is_bare(bare: &[bool], number: u16) -> bool
-    ensures { result ≡ slice_index_or bare.now number false }
-{
-    match bare.get(usize::from(number)) {
-        Some(is_bare) => *is_bare,
-        None => false,
-    }
-}
-
-/// The drawing of a table's items on the workqueues of an assignment, with this title. `bare` says which of these have
-/// no rescuer, and `called` has their names: no byte for one that has none. `looks` says how each flush looks, in order
-/// of place, and `comments` what its tooltip says: nothing if there is no comment at its place.
-///
-/// The groups are those of the table's items, and each has a workqueue. The only error is out of memory (20).
-pub fn drawing_text<A: Allocator + Copy>(
+/// Adds the workqueues with their groups. `called` has the names of the workqueues.
+fn put_workqueues<A: Allocator + Copy>(
     alloc: A,
-    table: &ItemTable<'_, A>,
-    groups: &Groups<A>,
-    assignment: &Assignment<A>,
-    bare: &[bool],
+    out: &mut Vec<u8, A>,
+    assigned: &Assigned<'_, '_, A>,
     called: &[&[u8]],
-    title: &[u8],
-    looks: &[FlushLook],
-    comments: &[&[u8]],
-) -> Result<Vec<u8, A>, AllocError>
-    requires grouped { length groups.now.group_of ≡ length table.now.names }
-    requires assigned { length assignment.now.lane_of_group ≡ groups.now.groups }
-    requires looks { length looks.now ≡ flush_count table.now.waits }
-    ensures { IfOk result (λ text. text.items
-        ≡ drawing_text table.now groups.now (record { assignment = assignment.now; bare = bare.now })
-        (map (λ n. n.now) called.now) title.now looks.now (map (λ c. c.now) comments.now)) }
+) -> Result<(), AllocError>
+    ensures { OnOk result (out.new.items ≡ out.old.items ++ flat_map ended (flat_map
+        (workqueue_box_lines assigned.now.declared.table.names assigned.now.declared.partition.group_of
+        assigned.now.workqueues (map (λ n. n.now) called.now))
+        (range_with_len 0 assigned.now.workqueues.assignment.lanes))) }
 {
-    // What holds of all groups.
-    let _groups = groups.len();
+    let declared = assigned.declared;
+    let assignment = assigned.workqueues.assignment();
     let workqueues = assignment.lanes();
     let lanes = assignment.lanes_of_groups(alloc)?;
     let by_workqueue = Buckets::new(alloc, &lanes, workqueues)?;
-    let flushes = group_arcs_by_place(alloc, table, groups)?;
     let shared = shared_names(alloc, called)?;
-    let mut out = Vec::new(alloc);
-    put_head(&mut out, title)?;
     for number in 0..workqueues {
         let own = by_workqueue.places(number);
         let name = name_at(called, number);
+        let bare = assigned.workqueues.is_bare(LaneId::new(number));
         put_workqueue(
-            &mut out,
-            table,
-            groups,
+            out,
+            declared,
             name,
             shared.contains(&name),
-            is_bare(bare, number),
+            bare,
             number,
             own,
         )?;
     }
+    Ok(())
+}
+
+/// Adds the declared flushes, with these looks and these comments, in order of place.
+fn put_flushes<A: Allocator + Copy>(
+    alloc: A,
+    out: &mut Vec<u8, A>,
+    declared: &Declaration<'_, A>,
+    looks: &[FlushLook],
+    comments: &[&[u8]],
+) -> Result<(), AllocError>
+    requires { length looks.now ≡ flush_count declared.now.table.waits }
+    ensures { OnOk result (out.new.items ≡ out.old.items ++ flat_map ended (map
+        (flush_line declared.now.table.names declared.now.table.waits looks.now (map (λ c. c.now) comments.now))
+        (arcs_by_place declared.now.table.waits declared.now.partition.group_of))) }
+{
+    let Declaration { table, groups } = declared;
+    let flushes = group_arcs_by_place(alloc, table, groups)?;
     for flush in &flushes {
         put_flush(
-            &mut out,
+            out,
             table,
             *flush,
             looks[flush.place as usize],
             comment_at(comments, flush.place),
         )?;
     }
+    Ok(())
+}
+
+/// The drawing of declared items on workqueues, with this title. `called` has the names of the workqueues: no byte for
+/// one that has none. `looks` says how each flush looks, in order of place, and `comments` what its tooltip says:
+/// nothing if there is no comment at its place.
+///
+/// The only error is out of memory (20).
+pub fn drawing_text<A: Allocator + Copy>(
+    alloc: A,
+    assigned: &Assigned<'_, '_, A>,
+    called: &[&[u8]],
+    title: &[u8],
+    looks: &[FlushLook],
+    comments: &[&[u8]],
+) -> Result<Vec<u8, A>, AllocError>
+    requires looks { length looks.now ≡ flush_count assigned.now.declared.table.waits }
+    ensures { IfOk result (λ text. text.items
+        ≡ drawing_text assigned.now.declared.table assigned.now.declared.partition assigned.now.workqueues
+        (map (λ n. n.now) called.now) title.now looks.now (map (λ c. c.now) comments.now)) }
+{
+    let mut out = Vec::new(alloc);
+    put_head(&mut out, title)?;
+    put_workqueues(alloc, &mut out, assigned, called)?;
+    put_flushes(alloc, &mut out, assigned.declared, looks, comments)?;
     put(&mut out, b"}\n")?;
     Ok(out)
 }

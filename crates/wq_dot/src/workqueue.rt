@@ -3,15 +3,15 @@
 //! The lines are those of "The command `dot`" in docs/FORMAT.md. Printing takes time
 //! and memory in the length of what is printed.
 
-ghost use Rattle.std.specs.Prelude.{◌≡◌, ◌<◌, ◌++◌, flat_map, length, OnOk};
+ghost use Rattle.std.specs.Prelude.{◌≡◌, ◌<◌, ◌++◌, flat_map, OnOk};
 ghost use Rattle.std.specs.List.{All};
 ghost use Rattle.wq_dot.specs.Drawing.{box_lines, ended, frame_line, frame_text};
 
 use crate::group::put_group;
 use crate::label::{put_label, put_numbered};
 use std::alloc::{AllocError, Allocator};
-use wq_groups::{GroupId, Groups};
-use wq_items::ItemTable;
+use wq_commands::Declaration;
+use wq_groups::GroupId;
 use wq_text::{put, put_number};
 
 /// The frame of a workqueue: dashed if it has no rescuer.
@@ -48,21 +48,19 @@ fn put_frame<A: Allocator + Copy>(
 /// `bare` whether it has no rescuer.
 pub(crate) fn put_workqueue<A: Allocator + Copy>(
     out: &mut Vec<u8, A>,
-    table: &ItemTable<'_, A>,
-    groups: &Groups<A>,
+    declared: &Declaration<'_, A>,
     name: &[u8],
     shared: bool,
     bare: bool,
     number: u16,
     own: &[u32],
 ) -> Result<(), AllocError>
-    requires grouped { length groups.now.group_of ≡ length table.now.names }
-    requires own { All (λ g. g < groups.now.groups) own.now }
+    requires { All (λ g. g < declared.now.partition.groups) own.now }
     ensures { OnOk result (out.new.items ≡ out.old.items
-        ++ flat_map ended (box_lines table.now.names groups.now.group_of name.now shared bare number own.now)) }
+        ++ flat_map ended (box_lines declared.now.table.names declared.now.partition.group_of name.now shared bare
+        number own.now)) }
 {
-    // What holds of all groups.
-    let _groups = groups.len();
+    let Declaration { table, groups } = declared;
     put(out, b"  subgraph \"cluster wq")?;
     put_number(out, u32::from(number))?;
     put(out, b"\" {\n")?;

@@ -1,39 +1,69 @@
-use Rattle.std.proofs.Common.{ℕ, List, length, map, sym, ap, subst, ◌∙◌, arith}
+use Rattle.std.proofs.Common.{◌≡◌, ◌==◌, ◌⊎◌, inl, inr, ℕ, List, [], length, map, sym, ap, ap₂, subst, ◌∙◌, arith}
+use Rattle.std.specs.Prelude.{◌≢◌}
 use Rattle.std.specs.List.{All}
 use Rattle.std.proofs.lemmas.List.{length-map}
-use Rattle.wq_groups.specs.Declaration.{declaration_of}
-use Rattle.wq_groups.specs.Assignment.{Assignment, IsAssignment}
-use Rattle.wq_groups.proofs.Declarations.{IsDeclaration-of}
 use Rattle.wq_graph.specs.declared.arc.WaitArc.{WaitArc}
-use Rattle.wq_circles.specs.ComponentsText.{AreBetween}
-use Rattle.wq_circles.proofs.ForBare.{AreBetween-waits}
-use Rattle.wq_circles.proofs.Loops.{AreBetween-components, length-components}
+use Rattle.wq_deadlock.specs.Judging.{bare_waits}
+use Rattle.wq_commands.specs.declared.end.End.{End}
+use Rattle.wq_commands.specs.Answer.{declared_waits}
+use Rattle.wq_commands.specs.Assigned.{Assigned, IsAssigned}
+use Rattle.wq_commands.specs.Declaration.{Declared}
+use Rattle.wq_circles.specs.Circling.{CirclesAssigned}
+use Rattle.wq_circles.specs.ComponentsText.{AreBetween, circles_text}
+use Rattle.wq_circles.proofs.OfAssigned.{few_components, between_items, not_empty, waits_between_items}
 use Rattle.wq_circles.proofs.circling.print_components.Goals as goal
+use Rattle.wq_circles.proofs.circling.print_components.Goals.{else-is_empty-via-then-is_empty+else-is_empty-2}
+use Rattle.wq_circles.proofs.circling.print_components.Goals.{else-is_empty-via-else-is_empty}
 
 pub circles_text-requires-clause-few : goal.circles_text-requires-clause-few
 circles_text-requires-clause-few g c =
-    let d = declaration_of c.args.table.now c.args.groups.now in
-    let ws = c.args.workqueues.now in
-    let declaration = IsDeclaration-of c.args.table.now c.args.groups.now c.len-items.ensures.table c.len-groups.ensures.partition c.requires.grouped in
-    let assignment : IsAssignment d.groups ws.assignment =
-    subst (IsAssignment d.groups) c.assignment.ensures (record { one_each = ap (λ (a : Assignment). length a.lane_of_group) c.assignment.ensures ∙ c.requires.assigned; within = c.lanes-lanes.ensures.within }) in
-    let few = length-components d ws.assignment ws.bare declaration assignment _ c.requires.found in
-    omega (arith, few, ap (λ (a : Assignment). a.lanes) c.assignment.ensures, length-map c.args.components.now (λ v. v.items), c.lanes-lanes.ensures.lanes, c.lanes-lanes.ensures.few)
+    let a = c.args.assigned.now in
+    let is : IsAssigned a = subst IsAssigned c.assigned.view_is c.assigned.invariant in
+    omega (arith, few_components a is _ c.requires.found, length-map c.args.components.now (λ v. v.items))
 
 pub circles_text-requires-clause-between : goal.circles_text-requires-clause-between
 circles_text-requires-clause-between g c =
-    let d = declaration_of c.args.table.now c.args.groups.now in
-    let ws = c.args.workqueues.now in
-    let declaration = IsDeclaration-of c.args.table.now c.args.groups.now c.len-items.ensures.table c.len-groups.ensures.partition c.requires.grouped in
-    let assignment : IsAssignment d.groups ws.assignment =
-    subst (IsAssignment d.groups) c.assignment.ensures (record { one_each = ap (λ (a : Assignment). length a.lane_of_group) c.assignment.ensures ∙ c.requires.assigned; within = c.lanes-lanes.ensures.within }) in
-    subst (λ (n : ℕ). All (AreBetween n) (map (λ v. v.items) c.args.components.now)) c.requires.grouped (AreBetween-components d ws.assignment ws.bare declaration assignment _ c.requires.found)
+    let a = c.args.assigned.now in
+    let is : IsAssigned a = subst IsAssigned c.assigned.view_is c.assigned.invariant in
+    let items : length c.declared.inside.table.names ≡ length a.declared.table.names =
+    ap (λ (s : Declared). length s.table.names) c.declared.view_is
+    ∙ ap (λ (x : Assigned). length x.declared.table.names) c.assigned.view_is in
+    subst (λ (n : ℕ). All (AreBetween n) (map (λ v. v.items) c.args.components.now)) (sym items)
+    (between_items a is _ c.requires.found)
 
 pub circles_text-requires-clause-waits : goal.circles_text-requires-clause-waits
 circles_text-requires-clause-waits g c =
-    let d = declaration_of c.args.table.now c.args.groups.now in
-    let ws = c.args.workqueues.now in
-    let declaration = IsDeclaration-of c.args.table.now c.args.groups.now c.len-items.ensures.table c.len-groups.ensures.partition c.requires.grouped in
-    let assignment : IsAssignment d.groups ws.assignment =
-    subst (IsAssignment d.groups) c.assignment.ensures (record { one_each = ap (λ (a : Assignment). length a.lane_of_group) c.assignment.ensures ∙ c.requires.assigned; within = c.lanes-lanes.ensures.within }) in
-    subst (λ (n : ℕ). AreBetween n c.args.waits.now) c.requires.grouped (subst (λ (l : List WaitArc). AreBetween (length c.args.groups.now.group_of) l) (sym c.requires.waits) (AreBetween-waits d ws declaration assignment))
+    let a = c.args.assigned.now in
+    let is : IsAssigned a = subst IsAssigned c.assigned.view_is c.assigned.invariant in
+    let items : length c.declared.inside.table.names ≡ length a.declared.table.names =
+    ap (λ (s : Declared). length s.table.names) c.declared.view_is
+    ∙ ap (λ (x : Assigned). length x.declared.table.names) c.assigned.view_is in
+    subst (λ (n : ℕ). AreBetween n c.args.waits.now) (sym items)
+    (subst (λ (l : List WaitArc). AreBetween (length a.declared.table.names) l) (sym c.requires.waits)
+    (waits_between_items a is))
+
+pub returns-clause-answer : goal.returns-clause-answer
+returns-clause-answer g c =
+    let s = c.args.assigned.now.declared in
+    let ws = c.args.assigned.now.workqueues in
+    let components : List (List WaitArc) = map (λ v. v.items) c.args.components.now in
+    let waits = bare_waits (declared_waits s) ws in
+    let names : c.declared.inside.table.names ≡ s.table.names =
+    ap (λ (d : Declared). d.table.names) c.declared.view_is
+    ∙ ap (λ (x : Assigned). x.declared.table.names) c.assigned.view_is in
+    let some : (components ≢ []) ⊎ (waits ≢ []) = elim c.else-is_empty.branch [
+      | else-is_empty-via-then-is_empty+else-is_empty-2 w ↦
+          inr
+          (subst (λ (l : List WaitArc). l ≢ []) c.requires.waits
+          (not_empty c.args.waits.now (sym w.if-is_empty-2.false ∙ w.is_empty-then-is_empty.ensures)))
+      | else-is_empty-via-else-is_empty w ↦
+          inl
+          (not_empty components
+          (sym w.if-is_empty.false ∙ c.is_empty.ensures
+          ∙ ap (λ (n : ℕ). n == 0) (sym (length-map c.args.components.now (λ v. v.items)))))
+    ] in
+    let text =
+    ap (λ v. v.items) c.plain-2.ensures.text ∙ c.in_ok-text-2.ensures
+    ∙ ap₂ (λ (n : List (List ℕ)) (l : List WaitArc). circles_text n components l) names c.requires.waits in
+    subst (λ (end : End). CirclesAssigned s ws end c.plain-2.result.text.items) (sym c.plain-2.ensures.end)
+    (record { components = components; some = some; are = c.requires.found; text = text })

@@ -3,9 +3,9 @@ use Rattle.std.proofs.lemmas.Result.{IfOk-weaker}
 use Rattle.wq_dot.proofs.dotting.draw_answer.Goals as goal
 
 pub returns-in-Plan : goal.returns-in-Plan
-returns-in-Plan g c = IfOk-weaker c.draw_plan.result _ _ (λ text drawn. ([], inl drawn)) c.draw_plan.ensures
+returns-in-Plan g c = IfOk-weaker c.draw_planned.result _ _ (λ text drawn. ([], inl drawn)) c.draw_planned.ensures
 
-pub returns-in-Circle : goal.returns-in-Circle
-returns-in-Circle g c =
-    let circled = rw c.in-Circle.is at c.requires.solved in
+pub returns : goal.returns
+returns g c =
+    let circled = rw c.in-Circle.is at c.requires in
     IfOk-weaker c.draw_own_lanes.result _ _ (λ text drawn. (drawn.0, inr (circled.has_circle, drawn.1))) c.draw_own_lanes.ensures

@@ -23,5 +23,5 @@ returns-in-Ok-clause-why g c =
     (λ a says. MatchResult-ok (declaration c.args.text.now) _ (λ s. SaysFault Certificate (workqueues_of_text s.table.names s.partition c.args.assigned.now) a.why) (λ r. a.why ≡ refused_for Declaration r) c.in-Ok.ensures.declaration says)
     c.draw_commented-answer.ensures.why
 
-pub draw_commented-answer-requires-clause-limits : goal.draw_commented-answer-requires-clause-limits
-draw_commented-answer-requires-clause-limits g c = within_limits c.args.text.now _ c.in-Ok.ensures.declaration
+pub draw_commented-answer-requires : goal.draw_commented-answer-requires
+draw_commented-answer-requires g c = within_limits c.args.text.now _ c.in-Ok.ensures.declaration

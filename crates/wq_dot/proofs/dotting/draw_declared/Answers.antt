@@ -1,13 +1,9 @@
-use Rattle.std.proofs.Common.{sym}
 use Rattle.wq_cert.specs.Reading.{lanes_reading}
-use Rattle.wq_cert.proofs.LanesRead.{AreWorkqueuesOf-workqueues_of_text}
 use Rattle.wq_cert.proofs.ReadRanges.{IsReadSo-text_reading}
 use Rattle.wq_dot.proofs.dotting.draw_declared.Goals as goal
 
-pub draw_named-answer-requires-clause-assigned : goal.draw_named-answer-requires-clause-assigned
-draw_named-answer-requires-clause-assigned g c =
-    (AreWorkqueuesOf-workqueues_of_text c.args.table.now.names c.args.groups.now c.len-groups.ensures.partition (sym c.requires) c.args.text.now c.in-Ok.workqueues c.in-Ok.ensures.workqueues).assignment.assignment.one_each
-
-pub draw_named-answer-requires-clause-limits : goal.draw_named-answer-requires-clause-limits
-draw_named-answer-requires-clause-limits g c =
-    (IsReadSo-text_reading (lanes_reading c.args.table.now.names c.args.groups.now) c.args.text.now c.in-Ok.workqueues c.in-Ok.ensures.workqueues).within
+pub draw_named-answer-requires : goal.draw_named-answer-requires
+draw_named-answer-requires g c =
+    let s = c.args.declared.now in
+    (IsReadSo-text_reading (lanes_reading s.table.names s.partition) c.args.text.now c.in-Ok.assigned.workqueues
+    c.in-Ok.ensures.workqueues).within

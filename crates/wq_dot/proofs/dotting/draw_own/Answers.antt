@@ -22,5 +22,5 @@ returns-in-Ok-clause-why g c =
     (λ a says. MatchResult-ok (declaration c.args.text.now) _ (λ _. a.why ≡ None) (λ r. a.why ≡ refused_for Declaration r) c.in-Ok.ensures.declaration says)
     c.draw_own_commented-answer.ensures.why
 
-pub draw_own_commented-answer-requires-clause-limits : goal.draw_own_commented-answer-requires-clause-limits
-draw_own_commented-answer-requires-clause-limits g c = within_limits c.args.text.now _ c.in-Ok.ensures.declaration
+pub draw_own_commented-answer-requires : goal.draw_own_commented-answer-requires
+draw_own_commented-answer-requires g c = within_limits c.args.text.now _ c.in-Ok.ensures.declaration
