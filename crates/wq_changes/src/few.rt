@@ -53,7 +53,8 @@ pub(crate) fn of_few<'a, A: Allocator + Copy>(
     requires grouped { length declared.now.groups.group_of ≡ length declared.now.table.names }
     requires assigned { length start.now.assignment.lane_of_group ≡ declared.now.groups.groups }
     ensures { IfOk result (λ text. TellsFew declaration.entry.file.now assignment.entry.file.now
-        (record { table = declared.now.table; partition = declared.now.groups }) (map (λ n. n.now) names.now) start.now text.items) }
+        (record { table = declared.now.table; partition = declared.now.groups })
+        (map (λ n. n.now) names.now) start.now text.items) }
 {
     let flushes = FlushLines::new(alloc, declaration.text)?;
     let subject = Subject {

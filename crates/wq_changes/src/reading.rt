@@ -51,9 +51,10 @@ fn of_repaired<A: Allocator + Copy>(
     new: &Workqueues<A>,
 ) -> Result<Vec<u8, A>, AllocError>
     requires grouped { length assigned.now.declared.now.groups.group_of ≡ length assigned.now.declared.now.table.names }
-    requires read { workqueues_of_text assigned.now.declared.now.table.names assigned.now.declared.now.groups assigned.now.assignment.text.now
-        ≡ Ok assigned.now.workqueues.now }
-    requires old { length assigned.now.workqueues.now.assignment.lane_of_group ≡ assigned.now.declared.now.groups.groups }
+    requires read { workqueues_of_text assigned.now.declared.now.table.names assigned.now.declared.now.groups
+        assigned.now.assignment.text.now ≡ Ok assigned.now.workqueues.now }
+    requires old { length assigned.now.workqueues.now.assignment.lane_of_group
+        ≡ assigned.now.declared.now.groups.groups }
     requires new { length new.now.assignment.lane_of_group ≡ assigned.now.declared.now.groups.groups }
     requires lanes { assigned.now.workqueues.now.assignment.lanes ≤ new.now.assignment.lanes }
     ensures { IfOk result (λ text. TellsChanges assigned.now.declaration.file.now assigned.now.assignment.file.now
@@ -89,13 +90,14 @@ fn of_safe<A: Allocator + Copy>(
     assigned: &Assigned<'_, '_, '_, A>,
 ) -> Result<Option<Vec<u8, A>>, AllocError>
     requires grouped { length assigned.now.declared.now.groups.group_of ≡ length assigned.now.declared.now.table.names }
-    requires read { workqueues_of_text assigned.now.declared.now.table.names assigned.now.declared.now.groups assigned.now.assignment.text.now
-        ≡ Ok assigned.now.workqueues.now }
-    requires old { length assigned.now.workqueues.now.assignment.lane_of_group ≡ assigned.now.declared.now.groups.groups }
+    requires read { workqueues_of_text assigned.now.declared.now.table.names assigned.now.declared.now.groups
+        assigned.now.assignment.text.now ≡ Ok assigned.now.workqueues.now }
+    requires old { length assigned.now.workqueues.now.assignment.lane_of_group
+        ≡ assigned.now.declared.now.groups.groups }
     ensures { IfOk result (λ said. NotesBare assigned.now.declaration.file.now assigned.now.assignment.file.now
         assigned.now.declaration.text.now assigned.now.assignment.text.now
-        (record { table = assigned.now.declared.now.table; partition = assigned.now.declared.now.groups }) assigned.now.workqueues.now
-        (option_map (λ text. text.items) said)) }
+        (record { table = assigned.now.declared.now.table; partition = assigned.now.declared.now.groups })
+        assigned.now.workqueues.now (option_map (λ text. text.items) said)) }
 {
     let Assigned {
         seed,
@@ -114,8 +116,8 @@ fn of_start<A: Allocator + Copy>(
     start: &Workqueues<A>,
 ) -> Result<Vec<u8, A>, AllocError>
     requires grouped { length assigned.now.declared.now.groups.group_of ≡ length assigned.now.declared.now.table.names }
-    requires read { workqueues_of_text assigned.now.declared.now.table.names assigned.now.declared.now.groups assigned.now.assignment.text.now
-        ≡ Ok assigned.now.workqueues.now }
+    requires read { workqueues_of_text assigned.now.declared.now.table.names assigned.now.declared.now.groups
+        assigned.now.assignment.text.now ≡ Ok assigned.now.workqueues.now }
     requires start { length start.now.assignment.lane_of_group ≡ assigned.now.declared.now.groups.groups }
     ensures { IfOk result (λ text. TellsFew assigned.now.declaration.file.now assigned.now.assignment.file.now
         (record { table = assigned.now.declared.now.table; partition = assigned.now.declared.now.groups })
@@ -140,19 +142,20 @@ fn of_answer<A: Allocator + Copy>(
     answer: &Answer<A>,
 ) -> Result<Option<Vec<u8, A>>, AllocError>
     requires grouped { length assigned.now.declared.now.groups.group_of ≡ length assigned.now.declared.now.table.names }
-    requires read { workqueues_of_text assigned.now.declared.now.table.names assigned.now.declared.now.groups assigned.now.assignment.text.now
-        ≡ Ok assigned.now.workqueues.now }
-    requires old { length assigned.now.workqueues.now.assignment.lane_of_group ≡ assigned.now.declared.now.groups.groups }
-    requires answer { IsAnswer (declaration_of assigned.now.declared.now.table assigned.now.declared.now.groups) assigned.now.workqueues.now
-        moving.now answer.now }
+    requires read { workqueues_of_text assigned.now.declared.now.table.names assigned.now.declared.now.groups
+        assigned.now.assignment.text.now ≡ Ok assigned.now.workqueues.now }
+    requires old { length assigned.now.workqueues.now.assignment.lane_of_group
+        ≡ assigned.now.declared.now.groups.groups }
+    requires answer { IsAnswer (declaration_of assigned.now.declared.now.table assigned.now.declared.now.groups)
+        assigned.now.workqueues.now moving.now answer.now }
     ensures { IfOk result (λ said. SaysMoving (record {
       first = assigned.now.declaration.file.now;
       second = assigned.now.assignment.file.now;
       text = assigned.now.declaration.text.now;
       lanes = assigned.now.assignment.text.now;
     })
-        (record { table = assigned.now.declared.now.table; partition = assigned.now.declared.now.groups }) assigned.now.workqueues.now
-        moving.now (option_map (λ text. text.items) said)) }
+        (record { table = assigned.now.declared.now.table; partition = assigned.now.declared.now.groups })
+        assigned.now.workqueues.now moving.now (option_map (λ text. text.items) said)) }
 {
     // What holds of every table and of all groups.
     let _items = assigned.declared.table.len();
@@ -176,17 +179,18 @@ fn of_assigned<A: Allocator + Copy>(
     names: &[&str],
 ) -> Result<Option<Vec<u8, A>>, AllocError>
     requires grouped { length assigned.now.declared.now.groups.group_of ≡ length assigned.now.declared.now.table.names }
-    requires read { workqueues_of_text assigned.now.declared.now.table.names assigned.now.declared.now.groups assigned.now.assignment.text.now
-        ≡ Ok assigned.now.workqueues.now }
-    requires old { length assigned.now.workqueues.now.assignment.lane_of_group ≡ assigned.now.declared.now.groups.groups }
+    requires read { workqueues_of_text assigned.now.declared.now.table.names assigned.now.declared.now.groups
+        assigned.now.assignment.text.now ≡ Ok assigned.now.workqueues.now }
+    requires old { length assigned.now.workqueues.now.assignment.lane_of_group
+        ≡ assigned.now.declared.now.groups.groups }
     ensures { IfOk result (λ said. SaysNamed (record {
       first = assigned.now.declaration.file.now;
       second = assigned.now.assignment.file.now;
       text = assigned.now.declaration.text.now;
       lanes = assigned.now.assignment.text.now;
     }) (map (λ n. n.now) names.now)
-        (record { table = assigned.now.declared.now.table; partition = assigned.now.declared.now.groups }) assigned.now.workqueues.now
-        (option_map (λ text. text.items) said)) }
+        (record { table = assigned.now.declared.now.table; partition = assigned.now.declared.now.groups })
+        assigned.now.workqueues.now (option_map (λ text. text.items) said)) }
 {
     let Declaration { table, groups } = assigned.declared;
     match items_that_may_move(alloc, table, names)? {
@@ -227,7 +231,8 @@ fn of_declared<'a, A: Allocator + Copy>(
       text = declaration.entry.text.now;
       lanes = assignment.entry.text.now;
     }) (map (λ n. n.now) names.now)
-        (record { table = declared.now.table; partition = declared.now.groups }) (option_map (λ text. text.items) said)) }
+        (record { table = declared.now.table; partition = declared.now.groups })
+        (option_map (λ text. text.items) said)) }
 {
     // What holds of every table and of all groups.
     let _items = declared.table.len();

@@ -6,7 +6,8 @@
 ghost use Rattle.std.specs.Prelude.{◌≡◌, ◌<◌, ◌++◌, IfOk, codes, length, map};
 ghost use Rattle.wq_voice.specs.Words.{workqueue_words};
 ghost use Rattle.wq_changes.specs.Changes.{IsOf};
-ghost use Rattle.wq_changes.specs.Words.{change_words, first_item, group_words, lead_of, more_words, new_words, place_words};
+ghost use Rattle.wq_changes.specs.Words.{change_words, first_item, group_words, lead_of, more_words, new_words};
+ghost use Rattle.wq_changes.specs.Words.{place_words};
 ghost use Rattle.wq_changes.specs.declared.change.Change.TheVariants as kind;
 
 use crate::change::{Change, lane_in};
@@ -39,7 +40,8 @@ fn more_words<A: Allocator + Copy>(
     group: GroupId,
 ) -> Result<Vec<u8, A>, AllocError>
     requires { group < declared.now.groups.groups }
-    ensures { IfOk result (λ words. words.items ≡ more_words (record { table = declared.now.table; partition = declared.now.groups }) group) }
+    ensures { IfOk result (λ words. words.items
+        ≡ more_words (record { table = declared.now.table; partition = declared.now.groups }) group) }
 {
     let size = declared.groups.members(group).len();
     let mut words = Vec::new(alloc);
@@ -59,7 +61,8 @@ fn group_words<A: Allocator + Copy>(
     group: GroupId,
 ) -> Result<Vec<u8, A>, AllocError>
     requires { group < declared.now.groups.groups }
-    ensures { IfOk result (λ words. words.items ≡ group_words (record { table = declared.now.table; partition = declared.now.groups }) group) }
+    ensures { IfOk result (λ words. words.items
+        ≡ group_words (record { table = declared.now.table; partition = declared.now.groups }) group) }
 {
     let more = more_words(alloc, declared, group)?;
     let mut words = item_words(alloc, declared, first_item(declared, group))?;
@@ -106,7 +109,8 @@ fn moved_words<A: Allocator + Copy>(
     requires group { group < declared.now.groups.groups }
     requires old { length old.now.assignment.lane_of_group ≡ declared.now.groups.groups }
     requires new { length new.now.assignment.lane_of_group ≡ declared.now.groups.groups }
-    ensures { IfOk result (λ words. words.items ≡ change_words (record { table = declared.now.table; partition = declared.now.groups })
+    ensures { IfOk result (λ words. words.items
+        ≡ change_words (record { table = declared.now.table; partition = declared.now.groups })
         (map (λ n. n.now) names.now) old.now new.now (kind.Moved group)) }
 {
     let from = workqueue_words(alloc, names, lane_in(old, group))?;
@@ -125,7 +129,8 @@ fn given_words<A: Allocator + Copy>(
     names: &[&[u8]],
     lane: LaneId,
 ) -> Result<Vec<u8, A>, AllocError>
-    ensures { IfOk result (λ words. words.items ≡ workqueue_words (map (λ n. n.now) names.now) lane ++ codes " is given a rescuer") }
+    ensures { IfOk result (λ words. words.items
+        ≡ workqueue_words (map (λ n. n.now) names.now) lane ++ codes " is given a rescuer") }
 {
     let mut words = workqueue_words(alloc, names, lane)?;
     put(&mut words, b" is given a rescuer")?;
@@ -144,7 +149,8 @@ pub(crate) fn change_words<A: Allocator + Copy>(
     requires change { IsOf declared.now.groups.groups change.now }
     requires old { length old.now.assignment.lane_of_group ≡ declared.now.groups.groups }
     requires new { length new.now.assignment.lane_of_group ≡ declared.now.groups.groups }
-    ensures { IfOk result (λ words. words.items ≡ change_words (record { table = declared.now.table; partition = declared.now.groups })
+    ensures { IfOk result (λ words. words.items
+        ≡ change_words (record { table = declared.now.table; partition = declared.now.groups })
         (map (λ n. n.now) names.now) old.now new.now change.now) }
 {
     match change {
