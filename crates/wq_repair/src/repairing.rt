@@ -28,7 +28,7 @@ use crate::joined::{Joined, put_together, put_together_by};
 use crate::listing::listed;
 use crate::named::{named_groups, named_lanes};
 use crate::needed::needed_groups;
-use crate::order::{choice, order_of_trial};
+use crate::order::{choose, order_of_trial};
 use crate::placing::place;
 use crate::scope::{Scope, all_but, but_not, scope_of, tried_groups};
 use crate::start::start;
@@ -179,7 +179,7 @@ fn put_back<A: Allocator + Copy>(
     let tried = tried_groups(alloc, old, scope)?;
     let assignment = old.assignment();
     let mut homes = homes(alloc, old, scope)?;
-    let choice = choice(
+    let choice = choose(
         alloc,
         joined,
         assignment,

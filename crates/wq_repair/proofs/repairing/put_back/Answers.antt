@@ -31,19 +31,19 @@ tried_groups-requires-clause-few g c = omega (
   c.vertices-groups.ensures.graph.few,
 )
 
-pub choice-requires-clause-one_each : goal.choice-requires-clause-one_each
-choice-requires-clause-one_each g c =
+pub choose-requires-clause-one_each : goal.choose-requires-clause-one_each
+choose-requires-clause-one_each g c =
     ap (λ (xs : List Bool). length xs) c.as_slice-2.ensures.value ∙ c.in_ok-tried.ensures.one_each
     ∙ c.requires.ready.4.are_movable.one_each ∙ sym c.requires.ready.4.assignment.one_each
     ∙ ap (λ (a : Assignment). length a.lane_of_group) (sym c.assignment-assignment.ensures)
 
-pub choice-requires-clause-at : goal.choice-requires-clause-at
-choice-requires-clause-at g c =
+pub choose-requires-clause-at : goal.choose-requires-clause-at
+choose-requires-clause-at g c =
     ap (λ (xs : List Bool). length xs) c.as_slice-2.ensures.value ∙ c.in_ok-tried.ensures.one_each
     ∙ sym c.requires.ready.4.by.one_each ∙ sym (ap (λ (xs : List ℕ). length xs) c.requires.ready.6)
 
-pub choice-requires-clause-few : goal.choice-requires-clause-few
-choice-requires-clause-few g c =
+pub choose-requires-clause-few : goal.choose-requires-clause-few
+choose-requires-clause-few g c =
     omega (
       arith,
       ap (λ (xs : List Bool). length xs) c.as_slice-2.ensures.value,
