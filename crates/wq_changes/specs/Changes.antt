@@ -20,7 +20,8 @@ is_bare ws q = slice_index_or ws.bare q false
 
 -- lane q is given a rescuer: it had none and has one now, and one of so many groups is on it that was
 abbrev pub is_given : ℕ → Workqueues → Workqueues → ℕ → Bool
-is_given groups old new q = (is_bare old q && not (is_bare new q)) && list_any (stays_on old new q) (range_with_len 0 groups)
+is_given groups old new q =
+    (is_bare old q && not (is_bare new q)) && list_any (stays_on old new q) (range_with_len 0 groups)
 
 -- the lanes that are given a rescuer, and the groups that are on another lane, each by number
 abbrev pub changes_of : ℕ → Workqueues → Workqueues → List Change

@@ -11,10 +11,13 @@ use Rattle.wq_voice.specs.declared.waits.Wording.TheVariants.{OnWorkqueues}
 
 -- that too few items may move
 abbrev pub few_line : List ℕ → List ℕ
-few_line file = shown_lines ((file ++ codes ": note: wherever these items move, the workqueues can hang; the run is on these:") ∷ [])
+few_line file =
+    shown_lines ((file ++ codes ": note: wherever these items move, the workqueues can hang; the run is on these:")
+    ∷ [])
 
 -- that it is so, the lines of these workqueues, and how they hang soonest
-pub record TellsFew (first second : List ℕ) (s : Declared) (names : List (List ℕ)) (start : Workqueues) (text : List ℕ) : Type 0 where
+pub record TellsFew (first second : List ℕ) (s : Declared) (names : List (List ℕ)) (start : Workqueues)
+    (text : List ℕ) : Type 0 where
   pub said : Option (List ℕ)
   pub reason : GivesReason first can_hang (λ h. words_of OnWorkqueues s start names h) (declared_waits s) start said
   pub is : text ≡ (few_line second ++ assignment_text s.table.names s.partition start names) ++ unwrap_or said []

@@ -1,5 +1,6 @@
 -- What is said beside the answer of `repair`.
-use Rattle.std.specs.Prelude.{◌≡◌, ◌⊎◌, if◌then◌else◌, is_none, ℕ, List, [], ◌∷◌, ◌++◌, Option, Some, None, MatchOption, MatchResult, codes, option_map}
+use Rattle.std.specs.Prelude.{◌≡◌, ◌⊎◌, if◌then◌else◌, is_none, ℕ, List, [], ◌∷◌, ◌++◌, Option, Some, None}
+use Rattle.std.specs.Prelude.{MatchOption, MatchResult, codes, option_map}
 use Rattle.wq_items.specs.Table.{item_named}
 use Rattle.wq_graph.specs.declared.arc.WaitArc.{WaitArc}
 use Rattle.wq_core.specs.declared.step.Step.{Step}
@@ -36,7 +37,8 @@ abbrev pub SaysSafe : Files → Declared → Workqueues → Option (List ℕ) �
 SaysSafe f s old said = AreSafe (declared_waits s) old × NotesBare f.first f.second f.text f.lanes s old said
 
 -- they are repaired: which changes were made
-pub record SaysRepaired (f : Files) (s : Declared) (old : Workqueues) (moving : List ℕ) (said : Option (List ℕ)) : Type 0 where
+pub record SaysRepaired (f : Files) (s : Declared) (old : Workqueues) (moving : List ℕ)
+    (said : Option (List ℕ)) : Type 0 where
   pub new : Workqueues
   pub repair : IsRepair (declared_waits s) old moving new
   pub text : List ℕ
@@ -44,7 +46,8 @@ pub record SaysRepaired (f : Files) (s : Declared) (old : Workqueues) (moving : 
   pub is : said ≡ Some text
 
 -- too few may move: on which workqueues they hang
-pub record SaysFew (f : Files) (s : Declared) (old : Workqueues) (moving : List ℕ) (said : Option (List ℕ)) : Type 0 where
+pub record SaysFew (f : Files) (s : Declared) (old : Workqueues) (moving : List ℕ)
+    (said : Option (List ℕ)) : Type 0 where
   pub start : Workqueues
   pub steps : List Step
   pub few : AreNamesTooFew (declared_waits s) old moving start steps
@@ -69,12 +72,14 @@ SaysMoving f s old moving said =
 
 -- what is said of these workqueues, where the items with these names may move; nothing if a name is that of no item
 abbrev pub SaysNamed : Files → List (List ℕ) → Declared → Workqueues → Option (List ℕ) → Type 0
-SaysNamed f names s old said = MatchOption (movers s.table.names names) (said ≡ None) (λ moving. SaysMoving f s old moving said)
+SaysNamed f names s old said =
+    MatchOption (movers s.table.names names) (said ≡ None) (λ moving. SaysMoving f s old moving said)
 
 -- the same of the text of an assignment; nothing if it is refused
 abbrev pub SaysDeclared : Files → List (List ℕ) → Declared → Option (List ℕ) → Type 0
 SaysDeclared f names s said =
-    MatchResult (workqueues_of_text s.table.names s.partition f.lanes) (λ old. SaysNamed f names s old said) (λ _. said ≡ None)
+    MatchResult (workqueues_of_text s.table.names s.partition f.lanes)
+    (λ old. SaysNamed f names s old said) (λ _. said ≡ None)
 
 -- the same of both texts; nothing if one is refused
 abbrev pub SaysRepair : Files → List (List ℕ) → Option (List ℕ) → Type 0
@@ -89,12 +94,15 @@ first_unknown items (name ∷ names) = if is_none (item_named items name) then S
 
 -- that this is the name of no item
 abbrev pub unknown_line : List ℕ → List ℕ → List ℕ
-unknown_line file name = shown_lines ((((file ++ codes ": no item `") ++ name) ++ codes "` is declared [refused 8, `wqplan explain 8`]") ∷ [])
+unknown_line file name =
+    shown_lines ((((file ++ codes ": no item `") ++ name)
+    ++ codes "` is declared [refused 8, `wqplan explain 8`]") ∷ [])
 
 -- what is said of it; nothing if the declaration is refused
 abbrev pub SaysUnknown : List ℕ → List ℕ → List (List ℕ) → Option (List ℕ) → Type 0
 SaysUnknown first text names said =
-    MatchResult (declaration text) (λ s. said ≡ option_map (unknown_line first) (first_unknown s.table.names names)) (λ _. said ≡ None)
+    MatchResult (declaration text)
+    (λ s. said ≡ option_map (unknown_line first) (first_unknown s.table.names names)) (λ _. said ≡ None)
 
 -- ---- beside an answer
 

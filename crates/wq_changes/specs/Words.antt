@@ -19,7 +19,8 @@ size_of s g = length (items_at s.partition.group_of g)
 
 -- how many items move with the first one
 abbrev pub more_words : Declared → ℕ → List ℕ
-more_words s g = if nat_lt 1 (size_of s g) then (codes ", with " ++ decimal (size_of s g - 1)) ++ codes " more of its group," else []
+more_words s g =
+    if nat_lt 1 (size_of s g) then (codes ", with " ++ decimal (size_of s g - 1)) ++ codes " more of its group," else []
 
 -- group g
 abbrev pub group_words : Declared → ℕ → List ℕ
@@ -39,7 +40,8 @@ place_words names old q = workqueue_words names q ++ new_words old q
 abbrev pub change_words : Declared → List (List ℕ) → Workqueues → Workqueues → Change → List ℕ
 change_words s names old new (change.Given q) = workqueue_words names q ++ codes " is given a rescuer"
 change_words s names old new (change.Moved g) =
-    (((group_words s g ++ codes " moves from ") ++ workqueue_words names (lane_in old g)) ++ codes " to ") ++ place_words names old (lane_in new g)
+    (((group_words s g ++ codes " moves from ") ++ workqueue_words names (lane_in old g)) ++ codes " to ")
+    ++ place_words names old (lane_in new g)
 
 -- before the waits by which workqueues hang without this change
 abbrev pub lead_of : Change → List ℕ

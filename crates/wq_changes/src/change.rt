@@ -96,7 +96,8 @@ fn push_given<A: Allocator + Copy>(
     requires old { length old.now.assignment.lane_of_group ≡ groups }
     requires new { length new.now.assignment.lane_of_group ≡ groups }
     ensures { OnOk result (changes.new.items ≡ changes.old.items
-        ++ map (λ q. kind.Given q) (filter (is_given groups old.now new.now) (range_with_len 0 old.now.assignment.lanes))) }
+        ++ map (λ q. kind.Given q) (filter (is_given groups old.now new.now)
+        (range_with_len 0 old.now.assignment.lanes))) }
 {
     for number in 0..old.assignment().lanes() {
         let lane = LaneId::new(number);

@@ -1,4 +1,5 @@
-//! What is said of changes: for each in turn what is changed, and for the first ones how the workqueues hang without it.
+//! What is said of changes: for each in turn what is changed, and for the first ones how the workqueues hang without
+//! it.
 //!
 //! The form is that of "Changes" in docs/FORMAT.md. It takes the time of a search for a shortest run for each of the
 //! first changes.

@@ -67,8 +67,8 @@ pub(crate) fn of_unknown<A: Allocator + Copy>(
     declaration: Source<'_>,
     names: &[&str],
 ) -> Result<Option<Vec<u8, A>>, AllocError>
-    ensures { IfOk result (λ said. SaysUnknown declaration.entry.file.now declaration.entry.text.now (map (λ n. n.now) names.now)
-        (option_map (λ text. text.items) said)) }
+    ensures { IfOk result (λ said. SaysUnknown declaration.entry.file.now declaration.entry.text.now
+        (map (λ n. n.now) names.now) (option_map (λ text. text.items) said)) }
 {
     match read_declaration(alloc, seed, declaration.text) {
         Ok(declared) => {

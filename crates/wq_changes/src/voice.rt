@@ -1,5 +1,5 @@
-//! What is said beside the answer of `repair`: the diagnosis of the text that is refused; which NAME is that of no item;
-//! or what is changed, or why no change helps.
+//! What is said beside the answer of `repair`: the diagnosis of the text that is refused; which NAME is that of no
+//! item; or what is changed, or why no change helps.
 //!
 //! It takes the time and the memory of the diagnosis, or of what is said of the answer.
 
@@ -34,8 +34,8 @@ fn of_more<A: Allocator + Copy>(
     texts: &Texts<A>,
     end: End,
 ) -> Result<Option<Vec<u8, A>>, AllocError>
-    ensures { IfOk result (λ said. SaysBeside voice.now.declaration.now voice.now.assignment.now (map (λ n. n.now) voice.now.names.now)
-        texts.now end (option_map (λ text. text.items) said)) }
+    ensures { IfOk result (λ said. SaysBeside voice.now.declaration.now voice.now.assignment.now
+        (map (λ n. n.now) voice.now.names.now) texts.now end (option_map (λ text. text.items) said)) }
 {
     let declaration = Source {
         file: voice.declaration,
@@ -85,8 +85,8 @@ fn of_outcome<A: Allocator + Copy>(
     end: End,
     why: Option<Why>,
 ) -> Result<Option<Vec<u8, A>>, AllocError>
-    ensures { IfOk result (λ said. SaysOf voice.now.declaration.now voice.now.assignment.now (map (λ n. n.now) voice.now.names.now)
-        texts.now end why (option_map (λ text. text.items) said)) }
+    ensures { IfOk result (λ said. SaysOf voice.now.declaration.now voice.now.assignment.now
+        (map (λ n. n.now) voice.now.names.now) texts.now end why (option_map (λ text. text.items) said)) }
 {
     match why {
         None => of_more(alloc, voice, texts, end),
@@ -99,7 +99,8 @@ impl<A: Allocator + Copy> Voice<A, Outcome> for Repairing<'_> {
     ghost use Rattle.wq_changes.specs.Voice.{SaysOf};
 
     ghost says = { λ voice texts outcome said.
-        SaysOf voice.declaration.now voice.assignment.now (map (λ n. n.now) voice.names.now) texts outcome.end outcome.why said };
+        SaysOf voice.declaration.now voice.assignment.now (map (λ n. n.now) voice.names.now) texts
+        outcome.end outcome.why said };
 
     fn say(
         &self,

@@ -66,7 +66,8 @@ fn lanes_without<A: Allocator + Copy>(
 ) -> Result<Vec<LaneId, A>, AllocError>
     requires old { length old.now.assignment.lane_of_group ≡ groups }
     requires new { length new.now.assignment.lane_of_group ≡ groups }
-    ensures { IfOk result (λ lanes. lanes.items ≡ map (lane_without old.now new.now change.now) (range_with_len 0 groups)) }
+    ensures { IfOk result (λ lanes. lanes.items
+        ≡ map (lane_without old.now new.now change.now) (range_with_len 0 groups)) }
 {
     let mut lanes = Vec::new(alloc);
     for number in 0..groups {
@@ -81,7 +82,8 @@ fn bares_without<A: Allocator + Copy>(
     new: &Workqueues<A>,
     change: &Change,
 ) -> Result<Vec<bool, A>, AllocError>
-    ensures { IfOk result (λ bare. bare.items ≡ map (bare_without new.now change.now) (range_with_len 0 new.now.assignment.lanes)) }
+    ensures { IfOk result (λ bare. bare.items
+        ≡ map (bare_without new.now change.now) (range_with_len 0 new.now.assignment.lanes)) }
 {
     let mut bare = Vec::new(alloc);
     for number in 0..new.assignment().lanes() {

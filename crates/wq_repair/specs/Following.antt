@@ -36,7 +36,8 @@ pub record IsBesideBy (old : Workqueues) (named lanes : List Bool) (g h : ℕ) :
 abbrev pub BringsAlongBy : List (List WaitArc) → Workqueues → List Bool → List Bool → ℕ → ℕ → Type 0
 BringsAlongBy graph old named lanes g h = HasArc graph g h ⊎ IsBesideBy old named lanes g h
 
--- all found need a rescuer; those on lanes that have one are found, and whom the first `done` of the list bring along is
+-- all found need a rescuer; those on lanes that have one are found, and whom the first `done` of the list bring along
+-- is
 pub record IsFollowed (d : Declaration) (old : Workqueues) (names : List ℕ) (f : FoundGroups) (done : ℕ) : Type 0 where
   pub one_each : length f.marks ≡ d.groups
   pub lists : Lists f.marks f.list

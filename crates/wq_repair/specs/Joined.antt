@@ -6,7 +6,8 @@ use Rattle.wq_groups.specs.Declaration.{Declaration, GroupWaits}
 use Rattle.wq_core.specs.Wiring.{RescuedWaits}
 use Rattle.wq_core.specs.Workqueues.{Workqueues, wiring_of}
 use Rattle.wq_core.specs.Deadlock.{Deadlocks}
-use Rattle.wq_repair.specs.Changes.{IsRescued, IsBare, IsNamed, IsNamedLane, HasMoved, IsGiven, IsToBeCompared, HasFewerChanges, lane_in}
+use Rattle.wq_repair.specs.Changes.{IsRescued, IsBare, IsNamed, IsNamedLane, HasMoved, IsGiven, IsToBeCompared}
+use Rattle.wq_repair.specs.Changes.{HasFewerChanges, lane_in}
 use Rattle.wq_repair.specs.Marks.{IsMarked}
 use Rattle.wq_repair.specs.Needed.{NeedsRescuer, NeedsRescuerOf}
 
@@ -74,7 +75,8 @@ pub record IsTriedInVain (d : Declaration) (old new : Workqueues) (needed : List
 -- why no change can be left out: each group that moved has to leave or was tried in vain, and what is on a lane that is
 -- given a rescuer needs it
 pub record AreChangesNeeded (d : Declaration) (old new : Workqueues) (needed : List Bool) : Type 0 where
-  pub moved : (g : ℕ) → g < d.groups → HasMoved old new g → HasToLeave old new needed g ⊎ IsTriedInVain d old new needed g
+  pub moved : (g : ℕ) → g < d.groups → HasMoved old new g
+      → HasToLeave old new needed g ⊎ IsTriedInVain d old new needed g
   pub given : (g : ℕ) → g < d.groups → IsGiven d old new (lane_in old g) → IsMarked needed g
 
 -- a number for each lane, which falls from lane to lane along each wait of a group that needs a rescuer. Who needs one

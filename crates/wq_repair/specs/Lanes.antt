@@ -1,5 +1,6 @@
 -- Lanes that are taken one after the other, and who has a rescuer then.
-use Rattle.std.specs.Prelude.{◌≡◌, ◌≢◌, ℕ, ◌+◌, ◌-◌, ◌<◌, ◌≤◌, ◌⊎◌, nat_lt, if◌then◌else◌, false, List, Bool, length, slice_index, slice_index_or, AllPairs}
+use Rattle.std.specs.Prelude.{◌≡◌, ◌≢◌, ℕ, ◌+◌, ◌-◌, ◌<◌, ◌≤◌, ◌⊎◌, nat_lt, if◌then◌else◌, false, List, Bool, length}
+use Rattle.std.specs.Prelude.{slice_index, slice_index_or, AllPairs}
 use Rattle.std.specs.List.{All}
 use Rattle.wq_groups.specs.Assignment.{Assignment, group_lane}
 use Rattle.wq_core.specs.Workqueues.{Workqueues}
@@ -15,9 +16,10 @@ pub record AreFree (there : ℕ) (free : List ℕ) : Type 0 where
   pub below : All (λ q. q < there) free
   pub once : AllPairs (λ (p q : ℕ). p ≢ q) free
 
--- the first `groups` groups are on these lanes: those that are marked on lanes of their own, of which so many are taken,
--- all others on theirs
-pub record AreOwnLanes (old : Assignment) (marks : List Bool) (free : List ℕ) (groups : ℕ) (lane_of : List ℕ) (taken : ℕ)
+-- the first `groups` groups are on these lanes: those that are marked on lanes of their own, of which so many are
+-- taken, all others on theirs
+pub record AreOwnLanes (old : Assignment) (marks : List Bool) (free : List ℕ) (groups : ℕ) (lane_of : List ℕ)
+    (taken : ℕ)
     : Type 0 where
   pub one_each : length lane_of ≡ groups
   pub others : (g : ℕ) → g < groups → (¬ IsMarked marks g) → slice_index lane_of g ≡ group_lane old g
@@ -36,11 +38,12 @@ pub record HasComer (old : Workqueues) (comes given : List Bool) (lane_of : List
   pub why : IsMarked comes group ⊎ IsMarked given (lane_in old group)
   pub on : slice_index lane_of group ≡ q
 
--- the lanes that had a rescuer, and those that are given one by one of the first `groups` groups, have one, and of the old
--- lanes no others. The list isn't longer than there were lanes
+-- the lanes that had a rescuer, and those that are given one by one of the first `groups` groups, have one, and of the
+-- old lanes no others. The list isn't longer than there were lanes
 pub record AreBareNow (old : Workqueues) (comes given : List Bool) (lane_of : List ℕ) (groups : ℕ) (bare : List Bool)
     : Type 0 where
   pub few : length bare ≤ old.assignment.lanes
-  pub rescued : (q : ℕ) → IsRescued old q ⊎ HasComer old comes given lane_of groups q → slice_index_or bare q false ≡ false
+  pub rescued : (q : ℕ) → IsRescued old q ⊎ HasComer old comes given lane_of groups q
+      → slice_index_or bare q false ≡ false
   pub only : (q : ℕ) → q < old.assignment.lanes → slice_index_or bare q false ≡ false
       → IsRescued old q ⊎ HasComer old comes given lane_of groups q

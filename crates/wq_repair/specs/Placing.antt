@@ -1,5 +1,6 @@
 -- Lanes of ranks, and how groups come to them.
-use Rattle.std.specs.Prelude.{◌≡◌, ◌↔◌, ℕ, ◌<◌, ◌≤◌, List, Bool, Option, Some, None, length, slice_index, slice_index_or, Contains}
+use Rattle.std.specs.Prelude.{◌≡◌, ◌↔◌, ℕ, ◌<◌, ◌≤◌, List, Bool, Option, Some, None, length, slice_index}
+use Rattle.std.specs.Prelude.{slice_index_or, Contains}
 use Rattle.wq_core.specs.Workqueues.{Workqueues}
 use Rattle.wq_repair.specs.Changes.{HoldsAny, lane_in}
 use Rattle.wq_repair.specs.Marks.{IsMarked}
@@ -51,7 +52,8 @@ pub record AreTaken (leave : List Bool) (empty : List ℕ) (there most : ℕ) (b
       → (n : ℕ) × (n < taken) × IsLaneOfRank after r (nth_lane empty there n)
   pub only : (r q : ℕ) → HasNoLane before r → IsLaneOfRank after r q
       → (n : ℕ) × (n < taken) × (q ≡ nth_lane empty there n)
-  pub all : (n : ℕ) → n < taken → (r : ℕ) × (r < most) × IsMarked leave r × IsLaneOfRank after r (nth_lane empty there n)
+  pub all : (n : ℕ) → n < taken → (r : ℕ) × (r < most) × IsMarked leave r
+      × IsLaneOfRank after r (nth_lane empty there n)
   pub once : (r s n : ℕ) → HasNoLane before r → HasNoLane before s → IsLaneOfRank after r (nth_lane empty there n)
       → IsLaneOfRank after s (nth_lane empty there n) → n < taken → r ≡ s
   pub few : taken ≤ most
@@ -60,7 +62,8 @@ pub record AreTaken (leave : List Bool) (empty : List ℕ) (there most : ℕ) (b
 pub record AreRankedLanes (old : Workqueues) (marks : List Bool) (ranks : List ℕ) (of_rank : List (Option ℕ))
     (groups : ℕ) (lane_of : List ℕ) : Type 0 where
   pub one_each : length lane_of ≡ groups
-  pub marked : (g : ℕ) → g < groups → IsMarked marks g → IsLaneOfRank of_rank (slice_index ranks g) (slice_index lane_of g)
+  pub marked : (g : ℕ) → g < groups → IsMarked marks g
+      → IsLaneOfRank of_rank (slice_index ranks g) (slice_index lane_of g)
   pub others : (g : ℕ) → g < groups → (¬ IsMarked marks g) → slice_index lane_of g ≡ lane_in old g
 
 -- where who leaves comes to a lane that held somebody, a movable group was on it

@@ -20,7 +20,8 @@ pub record Scope : Type 0 where
   pub movable : List Bool
   pub given : List Bool
 
--- the lists say so; who is on a lane with a rescuer needs one; and the start, in which all that need one have one, is safe
+-- the lists say so; who is on a lane with a rescuer needs one; and the start, in which all that need one have one, is
+-- safe
 pub record IsReady (d : Declaration) (old : Workqueues) (names : List ℕ) (s : Scope) (start : Workqueues) : Type 0 where
   pub assignment : IsAssignment d.groups old.assignment
   pub one_each : length s.needed ≡ d.groups
@@ -40,9 +41,10 @@ pub record IsGraphOfNeeded (d : Declaration) (needed : List Bool) (graph : List 
   pub long : length graph ≡ d.groups
   pub arcs : (g h : ℕ) → HasArc graph g h ↔ (IsMarked needed g × IsMarked needed h × GroupWaits d g h)
 
--- it may be compared, all changes are needed, and numbers fall along all waits. A group is on each new lane, and on each
--- old one that has a rescuer now and had none. Who moved to a lane that held somebody moved to a named one
-pub record IsMinimal (d : Declaration) (old : Workqueues) (names : List ℕ) (needed : List Bool) (new : Workqueues) : Type 0 where
+-- it may be compared, all changes are needed, and numbers fall along all waits. A group is on each new lane, and on
+-- each old one that has a rescuer now and had none. Who moved to a lane that held somebody moved to a named one
+pub record IsMinimal (d : Declaration) (old : Workqueues) (names : List ℕ) (needed : List Bool)
+    (new : Workqueues) : Type 0 where
   pub compared : IsToBeCompared d old names new
   pub changes : AreChangesNeeded d old new needed
   pub number : ℕ → ℕ
@@ -71,7 +73,8 @@ abbrev pub IsButNot : List Bool → List Bool → ℕ → Type 0
 IsButNot one other g = IsMarked one g × (¬ IsMarked other g)
 
 -- those that are put to trial were put together with those of their lane that need a rescuer and can't move
-pub record IsPutBack (graph : List (List WaitArc)) (old : Workqueues) (s : Scope) (at new : List ℕ) (back : List Bool) : Type 0 where
+pub record IsPutBack (graph : List (List WaitArc)) (old : Workqueues) (s : Scope) (at new : List ℕ)
+    (back : List Bool) : Type 0 where
   pub homes : List (Option ℕ)
   pub tried : List Bool
   pub order : List ℕ
@@ -81,7 +84,8 @@ pub record IsPutBack (graph : List (List WaitArc)) (old : Workqueues) (s : Scope
   pub together : ArePutTogether graph old.assignment.lane_of_group homes order at new back
 
 -- those that leave were put together with those that leave the same lane
-pub record IsKeptTogether (graph : List (List WaitArc)) (old : Assignment) (leaves : List Bool) (at new : List ℕ) : Type 0 where
+pub record IsKeptTogether (graph : List (List WaitArc)) (old : Assignment) (leaves : List Bool)
+    (at new : List ℕ) : Type 0 where
   pub homes : List (Option ℕ)
   pub order : List ℕ
   pub again : List Bool

@@ -17,9 +17,9 @@ use Rattle.wq_repair.specs.Needed.{AreUnneeded}
 use Rattle.wq_repair.specs.Joined.{NeededWaits, IsStart}
 
 -- the old workqueues deadlock and the new ones are safe; and whatever has only some of the changes deadlocks. No more
--- lanes are made than there are groups, and the list that says which are bare isn't longer than they. A group is on each
--- new lane, and on each old one that has a rescuer now and had none. Who moved to a lane that held groups moved to one
--- that held a group that may move
+-- lanes are made than there are groups, and the list that says which are bare isn't longer than they. A group is on
+-- each new lane, and on each old one that has a rescuer now and had none. Who moved to a lane that held groups moved to
+-- one that held a group that may move
 pub record IsRepair (d : Declaration) (old : Workqueues) (names : List ℕ) (new : Workqueues) : Type 0 where
   pub deadlocked : Deadlocks (wiring_of d old)
   pub compared : IsToBeCompared d old names new
@@ -34,8 +34,8 @@ pub record IsRepair (d : Declaration) (old : Workqueues) (names : List ℕ) (new
       → IsNamedLane d old names (lane_in new g)
 
 -- no groups that need a rescuer wait in a circle; but a group may not move, and whatever may be compared deadlocks. The
--- steps are the run that shows it of this start, in which each group that may move and needs a rescuer is alone. No more
--- lanes are made than there are groups, and the list that says which are bare isn't longer than they
+-- steps are the run that shows it of this start, in which each group that may move and needs a rescuer is alone. No
+-- more lanes are made than there are groups, and the list that says which are bare isn't longer than they
 pub record AreNamesTooFew (d : Declaration) (old : Workqueues) (names : List ℕ) (start : Workqueues) (steps : List Step)
     : Type 0 where
   pub no_circle : ¬ Circle (NeededWaits d old)

@@ -74,8 +74,8 @@ pub record ArePlacedBy (old : Workqueues) (given stays leaves : List Bool) (rank
 -- what is known of those that leave when groups are placed: each may move and needs a rescuer, and either its lane has
 -- none and gets none, or it was tried in vain. Who needs a rescuer and doesn't leave has one on its lane. Ranks fall
 -- along all waits of those that need one
-pub record AreLeaving (d : Declaration) (old : Workqueues) (names : List ℕ) (needed given leaves : List Bool) (ranks : List ℕ)
-    (new : Workqueues) : Type 0 where
+pub record AreLeaving (d : Declaration) (old : Workqueues) (names : List ℕ) (needed given leaves : List Bool)
+    (ranks : List ℕ) (new : Workqueues) : Type 0 where
   pub one_each : length leaves ≡ d.groups
   pub first : (g : ℕ) → g < d.groups → IsRescued old (lane_in old g) → IsMarked needed g
   pub next : (g h : ℕ) → GroupWaits d g h → IsMarked needed g → IsMarked needed h

@@ -1,6 +1,7 @@
--- Groups that are put together at vertices, as far as that makes no circle. At first the vertex of a group is its lane in
--- the start.
-use Rattle.std.specs.Prelude.{◌≡◌, ◌≢◌, ◌↔◌, ℕ, ◌<◌, ◌⊎◌, List, Bool, Option, Some, None, length, slice_index, slice_index_or, Contains, AllPairs}
+-- Groups that are put together at vertices, as far as that makes no circle. At first the vertex of a group is its lane
+-- in the start.
+use Rattle.std.specs.Prelude.{◌≡◌, ◌≢◌, ◌↔◌, ℕ, ◌<◌, ◌⊎◌, List, Bool, Option, Some, None, length, slice_index}
+use Rattle.std.specs.Prelude.{slice_index_or, Contains, AllPairs}
 use Rattle.wq_items.specs.Chain.{Circle}
 use Rattle.wq_graph.specs.declared.arc.WaitArc.{WaitArc}
 use Rattle.wq_graph.specs.Graph.{HasArc}
@@ -42,8 +43,8 @@ pub record AreHomes (lane_of : List ℕ) (homes : List (Option ℕ)) (order at :
 abbrev pub IsAtHome : List ℕ → List (Option ℕ) → List ℕ → List Bool → ℕ → Type 0
 IsAtHome lane_of homes at back g = IsMarked back g ⊎ IsHomeOf homes (slice_index lane_of g) (slice_index at g)
 
--- group g was tried in vain: with it and some of those at the home of its lane, and all others where they were, there is
--- a circle
+-- group g was tried in vain: with it and some of those at the home of its lane, and all others where they were, there
+-- is a circle
 pub record WasInVain (graph : List (List WaitArc)) (lane_of : List ℕ) (homes : List (Option ℕ)) (at : List ℕ)
     (back : List Bool) (g : ℕ) : Type 0 where
   pub tried : List ℕ
@@ -55,8 +56,8 @@ pub record WasInVain (graph : List (List WaitArc)) (lane_of : List ℕ) (homes :
 
 -- these groups, in this order, were put together with those of the same lane, as far as that makes no circle. `at` has
 -- the vertices before, and `new` those after it; `back` says who is at the home of its lane now
-pub record ArePutTogether (graph : List (List WaitArc)) (lane_of : List ℕ) (homes : List (Option ℕ)) (order at new : List ℕ)
-    (back : List Bool) : Type 0 where
+pub record ArePutTogether (graph : List (List WaitArc)) (lane_of : List ℕ) (homes : List (Option ℕ))
+    (order at new : List ℕ) (back : List Bool) : Type 0 where
   pub vertices : length new ≡ length at
   pub one_each : length back ≡ length at
   pub no_circle : ¬ Circle (ArcBetween graph new)

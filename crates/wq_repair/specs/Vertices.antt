@@ -1,5 +1,7 @@
 -- Vertices: groups that are together, and how it is known that their waits don't lead round.
-use Rattle.std.specs.Prelude.{◌≡◌, ◌≢◌, ◌↔◌, ℕ, ◌+◌, ◌^◌, ◌<◌, ◌≤◌, ◌==◌, ◌⊎◌, ◌||◌, true, false, Bool, if◌then◌else◌, cond, List, [], ◌∷◌, ◌++◌, length, fold, slice_index, slice_index_or, slice_set, Contains, Option, Some, None}
+use Rattle.std.specs.Prelude.{◌≡◌, ◌≢◌, ◌↔◌, ℕ, ◌+◌, ◌^◌, ◌<◌, ◌≤◌, ◌==◌, ◌⊎◌, ◌||◌, true, false, Bool, if◌then◌else◌}
+use Rattle.std.specs.Prelude.{cond, List, [], ◌∷◌, ◌++◌, length, fold, slice_index, slice_index_or, slice_set}
+use Rattle.std.specs.Prelude.{Contains, Option, Some, None}
 use Rattle.std.specs.List.{All}
 use Rattle.wq_items.specs.Chain.{IsChain, last_of, Circle}
 use Rattle.wq_graph.specs.declared.arc.WaitArc.{WaitArc}
@@ -52,7 +54,8 @@ pub record HasSearched (at : List ℕ) (heads : List (List ℕ)) (from to : ℕ)
 
 -- ---- vertices
 
--- the vertex of each group; for each vertex the groups for which those at it wait; its height; and no height is above `top`
+-- the vertex of each group; for each vertex the groups for which those at it wait; its height; and no height is above
+-- `top`
 pub record Vertices : Type 0 where
   pub at : List ℕ
   pub heads : List (List ℕ)

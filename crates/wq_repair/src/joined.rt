@@ -1,11 +1,13 @@
 //! Groups that are put together, as far as that makes no circle.
 //!
 //! At first each group is at the vertex that is its lane in the start. A group that is alone comes to a vertex if
-//! neither leads to the other: that is where their becoming one makes a circle. Then both are given the same height, and
-//! become one. Putting a group to a vertex takes time in the number of vertices, and of the waits between their heights;
-//! memory in the number of vertices.
+//! neither leads to the other: that is where their becoming one makes a circle. Then both are given the same height,
+//! and become one. Putting a group to a vertex takes time in the number of vertices, and of the waits between their
+//! heights; memory in the number of vertices.
 
-ghost use Rattle.std.specs.Prelude.{◌≡◌, ◌≢◌, ℕ, ◌+◌, ◌-◌, ◌*◌, ◌^◌, ◌<◌, ◌≤◌, ◌⊎◌, ◌++◌, [], length, map, replicate, List, slice_index, slice_index_or, slice_set, AllPairs, Contains, None, Some, IfOk};
+ghost use Rattle.std.specs.Prelude.{◌≡◌, ◌≢◌, ℕ, ◌+◌, ◌-◌, ◌*◌, ◌^◌, ◌<◌, ◌≤◌, ◌⊎◌, ◌++◌, [], length, map, replicate};
+ghost use Rattle.std.specs.Prelude.{List, slice_index, slice_index_or, slice_set, AllPairs, Contains, None, Some};
+ghost use Rattle.std.specs.Prelude.{IfOk};
 ghost use Rattle.std.specs.List.{All};
 ghost use Rattle.wq_groups.specs.Assignment.{group_lane};
 ghost use Rattle.wq_graph.specs.Graph.{HasArc};
@@ -14,7 +16,7 @@ ghost use Rattle.wq_repair.specs.Near.{AreNear};
 ghost use Rattle.wq_repair.specs.Together.{AreHomes, ArePutTogether, IsAlone};
 ghost use Rattle.wq_repair.specs.Vertices.{AreHeads, AreVertices, IsJoined, IsLevelled, IsPutAtHome, heads_moved};
 
-use crate::levels::{level, lowered};
+use crate::levels::{do_fall, level, lowered};
 use crate::near::Near;
 use crate::parts::Parts;
 use std::alloc::{AllocError, Allocator};
@@ -107,7 +109,8 @@ fn move_heads<A: Allocator + Copy>(
 ) -> Result<(), AllocError>
     requires from { from < length heads.old.items }
     requires to { to < length heads.old.items }
-    ensures { IfOk result (λ _. map (λ l. l.items) heads.new.items ≡ heads_moved (map (λ l. l.items) heads.old.items) from to) }
+    ensures { IfOk result (λ _. map (λ l. l.items) heads.new.items
+        ≡ heads_moved (map (λ l. l.items) heads.old.items) from to) }
 {
     let moved = replace(&mut heads[usize::from(from)], Vec::new(alloc));
     let list = &mut heads[usize::from(to)];
@@ -138,7 +141,8 @@ impl<A: Allocator + Copy> Joined<A> {
         requires one_each { length assignment.now.lane_of_group ≡ length graph.now }
         requires ranks { length ranks.now ≡ assignment.now.lanes }
         requires falls { (g h : ℕ) → HasArc graph.now g h
-            → slice_index ranks.now (group_lane assignment.now h) < slice_index ranks.now (group_lane assignment.now g) }
+            → slice_index ranks.now (group_lane assignment.now h)
+            < slice_index ranks.now (group_lane assignment.now g) }
         ensures vertices { IfOk result AreVertices }
         ensures at { IfOk result (λ j. j.at ≡ assignment.now.lane_of_group) }
         ensures count { IfOk result (λ j. length j.heads ≡ assignment.now.lanes) }
@@ -170,6 +174,24 @@ impl<A: Allocator + Copy> Joined<A> {
         ensures { result ≡ length self.now.heads }
     {
         self.heads.len()
+    }
+
+    /// Takes other heights, if they fall along all waits.
+    fn take_heights(&mut self, alloc: A, heights: &[u16]) -> Result<(), AllocError>
+        requires { AreVertices self.old }
+        ensures vertices { IfOk result (λ _. AreVertices self.new) }
+        ensures at { IfOk result (λ _. self.new.at ≡ self.old.at) }
+        ensures heads { IfOk result (λ _. self.new.heads ≡ self.old.heads) }
+    {
+        if heights.len() != self.heads.len() {
+            return Ok(());
+        }
+        let heights = as_heights(alloc, heights)?;
+        if do_fall(&self.vertex_of, &self.heads, &heights) {
+            self.heights = heights;
+            self.top = 65535;
+        }
+        Ok(())
     }
 
     /// Makes the heights lower if they may be high.
@@ -295,8 +317,8 @@ fn join_unless_near<A: Allocator + Copy>(
     Ok(false)
 }
 
-/// Puts a group together with those that come from the same lane, at the home of the lane. If it has none, the vertex of
-/// this group is its home from now on. The answer says whether the group is there.
+/// Puts a group together with those that come from the same lane, at the home of the lane. If it has none, the vertex
+/// of this group is its home from now on. The answer says whether the group is there.
 fn put_at_home<A: Allocator + Copy>(
     alloc: A,
     joined: &mut Joined<A>,
@@ -347,7 +369,8 @@ pub(crate) fn put_together<A: Allocator + Copy>(
     ensures vertices { IfOk result (λ _. AreVertices joined.new) }
     ensures heads { IfOk result (λ _. (graph : List (List WaitArc)) → AreHeads graph joined.old.at joined.old.heads
         → AreHeads graph joined.new.at joined.new.heads) }
-    ensures together { IfOk result (λ back. (graph : List (List WaitArc)) → AreHeads graph joined.old.at joined.old.heads
+    ensures together { IfOk result (λ back. (graph : List (List WaitArc))
+        → AreHeads graph joined.old.at joined.old.heads
         → ArePutTogether graph old.now.lane_of_group homes.old order.now joined.old.at joined.new.at back.items) }
 {
     let _lanes = old.lanes();
@@ -358,4 +381,32 @@ pub(crate) fn put_together<A: Allocator + Copy>(
         at_home[usize::from(*group)] = put_at_home(alloc, joined, &mut near, homes, lane, *group)?;
     }
     Ok(at_home)
+}
+
+/// The same, where it is expected that these heights fall along all waits. Groups whose vertices have the same one come
+/// together without a search.
+pub(crate) fn put_together_by<A: Allocator + Copy>(
+    alloc: A,
+    joined: &mut Joined<A>,
+    old: &Assignment<A>,
+    homes: &mut [Option<u16>],
+    order: &[u16],
+    heights: &[u16],
+) -> Result<Vec<bool, A>, AllocError>
+    requires vertices { AreVertices joined.old }
+    requires one_each { length joined.old.at ≡ length old.now.lane_of_group }
+    requires lanes { length homes.old ≡ old.now.lanes }
+    requires order { All (λ g. g < length joined.old.at) order.now }
+    requires once { AllPairs (λ (j k : ℕ). j ≢ k) order.now }
+    requires alone { (g : ℕ) → Contains order.now g → IsAlone joined.old.at g }
+    requires homes { AreHomes old.now.lane_of_group homes.old order.now joined.old.at }
+    ensures vertices { IfOk result (λ _. AreVertices joined.new) }
+    ensures heads { IfOk result (λ _. (graph : List (List WaitArc)) → AreHeads graph joined.old.at joined.old.heads
+        → AreHeads graph joined.new.at joined.new.heads) }
+    ensures together { IfOk result (λ back. (graph : List (List WaitArc))
+        → AreHeads graph joined.old.at joined.old.heads
+        → ArePutTogether graph old.now.lane_of_group homes.old order.now joined.old.at joined.new.at back.items) }
+{
+    joined.take_heights(alloc, heights)?;
+    put_together(alloc, joined, old, homes, order)
 }

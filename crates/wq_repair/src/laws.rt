@@ -11,7 +11,8 @@ ghost use Rattle.wq_core.specs.Deadlock.{IsSafe, Deadlocks};
 ghost use Rattle.wq_deadlock.specs.Judging.{AreSafe};
 ghost use Rattle.wq_repair.specs.Changes.{IsRescued, HoldsAny, HasMoved, IsToBeCompared, HasFewerChanges, lane_in};
 ghost use Rattle.wq_repair.specs.Needed.{NeedsRescuerOf};
-ghost use Rattle.wq_repair.specs.Joined.{become, NeededWaits, HangsRound, IsStart, NeedRescuers, AreChangesNeeded, FallsAlongWaits};
+ghost use Rattle.wq_repair.specs.Joined.{become, NeededWaits, HangsRound, IsStart, NeedRescuers, AreChangesNeeded};
+ghost use Rattle.wq_repair.specs.Joined.{FallsAlongWaits};
 ghost use Rattle.wq_repair.specs.Changes.{IsNamed, IsNamedLane};
 ghost use Rattle.wq_repair.specs.Marks.{IsMarked, Marks};
 ghost use Rattle.wq_repair.specs.Repair.{IsRepair, AreNamesTooFew, IsNeededCircle};
@@ -106,8 +107,9 @@ pub fn needed_changes_make_a_repair()
 /// What `place` makes of lists may be compared, all its changes are needed, and numbers fall along all waits, if those
 /// that leave are known to have to.
 pub fn what_is_placed_is_a_repair()
-    ensures { (d : Declaration) (old new : Workqueues) (names : List ℕ) (named_lanes needed given stays leaves : List Bool)
-        (ranks : List ℕ) (number : ℕ → ℕ) → IsDeclaration d → IsAssignment d.groups old.assignment →
+    ensures { (d : Declaration) (old new : Workqueues) (names : List ℕ)
+        (named_lanes needed given stays leaves : List Bool) (ranks : List ℕ) (number : ℕ → ℕ) → IsDeclaration d →
+        IsAssignment d.groups old.assignment →
         Marks (IsNamedLane d old names) old.assignment.lanes named_lanes → length needed ≡ d.groups →
         Marks (IsToBeGiven old named_lanes needed) old.assignment.lanes given →
         AreLeaving d old names needed given leaves ranks new →

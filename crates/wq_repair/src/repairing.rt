@@ -4,7 +4,8 @@
 //! a lane for itself and there is still a deadlock, too few may move. Otherwise they are put back one by one where that
 //! makes no circle; those that can't be put back are kept together as far as possible, and go to lanes of their rank.
 
-ghost use Rattle.std.specs.Prelude.{◌≡◌, ◌↔◌, ◌<◌, ◌≤◌, ℕ, Bool, List, length, map, not, slice_index, IfOk, OnErr, IfSome, IfNone};
+ghost use Rattle.std.specs.Prelude.{◌≡◌, ◌↔◌, ◌<◌, ◌≤◌, ℕ, Bool, List, length, map, not, slice_index, IfOk, OnErr};
+ghost use Rattle.std.specs.Prelude.{IfSome, IfNone};
 ghost use Rattle.std.specs.List.{All};
 ghost use Rattle.wq_groups.specs.Declaration.{Declaration, IsDeclaration, declaration_of};
 ghost use Rattle.wq_graph.specs.declared.arc.WaitArc.{WaitArc};
@@ -17,16 +18,17 @@ ghost use Rattle.wq_deadlock.specs.Judging.{rescued_graph};
 ghost use Rattle.wq_repair.specs.Marks.{IsMarked};
 ghost use Rattle.wq_repair.specs.Together.{IsAlone, IsHomeOf};
 ghost use Rattle.wq_repair.specs.Vertices.{AreVertices, AreHeads};
-ghost use Rattle.wq_repair.specs.Ready.{Scope as ScopeView, HoldsNeeded, IsReady, IsGraphOfNeeded, IsPutBack, IsKeptTogether, IsMinimal, AreRanksOfGroups, placed_at};
+ghost use Rattle.wq_repair.specs.Ready.{Scope as ScopeView, HoldsNeeded, IsReady, IsGraphOfNeeded, IsPutBack};
+ghost use Rattle.wq_repair.specs.Ready.{IsKeptTogether, IsMinimal, AreRanksOfGroups, placed_at};
 ghost use Rattle.wq_repair.specs.Joined.{NeededWaits};
 ghost use Rattle.wq_repair.specs.Repair.{IsAnswer, IsNeededCircle};
 
 use crate::answer::Answer;
-use crate::joined::{Joined, put_together};
+use crate::joined::{Joined, put_together, put_together_by};
 use crate::listing::listed;
 use crate::named::{named_groups, named_lanes};
 use crate::needed::needed_groups;
-use crate::order::order_of_trial;
+use crate::order::{choose, order_of_trial};
 use crate::placing::place;
 use crate::scope::{Scope, all_but, but_not, scope_of, tried_groups};
 use crate::start::start;
@@ -177,19 +179,21 @@ fn put_back<A: Allocator + Copy>(
     let tried = tried_groups(alloc, old, scope)?;
     let assignment = old.assignment();
     let mut homes = homes(alloc, old, scope)?;
-    let order = order_of_trial(
+    let choice = choose(
         alloc,
         joined,
         assignment,
         homes.as_slice(),
         tried.as_slice(),
     )?;
-    put_together(
+    let order = order_of_trial(alloc, joined, &choice, tried.as_slice())?;
+    put_together_by(
         alloc,
         joined,
         assignment,
         homes.as_mut_slice(),
         order.as_slice(),
+        choice.heights(),
     )
 }
 

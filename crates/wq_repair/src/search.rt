@@ -120,7 +120,8 @@ pub(crate) fn search<A: Allocator + Copy>(
     requires new { ¬ IsMarked marks.items to }
     requires within { All (λ p. p < length heads.now) vertex_of.now }
     requires heads { All (λ list. All (λ h. h < length vertex_of.now) list.items) heads.now }
-    ensures leads { IfOk result (λ r. IfNone r (LeadsTo (LeadsOn vertex_of.now (map (λ l. l.items) heads.now)) from to)) }
+    ensures leads { IfOk result (λ r. IfNone r
+        (LeadsTo (LeadsOn vertex_of.now (map (λ l. l.items) heads.now)) from to)) }
     ensures searched { IfOk result (λ r. IfSome r (λ after.
         HasSearched vertex_of.now (map (λ l. l.items) heads.now) from to marks.items after.items)) }
 {

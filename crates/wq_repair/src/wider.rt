@@ -1,9 +1,9 @@
 //! Another repair, in which more lanes are given a rescuer.
 //!
-//! A repair gives a lane a rescuer only if all groups on it need one. If two or more of them do, and the others wait for
-//! nobody who needs none, one rescuer may be fewer changes than a move of each. So all groups of such lanes count here
-//! as needing one. If each of these lanes keeps a group that does need one, no change can be left out in this repair,
-//! either. It takes the time of a repair.
+//! A repair gives a lane a rescuer only if all groups on it need one. If two or more of them do, and the others wait
+//! for nobody who needs none, one rescuer may be fewer changes than a move of each. So all groups of such lanes count
+//! here as needing one. If each of these lanes keeps a group that does need one, no change can be left out in this
+//! repair, either. It takes the time of a repair.
 
 ghost use Rattle.std.specs.Prelude.{◌≡◌, ◌<◌, ◌≤◌, ◌⊎◌, ℕ, length, IfOk, IfSome, IsTrue, List, Some};
 ghost use Rattle.std.specs.List.{All};
@@ -115,7 +115,8 @@ fn with_all_on<A: Allocator + Copy>(
     requires lanes { length lanes.now ≡ workqueues.now.assignment.lanes }
     requires few { length groups.now ≤ 4096 }
     ensures { IfOk result (λ all.
-        Marks (λ g. IsMarked groups.now g ⊎ IsMarked lanes.now (lane_in workqueues.now g)) (length groups.now) all.items) }
+        Marks (λ g. IsMarked groups.now g ⊎ IsMarked lanes.now (lane_in workqueues.now g))
+        (length groups.now) all.items) }
 {
     let _lanes = workqueues.assignment().lanes();
     let mut all = Vec::with_capacity(alloc, groups.len())?;
@@ -137,7 +138,8 @@ fn staying<A: Allocator + Copy>(
     requires new { length groups.now ≡ length new.now.assignment.lane_of_group }
     requires few { length groups.now ≤ 4096 }
     ensures { IfOk result (λ staying.
-        Marks (λ g. IsMarked groups.now g × (lane_in new.now g ≡ lane_in old.now g)) (length groups.now) staying.items) }
+        Marks (λ g. IsMarked groups.now g × (lane_in new.now g ≡ lane_in old.now g))
+        (length groups.now) staying.items) }
 {
     let mut staying = Vec::with_capacity(alloc, groups.len())?;
     for (group, is_one) in groups.iter().enumerate() {
@@ -277,7 +279,8 @@ fn wider_scope<A: Allocator + Copy>(
     Ok(Some(scope))
 }
 
-/// A repair in which lanes are given a rescuer on which groups are that need one and others that don't, if there is one.
+/// A repair in which lanes are given a rescuer on which groups are that need one and others that don't, if there is
+/// one.
 fn wider<A: Allocator + Copy>(
     alloc: A,
     table: &ItemTable<'_, A>,

@@ -16,8 +16,8 @@ keyword bare = cond bare (codes "norescuer") (codes "wq")
 abbrev pub lane_words : List (List ℕ) → ℕ → Bool → List ℕ → List (List ℕ)
 lane_words names q bare items = keyword bare ∷ decimal q ∷ map (name_of names) items
 
--- how the name of a workqueue stands behind the words of its line: after two spaces, `#` and a space. Nothing stands there if it has
--- no name
+-- how the name of a workqueue stands behind the words of its line: after two spaces, `#` and a space. Nothing stands
+-- there if it has no name
 abbrev pub name_comment : List ℕ → List ℕ
 name_comment [] = []
 name_comment (b ∷ name) = codes "  #" ++ spaced (b ∷ name)
@@ -35,4 +35,5 @@ workqueue_text names lane_of_item bare called q =
 -- the text of workqueues of a declaration's groups, which are called by these names, from workqueue 0 on
 abbrev pub assignment_text : List (List ℕ) → Partition → Workqueues → List (List ℕ) → List ℕ
 assignment_text names p ws called =
-    flat_map (workqueue_text names (item_lanes ws.assignment p.group_of) ws.bare called) (range_with_len 0 ws.assignment.lanes)
+    flat_map (workqueue_text names (item_lanes ws.assignment p.group_of) ws.bare called)
+    (range_with_len 0 ws.assignment.lanes)

@@ -1,5 +1,5 @@
--- The answer to a declaration, an assignment, and the names of the items that may move: repaired workqueues, or what shows that
--- nothing helps.
+-- The answer to a declaration, an assignment, and the names of the items that may move: repaired workqueues, or what
+-- shows that nothing helps.
 use Rattle.std.specs.Prelude.{◌≡◌, ◌⊎◌, ℕ, List, Option, Some, None, MatchResult}
 use Rattle.wq_graph.specs.declared.arc.WaitArc.{WaitArc}
 use Rattle.wq_core.specs.declared.step.Step.{Step}
@@ -30,16 +30,16 @@ pub record PrintsWorkqueues (s : Declared) (old : Workqueues) (called : List (Li
   pub are : (AreSafe (declared_waits s) old × (new ≡ old)) ⊎ IsRepair (declared_waits s) old moving new
   pub text : out ≡ assignment_text s.table.names s.partition new called
 
--- too few items may move, and the run is printed by which the workqueues deadlock in which each group that may move and needs a
--- rescuer is alone
+-- too few items may move, and the run is printed by which the workqueues deadlock in which each group that may move and
+-- needs a rescuer is alone
 pub record PrintsTooFew (s : Declared) (old : Workqueues) (moving : List ℕ) (out : List ℕ) : Type 0 where
   pub start : Workqueues
   pub steps : List Step
   pub few : AreNamesTooFew (declared_waits s) old moving start steps
   pub text : out ≡ run_text s.table.names steps
 
--- the circle is printed in which groups wait that need a rescuer, with the run by which all items hang where each group has its own
--- workqueue
+-- the circle is printed in which groups wait that need a rescuer, with the run by which all items hang where each group
+-- has its own workqueue
 pub record PrintsNeededCircle (s : Declared) (old : Workqueues) (out : List ℕ) : Type 0 where
   pub circle : List WaitArc
   pub needed : IsNeededCircle (declared_waits s) old circle
@@ -49,7 +49,8 @@ pub record PrintsNeededCircle (s : Declared) (old : Workqueues) (out : List ℕ)
 
 -- ---- the answer
 
--- the answer where these items may move: workqueues that are safe; or else a circle, or a run, which shows that nothing helps
+-- the answer where these items may move: workqueues that are safe; or else a circle, or a run, which shows that nothing
+-- helps
 abbrev pub RepairsMoving : Declared → Workqueues → List (List ℕ) → List ℕ → End → List ℕ → Type 0
 RepairsMoving s old called moving Good out = PrintsWorkqueues s old called moving out
 RepairsMoving s old called moving Bad out = PrintsNeededCircle s old out ⊎ PrintsTooFew s old moving out
@@ -67,7 +68,8 @@ RepairsAssigned s old called names end out = RepairsIf s old called (movers s.ta
 -- the answer to the text of an assignment of a declaration, or its refusal
 abbrev pub RepairsDeclared : Declared → List (List ℕ) → List ℕ → End → List ℕ → Type 0
 RepairsDeclared s names text end out =
-    MatchResult (workqueues_of_text s.table.names s.partition text) (λ ws. RepairsAssigned s ws (names_of text) names end out)
+    MatchResult (workqueues_of_text s.table.names s.partition text)
+    (λ ws. RepairsAssigned s ws (names_of text) names end out)
     (λ fault. PrintsRefusal (cert_refusal fault) end out)
 
 -- the answer to the texts of a declaration and an assignment: a refusal of the declaration comes first

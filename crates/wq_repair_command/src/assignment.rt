@@ -1,7 +1,7 @@
 //! The text of workqueues: a line for each, with its items, and with the name that it has.
 //!
-//! The format is that of "The command `repair`" in docs/FORMAT.md. Printing takes time and memory in the number of items and the
-//! length of the text.
+//! The format is that of "The command `repair`" in docs/FORMAT.md. Printing takes time and memory in the number of
+//! items and the length of the text.
 
 ghost use Rattle.std.specs.Prelude.{◌≡◌, ◌<◌, ◌++◌, length, map, flat_map, IfOk, OnOk};
 ghost use Rattle.std.specs.List.{All};
@@ -72,8 +72,8 @@ fn put_line<A: Allocator + Copy>(
     put_end(out)
 }
 
-/// The text of workqueues of these groups: a line for each, with its items in the order of their declaration, and with its name,
-/// where it has one among these.
+/// The text of workqueues of these groups: a line for each, with its items in the order of their declaration, and with
+/// its name, where it has one among these.
 ///
 /// The groups are those of the table's items, and each has a workqueue. The only error is out of memory (20).
 pub fn assignment_text<A: Allocator + Copy>(

@@ -1,7 +1,7 @@
 //! The text of the circle in which groups wait that need a rescuer.
 //!
-//! Its form is that of "Circle texts" in docs/FORMAT.md. It takes the time and the memory of its run, in which each group has a
-//! workqueue of its own.
+//! Its form is that of "Circle texts" in docs/FORMAT.md. It takes the time and the memory of its run, in which each
+//! group has a workqueue of its own.
 
 ghost use Rattle.std.specs.Prelude.{◌≡◌, IfOk, length, map};
 ghost use Rattle.wq_groups.specs.Declaration.{declaration_of};
@@ -43,14 +43,16 @@ fn run_of_groups<A: Allocator + Copy>(
 ) -> Result<Vec<Step, A>, AllocError>
     requires grouped { length groups.now.group_of ≡ length table.now.names }
     requires unsafe_groups { Deadlocks (wiring (declaration_of table.now groups.now) (own_lanes groups.now.groups)) }
-    ensures { IfOk result (λ steps. IsDeadlock (declaration_of table.now groups.now) (own_lanes groups.now.groups) steps.items) }
+    ensures { IfOk result (λ steps.
+        IsDeadlock (declaration_of table.now groups.now) (own_lanes groups.now.groups) steps.items) }
 {
     let run = circle_run(alloc, table, groups)?;
     // `None` would say that these workqueues are safe.
     Ok(run.unwrap())
 }
 
-/// The text of the circle in which groups wait that need a rescuer, with the run of all groups on workqueues of their own.
+/// The text of the circle in which groups wait that need a rescuer, with the run of all groups on workqueues of their
+/// own.
 pub(crate) fn text_of_circle<A: Allocator + Copy>(
     alloc: A,
     table: &ItemTable<'_, A>,
@@ -60,7 +62,8 @@ pub(crate) fn text_of_circle<A: Allocator + Copy>(
 ) -> Result<Vec<u8, A>, AllocError>
     requires grouped { length groups.now.group_of ≡ length table.now.names }
     requires circle { IsNeededCircle (declaration_of table.now groups.now) workqueues.now arcs.now }
-    ensures { IfOk result (λ text. PrintsNeededCircle (record { table = table.now; partition = groups.now }) workqueues.now text.items) }
+    ensures { IfOk result (λ text. PrintsNeededCircle (record { table = table.now; partition = groups.now })
+        workqueues.now text.items) }
 {
     // What holds of every table and of all groups.
     let _items = table.len();

@@ -1,4 +1,5 @@
-//! Laws about what `repair` prints, as contracts of functions with empty bodies. No code runs here: the clauses are the laws.
+//! Laws about what `repair` prints, as contracts of functions with empty bodies. No code runs here: the clauses are the
+//! laws.
 
 ghost use Rattle.std.specs.Prelude.{◌≡◌, ◌≢◌, ℕ, ◌≤◌, List, [], Ok, length, map, slice_index_or};
 ghost use Rattle.std.specs.List.{range_with_len};
@@ -17,8 +18,8 @@ ghost use Rattle.wq_repair_command.specs.AssignmentText.{assignment_text};
 ghost use Rattle.wq_repair_command.specs.ReadBack.{with_each};
 ghost use Rattle.wq_repair_command.specs.Repairing.{PrintsNeededCircle, PrintsTooFew, Repairs};
 
-/// The text of up to 4,096 workqueues is read back, whatever text they have their names from: it says of each item and of each
-/// workqueue what was printed.
+/// The text of up to 4,096 workqueues is read back, whatever text they have their names from: it says of each item and
+/// of each workqueue what was printed.
 pub fn an_assignment_text_is_read_back()
     ensures { (t : Table) (p : Partition) (ws : Workqueues) (text : List ℕ) → IsTable t → IsPartition p →
         length p.group_of ≡ length t.names → IsAssignment p.groups ws.assignment → ws.assignment.lanes ≤ 4096 →
@@ -31,8 +32,8 @@ pub fn what_is_printed_is_judged_safe()
         Judges declared out Good safe_text }
 {}
 
-/// The names are kept: in the text that is printed each workqueue has the name that it has in the text from which the names come, and
-/// one that had none, or is new, has none.
+/// The names are kept: in the text that is printed each workqueue has the name that it has in the text from which the
+/// names come, and one that had none, or is new, has none.
 pub fn names_are_kept()
     ensures { (t : Table) (p : Partition) (ws : Workqueues) (text : List ℕ) → IsTable t → IsPartition p →
         length p.group_of ≡ length t.names → IsAssignment p.groups ws.assignment → ws.assignment.lanes ≤ 4096 →
@@ -40,20 +41,21 @@ pub fn names_are_kept()
         ≡ map (λ (q : ℕ). slice_index_or (names_of text) q []) (range_with_len 0 ws.assignment.lanes) }
 {}
 
-/// What is printed is repaired to itself: where workqueues are printed, the answer to what is printed is the same text, whichever items
-/// may move then, unless a name is refused.
+/// What is printed is repaired to itself: where workqueues are printed, the answer to what is printed is the same text,
+/// whichever items may move then, unless a name is refused.
 pub fn what_is_printed_is_repaired_to_itself()
     ensures { (names more : List (List ℕ)) (declared text out again : List ℕ) (end : End) →
         Repairs names declared text Good out → Repairs more declared out end again → end ≢ Refused →
         (end ≡ Good) × (again ≡ out) }
 {}
 
-/// There is one end: of workqueues, of a circle or a run, and of a refusal, only one can be printed. A circle that is printed, with its
-/// run, is the only one.
+/// There is one end: of workqueues, of a circle or a run, and of a refusal, only one can be printed. A circle that is
+/// printed, with its run, is the only one.
 pub fn repair_has_one_end()
     ensures end { (names : List (List ℕ)) (declared text : List ℕ) (end other : End) (out printed : List ℕ) →
         Repairs names declared text end out → Repairs names declared text other printed → end ≡ other }
-    ensures circle { (declared : List ℕ) (s : Declared) (old : Workqueues) (out printed : List ℕ) → declaration declared ≡ Ok s →
+    ensures circle { (declared : List ℕ) (s : Declared) (old : Workqueues) (out printed : List ℕ)
+        → declaration declared ≡ Ok s →
         PrintsNeededCircle s old out → PrintsNeededCircle s old printed → out ≡ printed }
 {}
 
@@ -63,9 +65,11 @@ pub fn a_printed_circle_is_checked_with_yes()
         PrintsNeededCircle s old out → ChecksYesCircle s out }
 {}
 
-/// A run that is printed is that of the start: `deadlock` prints it of the start's text, whatever text the names in this come from.
+/// A run that is printed is that of the start: `deadlock` prints it of the start's text, whatever text the names in
+/// this come from.
 pub fn a_printed_run_is_that_of_the_start()
-    ensures { (declared : List ℕ) (s : Declared) (old : Workqueues) (moving text out : List ℕ) → declaration declared ≡ Ok s →
+    ensures { (declared : List ℕ) (s : Declared) (old : Workqueues) (moving text out : List ℕ)
+        → declaration declared ≡ Ok s →
         old.assignment.lanes ≤ 4096 → (few : PrintsTooFew s old moving out) →
         JudgesDeclared s (assignment_text s.table.names s.partition few.start (names_of text)) Bad out }
 {}

@@ -1,8 +1,8 @@
-//! The command `repair`: from the bytes of a declaration and an assignment, and the names of the items that may move, to the bytes of
-//! the answer.
+//! The command `repair`: from the bytes of a declaration and an assignment, and the names of the items that may move,
+//! to the bytes of the answer.
 //!
-//! The declaration is read first and the assignment next, both before either is judged. The answer is built in full before the
-//! first byte is written. It takes the time of reading the texts, of the search and of writing the answer.
+//! The declaration is read first and the assignment next, both before either is judged. The answer is built in full
+//! before the first byte is written. It takes the time of reading the texts, of the search and of writing the answer.
 
 use crate::repairing::repair_texts;
 use std::alloc::{AllocError, Allocator};
@@ -29,7 +29,8 @@ impl<A: Allocator + Copy> Command<A> for RepairCommand<'_> {
 
     ghost limits = { λ _. two_texts };
 
-    ghost answers = { λ command texts outcome out. RepairsTexts (map (λ n. n.now) command.names.now) texts outcome out };
+    ghost answers = { λ command texts outcome out.
+        RepairsTexts (map (λ n. n.now) command.names.now) texts outcome out };
 
     ghost stops = { λ _ _ _. Unit {0} };
 

@@ -1,7 +1,7 @@
 //! The answer to a declaration, an assignment and the names of the items that may move, built in full in memory.
 //!
-//! The rule is that of "The command `repair`" in docs/FORMAT.md. It takes the time and the memory of reading the two texts, of the
-//! search for a repair and of printing it.
+//! The rule is that of "The command `repair`" in docs/FORMAT.md. It takes the time and the memory of reading the two
+//! texts, of the search for a repair and of printing it.
 
 ghost use Rattle.std.specs.Prelude.{◌≡◌, ◌<◌, IfOk, None, length, map};
 ghost use Rattle.std.specs.List.{All};
@@ -45,8 +45,8 @@ fn print_answer<A: Allocator + Copy>(
     requires grouped { length groups.now.group_of ≡ length table.now.names }
     requires assigned { AreWorkqueuesOf groups.now.groups workqueues.now }
     requires answer { IsAnswer (declaration_of table.now groups.now) workqueues.now moving.now answer.now }
-    ensures answer { IfOk result (λ a. RepairsMoving (record { table = table.now; partition = groups.now }) workqueues.now
-        (map (λ n. n.now) called.now) moving.now a.end a.text.items) }
+    ensures answer { IfOk result (λ a. RepairsMoving (record { table = table.now; partition = groups.now })
+        workqueues.now (map (λ n. n.now) called.now) moving.now a.end a.text.items) }
     ensures why { IfOk result (λ a. a.why ≡ None) }
 {
     match answer {
@@ -81,8 +81,8 @@ fn repair_moving<A: Allocator + Copy>(
     requires grouped { length groups.now.group_of ≡ length table.now.names }
     requires assigned { AreWorkqueuesOf groups.now.groups workqueues.now }
     requires moving { All (λ i. i < length table.now.names) moving.now }
-    ensures answer { IfOk result (λ a. RepairsMoving (record { table = table.now; partition = groups.now }) workqueues.now
-        (map (λ n. n.now) called.now) moving.now a.end a.text.items) }
+    ensures answer { IfOk result (λ a. RepairsMoving (record { table = table.now; partition = groups.now })
+        workqueues.now (map (λ n. n.now) called.now) moving.now a.end a.text.items) }
     ensures why { IfOk result (λ a. a.why ≡ None) }
 {
     let answer = repair(alloc, table, groups, workqueues, moving)?;
@@ -109,8 +109,8 @@ fn repair_assigned<A: Allocator + Copy>(
 ) -> Result<Answered<A>, AllocError>
     requires grouped { length groups.now.group_of ≡ length table.now.names }
     requires assigned { AreWorkqueuesOf groups.now.groups workqueues.now }
-    ensures answer { IfOk result (λ a. RepairsAssigned (record { table = table.now; partition = groups.now }) workqueues.now
-        (map (λ n. n.now) called.now) (map (λ n. n.now) names.now) a.end a.text.items) }
+    ensures answer { IfOk result (λ a. RepairsAssigned (record { table = table.now; partition = groups.now })
+        workqueues.now (map (λ n. n.now) called.now) (map (λ n. n.now) names.now) a.end a.text.items) }
     ensures why { IfOk result (λ a. a.why ≡ None) }
 {
     match items_that_may_move(alloc, table, names)? {
@@ -124,7 +124,8 @@ fn repair_assigned<A: Allocator + Copy>(
     }
 }
 
-/// The answer to workqueues of these groups, whose names are in this text, where the items with these other names may move.
+/// The answer to workqueues of these groups, whose names are in this text, where the items with these other names may
+/// move.
 fn repair_named<A: Allocator + Copy>(
     alloc: A,
     table: &ItemTable<'_, A>,
@@ -136,8 +137,8 @@ fn repair_named<A: Allocator + Copy>(
     requires grouped { length groups.now.group_of ≡ length table.now.names }
     requires assigned { AreWorkqueuesOf groups.now.groups workqueues.now }
     requires limits { limit_fault max_certificate max_certificate_line text.now ≡ None }
-    ensures answer { IfOk result (λ a. RepairsAssigned (record { table = table.now; partition = groups.now }) workqueues.now
-        (names_of text.now) (map (λ n. n.now) names.now) a.end a.text.items) }
+    ensures answer { IfOk result (λ a. RepairsAssigned (record { table = table.now; partition = groups.now })
+        workqueues.now (names_of text.now) (map (λ n. n.now) names.now) a.end a.text.items) }
     ensures why { IfOk result (λ a. a.why ≡ None) }
 {
     let called = workqueue_names(alloc, text)?;
@@ -155,7 +156,8 @@ fn repair_declared<A: Allocator + Copy>(
     requires { length groups.now.group_of ≡ length table.now.names }
     ensures answer { IfOk result (λ a. RepairsDeclared (record { table = table.now; partition = groups.now })
         (map (λ n. n.now) names.now) text.now a.end a.text.items) }
-    ensures why { IfOk result (λ a. SaysFault Certificate (workqueues_of_text table.now.names groups.now text.now) a.why) }
+    ensures why { IfOk result (λ a. SaysFault Certificate
+        (workqueues_of_text table.now.names groups.now text.now) a.why) }
 {
     // What holds of all groups.
     let _groups = groups.len();
