@@ -6,7 +6,8 @@
 ghost use Rattle.std.specs.Prelude.{◌≡◌, ◌<◌, ◌++◌, IfOk, codes, length, map};
 ghost use Rattle.wq_voice.specs.Words.{workqueue_words};
 ghost use Rattle.wq_changes.specs.Changes.{IsOf};
-ghost use Rattle.wq_changes.specs.Words.{change_words, first_item, group_words, lead_of, more_words, new_words, place_words};
+ghost use Rattle.wq_changes.specs.Words.{change_words, first_item, group_words, lead_of, more_words, new_words};
+ghost use Rattle.wq_changes.specs.Words.{place_words};
 ghost use Rattle.wq_changes.specs.declared.change.Change.TheVariants as kind;
 
 use crate::change::{Change, lane_in};
@@ -125,7 +126,8 @@ fn given_words<A: Allocator + Copy>(
     names: &[&[u8]],
     lane: LaneId,
 ) -> Result<Vec<u8, A>, AllocError>
-    ensures { IfOk result (λ words. words.items ≡ workqueue_words (map (λ n. n.now) names.now) lane ++ codes " is given a rescuer") }
+    ensures { IfOk result (λ words.
+        words.items ≡ workqueue_words (map (λ n. n.now) names.now) lane ++ codes " is given a rescuer") }
 {
     let mut words = workqueue_words(alloc, names, lane)?;
     put(&mut words, b" is given a rescuer")?;
