@@ -1,6 +1,6 @@
 -- What is said beside the answer of `repair`.
 use Rattle.std.specs.Prelude.{◌≡◌, ◌⊎◌, if◌then◌else◌, is_none, ℕ, List, [], ◌∷◌, ◌++◌, Option, Some, None}
-use Rattle.std.specs.Prelude.{MatchOption, MatchResult, codes, option_map}
+use Rattle.std.specs.Prelude.{MatchOption, MatchResult, codes}
 use Rattle.wq_items.specs.Table.{item_named}
 use Rattle.wq_graph.specs.declared.arc.WaitArc.{WaitArc}
 use Rattle.wq_core.specs.declared.step.Step.{Step}
@@ -98,11 +98,26 @@ unknown_line file name =
     shown_lines ((((file ++ codes ": no item `") ++ name)
     ++ codes "` is declared [refused 8, `wqplan explain 8`]") ∷ [])
 
--- what is said of it; nothing if the declaration is refused
+-- that this item was most likely meant
+abbrev pub meant_line : List ℕ → List ℕ → List ℕ
+meant_line file item = shown_lines ((((file ++ codes ": note: did you mean `") ++ item) ++ codes "`?") ∷ [])
+
+-- what is said of this name, which is that of no item; and of an item that was most likely meant, if its name is like it
+abbrev pub SaysNoItem : List ℕ → List (List ℕ) → List ℕ → List ℕ → Type 0
+SaysNoItem file items name text = (text ≡ unknown_line file name)
+    ⊎ ((i : ℕ) × (item : List ℕ) × (item_named items item ≡ Some i)
+    × (text ≡ unknown_line file name ++ meant_line file item))
+
+-- what is said of such a name; nothing if there is none
+abbrev pub SaysFirstUnknown : List ℕ → List (List ℕ) → Option (List ℕ) → Option (List ℕ) → Type 0
+SaysFirstUnknown file items None said = said ≡ None
+SaysFirstUnknown file items (Some name) said = (text : List ℕ) × (said ≡ Some text) × SaysNoItem file items name text
+
+-- what is said of the first name that is that of no item; nothing if there is none, or the declaration is refused
 abbrev pub SaysUnknown : List ℕ → List ℕ → List (List ℕ) → Option (List ℕ) → Type 0
-SaysUnknown first text names said =
-    MatchResult (declaration text)
-    (λ s. said ≡ option_map (unknown_line first) (first_unknown s.table.names names)) (λ _. said ≡ None)
+SaysUnknown first text names said = MatchResult (declaration text)
+    (λ s. SaysFirstUnknown first s.table.names (first_unknown s.table.names names) said)
+    (λ _. said ≡ None)
 
 -- ---- beside an answer
 

@@ -1,15 +1,19 @@
 //! What is said of a NAME that is that of no item.
 //!
-//! It takes the time of reading the declaration, and of finding the names.
+//! It takes the time of reading the declaration, and of finding the names; and for the first that isn't found, of
+//! searching the declaration for one that is like it.
 
-ghost use Rattle.std.specs.Prelude.{◌≡◌, IfOk, map, option_map};
-ghost use Rattle.wq_changes.specs.Voice.{SaysUnknown, first_unknown, unknown_line};
+ghost use Rattle.std.specs.Prelude.{◌≡◌, ◌++◌, ℕ, Some, IfOk, OnOk, IfSome, map, option_map};
+ghost use Rattle.wq_items.specs.Table.{item_named};
+ghost use Rattle.wq_changes.specs.Voice.{SaysFirstUnknown, SaysNoItem, SaysUnknown, first_unknown, meant_line};
+ghost use Rattle.wq_changes.specs.Voice.{unknown_line};
 
 use std::alloc::{AllocError, Allocator};
 use wq_commands::{Stop, read_declaration};
-use wq_diagnosis::{Source, put_line};
+use wq_diagnosis::{Source, lines_of, put_line};
+use wq_findings::nearest_item;
 use wq_items::ItemTable;
-use wq_text::put;
+use wq_text::{Text, put};
 
 /// The first of these names that is that of no item.
 fn first_unknown<'a, A: Allocator + Copy>(
@@ -44,18 +48,66 @@ fn unknown_line<A: Allocator + Copy>(
     Ok(text)
 }
 
+/// The item that was most likely meant, where its name is like this one.
+fn item_meant<'a, A: Allocator + Copy>(
+    alloc: A,
+    declaration: &Text<'a>,
+    table: &ItemTable<'_, A>,
+    name: &str,
+) -> Result<Option<&'a [u8]>, AllocError>
+    ensures { IfOk result (λ near. IfSome near (λ item. (i : ℕ) × (item_named table.now.names item.now ≡ Some i))) }
+{
+    match nearest_item(alloc, declaration, name.as_bytes())? {
+        Some(item) if table.find(item).is_some() => Ok(Some(item)),
+        _ => Ok(None),
+    }
+}
+
+/// Adds that this item was most likely meant.
+fn put_meant<A: Allocator + Copy>(
+    alloc: A,
+    text: &mut Vec<u8, A>,
+    file: &str,
+    item: &[u8],
+) -> Result<(), AllocError>
+    ensures { OnOk result (text.new.items ≡ text.old.items ++ meant_line file.now item.now) }
+{
+    let mut line = Vec::new(alloc);
+    put(&mut line, file.as_bytes())?;
+    put(&mut line, b": note: did you mean `")?;
+    put(&mut line, item)?;
+    put(&mut line, b"`?")?;
+    put_line(alloc, text, &line)
+}
+
+/// What is said of a name that is that of no item.
+fn of_name<A: Allocator + Copy>(
+    alloc: A,
+    declaration: Source<'_>,
+    table: &ItemTable<'_, A>,
+    name: &str,
+) -> Result<Vec<u8, A>, AllocError>
+    ensures { IfOk result (λ text. SaysNoItem declaration.entry.file.now table.now.names name.now text.items) }
+{
+    let mut text = unknown_line(alloc, declaration.file, name)?;
+    if let Some(item) = item_meant(alloc, &lines_of(declaration.text), table, name)? {
+        put_meant(alloc, &mut text, declaration.file, item)?;
+    }
+    Ok(text)
+}
+
 /// What is said of the first name that is that of no item. Nothing if there is none.
 fn of_table<A: Allocator + Copy>(
     alloc: A,
-    file: &str,
+    declaration: Source<'_>,
     table: &ItemTable<'_, A>,
     names: &[&str],
 ) -> Result<Option<Vec<u8, A>>, AllocError>
-    ensures { IfOk result (λ said. option_map (λ text. text.items) said
-        ≡ option_map (unknown_line file.now) (first_unknown table.now.names (map (λ n. n.now) names.now))) }
+    ensures { IfOk result (λ said. SaysFirstUnknown declaration.entry.file.now table.now.names
+        (first_unknown table.now.names (map (λ n. n.now) names.now)) (option_map (λ text. text.items) said)) }
 {
     match first_unknown(table, names) {
-        Some(name) => Ok(Some(unknown_line(alloc, file, name)?)),
+        Some(name) => Ok(Some(of_name(alloc, declaration, table, name)?)),
         None => Ok(None),
     }
 }
@@ -72,7 +124,7 @@ pub(crate) fn of_unknown<A: Allocator + Copy>(
 {
     match read_declaration(alloc, seed, declaration.text) {
         Ok(declared) => {
-            let said = of_table(alloc, declaration.file, &declared.table, names);
+            let said = of_table(alloc, declaration, &declared.table, names);
             drop(declared);
             said
         }

@@ -33,6 +33,7 @@ pub use finding::{Finding, Found};
 pub use hint::Hint;
 pub use lack::in_answer;
 pub use mending::{Mended, Mending};
+pub use names::nearest_item;
 pub use place::put_place;
 pub use quoted::{Quoted, shown};
 pub use refused::Refused;

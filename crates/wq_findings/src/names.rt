@@ -107,6 +107,20 @@ pub(crate) fn nearest<'a, A: Allocator + Copy>(
     nearest_to(alloc, text, &word)
 }
 
+/// The name of the item of a declaration that is most like a word, if one is like it; of several the first.
+///
+/// The only error is out of memory.
+pub fn nearest_item<'a, A: Allocator + Copy>(
+    alloc: A,
+    declaration: &Text<'a>,
+    word: &[u8],
+) -> Result<Option<&'a [u8]>, AllocError> {
+    Ok(match nearest(alloc, declaration, word)? {
+        Some(near) => Some(near.name),
+        None => None,
+    })
+}
+
 /// The same for a word as it is shown.
 fn nearest_to<'a, A: Allocator + Copy>(
     alloc: A,
