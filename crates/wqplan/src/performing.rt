@@ -1,10 +1,12 @@
-//! The commands over files, standard input and two writers, which in the program are standard output and standard error.
+//! The commands over files, standard input and two writers, which in the program are standard output and standard
+//! error.
 //!
-//! A seed is drawn, and the files of a command are opened in the order of its arguments, before any of them is read. Then
-//! `carry_out` reads them, writes the answer, and says what is wrong, where something is; for `run`, `carry_out_run` does. The
-//! running time is that of the command.
+//! A seed is drawn, and the files of a command are opened in the order of its arguments, before any of them is read.
+//! Then `carry_out` reads them, writes the answer, and says what is wrong, where something is; for `run`,
+//! `carry_out_run` does. The running time is that of the command.
 
-ghost use Rattle.std.specs.Prelude.{◌≡◌, ◌≢◌, ◌≤◌, ◌∷◌, ℕ, List, [], Err, IfErr, IfOk, IfSome, None, OnErr, Some, map, option_map, option_to_list};
+ghost use Rattle.std.specs.Prelude.{◌≡◌, ◌≢◌, ◌≤◌, ◌∷◌, ℕ, List, [], Err, IfErr, IfOk, IfSome, None, OnErr, Some, map};
+ghost use Rattle.std.specs.Prelude.{option_map, option_to_list};
 ghost use Rattle.wq_meter.specs.Input.{HasFailed, IsInput};
 ghost use Rattle.wq_meter.specs.Meter.{count_after, WritesPrefix, WritesWhole};
 ghost use Rattle.wq_meter.specs.Shell.{AreFrom, Given, kept};
@@ -15,7 +17,8 @@ ghost use Rattle.wqplan.specs.CommandLine.{HasFewHelpers, plans, spelled};
 ghost use Rattle.wqplan.specs.Cause.{EndsAlone, EndsReady, IsCaused, IsReady, IsUnready, ReadsInput};
 ghost use Rattle.wqplan.specs.Promised.{PromisesAsAsked};
 ghost use Rattle.wqplan.specs.Status.{end_or_common, explained_or_common, unheld};
-ghost use Rattle.wqplan.specs.Ended.{EndedBy, EndsAsAsked, EndsCheck, EndsCircles, EndsDeadlock, EndsDot, EndsExplain, EndsHang, EndsPlan, EndsRepair, EndsReplay, EndsRun, Has, IsInputIf};
+ghost use Rattle.wqplan.specs.Ended.{EndedBy, EndsAsAsked, EndsCheck, EndsCircles, EndsDeadlock, EndsDot, EndsExplain};
+ghost use Rattle.wqplan.specs.Ended.{EndsHang, EndsPlan, EndsRepair, EndsReplay, EndsRun, Has, IsInputIf};
 
 use crate::command_line::Request;
 use crate::world::{STDIN, World, shown_name};
@@ -59,14 +62,17 @@ fn carry_out_on<
     ensures answered { IfOk result (λ end. (texts : Given) × (out : List ℕ)
         × AreFrom (IsInput (D.remaining first)) (IsInputIf (C.limits command.now).second (S.remaining second))
         (IsInputIf (C.limits command.now).third (T.remaining third)) texts
-        × C.answers command.now (kept (C.limits command.now) texts) end out × WritesWhole W.contents writer.old writer.new out) }
+        × C.answers command.now (kept (C.limits command.now) texts) end out
+        × WritesWhole W.contents writer.old writer.new out) }
     ensures prefix { result ≡ Err (Faulted Fault.Write) → (end : C.End) × (texts : Given) × (out : List ℕ)
         × AreFrom (IsInput (D.remaining first)) (IsInputIf (C.limits command.now).second (S.remaining second))
         (IsInputIf (C.limits command.now).third (T.remaining third)) texts
-        × C.answers command.now (kept (C.limits command.now) texts) end out × WritesPrefix W.contents writer.old writer.new out }
+        × C.answers command.now (kept (C.limits command.now) texts) end out
+        × WritesPrefix W.contents writer.old writer.new out }
     ensures untouched { IfErr result (λ stopped. stopped ≢ Faulted Fault.Write → writer.new ≡ writer.old) }
     ensures unsaid { OnErr result (teller.new ≡ teller.old) }
-    ensures write_failed { result ≡ Err (Faulted Fault.Write) → writer.new.failures ≡ count_after writer.old.failures 1 }
+    ensures write_failed { result ≡ Err (Faulted Fault.Write)
+        → writer.new.failures ≡ count_after writer.old.failures 1 }
     ensures no_write_failed { result ≢ Err (Faulted Fault.Write) → writer.new.failures ≡ writer.old.failures }
 {
     let mut first = Metered::new(first);
@@ -117,13 +123,15 @@ fn one_file<'a, O: World<'a>>(world: &O, path: &'a str) -> Option<(u64, O::File)
     Some((seed, file))
 }
 
-/// Draws the seed of a command, and opens its two files in their order. Nothing where there is no seed, or a file can't be opened.
+/// Draws the seed of a command, and opens its two files in their order. Nothing where there is no seed, or a file can't
+/// be opened.
 fn two_files<'a, O: World<'a>>(
     world: &O,
     first: &'a str,
     second: &'a str,
 ) -> Option<(u64, O::File, O::File)>
-    ensures ready { IfSome result (λ opened. IsReady (O.seeds world.now) (O.opens world.now) (first.now ∷ second.now ∷ [])
+    ensures ready { IfSome result (λ opened.
+        IsReady (O.seeds world.now) (O.opens world.now) (first.now ∷ second.now ∷ [])
         × O.opens world.now first.now (Some opened.1) × O.opens world.now second.now (Some opened.2)) }
     ensures unready { result ≡ None → IsUnready (O.seeds world.now) (O.opens world.now) (first.now ∷ second.now ∷ []) }
 {
@@ -132,18 +140,20 @@ fn two_files<'a, O: World<'a>>(
     Some((seed, one, two))
 }
 
-/// Draws the seed of a command, and opens its three files in their order. Nothing where there is no seed, or a file can't be
-/// opened.
+/// Draws the seed of a command, and opens its three files in their order. Nothing where there is no seed, or a file
+/// can't be opened.
 fn three_files<'a, O: World<'a>>(
     world: &O,
     first: &'a str,
     second: &'a str,
     third: &'a str,
 ) -> Option<(u64, O::File, O::File, O::File)>
-    ensures ready { IfSome result (λ opened. IsReady (O.seeds world.now) (O.opens world.now) (first.now ∷ second.now ∷ third.now ∷ [])
+    ensures ready { IfSome result (λ opened. IsReady (O.seeds world.now) (O.opens world.now)
+        (first.now ∷ second.now ∷ third.now ∷ [])
         × O.opens world.now first.now (Some opened.1) × O.opens world.now second.now (Some opened.2)
         × O.opens world.now third.now (Some opened.3)) }
-    ensures unready { result ≡ None → IsUnready (O.seeds world.now) (O.opens world.now) (first.now ∷ second.now ∷ third.now ∷ []) }
+    ensures unready { result ≡ None → IsUnready (O.seeds world.now) (O.opens world.now)
+        (first.now ∷ second.now ∷ third.now ∷ []) }
 {
     let (seed, one, two) = two_files(world, first, second)?;
     let three = world.open(third)?;
@@ -158,7 +168,8 @@ fn plan_file<'a, O: World<'a>, W: Write, E: Write>(
     writer: &mut Metered<W>,
     teller: &mut Metered<E>,
 ) -> Result<End, CommandFault>
-    ensures ended { EndedBy W.contents writer.old writer.new (EndsPlan (Has (O.opens world.now) O.File.Read.remaining) (λ _. ⊥)
+    ensures ended { EndedBy W.contents writer.old writer.new
+        (EndsPlan (Has (O.opens world.now) O.File.Read.remaining) (λ _. ⊥)
         (Some file.now)) result }
     ensures caused { EndsReady (O.seeds world.now) (O.opens world.now) (file.now ∷ []) (Unit {0}) ⊥ result }
     ensures unsaid { OnErr result (teller.new ≡ teller.old) }
@@ -244,7 +255,8 @@ fn check<'a, O: World<'a>, W: Write, E: Write>(
 ) -> Result<End, CommandFault>
     ensures ended { EndedBy W.contents writer.old writer.new (EndsCheck (Has (O.opens world.now) O.File.Read.remaining)
         declaration.now certificate.now) result }
-    ensures caused { EndsReady (O.seeds world.now) (O.opens world.now) (declaration.now ∷ certificate.now ∷ []) (Unit {0}) ⊥ result }
+    ensures caused { EndsReady (O.seeds world.now) (O.opens world.now) (declaration.now ∷ certificate.now ∷ [])
+        (Unit {0}) ⊥ result }
     ensures unsaid { OnErr result (teller.new ≡ teller.old) }
 {
     let Some((seed, declared, certified)) = two_files(world, declaration, certificate) else {
@@ -278,9 +290,11 @@ fn deadlock<'a, O: World<'a>, W: Write, E: Write>(
     writer: &mut Metered<W>,
     teller: &mut Metered<E>,
 ) -> Result<End, CommandFault>
-    ensures ended { EndedBy W.contents writer.old writer.new (EndsDeadlock (Has (O.opens world.now) O.File.Read.remaining)
+    ensures ended { EndedBy W.contents writer.old writer.new
+        (EndsDeadlock (Has (O.opens world.now) O.File.Read.remaining)
         declaration.now assignment.now) result }
-    ensures caused { EndsReady (O.seeds world.now) (O.opens world.now) (declaration.now ∷ assignment.now ∷ []) (Unit {0}) ⊥ result }
+    ensures caused { EndsReady (O.seeds world.now) (O.opens world.now) (declaration.now ∷ assignment.now ∷ [])
+        (Unit {0}) ⊥ result }
     ensures unsaid { OnErr result (teller.new ≡ teller.old) }
 {
     let Some((seed, declared, assigned)) = two_files(world, declaration, assignment) else {
@@ -316,7 +330,8 @@ fn hang<'a, O: World<'a>, W: Write, E: Write>(
 ) -> Result<End, CommandFault>
     ensures ended { EndedBy W.contents writer.old writer.new (EndsHang (Has (O.opens world.now) O.File.Read.remaining)
         declaration.now assignment.now) result }
-    ensures caused { EndsReady (O.seeds world.now) (O.opens world.now) (declaration.now ∷ assignment.now ∷ []) (Unit {0}) ⊥ result }
+    ensures caused { EndsReady (O.seeds world.now) (O.opens world.now) (declaration.now ∷ assignment.now ∷ [])
+        (Unit {0}) ⊥ result }
     ensures unsaid { OnErr result (teller.new ≡ teller.old) }
 {
     let Some((seed, declared, assigned)) = two_files(world, declaration, assignment) else {
@@ -341,7 +356,8 @@ fn hang<'a, O: World<'a>, W: Write, E: Write>(
     end_of(ended)
 }
 
-/// Repairs the assignment in the second file, for the declaration in the first, where the items with these names may move.
+/// Repairs the assignment in the second file, for the declaration in the first, where the items with these names may
+/// move.
 fn repair<'a, O: World<'a>, W: Write, E: Write>(
     world: &O,
     alloc: Global,
@@ -353,7 +369,8 @@ fn repair<'a, O: World<'a>, W: Write, E: Write>(
 ) -> Result<End, CommandFault>
     ensures ended { EndedBy W.contents writer.old writer.new (EndsRepair (Has (O.opens world.now) O.File.Read.remaining)
         declaration.now assignment.now (map (λ n. n.now) names.now)) result }
-    ensures caused { EndsReady (O.seeds world.now) (O.opens world.now) (declaration.now ∷ assignment.now ∷ []) (Unit {0}) ⊥ result }
+    ensures caused { EndsReady (O.seeds world.now) (O.opens world.now) (declaration.now ∷ assignment.now ∷ [])
+        (Unit {0}) ⊥ result }
     ensures unsaid { OnErr result (teller.new ≡ teller.old) }
 {
     let Some((seed, declared, assigned)) = two_files(world, declaration, assignment) else {
@@ -426,9 +443,11 @@ fn assigned_circles<'a, O: World<'a>, W: Write, E: Write>(
     writer: &mut Metered<W>,
     teller: &mut Metered<E>,
 ) -> Result<End, CommandFault>
-    ensures ended { EndedBy W.contents writer.old writer.new (EndsCircles (Has (O.opens world.now) O.File.Read.remaining)
+    ensures ended { EndedBy W.contents writer.old writer.new
+        (EndsCircles (Has (O.opens world.now) O.File.Read.remaining)
         declaration.now (Some assignment.now)) result }
-    ensures caused { EndsReady (O.seeds world.now) (O.opens world.now) (declaration.now ∷ assignment.now ∷ []) (Unit {0}) ⊥ result }
+    ensures caused { EndsReady (O.seeds world.now) (O.opens world.now) (declaration.now ∷ assignment.now ∷ [])
+        (Unit {0}) ⊥ result }
     ensures unsaid { OnErr result (teller.new ≡ teller.old) }
 {
     let Some((seed, declared, assigned)) = two_files(world, declaration, assignment) else {
@@ -464,7 +483,8 @@ fn own_circles<'a, O: World<'a>, W: Write, E: Write>(
     writer: &mut Metered<W>,
     teller: &mut Metered<E>,
 ) -> Result<End, CommandFault>
-    ensures ended { EndedBy W.contents writer.old writer.new (EndsCircles (Has (O.opens world.now) O.File.Read.remaining)
+    ensures ended { EndedBy W.contents writer.old writer.new
+        (EndsCircles (Has (O.opens world.now) O.File.Read.remaining)
         declaration.now None) result }
     ensures caused { EndsReady (O.seeds world.now) (O.opens world.now) (declaration.now ∷ []) (Unit {0}) ⊥ result }
     ensures unsaid { OnErr result (teller.new ≡ teller.old) }
@@ -488,7 +508,8 @@ fn own_circles<'a, O: World<'a>, W: Write, E: Write>(
     end_of(ended)
 }
 
-/// Prints the flushes on circles of the declaration in the first file, under the assignment in the second, if there is one.
+/// Prints the flushes on circles of the declaration in the first file, under the assignment in the second, if there is
+/// one.
 fn circles<'a, O: World<'a>, W: Write, E: Write>(
     world: &O,
     alloc: Global,
@@ -497,7 +518,8 @@ fn circles<'a, O: World<'a>, W: Write, E: Write>(
     writer: &mut Metered<W>,
     teller: &mut Metered<E>,
 ) -> Result<End, CommandFault>
-    ensures ended { EndedBy W.contents writer.old writer.new (EndsCircles (Has (O.opens world.now) O.File.Read.remaining)
+    ensures ended { EndedBy W.contents writer.old writer.new
+        (EndsCircles (Has (O.opens world.now) O.File.Read.remaining)
         declaration.now (option_map (λ s. s.now) assignment.entry)) result }
     ensures caused { EndsReady (O.seeds world.now) (O.opens world.now)
         (declaration.now ∷ option_to_list (option_map (λ s. s.now) assignment.entry)) (Unit {0}) ⊥ result }
@@ -520,7 +542,8 @@ fn assigned_dot<'a, O: World<'a>, W: Write, E: Write>(
 ) -> Result<End, CommandFault>
     ensures ended { EndedBy W.contents writer.old writer.new (EndsDot (Has (O.opens world.now) O.File.Read.remaining)
         declaration.now (Some assignment.now)) result }
-    ensures caused { EndsReady (O.seeds world.now) (O.opens world.now) (declaration.now ∷ assignment.now ∷ []) (Unit {0}) ⊥ result }
+    ensures caused { EndsReady (O.seeds world.now) (O.opens world.now) (declaration.now ∷ assignment.now ∷ [])
+        (Unit {0}) ⊥ result }
     ensures unsaid { OnErr result (teller.new ≡ teller.old) }
 {
     let Some((seed, declared, assigned)) = two_files(world, declaration, assignment) else {
@@ -580,7 +603,8 @@ fn own_dot<'a, O: World<'a>, W: Write, E: Write>(
     end_of(ended)
 }
 
-/// Draws the declaration in the first file, on the workqueues of the assignment in the second, or, if there is none, of its plan.
+/// Draws the declaration in the first file, on the workqueues of the assignment in the second, or, if there is none, of
+/// its plan.
 fn dot<'a, O: World<'a>, W: Write, E: Write>(
     world: &O,
     alloc: Global,
@@ -613,13 +637,16 @@ fn run_on<R: Threads + Wait + Sync, V: Voice<Global, Outcome>, D: Read + Drop, W
     teller: &mut Metered<E>,
 ) -> Result<Outcome, Stopped<RunStop>>
     requires few_helpers { helpers ≤ 8 }
-    ensures answered { IfOk result (λ outcome. (texts : Given) × (out : List ℕ) × IsInput (D.remaining declared) texts.first
+    ensures answered { IfOk result (λ outcome. (texts : Given) × (out : List ℕ)
+        × IsInput (D.remaining declared) texts.first
         × RunsTexts helpers texts outcome out × WritesWhole W.contents writer.old writer.new out) }
     ensures prefix { result ≡ Err (Faulted Fault.Write) → (outcome : Outcome) × (texts : Given) × (out : List ℕ)
-        × IsInput (D.remaining declared) texts.first × RunsTexts helpers texts outcome out × WritesPrefix W.contents writer.old writer.new out }
+        × IsInput (D.remaining declared) texts.first × RunsTexts helpers texts outcome out
+        × WritesPrefix W.contents writer.old writer.new out }
     ensures untouched { IfErr result (λ stopped. stopped ≢ Faulted Fault.Write → writer.new ≡ writer.old) }
     ensures unsaid { OnErr result (teller.new ≡ teller.old) }
-    ensures write_failed { result ≡ Err (Faulted Fault.Write) → writer.new.failures ≡ count_after writer.old.failures 1 }
+    ensures write_failed { result ≡ Err (Faulted Fault.Write)
+        → writer.new.failures ≡ count_after writer.old.failures 1 }
     ensures no_write_failed { result ≢ Err (Faulted Fault.Write) → writer.new.failures ≡ writer.old.failures }
 {
     let mut input = Metered::new(declared);
@@ -639,7 +666,8 @@ fn run<'a, O: World<'a>, R: Threads + Wait + Sync, W: Write, E: Write>(
     requires few_helpers { helpers ≤ 8 }
     ensures ended { EndedBy W.contents writer.old writer.new (EndsRun (Has (O.opens world.now) O.File.Read.remaining)
         declaration.now helpers) result }
-    ensures caused { EndsReady (O.seeds world.now) (O.opens world.now) (declaration.now ∷ []) (Unit {0}) (Unit {0}) result }
+    ensures caused { EndsReady (O.seeds world.now) (O.opens world.now) (declaration.now ∷ []) (Unit {0})
+        (Unit {0}) result }
     ensures unsaid { OnErr result (teller.new ≡ teller.old) }
 {
     let Some((seed, declared)) = one_file(world, declaration) else {
@@ -650,8 +678,8 @@ fn run<'a, O: World<'a>, R: Threads + Wait + Sync, W: Write, E: Write>(
     end_of_run(ended)
 }
 
-/// Prints what a number or a name means, or, without a word, the list of all that have an explanation. A word without an
-/// explanation ends the command as a refused text does.
+/// Prints what a number or a name means, or, without a word, the list of all that have an explanation. A word without
+/// an explanation ends the command as a refused text does.
 fn explain<W: Write>(
     alloc: Global,
     code: Option<&str>,
@@ -675,9 +703,11 @@ fn carry_out_asked<'a, O: World<'a>, R: Threads + Wait + Sync, I: Read, W: Write
     teller: &mut Metered<E>,
 ) -> Result<End, CommandFault>
     requires few_helpers { HasFewHelpers (spelled request) }
-    ensures ended { EndedBy W.contents writer.old writer.new (EndsAsAsked (Has (O.opens world.now) O.File.Read.remaining)
+    ensures ended { EndedBy W.contents writer.old writer.new
+        (EndsAsAsked (Has (O.opens world.now) O.File.Read.remaining)
         (IsInput (I.remaining input.old.device)) (spelled request.entry)) result }
-    ensures caused { IsCaused (O.seeds world.now) (O.opens world.now) (HasFailed input.old input.new) (spelled request.entry) result }
+    ensures caused { IsCaused (O.seeds world.now) (O.opens world.now) (HasFailed input.old input.new)
+        (spelled request.entry) result }
     ensures input { ReadsInput I.remaining input.old input.new (spelled request.entry) }
     ensures unsaid { OnErr result (teller.new ≡ teller.old) }
 {
@@ -740,19 +770,23 @@ pub(crate) fn perform<'a, O: World<'a>, R: Threads + Wait + Sync, I: Read, W: Wr
     teller: &mut Metered<E>,
 ) -> Result<End, CommandFault>
     requires few_helpers { HasFewHelpers (spelled request) }
-    ensures ended { EndedBy W.contents writer.old writer.new (EndsAsAsked (Has (O.opens world.now) O.File.Read.remaining)
+    ensures ended { EndedBy W.contents writer.old writer.new
+        (EndsAsAsked (Has (O.opens world.now) O.File.Read.remaining)
         (IsInput (I.remaining input.old.device)) (spelled request.entry)) result }
 
-    // The answer is true. Of `plan`: for every declaration text that is answered, either the printed assignment lets no run of
-    // queueings, cancellations and steps of rescuers and helpers end stuck, and every assignment to fewer workqueues has a run
-    // without helpers, with each item queued once and flushing as declared, that ends stuck; or a printed circle of groups is given
-    // and every assignment has such a run. Of `check`: its yes is true. Of `circles`: exactly the flushes on circles, and those to no
-    // rescuer, are printed, and `safe` exactly where no run ends stuck. The other commands end as they promise.
+    // The answer is true. Of `plan`: for every declaration text that is answered, either the printed assignment lets no
+    // run of queueings, cancellations and steps of rescuers and helpers end stuck, and every assignment to fewer
+    // workqueues has a run without helpers, with each item queued once and flushing as declared, that ends stuck; or a
+    // printed circle of groups is given and every assignment has such a run. Of `check`: its yes is true. Of `circles`:
+    // exactly the flushes on circles, and those to no rescuer, are printed, and `safe` exactly where no run ends stuck.
+    // The other commands end as they promise.
     ensures promised { IfOk result (λ end. (out : List ℕ)
-        × PromisesAsAsked (Has (O.opens world.now) O.File.Read.remaining) (IsInput (I.remaining input.old.device)) (spelled request.entry) end out
+        × PromisesAsAsked (Has (O.opens world.now) O.File.Read.remaining) (IsInput (I.remaining input.old.device))
+        (spelled request.entry) end out
         × WritesWhole W.contents writer.old writer.new out) }
 
-    ensures caused { IsCaused (O.seeds world.now) (O.opens world.now) (HasFailed input.old input.new) (spelled request.entry) result }
+    ensures caused { IsCaused (O.seeds world.now) (O.opens world.now) (HasFailed input.old input.new)
+        (spelled request.entry) result }
     ensures input { ReadsInput I.remaining input.old input.new (spelled request.entry) }
     ensures unsaid { OnErr result (teller.new ≡ teller.old) }
 {
@@ -777,12 +811,15 @@ pub(crate) fn perform_above<
     teller: &mut Metered<E>,
 ) -> Result<End, CommandFault>
     requires few_helpers { HasFewHelpers (spelled request) }
-    ensures ended { EndedBy W.contents writer.old writer.new (EndsAsAsked (Has (O.opens world.now) O.File.Read.remaining)
+    ensures ended { EndedBy W.contents writer.old writer.new
+        (EndsAsAsked (Has (O.opens world.now) O.File.Read.remaining)
         (IsInput (I.remaining input.old.device)) (spelled request.entry)) result }
     ensures promised { IfOk result (λ end. (out : List ℕ)
-        × PromisesAsAsked (Has (O.opens world.now) O.File.Read.remaining) (IsInput (I.remaining input.old.device)) (spelled request.entry) end out
+        × PromisesAsAsked (Has (O.opens world.now) O.File.Read.remaining) (IsInput (I.remaining input.old.device))
+        (spelled request.entry) end out
         × WritesWhole W.contents writer.old writer.new out) }
-    ensures caused { IsCaused (O.seeds world.now) (O.opens world.now) (HasFailed input.old input.new) (spelled request.entry) result }
+    ensures caused { IsCaused (O.seeds world.now) (O.opens world.now) (HasFailed input.old input.new)
+        (spelled request.entry) result }
     ensures input { ReadsInput I.remaining input.old input.new (spelled request.entry) }
 {
     let mut held = Metered::new(Vec::new(alloc));

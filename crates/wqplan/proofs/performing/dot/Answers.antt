@@ -5,5 +5,6 @@ use Rattle.wqplan.proofs.performing.dot.Goals as goal
 
 pub returns-in-Some-clause-caused : goal.returns-in-Some-clause-caused
 returns-in-Some-clause-caused g c =
-    subst (λ a. EndsReady (g.O.World.seeds c.args.world.now) (g.O.World.opens c.args.world.now) (c.args.declaration.now ∷ option_to_list (option_map (λ s. s.now) a)) (Unit {0}) ⊥ c.assigned_dot.result)
+    subst (λ a. EndsReady (g.O.World.seeds c.args.world.now) (g.O.World.opens c.args.world.now)
+    (c.args.declaration.now ∷ option_to_list (option_map (λ s. s.now) a)) (Unit {0}) ⊥ c.assigned_dot.result)
     (sym c.in-Some.is) c.assigned_dot.ensures.caused
