@@ -10,10 +10,13 @@ use Rattle.wq_run.specs.declared.fault.CommandFault.TheVariants.{Common, Tally, 
 use Rattle.clap.specs.Words.{Text}
 use Rattle.wqplan.specs.CommandLine.{Asked, plans, runs, explains, files_of}
 
+-- the file at this path was opened
+abbrev pub IsOpened : {F : Type 0} → (Text → Option F → Type 0) → Text → Type 0
+IsOpened {F} Opens path = (file : F) × Opens path (Some file)
+
 -- a seed was drawn, and each of these files was opened
 abbrev pub IsReady : {F : Type 0} → (Option ℕ → Type 0) → (Text → Option F → Type 0) → List Text → Type 0
-IsReady {F} Seeds Opens files = ((seed : ℕ) × Seeds (Some seed))
-    × All (λ path. (file : F) × Opens path (Some file)) files
+IsReady Seeds Opens files = ((seed : ℕ) × Seeds (Some seed)) × All (IsOpened Opens) files
 
 -- there was no seed, or one of these files couldn't be opened
 abbrev pub IsUnready : {F : Type 0} → (Option ℕ → Type 0) → (Text → Option F → Type 0) → List Text → Type 0

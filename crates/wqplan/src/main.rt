@@ -14,6 +14,7 @@ mod ending;
 mod help;
 pub mod laws;
 mod performing;
+mod seeded;
 mod statuses;
 mod world;
 

@@ -4,7 +4,7 @@ use Rattle.wq_meter.specs.Shell.{kept}
 use Rattle.wq_commands.specs.Commands.{Plans, one_text}
 use Rattle.wq_commands.proofs.CommandLemmas.{Plans-kept}
 use Rattle.wqplan.proofs.EndedLemmas.{ended_by}
-use Rattle.wqplan.proofs.performing.plan_input.Goals as goal
+use Rattle.wqplan.proofs.performing.carry_out_input.Goals as goal
 
 pub returns-clause-ended : goal.returns-clause-ended
 returns-clause-ended g c =
