@@ -15,7 +15,7 @@ use Rattle.wq_run.specs.declared.fault.CommandFault.{CommandFault}
 use Rattle.wq_run.specs.declared.fault.CommandFault.TheVariants.{Common, Tally, Thread}
 use Rattle.wqplan.specs.Cause.{IsCaused, IsOpened}
 use Rattle.wqplan.specs.CommandLine.{spelled}
-use Rattle.wqplan.specs.Ended.{EndedBy, EndsAsAsked, Has, IsInputIf}
+use Rattle.wqplan.specs.Ended.{EndedBy, Has, IsInputIf}
 use Rattle.wqplan.specs.Files.{AreOpened, EndsFiles, HaveTexts, HoldsIf, paths_of}
 use Rattle.wqplan.specs.declared.command_line.Request.{Request}
 use Rattle.wqplan.specs.declared.command_line.Request.TheVariants as asks
@@ -111,27 +111,23 @@ module _ {F : Type 0} (Opens : Text → Option F → Type 0) where
 -- ---- how a command ends
 
 -- a command that ended on files ended as it is to
-module _ {W : Type 0} (contents : W → Option (List ℕ)) (old new : Meter W)
-    (Holds : Text → List ℕ → Type 0) (limits : Limits) (Answers : Given → Outcome → List ℕ → Type 0)
-    (paths : Files (Bor Text)) (Ends : End → List ℕ → Type 0)
-    (f : (o : Outcome) (t : Given) (out : List ℕ) → HaveTexts Holds limits paths t → Answers (kept limits t) o out
-    → Ends o.end out) where
-  end_on : (end : End) (out : List ℕ) → EndsFiles Holds limits Answers paths end out → Ends end out
-  end_on end out h = subst (λ e. Ends e out) (sym h.2) (f h.0 h.1 out h.3 h.4)
+module _ {W : Type 0} (contents : W → Option (List ℕ)) (old new : Meter W) (Holds : Text → List ℕ → Type 0)
+    (limits : Limits) (Answers : Given → Outcome → List ℕ → Type 0) (paths : Files (Bor Text))
+    (Ends : End → List ℕ → Type 0) where
+  -- from the texts and the outcome of a command
+  abbrev pub Gives : Type 0
+  Gives = (o : Outcome) (t : Given) (out : List ℕ) → HaveTexts Holds limits paths t → Answers (kept limits t) o out
+      → Ends o.end out
+
+  end_on : (end : End) (out : List ℕ) → EndsFiles Holds limits Answers paths end out → Gives → Ends end out
+  end_on end out h f = subst (λ e. Ends e out) (sym h.2) (f h.0 h.1 out h.3 h.4)
 
   pub ends_on_files : (result : Result End CommandFault)
-      → EndedBy contents old new (EndsFiles Holds limits Answers paths) result → EndedBy contents old new Ends result
-  ends_on_files (Ok end) h = (h.0, end_on end h.0 h.1, h.2, h.3)
-  ends_on_files (Err (Common Write)) h = (h.0, h.1, end_on h.0 h.1 h.2, h.3, h.4)
-  ends_on_files (Err (Common Read)) h = h
-  ends_on_files (Err (Common Memory)) h = h
-  ends_on_files (Err Thread) h = h
-  ends_on_files (Err Tally) h = h
-
--- a command ended as what is asked for does
-pub ends_as : {W : Type 0} (contents : W → Option (List ℕ)) (old new : Meter W) (Holds : Text → List ℕ → Type 0)
-    (Input : List ℕ → Type 0) (request same : Request) (result : Result End CommandFault) → request ≡ same
-    → EndedBy contents old new (EndsAsAsked Holds Input (spelled same)) result
-    → EndedBy contents old new (EndsAsAsked Holds Input (spelled request)) result
-ends_as contents old new Holds Input request same result is =
-    subst (λ r. EndedBy contents old new (EndsAsAsked Holds Input (spelled r)) result) (sym is)
+      → EndedBy contents old new (EndsFiles Holds limits Answers paths) result → Gives
+      → EndedBy contents old new Ends result
+  ends_on_files (Ok end) h f = (h.0, end_on end h.0 h.1 f, h.2, h.3)
+  ends_on_files (Err (Common Write)) h f = (h.0, h.1, end_on h.0 h.1 h.2 f, h.3, h.4)
+  ends_on_files (Err (Common Read)) h f = h
+  ends_on_files (Err (Common Memory)) h f = h
+  ends_on_files (Err Thread) h f = h
+  ends_on_files (Err Tally) h f = h

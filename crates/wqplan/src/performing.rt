@@ -7,7 +7,7 @@
 //! that of the command, and that of what says more of its answer. The running time is that of the command.
 
 ghost use Rattle.std.specs.Prelude.{◌≡◌, ◌≢◌, ◌≤◌, ◌∷◌, ℕ, List, [], Err, IfErr, IfOk, IfSome, None, OnErr, Some};
-ghost use Rattle.std.specs.Prelude.{option_map};
+ghost use Rattle.std.specs.Prelude.{option_map, option_to_list};
 ghost use Rattle.std.specs.List.{Any};
 ghost use Rattle.wq_meter.specs.Input.{HasFailed, IsInput};
 ghost use Rattle.wq_meter.specs.Meter.{count_after, WritesPrefix, WritesWhole};
@@ -19,7 +19,8 @@ ghost use Rattle.wqplan.specs.Cause.{EndsAlone, EndsReady, IsCaused, ReadsInput}
 ghost use Rattle.wqplan.specs.Files.{AreOpened, EndsFiles, paths_of};
 ghost use Rattle.wqplan.specs.Promised.{PromisesAsAsked};
 ghost use Rattle.wqplan.specs.Status.{end_or_common, explained_or_common, unheld};
-ghost use Rattle.wqplan.specs.Ended.{EndedBy, EndsAsAsked, EndsExplain, EndsPlan, EndsRun, Has, IsInputIf};
+ghost use Rattle.wqplan.specs.Ended.{EndedBy, EndsAsAsked, EndsCircles, EndsDot, EndsExplain, EndsPlan, EndsRun, Has};
+ghost use Rattle.wqplan.specs.Ended.{IsInputIf};
 
 use crate::command_line::Request;
 use crate::seeded::Seeded;
@@ -292,6 +293,117 @@ fn assignment_voice<'a>(
     )
 }
 
+/// Carries out `plan` on the file at this path, or, without a path, on standard input.
+fn plan<'a, O: World<'a>, I: Read, W: Write, E: Write>(
+    world: &O,
+    alloc: Global,
+    seed: u64,
+    file: Option<&'a str>,
+    input: &mut Metered<I>,
+    writer: &mut Metered<W>,
+    teller: &mut Metered<E>,
+) -> Result<End, CommandFault>
+    requires drawn { O.seeds world.now (Some seed) }
+    ensures ended { EndedBy W.contents writer.old writer.new (EndsPlan (Has (O.opens world.now) O.File.Read.remaining)
+        (IsInput (I.remaining input.old.device)) (option_map (λ s. s.now) file.entry)) result }
+    ensures caused { IsCaused (O.seeds world.now) (O.opens world.now) (HasFailed input.old input.new)
+        (plans (option_map (λ s. s.now) file.entry)) result }
+    ensures input { ReadsInput I.remaining input.old input.new (plans (option_map (λ s. s.now) file.entry)) }
+    ensures unsaid { OnErr result (teller.new ≡ teller.old) }
+{
+    let command = PlanCommand { seed };
+    match file {
+        Some(file) => {
+            let voice = Diagnosing::one(seed, shown_name(file), Beside::Circle);
+            let files = Files::One(file);
+            carry_out_files(world, alloc, &command, &voice, files, writer, teller)
+        }
+        None => {
+            let voice = Diagnosing::one(seed, STDIN, Beside::Circle);
+            carry_out_input(world, alloc, &command, &voice, input, writer, teller)
+        }
+    }
+}
+
+/// Carries out `circles` on the file of a declaration, and that of an assignment, if there is one.
+fn circles<'a, O: World<'a>, W: Write, E: Write>(
+    world: &O,
+    alloc: Global,
+    seed: u64,
+    declaration: &'a str,
+    assignment: Option<&'a str>,
+    writer: &mut Metered<W>,
+    teller: &mut Metered<E>,
+) -> Result<End, CommandFault>
+    requires drawn { O.seeds world.now (Some seed) }
+    ensures ended { EndedBy W.contents writer.old writer.new
+        (EndsCircles (Has (O.opens world.now) O.File.Read.remaining)
+        declaration.now (option_map (λ s. s.now) assignment.entry)) result }
+    ensures caused { EndsReady (O.seeds world.now) (O.opens world.now)
+        (declaration.now ∷ option_to_list (option_map (λ s. s.now) assignment.entry)) (Unit {0}) ⊥ result }
+    ensures unsaid { OnErr result (teller.new ≡ teller.old) }
+{
+    match assignment {
+        Some(assignment) => {
+            let command = CirclesCommand {
+                seed,
+                assigned: true,
+            };
+            let voice = assignment_voice(seed, declaration, assignment, Beside::Components);
+            let files = Files::Two(declaration, assignment);
+            carry_out_files(world, alloc, &command, &voice, files, writer, teller)
+        }
+        None => {
+            let command = CirclesCommand {
+                seed,
+                assigned: false,
+            };
+            let voice = Diagnosing::one(seed, shown_name(declaration), Beside::OwnComponents);
+            let files = Files::One(declaration);
+            carry_out_files(world, alloc, &command, &voice, files, writer, teller)
+        }
+    }
+}
+
+/// Carries out `dot` on the file of a declaration, and that of an assignment, if there is one.
+fn dot<'a, O: World<'a>, W: Write, E: Write>(
+    world: &O,
+    alloc: Global,
+    seed: u64,
+    declaration: &'a str,
+    assignment: Option<&'a str>,
+    writer: &mut Metered<W>,
+    teller: &mut Metered<E>,
+) -> Result<End, CommandFault>
+    requires drawn { O.seeds world.now (Some seed) }
+    ensures ended { EndedBy W.contents writer.old writer.new (EndsDot (Has (O.opens world.now) O.File.Read.remaining)
+        declaration.now (option_map (λ s. s.now) assignment.entry)) result }
+    ensures caused { EndsReady (O.seeds world.now) (O.opens world.now)
+        (declaration.now ∷ option_to_list (option_map (λ s. s.now) assignment.entry)) (Unit {0}) ⊥ result }
+    ensures unsaid { OnErr result (teller.new ≡ teller.old) }
+{
+    match assignment {
+        Some(assignment) => {
+            let command = DotCommand {
+                seed,
+                assigned: true,
+            };
+            let voice = assignment_voice(seed, declaration, assignment, Beside::Other);
+            let files = Files::Two(declaration, assignment);
+            carry_out_files(world, alloc, &command, &voice, files, writer, teller)
+        }
+        None => {
+            let command = DotCommand {
+                seed,
+                assigned: false,
+            };
+            let voice = Diagnosing::one(seed, shown_name(declaration), Beside::Other);
+            let files = Files::One(declaration);
+            carry_out_files(world, alloc, &command, &voice, files, writer, teller)
+        }
+    }
+}
+
 /// Carries out the command that is asked for, with a seed that was drawn. `explain` doesn't use it.
 fn carry_out_seeded<'a, O: World<'a>, R: Threads + Wait + Sync, I: Read, W: Write, E: Write>(
     world: &O,
@@ -314,17 +426,7 @@ fn carry_out_seeded<'a, O: World<'a>, R: Threads + Wait + Sync, I: Read, W: Writ
     ensures unsaid { OnErr result (teller.new ≡ teller.old) }
 {
     match request {
-        Request::Plan { file: Some(file) } => {
-            let command = PlanCommand { seed };
-            let voice = Diagnosing::one(seed, shown_name(file), Beside::Circle);
-            let files = Files::One(file);
-            carry_out_files(world, alloc, &command, &voice, files, writer, teller)
-        }
-        Request::Plan { file: None } => {
-            let command = PlanCommand { seed };
-            let voice = Diagnosing::one(seed, STDIN, Beside::Circle);
-            carry_out_input(world, alloc, &command, &voice, input, writer, teller)
-        }
+        Request::Plan { file } => plan(world, alloc, seed, file, input, writer, teller),
         Request::Check {
             declaration,
             certificate,
@@ -393,52 +495,12 @@ fn carry_out_seeded<'a, O: World<'a>, R: Threads + Wait + Sync, I: Read, W: Writ
         }
         Request::Circles {
             declaration,
-            assignment: Some(assignment),
-        } => {
-            let command = CirclesCommand {
-                seed,
-                assigned: true,
-            };
-            let voice = assignment_voice(seed, declaration, assignment, Beside::Components);
-            let files = Files::Two(declaration, assignment);
-            carry_out_files(world, alloc, &command, &voice, files, writer, teller)
-        }
-        Request::Circles {
-            declaration,
-            assignment: None,
-        } => {
-            let command = CirclesCommand {
-                seed,
-                assigned: false,
-            };
-            let voice = Diagnosing::one(seed, shown_name(declaration), Beside::OwnComponents);
-            let files = Files::One(declaration);
-            carry_out_files(world, alloc, &command, &voice, files, writer, teller)
-        }
+            assignment,
+        } => circles(world, alloc, seed, declaration, assignment, writer, teller),
         Request::Dot {
             declaration,
-            assignment: Some(assignment),
-        } => {
-            let command = DotCommand {
-                seed,
-                assigned: true,
-            };
-            let voice = assignment_voice(seed, declaration, assignment, Beside::Other);
-            let files = Files::Two(declaration, assignment);
-            carry_out_files(world, alloc, &command, &voice, files, writer, teller)
-        }
-        Request::Dot {
-            declaration,
-            assignment: None,
-        } => {
-            let command = DotCommand {
-                seed,
-                assigned: false,
-            };
-            let voice = Diagnosing::one(seed, shown_name(declaration), Beside::Other);
-            let files = Files::One(declaration);
-            carry_out_files(world, alloc, &command, &voice, files, writer, teller)
-        }
+            assignment,
+        } => dot(world, alloc, seed, declaration, assignment, writer, teller),
         Request::Run {
             declaration,
             helpers,
