@@ -621,7 +621,8 @@ run hang nvme-auth.wq nvme-auth.later.assign
 ends 'nvme-auth: a later kernel: hang' 0 safe
 
 # The tests of want of memory have the largest declaration, byte for byte, and its workqueues, as if each had a rescuer.
-cases=$(<"$root/crates/test_cases/src/largest.rt")
+# Where a line of that file ends in \, its text goes on in the next one.
+cases=$(sed ':more; /\\$/{N; s/\\\n *//; b more}' "$root/crates/test_cases/src/largest.rt")
 largest=$(basename -- "$(ls -S -- "$examples"/*.wq | head -n 1)" .wq)
 [[ $cases == *"$(<"$examples/$largest.wq")"* ]] && found=yes || found=no
 is "$largest.wq in test_cases" yes "$found"

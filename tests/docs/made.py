@@ -463,7 +463,7 @@ def statuses(commands, faults):
         end = wrapped(f"docs/FORMAT.md describes the texts and the answers{explain}.", HELP_WIDTH)
         made += f'/// Of {what}.\npub(crate) const {name}: &str = "\\\n{said}\n{end}";\n\n'
     parts = Parts("crates/wqplan/src/statuses.rt")
-    parts.replace(r"(?<=^//! them from docs/tables/commands\.txt\.\n\n)(?:.*\n)*", made.rstrip("\n") + "\n")
+    parts.replace(r"(?<=^//! tests/docs/made\.py makes them from docs/tables/commands\.txt\.\n\n)(?:.*\n)*", made.rstrip("\n") + "\n")
     return parts
 
 

@@ -223,7 +223,8 @@ r:2:1: expected a step, found `end` [refused 40, `wqplan explain 40`]
         saying: Saying::OfTooMany,
         declaration: TWO,
         certificate: "",
-        said: "d: the plan has more than 256 workqueues, each of which takes a thread [refused 69, `wqplan explain 69`]\n",
+        said: "d: the plan has more than 256 workqueues, each of which takes a thread \
+                [refused 69, `wqplan explain 69`]\n",
     },
     Said {
         name: "checked, a declaration that is refused",

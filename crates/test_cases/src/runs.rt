@@ -17,14 +17,16 @@ const RUNS: &[RunCase] = &[
         name: "a run of a plan",
         text: TWO,
         end: End::Good,
-        answer: "workqueues 2\nitem a wq 1 queued 1 cancelled 0 finished 1\nitem b wq 0 queued 1 cancelled 0 finished 1\nfaults 0\n",
+        answer: "workqueues 2\nitem a wq 1 queued 1 cancelled 0 finished 1\n\
+            item b wq 0 queued 1 cancelled 0 finished 1\nfaults 0\n",
         said: "",
     },
     RunCase {
         name: "a run of an item that waits for a whole workqueue",
         text: "item a\nitem b\nflushwq a b\n",
         end: End::Good,
-        answer: "workqueues 2\nitem a wq 1 queued 1 cancelled 0 finished 1\nitem b wq 0 queued 1 cancelled 0 finished 1\nfaults 0\n",
+        answer: "workqueues 2\nitem a wq 1 queued 1 cancelled 0 finished 1\n\
+            item b wq 0 queued 1 cancelled 0 finished 1\nfaults 0\n",
         said: "",
     },
     RunCase {
@@ -47,7 +49,8 @@ d: note: no item is declared: is this the right file?
         name: "no run of groups that wait in a circle",
         text: GROUPED,
         end: End::Bad,
-        answer: "circle 2\narc a b\narc c d\nrun 8\nqueue a\nqueue c\nqueue b\nqueue d\nstart 0 a\nwait 0 b\nstart 1 c\nwait 1 d\n",
+        answer: "circle 2\narc a b\narc c d\nrun 8\nqueue a\nqueue c\nqueue b\nqueue d\nstart 0 a\n\
+            wait 0 b\nstart 1 c\nwait 1 d\n",
         said: "",
     },
     RunCase {

@@ -1,5 +1,6 @@
 -- Seeds that are drawn, files that are opened, and what follows for the ends of a command.
-use Rattle.std.proofs.Common.{◌≡◌, ◌≢◌, ◌⊎◌, ℕ, List, [], ◌∷◌, ◌++◌, Option, Some, None, Result, Ok, Err, inl, inr, refl, sym, subst, arith}
+use Rattle.std.proofs.Common.{◌≡◌, ◌≢◌, ◌⊎◌, ℕ, List, [], ◌∷◌, ◌++◌, Option, Some, None, Result, Ok, Err, inl, inr}
+use Rattle.std.proofs.Common.{refl, sym, subst, arith}
 use Rattle.std.proofs.lemmas.Grind.{common_steps}
 use Rattle.std.proofs.lemmas.List.Elements.{All-contains, All-nil, All-push}
 use Rattle.std.proofs.lemmas.List.Quantifiers.{Any-push}
@@ -33,10 +34,12 @@ module _ {F : Type 0} (Seeds : Option ℕ → Type 0) (Opens : Text → Option F
   pub ready_seed : (seed : ℕ) → Seeds (Some seed) → IsReady Seeds Opens []
   ready_seed seed drawn = ((seed, drawn), All-nil Opened)
 
-  pub ready_more : (files : List Text) (path : Text) (file : F) → IsReady Seeds Opens files → Opens path (Some file) → IsReady Seeds Opens (files ++ path ∷ [])
+  pub ready_more : (files : List Text) (path : Text) (file : F) → IsReady Seeds Opens files → Opens path (Some file)
+      → IsReady Seeds Opens (files ++ path ∷ [])
   ready_more files path file ready opened = (ready.0, All-push Opened files path ready.1 (file, opened))
 
-  pub unready_more : (files : List Text) (path : Text) → IsUnready Seeds Opens files → IsUnready Seeds Opens (files ++ path ∷ [])
+  pub unready_more : (files : List Text) (path : Text) → IsUnready Seeds Opens files
+      → IsUnready Seeds Opens (files ++ path ∷ [])
   unready_more files path (inl none) = inl none
   unready_more files path (inr closed) = inr (Any-more (λ p. Opens p None) files path closed)
 
@@ -46,22 +49,27 @@ module _ {F : Type 0} (Seeds : Option ℕ → Type 0) (Opens : Text → Option F
   -- ---- ends
 
   module _ (files : List Text) (ready : IsReady Seeds Opens files) where
-    caused : (MayFail : Type 0) {S : Type 0} (ended : Result Outcome (Stopped S)) → (ended ≡ Err (Faulted Read) → MayFail) → EndsReady Seeds Opens files MayFail ⊥ (end_or_common ended)
+    caused : (MayFail : Type 0) {S : Type 0} (ended : Result Outcome (Stopped S))
+        → (ended ≡ Err (Faulted Read) → MayFail) → EndsReady Seeds Opens files MayFail ⊥ (end_or_common ended)
     caused MayFail (Ok o) may_fail = ready
     caused MayFail (Err (Faulted Memory)) may_fail = ready
     caused MayFail (Err (Faulted Read)) may_fail = inr (ready, may_fail refl)
     caused MayFail (Err (Faulted Write)) may_fail = ready
     caused MayFail (Err (Unanswered s)) may_fail = ready
 
-    pub caused_by : (MayFail : Type 0) {S : Type 0} (ended : Result Outcome (Stopped S)) (result : Result End CommandFault) → result ≡ end_or_common ended
+    pub caused_by : (MayFail : Type 0) {S : Type 0} (ended : Result Outcome (Stopped S))
+        (result : Result End CommandFault) → result ≡ end_or_common ended
         → (ended ≡ Err (Faulted Read) → MayFail) → EndsReady Seeds Opens files MayFail ⊥ result
-    caused_by MayFail ended result is may_fail = subst (EndsReady Seeds Opens files MayFail ⊥) (sym is) (caused MayFail ended may_fail)
+    caused_by MayFail ended result is may_fail =
+        subst (EndsReady Seeds Opens files MayFail ⊥) (sym is) (caused MayFail ended may_fail)
 
     -- a read of a file may always have failed
-    pub files_caused : {S : Type 0} (ended : Result Outcome (Stopped S)) (result : Result End CommandFault) → result ≡ end_or_common ended → EndsReady Seeds Opens files (Unit {0}) ⊥ result
+    pub files_caused : {S : Type 0} (ended : Result Outcome (Stopped S)) (result : Result End CommandFault)
+        → result ≡ end_or_common ended → EndsReady Seeds Opens files (Unit {0}) ⊥ result
     files_caused ended result is = caused_by (Unit {0}) ended result is (λ _. tt)
 
-    run_caused : (ended : Result Outcome (Stopped RunStop)) → EndsReady Seeds Opens files (Unit {0}) (Unit {0}) (end_or_stop ended)
+    run_caused : (ended : Result Outcome (Stopped RunStop))
+        → EndsReady Seeds Opens files (Unit {0}) (Unit {0}) (end_or_stop ended)
     run_caused (Ok o) = ready
     run_caused (Err (Faulted Memory)) = ready
     run_caused (Err (Faulted Read)) = inr (ready, tt)
@@ -70,21 +78,30 @@ module _ {F : Type 0} (Seeds : Option ℕ → Type 0) (Opens : Text → Option F
     run_caused (Err (Unanswered stop.Thread)) = (ready, tt)
     run_caused (Err (Unanswered stop.Tally)) = (ready, tt)
 
-    pub run_caused_by : (ended : Result Outcome (Stopped RunStop)) (result : Result End CommandFault) → result ≡ end_or_stop ended → EndsReady Seeds Opens files (Unit {0}) (Unit {0}) result
-    run_caused_by ended result is = subst (EndsReady Seeds Opens files (Unit {0}) (Unit {0})) (sym is) (run_caused ended)
+    pub run_caused_by : (ended : Result Outcome (Stopped RunStop)) (result : Result End CommandFault)
+        → result ≡ end_or_stop ended → EndsReady Seeds Opens files (Unit {0}) (Unit {0}) result
+    run_caused_by ended result is =
+        subst (EndsReady Seeds Opens files (Unit {0}) (Unit {0})) (sym is) (run_caused ended)
 
   -- a file that never opens leaves only a fault of reading
-  pub never_opened : (files : List Text) (MayFail MayStart : Type 0) (result : Result End CommandFault) → EndsReady Seeds Opens files MayFail MayStart result
+  pub never_opened : (files : List Text) (MayFail MayStart : Type 0) (result : Result End CommandFault)
+      → EndsReady Seeds Opens files MayFail MayStart result
       → (path : Text) → Contains files path → ((file : F) → ¬ Opens path (Some file)) → result ≡ Err (Common Read)
-  never_opened files MayFail MayStart (Ok end) ready path contains never = let opened = All-contains Opened files path ready.1 contains in absurd (never opened.0 opened.1)
+  never_opened files MayFail MayStart (Ok end) ready path contains never =
+      let opened = All-contains Opened files path ready.1 contains in absurd (never opened.0 opened.1)
   never_opened files MayFail MayStart (Err (Common Read)) unready path contains never = refl
-  never_opened files MayFail MayStart (Err (Common Write)) ready path contains never = let opened = All-contains Opened files path ready.1 contains in absurd (never opened.0 opened.1)
-  never_opened files MayFail MayStart (Err (Common Memory)) ready path contains never = let opened = All-contains Opened files path ready.1 contains in absurd (never opened.0 opened.1)
-  never_opened files MayFail MayStart (Err Thread) ready path contains never = let opened = All-contains Opened files path ready.0.1 contains in absurd (never opened.0 opened.1)
-  never_opened files MayFail MayStart (Err Tally) ready path contains never = let opened = All-contains Opened files path ready.0.1 contains in absurd (never opened.0 opened.1)
+  never_opened files MayFail MayStart (Err (Common Write)) ready path contains never =
+      let opened = All-contains Opened files path ready.1 contains in absurd (never opened.0 opened.1)
+  never_opened files MayFail MayStart (Err (Common Memory)) ready path contains never =
+      let opened = All-contains Opened files path ready.1 contains in absurd (never opened.0 opened.1)
+  never_opened files MayFail MayStart (Err Thread) ready path contains never =
+      let opened = All-contains Opened files path ready.0.1 contains in absurd (never opened.0 opened.1)
+  never_opened files MayFail MayStart (Err Tally) ready path contains never =
+      let opened = All-contains Opened files path ready.0.1 contains in absurd (never opened.0 opened.1)
 
   -- so does a seed that is never drawn
-  pub never_drawn : (files : List Text) (MayFail MayStart : Type 0) (result : Result End CommandFault) → EndsReady Seeds Opens files MayFail MayStart result
+  pub never_drawn : (files : List Text) (MayFail MayStart : Type 0) (result : Result End CommandFault)
+      → EndsReady Seeds Opens files MayFail MayStart result
       → ((seed : ℕ) → ¬ Seeds (Some seed)) → result ≡ Err (Common Read)
   never_drawn files MayFail MayStart (Ok end) ready never = absurd (never ready.0.0 ready.0.1)
   never_drawn files MayFail MayStart (Err (Common Read)) unready never = refl
@@ -96,21 +113,25 @@ module _ {F : Type 0} (Seeds : Option ℕ → Type 0) (Opens : Text → Option F
   -- ---- what is asked for
 
   module _ (InputFailed : Type 0) (result : Result End CommandFault) where
-    pub caused_file : (asked : Asked) → IsCaused Seeds Opens InputFailed asked result → (path : Text) → Contains (files_of asked) path → ((file : F) → ¬ Opens path (Some file))
+    pub caused_file : (asked : Asked) → IsCaused Seeds Opens InputFailed asked result → (path : Text)
+        → Contains (files_of asked) path → ((file : F) → ¬ Opens path (Some file))
         → result ≡ Err (Common Read)
     caused_file (plans None) = never_opened [] InputFailed ⊥ result
     caused_file (runs declaration helpers) = never_opened (declaration ∷ []) (Unit {0}) (Unit {0}) result
     caused_file (explains code) = λ alone path contains never. absurd (omega (arith, contains.1))
     caused_file asked = never_opened (files_of asked) (Unit {0}) ⊥ result
 
-    pub caused_seed : (asked : Asked) → IsCaused Seeds Opens InputFailed asked result → ((code : Option Text) → asked ≢ explains code) → ((seed : ℕ) → ¬ Seeds (Some seed))
+    pub caused_seed : (asked : Asked) → IsCaused Seeds Opens InputFailed asked result
+        → ((code : Option Text) → asked ≢ explains code) → ((seed : ℕ) → ¬ Seeds (Some seed))
         → result ≡ Err (Common Read)
     caused_seed (plans None) = λ caused other. never_drawn [] InputFailed ⊥ result caused
-    caused_seed (runs declaration helpers) = λ caused other. never_drawn (declaration ∷ []) (Unit {0}) (Unit {0}) result caused
+    caused_seed (runs declaration helpers) =
+        λ caused other. never_drawn (declaration ∷ []) (Unit {0}) (Unit {0}) result caused
     caused_seed (explains code) = λ caused other never. absurd (other code refl)
     caused_seed asked = λ caused other. never_drawn (files_of asked) (Unit {0}) ⊥ result caused
 
-  not_started : (files : List Text) (MayFail : Type 0) (result : Result End CommandFault) → EndsReady Seeds Opens files MayFail ⊥ result → (result ≡ Err Thread) ⊎ (result ≡ Err Tally) → ⊥
+  not_started : (files : List Text) (MayFail : Type 0) (result : Result End CommandFault)
+      → EndsReady Seeds Opens files MayFail ⊥ result → (result ≡ Err Thread) ⊎ (result ≡ Err Tally) → ⊥
   not_started files MayFail (Ok end) caused (inl is) = cc
   not_started files MayFail (Ok end) caused (inr is) = cc
   not_started files MayFail (Err (Common fault)) caused (inl is) = cc
@@ -126,7 +147,8 @@ module _ {F : Type 0} (Seeds : Option ℕ → Type 0) (Opens : Text → Option F
   not_alone (Err Thread) caused is = caused
   not_alone (Err Tally) caused is = caused
 
-  pub only_run : (InputFailed : Type 0) (result : Result End CommandFault) (asked : Asked) → IsCaused Seeds Opens InputFailed asked result
+  pub only_run : (InputFailed : Type 0) (result : Result End CommandFault) (asked : Asked)
+      → IsCaused Seeds Opens InputFailed asked result
       → (result ≡ Err Thread) ⊎ (result ≡ Err Tally) → (path : Text) × (helpers : ℕ) × (asked ≡ runs path helpers)
   only_run InputFailed result (plans None) caused is = absurd (not_started [] InputFailed result caused is)
   only_run InputFailed result (runs declaration helpers) caused is = (declaration, helpers, refl)
@@ -140,5 +162,6 @@ alone (Err Memory) never = tt
 alone (Err Read) never = absurd (never refl)
 alone (Err Write) never = tt
 
-pub alone_by : (ended : Result Explained Fault) (result : Result End CommandFault) → result ≡ explained_or_common ended → ended ≢ Err Read → EndsAlone result
+pub alone_by : (ended : Result Explained Fault) (result : Result End CommandFault) → result ≡ explained_or_common ended
+    → ended ≢ Err Read → EndsAlone result
 alone_by ended result is never = subst EndsAlone (sym is) (alone ended never)

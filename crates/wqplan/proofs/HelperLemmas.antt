@@ -1,5 +1,6 @@
 -- The number of helpers that a word of the command line says, as `clap` reads it.
-use Rattle.std.proofs.Common.{◌≡◌, ℕ, ◌<◌, ◌≤◌, Bool, true, false, List, Option, None, Some, Result, Ok, Err, refl, sym, subst, ◌∙◌, ◌^◌, arith}
+use Rattle.std.proofs.Common.{◌≡◌, ℕ, ◌<◌, ◌≤◌, Bool, true, false, List, Option, None, Some, Result, Ok, Err, refl, sym}
+use Rattle.std.proofs.Common.{subst, ◌∙◌, ◌^◌, arith}
 use Rattle.std.specs.Prelude.{IfSome, IsSome, nat_lt, if◌then◌else◌}
 use Rattle.std.specs.Str.Parse.{ParsesUnsigned}
 use Rattle.std.proofs.lemmas.Bool.{ltb-false, ltb-true}
@@ -11,7 +12,8 @@ abbrev pub Reads : {E : Type 0} → (List ℕ → Result ℕ E → Type 0) → O
 Reads gives None r = r ≡ Ok None
 Reads gives (Some t) r = TriesOne gives t r
 
-pub reads : {E : Type 0} (gives : List ℕ → Result ℕ E → Type 0) (word : Option Text) (r : Result (Option ℕ) E) → (word ≡ None → r ≡ Ok None)
+pub reads : {E : Type 0} (gives : List ℕ → Result ℕ E → Type 0) (word : Option Text) (r : Result (Option ℕ) E)
+    → (word ≡ None → r ≡ Ok None)
     → ((t : Text) → word ≡ Some t → TriesOne gives t r) → Reads gives word r
 reads gives None r none some = none refl
 reads gives (Some t) r none some = some t refl
@@ -21,7 +23,8 @@ both : (o : Option ℕ) (P : ℕ → Type 0) (Q : Type 0) → IfSome o (λ n. P 
 both None P Q h = (tt, tt)
 both (Some n) P Q h = (h.0, h.1)
 
-module _ {E : Type 0} (gives : List ℕ → Result ℕ E → Type 0) (only : (t : Text) (x : Result ℕ E) → gives t x → ParsesUnsigned 8 10 t x) where
+module _ {E : Type 0} (gives : List ℕ → Result ℕ E → Type 0)
+    (only : (t : Text) (x : Result ℕ E) → gives t x → ParsesUnsigned 8 10 t x) where
   -- a number was read
   said : (word : Option Text) (n : ℕ) → Reads gives word (Ok (Some n)) → n ≤ 8 → (helpers_in word ≡ n) × IsHelpers word
   said None n read few = absurd cc
@@ -45,11 +48,13 @@ module _ {E : Type 0} (gives : List ℕ → Result ℕ E → Type 0) (only : (t 
   none_said (Some t) read = absurd read
 
   -- what a word says that was read so
-  pub number_said : (word : Option Text) (r : Result (Option ℕ) E) → Reads gives word r → IfSome (few_read r) (λ n. (helpers_in word ≡ n) × IsHelpers word)
+  pub number_said : (word : Option Text) (r : Result (Option ℕ) E) → Reads gives word r
+      → IfSome (few_read r) (λ n. (helpers_in word ≡ n) × IsHelpers word)
   number_said word (Ok None) read = none_said word read
   number_said word (Ok (Some n)) read = go (nat_lt 8 n) refl
     where
-      go : (b : Bool) → nat_lt 8 n ≡ b → IfSome (if b then None else Some n) (λ m. (helpers_in word ≡ m) × IsHelpers word)
+      go : (b : Bool) → nat_lt 8 n ≡ b
+          → IfSome (if b then None else Some n) (λ m. (helpers_in word ≡ m) × IsHelpers word)
       go true many = tt
       go false few = said word n read (ltb-false 8 n few)
   number_said word (Err e) read = tt
@@ -58,10 +63,12 @@ module _ {E : Type 0} (gives : List ℕ → Result ℕ E → Type 0) (only : (t 
   pub number_given : (word : Option Text) (r : Result (Option ℕ) E) (o : Option ℕ) → Reads gives word r → o ≡ few_read r
       → IfSome o (λ n. helpers_in word ≡ n) × IfSome o (λ _. IsHelpers word)
   number_given word r o read is =
-      both o (λ n. helpers_in word ≡ n) (IsHelpers word) (subst (λ x. IfSome x (λ n. (helpers_in word ≡ n) × IsHelpers word)) (sym is) (number_said word r read))
+      both o (λ n. helpers_in word ≡ n) (IsHelpers word)
+      (subst (λ x. IfSome x (λ n. (helpers_in word ≡ n) × IsHelpers word)) (sym is) (number_said word r read))
 
   -- where a word is a number of helpers, it is read
-  pub helpers_read : (word : Option Text) (r : Result (Option ℕ) E) → Reads gives word r → IsHelpers word → IsSome (few_read r)
+  pub helpers_read : (word : Option Text) (r : Result (Option ℕ) E) → Reads gives word r → IsHelpers word
+      → IsSome (few_read r)
   helpers_read word (Ok None) read is = refl
   helpers_read word (Ok (Some n)) read is = go (nat_lt 8 n) refl
     where
@@ -70,5 +77,6 @@ module _ {E : Type 0} (gives : List ℕ → Result ℕ E → Type 0) (only : (t 
       go false few = refl
   helpers_read word (Err e) read is = absurd (no_number word e read is)
 
-  pub some_given : (word : Option Text) (r : Result (Option ℕ) E) (o : Option ℕ) → Reads gives word r → o ≡ few_read r → IsHelpers word → IsSome o
+  pub some_given : (word : Option Text) (r : Result (Option ℕ) E) (o : Option ℕ) → Reads gives word r → o ≡ few_read r
+      → IsHelpers word → IsSome o
   some_given word r o read is few = subst IsSome (sym is) (helpers_read word r read few)

@@ -1,6 +1,7 @@
 mod CommandLemmas
 mod CauseLemmas
 mod EndedLemmas
+mod FileLemmas
 mod NumberLemmas
 mod HelperLemmas
 mod PromiseLemmas

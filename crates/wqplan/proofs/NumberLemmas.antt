@@ -7,7 +7,8 @@ use Rattle.wq_decl.specs.declared.fault.DeclError.TheVariants.{BadByte, UnknownW
 use Rattle.wq_items.specs.declared.fault.ItemError.TheVariants as items
 use Rattle.wq_groups.specs.declared.fault.GroupError.TheVariants as groups
 use Rattle.wq_cert.specs.declared.fault.CertError.TheVariants as certificates
-use Rattle.wq_checker.specs.declared.answer.No.TheVariants.{NotFalling, LengthDiffers, ChainBroken, CircleBroken, RunBroken}
+use Rattle.wq_checker.specs.declared.answer.No.TheVariants.{NotFalling, LengthDiffers, ChainBroken, CircleBroken}
+use Rattle.wq_checker.specs.declared.answer.No.TheVariants.{RunBroken}
 use Rattle.wq_commands.specs.Numbers.{IsPrinted, of_limit, of_line, of_item, of_group, of_certificate, of_no}
 use Rattle.wqplan.specs.Numbers.{IsPrintedByProgram, of_text, of_plan}
 use Rattle.wq_explain.specs.declared.explain.Explained.TheVariants.{Known}
@@ -51,7 +52,8 @@ AllPrinted [] = Unit {0}
 AllPrinted (code ∷ codes) = IsPrintedByProgram code × AllPrinted codes
 
 -- so are the number that a row has, if it has one, and those of the rows after it
-printed_at : (own : Option ℕ) (codes : List ℕ) (code : ℕ) → AllPrinted (cons_option own codes) → numbered own code ≡ true → IsPrintedByProgram code
+printed_at : (own : Option ℕ) (codes : List ℕ) (code : ℕ) → AllPrinted (cons_option own codes)
+    → numbered own code ≡ true → IsPrintedByProgram code
 printed_at (Some own) codes code printed is = subst IsPrintedByProgram (eqb-true own code is) printed.0
 printed_at None codes code printed is = cc
 
@@ -60,13 +62,15 @@ printed_after (Some own) codes printed = printed.1
 printed_after None codes printed = printed
 
 -- a number that one of the rows has is one of theirs
-printed_in : (rows : List Row) → AllPrinted (filter_map (λ (row : Row). row.code) rows) → (code : ℕ) → known_or_not (with_number rows code) ≡ Known → IsPrintedByProgram code
+printed_in : (rows : List Row) → AllPrinted (filter_map (λ (row : Row). row.code) rows) → (code : ℕ)
+    → known_or_not (with_number rows code) ≡ Known → IsPrintedByProgram code
 printed_in [] printed code known = absurd cc
 printed_in (row ∷ rows) printed code known =
     let others = filter_map (λ (row : Row). row.code) rows in
     go (numbered row.code code) refl known (printed_in rows (printed_after row.code others printed) code)
   where
-    go : (same : Bool) → numbered row.code code ≡ same → known_or_not (cond same (Some row) (with_number rows code)) ≡ Known
+    go : (same : Bool) → numbered row.code code ≡ same
+        → known_or_not (cond same (Some row) (with_number rows code)) ≡ Known
         → (known_or_not (with_number rows code) ≡ Known → IsPrintedByProgram code) → IsPrintedByProgram code
     go true is found others = printed_at row.code (filter_map (λ (row : Row). row.code) rows) code printed is
     go false is found others = others found

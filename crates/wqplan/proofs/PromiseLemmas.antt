@@ -9,7 +9,8 @@ use Rattle.wq_commands.specs.YesIsTrue.{YesIsTrue}
 use Rattle.wq_commands.proofs.PromiseLemmas.{KeepsPromise-answers, YesIsTrue-checks}
 use Rattle.wq_circles.proofs.Promised.{KeepsCircles-answers, KeepsOwnCircles-answers}
 use Rattle.wq_run.specs.declared.fault.CommandFault.{CommandFault}
-use Rattle.wqplan.specs.CommandLine.{Asked, plans, checks, judges, hangs, repairs, replays, finds, draws, runs, explains}
+use Rattle.wqplan.specs.CommandLine.{Asked, plans, checks, judges, hangs, repairs, replays, finds, draws, runs}
+use Rattle.wqplan.specs.CommandLine.{explains}
 use Rattle.wqplan.specs.Ended.{EndsAsAsked, EndsCircles, EndsPlan, EndedBy}
 use Rattle.wqplan.specs.Promised.{PromisesAsAsked, PromisesCircles, PromisesPlan}
 
@@ -18,14 +19,16 @@ module _ (Holds : List ℕ → List ℕ → Type 0) (Input : List ℕ → Type 0
   of_plan None h = (h.0, h.1, h.2, KeepsPromise-answers h.0 end out h.2)
   of_plan (Some file) h = (h.0, h.1, h.2, KeepsPromise-answers h.0 end out h.2)
 
-  of_circles : (declaration : List ℕ) (assignment : Option (List ℕ)) → EndsCircles Holds declaration assignment end out → PromisesCircles Holds declaration assignment end out
+  of_circles : (declaration : List ℕ) (assignment : Option (List ℕ)) → EndsCircles Holds declaration assignment end out
+      → PromisesCircles Holds declaration assignment end out
   of_circles declaration None h = (h.0, h.1, h.2, KeepsOwnCircles-answers h.0 end out h.2)
   of_circles declaration (Some assignment) h = (h.0, h.1, h.2, h.3, h.4, KeepsCircles-answers h.0 h.1 end out h.4)
 
   yes : (text claim : List ℕ) → Checks text claim end out → end ≡ Good → YesIsTrue text claim out
   yes text claim h is = YesIsTrue-checks text claim out (subst (λ e. Checks text claim e out) is h)
 
-  pub PromisesAsAsked-ends : (asked : Asked) → EndsAsAsked Holds Input asked end out → PromisesAsAsked Holds Input asked end out
+  pub PromisesAsAsked-ends : (asked : Asked) → EndsAsAsked Holds Input asked end out
+      → PromisesAsAsked Holds Input asked end out
   PromisesAsAsked-ends (plans file) h = of_plan file h
   PromisesAsAsked-ends (checks declaration certificate) h = (h.0, h.1, h.2, h.3, h.4, yes h.0 h.1 h.4)
   PromisesAsAsked-ends (finds declaration assignment) h = of_circles declaration assignment h
@@ -38,8 +41,10 @@ module _ (Holds : List ℕ → List ℕ → Type 0) (Input : List ℕ → Type 0
   PromisesAsAsked-ends (explains code) h = h
 
 -- a command that has ended promises this
-module _ {W : Type 0} (contents : W → Option (List ℕ)) (old new : Meter W) (Holds : List ℕ → List ℕ → Type 0) (Input : List ℕ → Type 0) (asked : Asked) where
+module _ {W : Type 0} (contents : W → Option (List ℕ)) (old new : Meter W) (Holds : List ℕ → List ℕ
+    → Type 0) (Input : List ℕ → Type 0) (asked : Asked) where
   pub promised_by : (result : Result End CommandFault) → EndedBy contents old new (EndsAsAsked Holds Input asked) result
-      → IfOk result (λ end. (out : List ℕ) × PromisesAsAsked Holds Input asked end out × WritesWhole contents old new out)
+      → IfOk result (λ end. (out : List ℕ) × PromisesAsAsked Holds Input asked end out
+      × WritesWhole contents old new out)
   promised_by (Ok end) h = (h.0, PromisesAsAsked-ends Holds Input end h.0 asked h.1, h.2)
   promised_by (Err fault) h = tt

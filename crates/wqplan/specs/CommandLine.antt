@@ -1,11 +1,14 @@
 -- The command line of the program, in the words of `clap`.
-use Rattle.std.specs.Prelude.{◌≡◌, ◌==◌, ◌+◌, ◌≤◌, ◌⊎◌, ℕ, Bool, not, [], ◌∷◌, List, Option, Some, None, codes, true, map, option_map, option_to_list, unwrap_or, pos, nat_lt, if◌then◌else◌, Result, Ok, Err}
+use Rattle.std.specs.Prelude.{◌≡◌, ◌==◌, ◌+◌, ◌≤◌, ◌⊎◌, ℕ, Bool, not, [], ◌∷◌, List, Option, Some, None, codes, true}
+use Rattle.std.specs.Prelude.{map, option_map, option_to_list, unwrap_or, pos, nat_lt, if◌then◌else◌, Result, Ok, Err}
 use Rattle.std.specs.Str.Parse.{digits_value, without_leading_plus}
 use Rattle.clap.specs.Lexer.{usize_max}
-use Rattle.clap.specs.Words.{App, IsUnsignedIn, Row, Rule, Text, all_of, first_of, new_app, new_rule, one_of, subcommand_of, with_rule, with_subcommand}
+use Rattle.clap.specs.Words.{App, IsUnsignedIn, Row, Rule, Text, all_of, first_of, new_app, new_rule, one_of}
+use Rattle.clap.specs.Words.{subcommand_of, with_rule, with_subcommand}
 use Rattle.clap.specs.declared.builder.value_parser.ValueParser.TheVariants.{Signed}
 use Rattle.wqplan.specs.declared.command_line.Request.{Request}
-use Rattle.wqplan.specs.declared.command_line.Request.TheVariants.{Plan, Check, Deadlock, Hang, Repair, Replay, Circles, Dot, Run, Explain}
+use Rattle.wqplan.specs.declared.command_line.Request.TheVariants.{Plan, Check, Deadlock, Hang, Repair, Replay, Circles}
+use Rattle.wqplan.specs.declared.command_line.Request.TheVariants.{Dot, Run, Explain}
 
 -- a positional argument that must be given
 abbrev pub needed : Text → Rule
@@ -33,11 +36,13 @@ many_rule name = record (new_rule name) { range = Some (record { start_inclusive
 
 -- `repair DECL ASSIGN [NAME]..`
 abbrev pub repair : App
-repair = with_rule (with_rule (with_rule (new_app (codes "repair")) (needed (codes "DECL"))) (needed (codes "ASSIGN"))) (many_rule (codes "NAME"))
+repair = with_rule (with_rule (with_rule (new_app (codes "repair")) (needed (codes "DECL"))) (needed (codes "ASSIGN")))
+    (many_rule (codes "NAME"))
 
 -- `replay DECL ASSIGN RUN`
 abbrev pub replay : App
-replay = with_rule (with_rule (with_rule (new_app (codes "replay")) (needed (codes "DECL"))) (needed (codes "ASSIGN"))) (needed (codes "RUN"))
+replay = with_rule (with_rule (with_rule (new_app (codes "replay")) (needed (codes "DECL"))) (needed (codes "ASSIGN")))
+    (needed (codes "RUN"))
 
 -- `circles DECL [ASSIGN]`
 abbrev pub circles : App
@@ -68,10 +73,16 @@ bare =
 -- the program
 abbrev pub wqplan : App
 wqplan =
-    with_subcommand (with_subcommand (with_subcommand (with_subcommand (with_subcommand (with_subcommand (with_subcommand (with_subcommand (with_subcommand (with_subcommand bare plan.top) check.top)
+    with_subcommand
+    (with_subcommand
+    (with_subcommand
+    (with_subcommand
+    (with_subcommand
+    (with_subcommand (with_subcommand (with_subcommand (with_subcommand (with_subcommand bare plan.top) check.top)
     deadlock.top) hang.top) repair.top) replay.top) circles.top) dot.top) run.top) explain.top
 
--- a command and the paths of its files; for `repair` the names, and for `run` how many helpers there are; or the word that it explains
+-- a command and the paths of its files; for `repair` the names, and for `run` how many helpers there are; or the word
+-- that it explains
 pub data Asked : Type 0 where
   plans : Option Text → Asked
   checks : Text → Text → Asked
@@ -151,17 +162,25 @@ few_read (Err e) = None
 -- the matches of the command give it these files, and these names or this number, or this word
 abbrev pub GivesArguments : List Row → Asked → Type 0
 GivesArguments rows (plans file) = first_of (codes "FILE") rows ≡ file
-GivesArguments rows (checks declaration certificate) = (first_of (codes "DECL") rows ≡ Some declaration) × (first_of (codes "CERT") rows ≡ Some certificate)
-GivesArguments rows (judges declaration assignment) = (first_of (codes "DECL") rows ≡ Some declaration) × (first_of (codes "ASSIGN") rows ≡ Some assignment)
-GivesArguments rows (hangs declaration assignment) = (first_of (codes "DECL") rows ≡ Some declaration) × (first_of (codes "ASSIGN") rows ≡ Some assignment)
+GivesArguments rows (checks declaration certificate) =
+    (first_of (codes "DECL") rows ≡ Some declaration) × (first_of (codes "CERT") rows ≡ Some certificate)
+GivesArguments rows (judges declaration assignment) =
+    (first_of (codes "DECL") rows ≡ Some declaration) × (first_of (codes "ASSIGN") rows ≡ Some assignment)
+GivesArguments rows (hangs declaration assignment) =
+    (first_of (codes "DECL") rows ≡ Some declaration) × (first_of (codes "ASSIGN") rows ≡ Some assignment)
 GivesArguments rows (repairs declaration assignment names) =
-    (first_of (codes "DECL") rows ≡ Some declaration) × (first_of (codes "ASSIGN") rows ≡ Some assignment) × (names_of rows ≡ names)
+    (first_of (codes "DECL") rows ≡ Some declaration) × (first_of (codes "ASSIGN") rows ≡ Some assignment)
+    × (names_of rows ≡ names)
 GivesArguments rows (replays declaration assignment steps) =
-    (first_of (codes "DECL") rows ≡ Some declaration) × (first_of (codes "ASSIGN") rows ≡ Some assignment) × (first_of (codes "RUN") rows ≡ Some steps)
-GivesArguments rows (finds declaration assignment) = (first_of (codes "DECL") rows ≡ Some declaration) × (first_of (codes "ASSIGN") rows ≡ assignment)
-GivesArguments rows (draws declaration assignment) = (first_of (codes "DECL") rows ≡ Some declaration) × (first_of (codes "ASSIGN") rows ≡ assignment)
+    (first_of (codes "DECL") rows ≡ Some declaration) × (first_of (codes "ASSIGN") rows ≡ Some assignment)
+    × (first_of (codes "RUN") rows ≡ Some steps)
+GivesArguments rows (finds declaration assignment) =
+    (first_of (codes "DECL") rows ≡ Some declaration) × (first_of (codes "ASSIGN") rows ≡ assignment)
+GivesArguments rows (draws declaration assignment) =
+    (first_of (codes "DECL") rows ≡ Some declaration) × (first_of (codes "ASSIGN") rows ≡ assignment)
 GivesArguments rows (runs declaration helpers) =
-    (first_of (codes "DECL") rows ≡ Some declaration) × (helpers_in (one_of (codes "HELPERS") rows) ≡ helpers) × IsHelpers (one_of (codes "HELPERS") rows)
+    (first_of (codes "DECL") rows ≡ Some declaration) × (helpers_in (one_of (codes "HELPERS") rows) ≡ helpers)
+    × IsHelpers (one_of (codes "HELPERS") rows)
 GivesArguments rows (explains code) = first_of (codes "CODE") rows ≡ code
 
 -- a command that was met, with its matches, asks for this
@@ -188,34 +207,47 @@ digit n = (48 + n) ∷ []
 
 -- a run with this many helpers is asked for by this declaration's file alone, or by it and the number
 abbrev pub CallsRun : List Text → Text → ℕ → Type 0
-CallsRun words declaration helpers = ((words ≡ declaration ∷ []) × (helpers ≡ 0)) ⊎ ((words ≡ declaration ∷ digit helpers ∷ []) × (helpers ≤ 8))
+CallsRun words declaration helpers = ((words ≡ declaration ∷ []) × (helpers ≡ 0))
+    ⊎ ((words ≡ declaration ∷ digit helpers ∷ []) × (helpers ≤ 8))
 
--- the words are the program's name, a command, and after it its files, for `repair` one name at most, for `run` maybe the number of
--- helpers, or the word to explain. No file and no word looks like an option
+-- the words are the program's name, a command, and after it its files, for `repair` one name at most, for `run` maybe
+-- the number of helpers, or the word to explain. No file and no word looks like an option
 abbrev pub Calls : List Text → Asked → Type 0
 Calls words (plans None) = (program : Text) × (words ≡ program ∷ codes "plan" ∷ [])
-Calls words (plans (Some file)) = (program : Text) × (words ≡ program ∷ codes "plan" ∷ file ∷ []) × (is_no_option file ≡ true)
-Calls words (checks declaration certificate) = (program : Text) × (words ≡ program ∷ codes "check" ∷ declaration ∷ certificate ∷ [])
+Calls words (plans (Some file)) = (program : Text) × (words ≡ program ∷ codes "plan" ∷ file ∷ [])
+    × (is_no_option file ≡ true)
+Calls words (checks declaration certificate) =
+    (program : Text) × (words ≡ program ∷ codes "check" ∷ declaration ∷ certificate ∷ [])
     × (is_no_option declaration ≡ true) × (is_no_option certificate ≡ true)
-Calls words (judges declaration assignment) = (program : Text) × (words ≡ program ∷ codes "deadlock" ∷ declaration ∷ assignment ∷ [])
+Calls words (judges declaration assignment) = (program : Text)
+    × (words ≡ program ∷ codes "deadlock" ∷ declaration ∷ assignment ∷ [])
     × (is_no_option declaration ≡ true) × (is_no_option assignment ≡ true)
-Calls words (hangs declaration assignment) = (program : Text) × (words ≡ program ∷ codes "hang" ∷ declaration ∷ assignment ∷ [])
+Calls words (hangs declaration assignment) = (program : Text)
+    × (words ≡ program ∷ codes "hang" ∷ declaration ∷ assignment ∷ [])
     × (is_no_option declaration ≡ true) × (is_no_option assignment ≡ true)
-Calls words (repairs declaration assignment []) = (program : Text) × (words ≡ program ∷ codes "repair" ∷ declaration ∷ assignment ∷ [])
+Calls words (repairs declaration assignment []) =
+    (program : Text) × (words ≡ program ∷ codes "repair" ∷ declaration ∷ assignment ∷ [])
     × (is_no_option declaration ≡ true) × (is_no_option assignment ≡ true)
 Calls words (repairs declaration assignment (name ∷ [])) =
     (program : Text) × (words ≡ program ∷ codes "repair" ∷ declaration ∷ assignment ∷ name ∷ [])
     × (is_no_option declaration ≡ true) × (is_no_option assignment ≡ true) × (is_no_option name ≡ true)
 Calls words (repairs declaration assignment (name ∷ other ∷ names)) = ⊥
-Calls words (replays declaration assignment steps) = (program : Text) × (words ≡ program ∷ codes "replay" ∷ declaration ∷ assignment ∷ steps ∷ [])
+Calls words (replays declaration assignment steps) =
+    (program : Text) × (words ≡ program ∷ codes "replay" ∷ declaration ∷ assignment ∷ steps ∷ [])
     × (is_no_option declaration ≡ true) × (is_no_option assignment ≡ true) × (is_no_option steps ≡ true)
-Calls words (finds declaration None) = (program : Text) × (words ≡ program ∷ codes "circles" ∷ declaration ∷ []) × (is_no_option declaration ≡ true)
-Calls words (finds declaration (Some assignment)) = (program : Text) × (words ≡ program ∷ codes "circles" ∷ declaration ∷ assignment ∷ [])
+Calls words (finds declaration None) = (program : Text) × (words ≡ program ∷ codes "circles" ∷ declaration ∷ [])
+    × (is_no_option declaration ≡ true)
+Calls words (finds declaration (Some assignment)) =
+    (program : Text) × (words ≡ program ∷ codes "circles" ∷ declaration ∷ assignment ∷ [])
     × (is_no_option declaration ≡ true) × (is_no_option assignment ≡ true)
-Calls words (draws declaration None) = (program : Text) × (words ≡ program ∷ codes "dot" ∷ declaration ∷ []) × (is_no_option declaration ≡ true)
-Calls words (draws declaration (Some assignment)) = (program : Text) × (words ≡ program ∷ codes "dot" ∷ declaration ∷ assignment ∷ [])
+Calls words (draws declaration None) = (program : Text) × (words ≡ program ∷ codes "dot" ∷ declaration ∷ [])
+    × (is_no_option declaration ≡ true)
+Calls words (draws declaration (Some assignment)) =
+    (program : Text) × (words ≡ program ∷ codes "dot" ∷ declaration ∷ assignment ∷ [])
     × (is_no_option declaration ≡ true) × (is_no_option assignment ≡ true)
-Calls words (runs declaration helpers) = (program : Text) × (arguments : List Text) × (words ≡ program ∷ codes "run" ∷ arguments) × CallsRun arguments declaration helpers
+Calls words (runs declaration helpers) = (program : Text) × (arguments : List Text)
+    × (words ≡ program ∷ codes "run" ∷ arguments) × CallsRun arguments declaration helpers
     × (is_no_option declaration ≡ true)
 Calls words (explains None) = (program : Text) × (words ≡ program ∷ codes "explain" ∷ [])
-Calls words (explains (Some code)) = (program : Text) × (words ≡ program ∷ codes "explain" ∷ code ∷ []) × (is_no_option code ≡ true)
+Calls words (explains (Some code)) = (program : Text) × (words ≡ program ∷ codes "explain" ∷ code ∷ [])
+    × (is_no_option code ≡ true)

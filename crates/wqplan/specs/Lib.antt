@@ -3,4 +3,5 @@ pub mod Status
 pub mod Ended
 pub mod Numbers
 pub mod Cause
+pub mod Files
 pub mod Promised

@@ -25,8 +25,8 @@ abbrev pub status_of : Result End CommandFault → ℕ
 status_of (Ok end) = exit_status end
 status_of (Err fault) = 3
 
--- the exit status if standard output couldn't be written for this reason: 141, as of a program that SIGPIPE ends, if nobody reads it
--- any more, or else that of a fault
+-- the exit status if standard output couldn't be written for this reason: 141, as of a program that SIGPIPE ends, if
+-- nobody reads it any more, or else that of a fault
 abbrev pub unwritten_status : Unwritten → ℕ
 unwritten_status Unread = 141
 unwritten_status (Failed why) = 3

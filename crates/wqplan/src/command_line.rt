@@ -2,10 +2,15 @@
 //!
 //! It is read by `clap`: one command, and positional arguments alone. The time is linear in the words.
 
-ghost use Rattle.std.specs.Prelude.{◌≡◌, ◌≤◌, ℕ, List, Option, Some, codes, false, IfOk, IfSome, IsSome, MatchResult, map};
+ghost use Rattle.std.specs.Prelude.{◌≡◌, ◌≤◌, ℕ, List, Option, Some, codes, false, IfOk, IfSome, IsSome, MatchResult};
+ghost use Rattle.std.specs.Prelude.{map};
 ghost use Rattle.clap.specs.Words.{app_of, found_of, kind_of, one_of, rows_of, rule_of, subcommand_rows_of};
 ghost use Rattle.clap.specs.declared.error.kind.ErrorKind.TheVariants.{OutOfMemory};
-ghost use Rattle.wqplan.specs.CommandLine.{bare, check, circles, number_rule, many_rule, deadlock, hang, dot, explain, needed, plan, repair, replay, run, spelled, wqplan, Asked, Asks, AsksFor, Calls, GivesArguments, HasFewHelpers, IsHelpers, IsRepair, few_read, helpers_in, names_of, checks, draws, finds, hangs, judges, repairs, replays, runs};
+ghost use Rattle.wqplan.specs.CommandLine.{bare, check, circles, number_rule, many_rule, deadlock, hang, dot, explain};
+ghost use Rattle.wqplan.specs.CommandLine.{needed, plan, repair, replay, run, spelled, wqplan, Asked, Asks, AsksFor};
+ghost use Rattle.wqplan.specs.CommandLine.{Calls, GivesArguments, HasFewHelpers, IsHelpers, IsRepair, few_read};
+ghost use Rattle.wqplan.specs.CommandLine.{helpers_in, names_of, checks, draws, finds, hangs, judges, repairs, replays};
+ghost use Rattle.wqplan.specs.CommandLine.{runs};
 
 use crate::world::INPUT;
 use crate::{help, statuses};
@@ -39,8 +44,8 @@ pub(crate) enum Request<'a> {
         declaration: &'a str,
         assignment: &'a str,
     },
-    /// What to change in the assignment in the second file, for the declaration in the first, so that it is safe. The items with
-    /// these names may move, or all, if there is no name.
+    /// What to change in the assignment in the second file, for the declaration in the first, so that it is safe. The
+    /// items with these names may move, or all, if there is no name.
     Repair {
         declaration: &'a str,
         assignment: &'a str,
@@ -52,18 +57,20 @@ pub(crate) enum Request<'a> {
         assignment: &'a str,
         run: &'a str,
     },
-    /// The flushes of the declaration in the first file that lie on a circle: under the assignment in the second file, or where
-    /// each group has a workqueue of its own.
+    /// The flushes of the declaration in the first file that lie on a circle: under the assignment in the second file,
+    /// or where each group has a workqueue of its own.
     Circles {
         declaration: &'a str,
         assignment: Option<&'a str>,
     },
-    /// A drawing of the declaration in the first file, on the workqueues of the assignment in the second, or else of its plan.
+    /// A drawing of the declaration in the first file, on the workqueues of the assignment in the second, or else of
+    /// its plan.
     Dot {
         declaration: &'a str,
         assignment: Option<&'a str>,
     },
-    /// A run of the plan of the declaration in this file, with this many helpers, at most 8, for each workqueue that isn't ordered.
+    /// A run of the plan of the declaration in this file, with this many helpers, at most 8, for each workqueue that
+    /// isn't ordered.
     Run {
         declaration: &'a str,
         helpers: u8,
@@ -307,8 +314,10 @@ fn program<'a>(alloc: Global) -> Result<Command<'a>, AllocError>
 
 /// The request for `check`. Its two files are in all matches that a parse gives.
 fn check_request<'a>(given: &ArgMatches<'a>) -> Option<Request<'a>>
-    ensures asked { IfSome result (λ request. AsksFor (Some (codes "check", rows_of (found_of given.now))) (spelled request)) }
-    ensures all { (declaration certificate : List ℕ) → GivesArguments (rows_of (found_of given.now)) (checks declaration certificate) → IsSome result }
+    ensures asked { IfSome result (λ request.
+        AsksFor (Some (codes "check", rows_of (found_of given.now))) (spelled request)) }
+    ensures all { (declaration certificate : List ℕ)
+        → GivesArguments (rows_of (found_of given.now)) (checks declaration certificate) → IsSome result }
 {
     let declaration = given.get_str("DECL")?;
     let certificate = given.get_str("CERT")?;
@@ -320,8 +329,10 @@ fn check_request<'a>(given: &ArgMatches<'a>) -> Option<Request<'a>>
 
 /// The request for `deadlock`. Its two files are in all matches that a parse gives.
 fn deadlock_request<'a>(given: &ArgMatches<'a>) -> Option<Request<'a>>
-    ensures asked { IfSome result (λ request. AsksFor (Some (codes "deadlock", rows_of (found_of given.now))) (spelled request)) }
-    ensures all { (declaration assignment : List ℕ) → GivesArguments (rows_of (found_of given.now)) (judges declaration assignment) → IsSome result }
+    ensures asked { IfSome result (λ request.
+        AsksFor (Some (codes "deadlock", rows_of (found_of given.now))) (spelled request)) }
+    ensures all { (declaration assignment : List ℕ)
+        → GivesArguments (rows_of (found_of given.now)) (judges declaration assignment) → IsSome result }
 {
     let declaration = given.get_str("DECL")?;
     let assignment = given.get_str("ASSIGN")?;
@@ -333,8 +344,10 @@ fn deadlock_request<'a>(given: &ArgMatches<'a>) -> Option<Request<'a>>
 
 /// The request for `hang`. Its two files are in all matches that a parse gives.
 fn hang_request<'a>(given: &ArgMatches<'a>) -> Option<Request<'a>>
-    ensures asked { IfSome result (λ request. AsksFor (Some (codes "hang", rows_of (found_of given.now))) (spelled request)) }
-    ensures all { (declaration assignment : List ℕ) → GivesArguments (rows_of (found_of given.now)) (hangs declaration assignment) → IsSome result }
+    ensures asked { IfSome result (λ request.
+        AsksFor (Some (codes "hang", rows_of (found_of given.now))) (spelled request)) }
+    ensures all { (declaration assignment : List ℕ)
+        → GivesArguments (rows_of (found_of given.now)) (hangs declaration assignment) → IsSome result }
 {
     let declaration = given.get_str("DECL")?;
     let assignment = given.get_str("ASSIGN")?;
@@ -391,8 +404,10 @@ fn repair_request<'a>(
 
 /// The request for `replay`. Its three files are in all matches that a parse gives.
 fn replay_request<'a>(given: &ArgMatches<'a>) -> Option<Request<'a>>
-    ensures asked { IfSome result (λ request. AsksFor (Some (codes "replay", rows_of (found_of given.now))) (spelled request)) }
-    ensures all { (declaration assignment run : List ℕ) → GivesArguments (rows_of (found_of given.now)) (replays declaration assignment run) → IsSome result }
+    ensures asked { IfSome result (λ request.
+        AsksFor (Some (codes "replay", rows_of (found_of given.now))) (spelled request)) }
+    ensures all { (declaration assignment run : List ℕ)
+        → GivesArguments (rows_of (found_of given.now)) (replays declaration assignment run) → IsSome result }
 {
     let declaration = given.get_str("DECL")?;
     let assignment = given.get_str("ASSIGN")?;
@@ -406,8 +421,10 @@ fn replay_request<'a>(given: &ArgMatches<'a>) -> Option<Request<'a>>
 
 /// The request for `circles`. Its first file is in all matches that a parse gives.
 fn circles_request<'a>(given: &ArgMatches<'a>) -> Option<Request<'a>>
-    ensures asked { IfSome result (λ request. AsksFor (Some (codes "circles", rows_of (found_of given.now))) (spelled request)) }
-    ensures all { (declaration : List ℕ) (assignment : Option (List ℕ)) → GivesArguments (rows_of (found_of given.now)) (finds declaration assignment) → IsSome result }
+    ensures asked { IfSome result (λ request.
+        AsksFor (Some (codes "circles", rows_of (found_of given.now))) (spelled request)) }
+    ensures all { (declaration : List ℕ) (assignment : Option (List ℕ))
+        → GivesArguments (rows_of (found_of given.now)) (finds declaration assignment) → IsSome result }
 {
     let declaration = given.get_str("DECL")?;
     let assignment = given.get_str("ASSIGN");
@@ -419,8 +436,10 @@ fn circles_request<'a>(given: &ArgMatches<'a>) -> Option<Request<'a>>
 
 /// The request for `dot`. Its first file is in all matches that a parse gives.
 fn dot_request<'a>(given: &ArgMatches<'a>) -> Option<Request<'a>>
-    ensures asked { IfSome result (λ request. AsksFor (Some (codes "dot", rows_of (found_of given.now))) (spelled request)) }
-    ensures all { (declaration : List ℕ) (assignment : Option (List ℕ)) → GivesArguments (rows_of (found_of given.now)) (draws declaration assignment) → IsSome result }
+    ensures asked { IfSome result (λ request.
+        AsksFor (Some (codes "dot", rows_of (found_of given.now))) (spelled request)) }
+    ensures all { (declaration : List ℕ) (assignment : Option (List ℕ))
+        → GivesArguments (rows_of (found_of given.now)) (draws declaration assignment) → IsSome result }
 {
     let declaration = given.get_str("DECL")?;
     let assignment = given.get_str("ASSIGN");
@@ -455,10 +474,13 @@ fn helpers_given<'a>(given: &ArgMatches<'a>) -> Option<u8>
     few_read(given.try_get_one::<u8>("HELPERS"))
 }
 
-/// The request for `run`. Its file, and a number of helpers where it is asked for, are in all matches that a parse gives.
+/// The request for `run`. Its file, and a number of helpers where it is asked for, are in all matches that a parse
+/// gives.
 fn run_request<'a>(given: &ArgMatches<'a>) -> Option<Request<'a>>
-    ensures asked { IfSome result (λ request. AsksFor (Some (codes "run", rows_of (found_of given.now))) (spelled request)) }
-    ensures all { (declaration : List ℕ) (helpers : ℕ) → GivesArguments (rows_of (found_of given.now)) (runs declaration helpers) → IsSome result }
+    ensures asked { IfSome result (λ request.
+        AsksFor (Some (codes "run", rows_of (found_of given.now))) (spelled request)) }
+    ensures all { (declaration : List ℕ) (helpers : ℕ)
+        → GivesArguments (rows_of (found_of given.now)) (runs declaration helpers) → IsSome result }
 {
     let declaration = given.get_str("DECL")?;
     let helpers = helpers_given(given)?;
@@ -470,8 +492,10 @@ fn run_request<'a>(given: &ArgMatches<'a>) -> Option<Request<'a>>
 
 /// The request of the command that a parse has entered. There is none where that is `help`.
 fn entered<'a>(alloc: Global, matches: &ArgMatches<'a>) -> Result<Option<Request<'a>>, AllocError>
-    ensures asked { IfOk result (λ found. IfSome found (λ request. AsksFor (subcommand_rows_of matches.now) (spelled request))) }
-    ensures all { IfOk result (λ found. (wanted : Asked) → AsksFor (subcommand_rows_of matches.now) wanted → IsSome found) }
+    ensures asked { IfOk result (λ found. IfSome found (λ request.
+        AsksFor (subcommand_rows_of matches.now) (spelled request))) }
+    ensures all { IfOk result (λ found. (wanted : Asked) → AsksFor (subcommand_rows_of matches.now) wanted
+        → IsSome found) }
 {
     if let Some(given) = matches.subcommand_matches("repair") {
         return repair_request(alloc, given);
@@ -482,7 +506,8 @@ fn entered<'a>(alloc: Global, matches: &ArgMatches<'a>) -> Result<Option<Request
 /// The request of the command that a parse has entered. There is none where that is `repair` or `help`.
 fn entered_other<'a>(matches: &ArgMatches<'a>) -> Option<Request<'a>>
     ensures asked { IfSome result (λ request. AsksFor (subcommand_rows_of matches.now) (spelled request)) }
-    ensures all { (wanted : Asked) → (¬ IsRepair wanted) → AsksFor (subcommand_rows_of matches.now) wanted → IsSome result }
+    ensures all { (wanted : Asked) → (¬ IsRepair wanted) → AsksFor (subcommand_rows_of matches.now) wanted
+        → IsSome result }
 {
     if let Some(given) = matches.subcommand_matches("plan") {
         return Some(Request::Plan {

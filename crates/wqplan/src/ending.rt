@@ -1,7 +1,8 @@
 //! How the process ends: its exit status, and what it prints where a run has no answer.
 //!
-//! The statuses are those of docs/FORMAT.md: 0 to 2 as `End` has them, 2 for a wrong command line too, 3 for a fault, and 141 where
-//! nobody reads standard output any more. A line that can't be written to standard error is lost, but the status says the same.
+//! The statuses are those of docs/FORMAT.md: 0 to 2 as `End` has them, 2 for a wrong command line too, 3 for a fault,
+//! and 141 where nobody reads standard output any more. A line that can't be written to standard error is lost, but the
+//! status says the same.
 
 ghost use Rattle.std.specs.Prelude.{◌≡◌, ◌≢◌, ◌⊎◌, OnOk, OnErr};
 ghost use Rattle.std.specs.IoError.{error_kind};
@@ -38,7 +39,8 @@ fn faulted(rt: &impl Eprint, fault: CommandFault) -> u8
     FAULTED
 }
 
-/// The status where standard output couldn't be written for this reason. Where nobody reads it any more, nothing is said.
+/// The status where standard output couldn't be written for this reason. Where nobody reads it any more, nothing is
+/// said.
 fn unwritten<R: Eprint + AllocGlobal>(rt: &R, why: Unwritten) -> u8
     ensures { result ≡ unwritten_status why }
 {

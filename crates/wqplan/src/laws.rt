@@ -19,13 +19,14 @@ ghost use Rattle.wq_explain.specs.declared.explain.Explained.TheVariants.{Known}
 use crate::world::World;
 use std::io::Read;
 
-/// `explain` knows exactly the numbers that a refusal or a `no` can have. The one for a plan too large to run is among them.
+/// `explain` knows exactly the numbers that a refusal or a `no` can have. The one for a plan too large to run is among
+/// them.
 pub fn each_printed_number_is_explained()
     ensures { (code : ℕ) → IsPrintedByProgram code ↔ (number_end code ≡ Known) }
 {}
 
-/// If a file of a command can never be opened, then, by the clause `caused` of `perform`, the command ends with `fault read`, and
-/// with nothing else. So does each command but `explain` if there is never a seed.
+/// If a file of a command can never be opened, then, by the clause `caused` of `perform`, the command ends with `fault
+/// read`, and with nothing else. So does each command but `explain` if there is never a seed.
 pub fn what_cannot_be_opened_is_not_read<'a, O: World<'a>, I: Read>()
     ensures file { (world : O) (old new : Meter I) (asked : Asked) (result : Result End CommandFault) →
         IsCaused (O.seeds world) (O.opens world) (HasFailed old new) asked result →
@@ -33,7 +34,8 @@ pub fn what_cannot_be_opened_is_not_read<'a, O: World<'a>, I: Read>()
         result ≡ Err (Common ReadFault) }
     ensures seed { (world : O) (old new : Meter I) (asked : Asked) (result : Result End CommandFault) →
         IsCaused (O.seeds world) (O.opens world) (HasFailed old new) asked result →
-        ((code : Option (List ℕ)) → asked ≢ explains code) → ((seed : ℕ) → ¬ O.seeds world (Some seed)) → result ≡ Err (Common ReadFault) }
+        ((code : Option (List ℕ)) → asked ≢ explains code) → ((seed : ℕ) → ¬ O.seeds world (Some seed))
+        → result ≡ Err (Common ReadFault) }
 {}
 
 /// By the same clause only `run` ends with `fault thread` or `fault tally`.

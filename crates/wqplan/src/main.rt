@@ -1,9 +1,10 @@
-//! `wqplan`: the commands of `wq_commands`, `wq_circles`, `wq_dot`, `wq_run` and `wq_explain`, over the files, the standard
-//! streams and the threads of a process.
+//! `wqplan`: the commands of `wq_commands`, `wq_circles`, `wq_dot`, `wq_run` and `wq_explain`, over the files, the
+//! standard streams and the threads of a process.
 //!
-//! This crate adds the command line, the files and the exit status. What is read and what is answered is defined in those crates.
-//! The formats and the statuses are those of docs/FORMAT.md. `main` returns the status as a number and never as an error: an
-//! error would give the status 1, which means a bad answer. The running time is that of the command.
+//! This crate adds the command line, the files and the exit status. What is read and what is answered is defined in
+//! those crates. The formats and the statuses are those of docs/FORMAT.md. `main` returns the status as a number and
+//! never as an error: an error would give the status 1, which means a bad answer. The running time is that of the
+//! command.
 #![tactic(auto)]
 
 ghost use Rattle.wqplan.specs.CommandLine.{HasFewHelpers, spelled};
@@ -13,6 +14,7 @@ mod ending;
 mod help;
 pub mod laws;
 mod performing;
+mod seeded;
 mod statuses;
 mod world;
 
@@ -59,7 +61,8 @@ fn main(rt: HostRuntime) -> ExitCode {
     let status = match command_line::parse(rt.alloc(), &words) {
         Ok(request) if request.repeats_input() => ending::repeated(&rt),
         Ok(request) => {
-            // Standard output has no buffer. So what was written has left the process, and a write that the system refuses is noticed.
+            // Standard output has no buffer. So what was written has left the process, and a write that the system
+            // refuses is noticed.
             let mut writer = Metered::new(Noting::new(io::writer(&rt)));
             let mut error = Metered::new(rt.stderr());
             let above = rt.stdout().is_terminal() && rt.stderr().is_terminal();

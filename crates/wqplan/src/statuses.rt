@@ -1,5 +1,5 @@
-//! The texts at the end of long help, with the exit statuses: of the program, and of each command its own. tests/docs/made.py makes
-//! them from docs/tables/commands.txt.
+//! The texts at the end of long help, with the exit statuses: of the program, and of each command its own.
+//! tests/docs/made.py makes them from docs/tables/commands.txt.
 
 /// Of the program.
 pub(crate) const PROGRAM: &str = "\

@@ -8,7 +8,8 @@ use wq_commands::End;
 const DRAWN_PLAN: &str = "\
 digraph wqplan {
   graph [label=\"plan of 2 workqueues, 1 wait in bold\
-\\lBold: the chain that needs so many workqueues.\\l\", labelloc=t, labeljust=l, rankdir=LR, nodesep=0.15, ranksep=1, fontname=\"sans-serif\"];
+\\lBold: the chain that needs so many workqueues.\\l\", labelloc=t, labeljust=l, rankdir=LR, nodesep=0.15, ranksep=1, \
+    fontname=\"sans-serif\"];
   node [shape=box, style=filled, fillcolor=white, height=0.3, fontname=\"sans-serif\", fontsize=12];
   edge [arrowsize=0.7];
   subgraph \"cluster wq 0\" {

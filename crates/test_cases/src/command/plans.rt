@@ -71,7 +71,8 @@ d:3:9: and `b` waits for `a`, which waits
         command: PlainCommand::Plan,
         texts: &[GROUPED],
         end: End::Bad,
-        answer: "circle 2\narc a b\narc c d\nrun 8\nqueue a\nqueue c\nqueue b\nqueue d\nstart 0 a\nwait 0 b\nstart 1 c\nwait 1 d\n",
+        answer: "circle 2\narc a b\narc c d\nrun 8\nqueue a\nqueue c\nqueue b\nqueue d\nstart 0 a\n\
+            wait 0 b\nstart 1 c\nwait 1 d\n",
         said: "\
 d:7:9: can hang on any workqueues: `a` waits for `b`, which is behind `c`: they are `ordered`
     flush a b

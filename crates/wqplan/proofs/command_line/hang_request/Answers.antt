@@ -6,12 +6,14 @@ use Rattle.wqplan.proofs.command_line.hang_request.Goals as goal
 pub returns-in_err-declaration-clause-all : goal.returns-in_err-declaration-clause-all
 returns-in_err-declaration-clause-all c = λ declaration assignment given.
     let none : c.get_str.result ≡ None = search rules in
-    absurd (not_given c.get_str.result (found_of c.args.given.now) (codes "DECL") declaration c.get_str.ensures none given.0)
+    absurd (not_given c.get_str.result (found_of c.args.given.now)
+    (codes "DECL") declaration c.get_str.ensures none given.0)
 
 pub returns-in_err-assignment-clause-all : goal.returns-in_err-assignment-clause-all
 returns-in_err-assignment-clause-all c = λ declaration assignment given.
     let none : c.get_str-2.result ≡ None = search rules in
-    absurd (not_given c.get_str-2.result (found_of c.args.given.now) (codes "ASSIGN") assignment c.get_str-2.ensures none given.1)
+    absurd (not_given c.get_str-2.result (found_of c.args.given.now)
+    (codes "ASSIGN") assignment c.get_str-2.ensures none given.1)
 
 pub returns-clause-asked : goal.returns-clause-asked
 returns-clause-asked c =
@@ -20,7 +22,9 @@ returns-clause-asked c =
       _,
       refl,
       (
-        value_given c.get_str.result c.in_ok-declaration.declaration (found_of c.args.given.now) (codes "DECL") c.get_str.ensures declaration_is,
-        value_given c.get_str-2.result c.in_ok-assignment.assignment (found_of c.args.given.now) (codes "ASSIGN") c.get_str-2.ensures assignment_is,
+        value_given c.get_str.result c.in_ok-declaration.declaration (found_of c.args.given.now)
+            (codes "DECL") c.get_str.ensures declaration_is,
+        value_given c.get_str-2.result c.in_ok-assignment.assignment (found_of c.args.given.now)
+            (codes "ASSIGN") c.get_str-2.ensures assignment_is,
       ),
     )

@@ -10,7 +10,8 @@ returns-in-Some c =
     let is : c.get_strs.result ≡ Some c.in-Some.names = search rules in
     IfOk-weaker c.copied.result _ _
     (λ copy same. ap (λ (l : List (Bor Text)). map (λ n. n.now) l) same
-    ∙ names_given (λ s. map (λ v. v.now) s.now) c.get_strs.result c.in-Some.names (found_of c.args.given.now) c.get_strs.ensures is) c.copied.ensures
+    ∙ names_given (λ s. map (λ v. v.now) s.now) c.get_strs.result c.in-Some.names
+    (found_of c.args.given.now) c.get_strs.ensures is) c.copied.ensures
 
 pub returns-in-None : goal.returns-in-None
 returns-in-None c =

@@ -9,6 +9,8 @@ returns c =
     let empty : app_of c.after_long_help.result ≡ new_app (codes "replay") = search rules in
     let one : app_of c.in_ok-arg.field-0 ≡ with_rule (new_app (codes "replay")) (needed (codes "DECL")) =
     c.in_ok-arg.ensures.shape c.file-declaration.ensures.own ∙ ap₂ with_rule empty c.file-declaration.ensures.rule in
-    let two : app_of c.in_ok-arg-2.field-0 ≡ with_rule (with_rule (new_app (codes "replay")) (needed (codes "DECL"))) (needed (codes "ASSIGN")) =
+    let two : app_of c.in_ok-arg-2.field-0 ≡ with_rule (with_rule (new_app (codes "replay")) (needed (codes "DECL")))
+    (needed (codes "ASSIGN")) =
     c.in_ok-arg-2.ensures.shape c.file-assignment.ensures.own ∙ ap₂ with_rule one c.file-assignment.ensures.rule in
-    IfOk-weaker c.arg-3.result _ _ (λ r added. added.shape c.file-run.ensures.own ∙ ap₂ with_rule two c.file-run.ensures.rule) c.arg-3.ensures
+    IfOk-weaker c.arg-3.result _ _ (λ r added. added.shape c.file-run.ensures.own
+    ∙ ap₂ with_rule two c.file-run.ensures.rule) c.arg-3.ensures

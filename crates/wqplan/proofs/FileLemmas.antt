@@ -1,0 +1,133 @@
+-- The files of a command: they are opened, and have texts.
+use Rattle.std.proofs.Common.{◌≡◌, ℕ, List, [], ◌∷◌, Option, Some, None, Result, Ok, Err, inl, refl, sym, subst, arith}
+use Rattle.std.proofs.lemmas.List.Elements.{All-cons, All-nil}
+use Rattle.std.specs.Borrow.{Bor}
+use Rattle.std.specs.List.{All, Any}
+use Rattle.clap.specs.Words.{Text}
+use Rattle.wq_meter.specs.Input.{IsInput}
+use Rattle.wq_meter.specs.Meter.{Meter}
+use Rattle.wq_meter.specs.Shell.{Given, kept}
+use Rattle.wq_meter.specs.declared.fault.Fault.TheVariants.{Memory, Read, Write}
+use Rattle.wq_meter.specs.declared.texts.Limits.{Limits}
+use Rattle.wq_commands.specs.declared.end.End.{End}
+use Rattle.wq_commands.specs.declared.why.Outcome.{Outcome}
+use Rattle.wq_run.specs.declared.fault.CommandFault.{CommandFault}
+use Rattle.wq_run.specs.declared.fault.CommandFault.TheVariants.{Common, Tally, Thread}
+use Rattle.wqplan.specs.Cause.{IsCaused, IsOpened}
+use Rattle.wqplan.specs.CommandLine.{spelled}
+use Rattle.wqplan.specs.Ended.{EndedBy, Has, IsInputIf}
+use Rattle.wqplan.specs.Files.{AreOpened, EndsFiles, HaveTexts, HoldsIf, paths_of}
+use Rattle.wqplan.specs.declared.command_line.Request.{Request}
+use Rattle.wqplan.specs.declared.command_line.Request.TheVariants as asks
+use Rattle.wqplan.specs.declared.performing.Files.{Files}
+use Rattle.wqplan.specs.declared.performing.Files.TheVariants.{One, Two, Three}
+
+module _ {F : Type 0} (Opens : Text → Option F → Type 0) where
+  -- ---- a file can't be opened
+
+  pub closed_first : (a : Text) (paths : List Text) → Opens a None → Any (λ path. Opens path None) (a ∷ paths)
+  closed_first a paths closed = (0, a, omega arith, refl, closed)
+
+  pub closed_second : (a b : Text) (paths : List Text) → Opens b None → Any (λ path. Opens path None) (a ∷ b ∷ paths)
+  closed_second a b paths closed = (1, b, omega arith, refl, closed)
+
+  pub closed_third : (a b d : Text) → Opens d None → Any (λ path. Opens path None) (a ∷ b ∷ d ∷ [])
+  closed_third a b d closed = (2, d, omega arith, refl, closed)
+
+  -- ---- all are opened
+
+  pub all_opened : (paths : Files (Bor Text)) (files : Files F) → AreOpened Opens paths files
+      → All (IsOpened Opens) (paths_of paths)
+  all_opened (One first) (One a) opened = All-cons (IsOpened Opens) first.now [] (a, opened) (All-nil (IsOpened Opens))
+  all_opened (Two first second) (Two a b) opened =
+      All-cons (IsOpened Opens) first.now (second.now ∷ []) (a, opened.0)
+      (All-cons (IsOpened Opens) second.now [] (b, opened.1) (All-nil (IsOpened Opens)))
+  all_opened (Three first second third) (Three a b d) opened =
+      All-cons (IsOpened Opens) first.now (second.now ∷ third.now ∷ []) (a, opened.0)
+      (All-cons (IsOpened Opens) second.now (third.now ∷ []) (b, opened.1)
+      (All-cons (IsOpened Opens) third.now [] (d, opened.2) (All-nil (IsOpened Opens))))
+  all_opened (One first) (Two a b) opened = absurd opened
+  all_opened (One first) (Three a b d) opened = absurd opened
+  all_opened (Two first second) (One a) opened = absurd opened
+  all_opened (Two first second) (Three a b d) opened = absurd opened
+  all_opened (Three first second third) (One a) opened = absurd opened
+  all_opened (Three first second third) (Two a b) opened = absurd opened
+
+  -- ---- the texts of what is opened
+
+  module _ (remaining : F → Option (List ℕ)) where
+    holds_if : (limit : Option ℕ) (path : Text) (a : F) (text : List ℕ) → Opens path (Some a)
+        → IsInputIf limit (remaining a) text
+        → HoldsIf (Has Opens remaining) limit path text
+    holds_if None path a text opened given = given
+    holds_if (Some limit) path a text opened given = (a, opened, given)
+
+    module _ (limits : Limits) (t : Given) where
+      pub have_one : (paths : Files (Bor Text)) (a : F) → AreOpened Opens paths (One a) → IsInput (remaining a) t.first
+          → HaveTexts (Has Opens remaining) limits paths t
+      have_one (One first) a opened given = (a, opened, given)
+      have_one (Two first second) a opened given = absurd opened
+      have_one (Three first second third) a opened given = absurd opened
+
+      pub have_two : (paths : Files (Bor Text)) (a b : F) → AreOpened Opens paths (Two a b)
+          → IsInput (remaining a) t.first
+          → IsInputIf limits.second (remaining b) t.second → HaveTexts (Has Opens remaining) limits paths t
+      have_two (One first) a b opened given other = absurd opened
+      have_two (Two first second) a b opened given other =
+          ((a, opened.0, given), holds_if limits.second second.now b t.second opened.1 other)
+      have_two (Three first second third) a b opened given other = absurd opened
+
+      pub have_three : (paths : Files (Bor Text)) (a b d : F) → AreOpened Opens paths (Three a b d)
+          → IsInput (remaining a) t.first
+          → IsInputIf limits.second (remaining b) t.second → IsInputIf limits.third (remaining d) t.third
+          → HaveTexts (Has Opens remaining) limits paths t
+      have_three (One first) a b d opened given other last = absurd opened
+      have_three (Two first second) a b d opened given other last = absurd opened
+      have_three (Three first second third) a b d opened given other last = (
+        (a, opened.0, given),
+        holds_if limits.second second.now b t.second opened.1 other,
+        holds_if limits.third third.now d t.third opened.2 last,
+      )
+
+  -- ---- no seed
+
+  module _ (Seeds : Option ℕ → Type 0) where
+    -- without a seed nothing but `explain` is carried out
+    pub unready_asked : (InputFailed : Type 0) (request : Request)
+        → ((code : Option (Bor Text)) → ¬ (request ≡ asks.Explain code)) → Seeds None
+        → IsCaused Seeds Opens InputFailed (spelled request) (Err (Common Read))
+    unready_asked InputFailed (asks.Plan None) other none = inl (inl none)
+    unready_asked InputFailed (asks.Plan (Some file)) other none = inl (inl none)
+    unready_asked InputFailed (asks.Check declaration certificate) other none = inl (inl none)
+    unready_asked InputFailed (asks.Deadlock declaration assignment) other none = inl (inl none)
+    unready_asked InputFailed (asks.Hang declaration assignment) other none = inl (inl none)
+    unready_asked InputFailed (asks.Repair declaration assignment names) other none = inl (inl none)
+    unready_asked InputFailed (asks.Replay declaration assignment run) other none = inl (inl none)
+    unready_asked InputFailed (asks.Circles declaration assignment) other none = inl (inl none)
+    unready_asked InputFailed (asks.Dot declaration assignment) other none = inl (inl none)
+    unready_asked InputFailed (asks.Run declaration helpers) other none = inl (inl none)
+    unready_asked InputFailed (asks.Explain code) other none = absurd (other code refl)
+
+-- ---- how a command ends
+
+-- a command that ended on files ended as it is to
+module _ {W : Type 0} (contents : W → Option (List ℕ)) (old new : Meter W) (Holds : Text → List ℕ → Type 0)
+    (limits : Limits) (Answers : Given → Outcome → List ℕ → Type 0) (paths : Files (Bor Text))
+    (Ends : End → List ℕ → Type 0) where
+  -- from the texts and the outcome of a command
+  abbrev pub Gives : Type 0
+  Gives = (o : Outcome) (t : Given) (out : List ℕ) → HaveTexts Holds limits paths t → Answers (kept limits t) o out
+      → Ends o.end out
+
+  end_on : (end : End) (out : List ℕ) → EndsFiles Holds limits Answers paths end out → Gives → Ends end out
+  end_on end out h f = subst (λ e. Ends e out) (sym h.2) (f h.0 h.1 out h.3 h.4)
+
+  pub ends_on_files : (result : Result End CommandFault)
+      → EndedBy contents old new (EndsFiles Holds limits Answers paths) result → Gives
+      → EndedBy contents old new Ends result
+  ends_on_files (Ok end) h f = (h.0, end_on end h.0 h.1 f, h.2, h.3)
+  ends_on_files (Err (Common Write)) h f = (h.0, h.1, end_on h.0 h.1 h.2 f, h.3, h.4)
+  ends_on_files (Err (Common Read)) h f = h
+  ends_on_files (Err (Common Memory)) h f = h
+  ends_on_files (Err Thread) h f = h
+  ends_on_files (Err Tally) h f = h
