@@ -102,7 +102,7 @@ unknown_line file name =
 abbrev pub meant_line : List ℕ → List ℕ → List ℕ
 meant_line file item = shown_lines ((((file ++ codes ": note: did you mean `") ++ item) ++ codes "`?") ∷ [])
 
--- what is said of this name, which is that of no item; and of an item that was most likely meant, if its name is like it
+-- what is said of this name, which is that of no item; and which item was most likely meant, if its name is like it
 abbrev pub SaysNoItem : List ℕ → List (List ℕ) → List ℕ → List ℕ → Type 0
 SaysNoItem file items name text = (text ≡ unknown_line file name)
     ⊎ ((i : ℕ) × (item : List ℕ) × (item_named items item ≡ Some i)

@@ -90,8 +90,8 @@ module _ (s : Declared) (sound : IsSound s) (a : Workqueues) (assigned : IsAssig
     IsHang-exists : (first : List ℕ) → AreFirst (declared_waits s) a (bare_waits (declared_waits s) a) first → (steps : List Step) × IsHang (declared_waits s) a steps
     IsHang-exists first are =
         let w = wiring_of (declared_waits s) a in
-        let knot = IsKnot-first (declared_waits s) a is_declaration assigned.assignment (bare_waits (declared_waits s) a)
-        refl first are in
+        let knot = IsKnot-first (declared_waits s) a is_declaration assigned.assignment
+        (bare_waits (declared_waits s) a) refl first are in
         let run = IsRunOf-exists w first (IsWiring-workqueues (declared_waits s) a is_declaration assigned.assignment)
         knot in
         (run.0, IsHang-run (declared_waits s) a is_declaration assigned.assignment first run.0 are run.1)
