@@ -73,6 +73,9 @@ CHANGE = (
 WITHOUT = rb"(?:if it stayed|without one): "
 TOO_FEW = rb": note: wherever these items move, the workqueues can hang; the run is on these:\n(?:(?:wq|norescuer) [ -~]+\n)+"
 
+# The item that a NAME behind `repair` was most likely meant to be, behind the line of a NAME that is none.
+NEAR = rb"(?:[ -~]+: note: did you mean `[!-~]+`\?\n)?"
+
 # The further mistakes of a declaration: each is a diagnosis of a line, of which a byte is meant.
 FURTHER = rb"(?:[ -~]+:%s:%s: [ -~]+ \[refused ([0-9]+), `wqplan explain \1`\]\n%s){0,9}" % (NUMBER, NUMBER, MARKED)
 HAS_FURTHER = (b"3", b"4", b"5", b"6", b"7", b"8", b"11", b"12")
@@ -122,6 +125,8 @@ def diagnosis(word, code, line):
     place = b"" if line == b"0" else b":%s:%s" % (line, NUMBER)
     head = rb"%s: [ -~]+ \[%s %s, `wqplan explain %s`\]\n" % (place, word, code, code)
     behind = FURTHER if word == b"refused" and code in HAS_FURTHER else b""
+    if word == b"refused" and (code, line) == (b"8", b"0"):
+        behind = NEAR
     if word == b"no" and code == b"50":
         behind = b"(?:%s)?" % circular_wait(rb"[ -~]+", WAITS)
     return re.compile(head + (MARKED if place else b"(?:%s)?" % MARKED if code == b"41" else b"") + behind)
