@@ -16,7 +16,8 @@ of_subject-requires g c =
     let r = c.args.repair.now in
     let one_each =
     ap (λ (ws : Workqueues). length ws.assignment.lane_of_group) c.in_ok-workqueues.ensures
-    ∙ length-map-range_with_len (lane_without r.old.now r.new.now c.args.change.now) 0 (length r.new.now.assignment.lane_of_group) ∙ c.requires.new in
+    ∙ length-map-range_with_len (lane_without r.old.now r.new.now c.args.change.now) 0
+    (length r.new.now.assignment.lane_of_group) ∙ c.requires.new in
     record { assigned = one_each }
 
 pub returns : goal.returns
