@@ -77,7 +77,10 @@ fn put_first<A: Allocator + Copy>(
     match waits {
         [] => Ok(()),
         [first, ..] => {
-            let hop = hop_of(subject.declared, first);
+            let declared = subject.declared;
+            // What holds of every declaration.
+            let _groups = &declared.groups;
+            let hop = hop_of(declared, first);
             put_walk(alloc, out, subject, CAN_HANG, &[hop])
         }
     }

@@ -50,10 +50,11 @@ fn placed_item<A: Allocator + Copy>(
         ≡ placed_item declared.now workqueues.now
         (map (λ n. n.now) names.now) item) }
 {
+    let table = &declared.table;
     let workqueue = workqueue_words(alloc, names, workqueue_of(declared, workqueues, item))?;
     let mut words = Vec::new(alloc);
     put(&mut words, b"`")?;
-    put(&mut words, declared.table.name(item))?;
+    put(&mut words, table.name(item))?;
     put(&mut words, b"` on ")?;
     put(&mut words, &workqueue)?;
     Ok(words)

@@ -8,8 +8,8 @@ use Rattle.wq_repair.specs.Repair.{IsNeededCircle}
 use Rattle.wq_changes.proofs.Circled.{AreBetween-walked}
 use Rattle.wq_changes.proofs.reading.of_answer.Goals as goal
 
-pub of_circle-requires-clause-between : goal.of_circle-requires-clause-between
-of_circle-requires-clause-between g c =
+pub of_circle-requires : goal.of_circle-requires
+of_circle-requires g c =
     let a = c.args.assigned.now in
     let t = a.declared.now.table in
     let p = a.declared.now.partition in
@@ -17,5 +17,7 @@ of_circle-requires-clause-between g c =
     let declaration : IsDeclaration (declaration_of t p) = IsDeclaration-of t p sound.table sound.partition
     sound.one_group_each in
     let needed : IsNeededCircle (declaration_of t p) a.workqueues.now c.in-Circle.arcs.items = rw c.in-Circle.is at c.requires.answer in
+    let between =
     subst (λ (arcs : List WaitArc). AreBetween (length p.group_of) arcs) (sym c.deref.ensures.value)
-    (AreBetween-walked (declaration_of t p) declaration needed.out c.in-Circle.arcs.items needed.walked)
+    (AreBetween-walked (declaration_of t p) declaration needed.out c.in-Circle.arcs.items needed.walked) in
+    record { between = between }

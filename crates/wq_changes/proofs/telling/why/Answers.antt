@@ -11,11 +11,14 @@ use Rattle.wq_changes.specs.Without.{lane_without}
 use Rattle.wq_changes.specs.Words.{lead_of}
 use Rattle.wq_changes.proofs.telling.why.Goals as goal
 
-pub of_subject-requires-clause-assigned : goal.of_subject-requires-clause-assigned
-of_subject-requires-clause-assigned g c =
+pub of_subject-requires : goal.of_subject-requires
+of_subject-requires g c =
     let r = c.args.repair.now in
+    let one_each =
     ap (λ (ws : Workqueues). length ws.assignment.lane_of_group) c.in_ok-workqueues.ensures
-    ∙ length-map-range_with_len (lane_without r.old.now r.new.now c.args.change.now) 0 (length r.new.now.assignment.lane_of_group) ∙ c.requires.new
+    ∙ length-map-range_with_len (lane_without r.old.now r.new.now c.args.change.now) 0
+    (length r.new.now.assignment.lane_of_group) ∙ c.requires.new in
+    record { assigned = one_each }
 
 pub returns : goal.returns
 returns g c =

@@ -10,12 +10,14 @@ use Rattle.wq_voice.specs.Waits.{words_of}
 use Rattle.wq_voice.specs.declared.waits.Wording.TheVariants.{OfGroups}
 use Rattle.wq_voice.proofs.components.of_groups.Goals as goal
 
-pub of_subject-requires-clause-assigned : goal.of_subject-requires-clause-assigned
-of_subject-requires-clause-assigned g c =
+pub of_subject-requires : goal.of_subject-requires
+of_subject-requires g c =
+    let one_each =
     ap (λ (ws : Workqueues). length ws.assignment.lane_of_group) c.new-workqueues.ensures
     ∙ ap (λ (a : Assignment). length a.lane_of_group) c.in_ok-assignment.ensures.lanes
     ∙ length-range_with_len 0 c.declared.inside.groups.groups
-    ∙ ap (λ (d : Declared). d.partition.groups) c.declared.view_is
+    ∙ ap (λ (d : Declared). d.partition.groups) c.declared.view_is in
+    record { assigned = one_each }
 
 pub returns : goal.returns
 returns g c =
