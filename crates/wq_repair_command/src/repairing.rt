@@ -22,7 +22,7 @@ use crate::movers::items_that_may_move;
 use crate::run::text_of_hang;
 use std::alloc::{AllocError, Allocator};
 use wq_cert::{CertError, read_workqueues};
-use wq_commands::{Answered, Declaration, End, Stop, Which, read_declaration, refuse};
+use wq_commands::{Answered, End, Stop, Which, read_declaration, refuse};
 use wq_core::Workqueues;
 use wq_groups::Groups;
 use wq_items::{ItemId, ItemTable};
@@ -144,19 +144,21 @@ fn repair_named<A: Allocator + Copy>(
     repair_assigned(alloc, table, groups, workqueues, &called, names)
 }
 
-/// The answer to the text of an assignment of the declared groups, where the items with these names may move.
+/// The answer to the text of an assignment of these groups, where the items with these names may move.
 fn repair_declared<A: Allocator + Copy>(
     alloc: A,
-    declared: &Declaration<'_, A>,
+    table: &ItemTable<'_, A>,
+    groups: &Groups<A>,
     names: &[&str],
     text: &[u8],
 ) -> Result<Answered<A>, AllocError>
-    ensures answer { IfOk result (λ a.
-        RepairsDeclared declared.now (map (λ n. n.now) names.now) text.now a.end a.text.items) }
-    ensures why { IfOk result (λ a.
-        SaysFault Certificate (workqueues_of_text declared.now.table.names declared.now.partition text.now) a.why) }
+    requires { length groups.now.group_of ≡ length table.now.names }
+    ensures answer { IfOk result (λ a. RepairsDeclared (record { table = table.now; partition = groups.now })
+        (map (λ n. n.now) names.now) text.now a.end a.text.items) }
+    ensures why { IfOk result (λ a. SaysFault Certificate (workqueues_of_text table.now.names groups.now text.now) a.why) }
 {
-    let Declaration { table, groups } = declared;
+    // What holds of all groups.
+    let _groups = groups.len();
     match read_workqueues(alloc, text, table, groups) {
         Ok(workqueues) => {
             let answer = repair_named(alloc, table, groups, &workqueues, text, names);
@@ -182,7 +184,7 @@ pub(crate) fn repair_texts<A: Allocator + Copy>(
 {
     match read_declaration(alloc, seed, text) {
         Ok(declared) => {
-            let answer = repair_declared(alloc, &declared, names, assigned);
+            let answer = repair_declared(alloc, &declared.table, &declared.groups, names, assigned);
             drop(declared);
             answer
         }

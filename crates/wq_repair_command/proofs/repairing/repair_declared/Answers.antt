@@ -6,11 +6,8 @@ use Rattle.wq_repair_command.proofs.repairing.repair_declared.Goals as goal
 
 pub repair_named-answer-requires-clause-assigned : goal.repair_named-answer-requires-clause-assigned
 repair_named-answer-requires-clause-assigned g c =
-    let sound = c.declared.invariant in
-    AreWorkqueuesOf-workqueues_of_text c.declared.inside.table.names c.declared.inside.groups sound.partition
-    (sym sound.one_group_each) c.args.text.now c.in-Ok.workqueues c.in-Ok.ensures.workqueues
+    AreWorkqueuesOf-workqueues_of_text c.args.table.now.names c.args.groups.now c.len-groups.ensures.partition (sym c.requires) c.args.text.now c.in-Ok.workqueues c.in-Ok.ensures.workqueues
 
 pub repair_named-answer-requires-clause-limits : goal.repair_named-answer-requires-clause-limits
 repair_named-answer-requires-clause-limits g c =
-    (IsReadSo-text_reading (lanes_reading c.declared.inside.table.names c.declared.inside.groups) c.args.text.now
-    c.in-Ok.workqueues c.in-Ok.ensures.workqueues).within
+    (IsReadSo-text_reading (lanes_reading c.args.table.now.names c.args.groups.now) c.args.text.now c.in-Ok.workqueues c.in-Ok.ensures.workqueues).within
