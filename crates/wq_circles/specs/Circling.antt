@@ -6,12 +6,10 @@ use Rattle.wq_core.specs.Workqueues.{Workqueues, all_rescued}
 use Rattle.wq_deadlock.specs.Judging.{bare_waits}
 use Rattle.wq_cert.specs.Texts.{workqueues_of_text, cert_refusal}
 use Rattle.wq_meter.specs.Shell.{Given}
-use Rattle.wq_meter.specs.declared.texts.Limits.{Limits}
 use Rattle.wq_commands.specs.declared.end.End.{End}
 use Rattle.wq_commands.specs.declared.why.Outcome.{Outcome}
 use Rattle.wq_commands.specs.declared.end.End.TheVariants.{Good, Bad, Refused}
 use Rattle.wq_commands.specs.Answer.{declared_waits, PrintsRefusal}
-use Rattle.wq_commands.specs.Commands.{one_text, two_texts}
 use Rattle.wq_commands.specs.Deadlocking.{safe_text}
 use Rattle.wq_commands.specs.Declaration.{Declared, declaration}
 use Rattle.wq_commands.specs.Why.{SaysAssigned, SaysDeclared}
@@ -54,11 +52,6 @@ OwnCircles declared end out =
     (λ r. PrintsRefusal r end out)
 
 -- ---- the command, with an assignment or without one
-
--- how many texts it has, and how long they may be
-abbrev pub circles_limits : Bool → Limits
-circles_limits true = two_texts
-circles_limits false = one_text
 
 -- its answer, and why
 abbrev pub CirclesTexts : Bool → Given → Outcome → List ℕ → Type 0

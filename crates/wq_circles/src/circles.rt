@@ -7,7 +7,7 @@
 
 use crate::circling::circle;
 use std::alloc::{AllocError, Allocator};
-use wq_commands::{Answered, ONE_TEXT, Outcome, TWO_TEXTS};
+use wq_commands::{Answered, Outcome, one_or_two_texts};
 use wq_meter::{Command, Limits, Texts};
 
 /// The command `circles`: its texts are a declaration and, where there is one, an assignment.
@@ -20,20 +20,21 @@ pub struct CirclesCommand {
 }
 
 impl<A: Allocator + Copy> Command<A> for CirclesCommand {
-    ghost use Rattle.wq_circles.specs.Circling.{CirclesTexts, circles_limits};
+    ghost use Rattle.wq_commands.specs.Commands.{one_or_two_texts};
+    ghost use Rattle.wq_circles.specs.Circling.{CirclesTexts};
 
     type End = Outcome;
 
     type Stop = AllocError;
 
-    ghost limits = { λ command. circles_limits command.assigned };
+    ghost limits = { λ command. one_or_two_texts command.assigned };
 
     ghost answers = { λ command texts outcome out. CirclesTexts command.assigned texts outcome out };
 
     ghost stops = { λ _ _ _. Unit {0} };
 
     fn limits(&self) -> Limits {
-        if self.assigned { TWO_TEXTS } else { ONE_TEXT }
+        one_or_two_texts(self.assigned)
     }
 
     fn answer(&self, alloc: A, texts: &Texts<A>) -> Result<(Outcome, Vec<u8, A>), AllocError> {

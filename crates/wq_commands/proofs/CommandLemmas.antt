@@ -1,71 +1,48 @@
 -- The commands as the shell carries them out: what is past a limit changes no answer, and how an outcome is an end or a fault.
 use Rattle.std.proofs.Common.{◌≡◌, ◌⊎◌, ℕ, ◌+◌, List, Option, None, Result, Ok, Err, subst, inl, inr}
-use Rattle.std.specs.Prelude.{MatchResult, IfErr, IfOk, take}
+use Rattle.std.specs.Prelude.{IfErr, IfOk, take}
 use Rattle.std.specs.Result.{IsErrAnd, IsOkAnd}
-use Rattle.std.proofs.lemmas.Result.{MatchResult-weaker}
-use Rattle.wq_text.specs.Refusal.{Refusal}
-use Rattle.wq_core.specs.Workqueues.{Workqueues}
-use Rattle.wq_core.specs.declared.step.Step.{Step}
-use Rattle.wq_cert.specs.declared.fault.CertError.{CertError}
-use Rattle.wq_cert.specs.Certificate.{Certificate}
-use Rattle.wq_cert.specs.Reading.{answer_reading, lanes_reading, run_reading}
-use Rattle.wq_cert.specs.Texts.{workqueues_of_text, cert_refusal, max_certificate}
-use Rattle.wq_cert.proofs.LongCertificates.{text_reading-take}
+use Rattle.wq_cert.specs.Reading.{answer_reading, lanes_reading}
+use Rattle.wq_cert.specs.Texts.{cert_refusal, max_certificate}
 use Rattle.wq_meter.specs.Shell.{Given, kept}
 use Rattle.wq_commands.specs.declared.end.End.{End}
 use Rattle.wq_commands.specs.declared.why.Outcome.{Outcome}
 use Rattle.wq_commands.specs.declared.why.Which.TheVariants.{Declaration, Certificate as SecondText, Run}
 use Rattle.wq_commands.specs.declared.why.Why.{Why}
 use Rattle.wq_commands.specs.Commands.{Plans, ChecksTexts, JudgesTexts, ReplaysTexts, one_text, two_texts, three_texts}
-use Rattle.wq_commands.specs.Declaration.{Declared, declaration, max_declaration}
-use Rattle.wq_commands.specs.Why.{SaysAssigned, SaysCertificate, SaysChecked, SaysDeclared, SaysFault, SaysLack, SaysReplayed, SaysRun, SaysRunUnder, SaysSteps, refused_for}
+use Rattle.wq_commands.specs.Declaration.{max_declaration}
+use Rattle.wq_commands.specs.Why.{SaysAssigned, SaysChecked, SaysDeclared, SaysLack, SaysReplayed, SaysSteps}
+use Rattle.wq_commands.specs.Why.{refused_for}
 use Rattle.wq_commands.proofs.AnswerLemmas.{declaration-take, Answers-same}
+use Rattle.wq_commands.proofs.InputLemmas.{both-kept, declaration-kept, run-kept}
 use Rattle.wq_commands.proofs.InputLemmas.{Checks-take, Judges-take, ReplaysRun-take}
 
 -- ---- why, of what was read
 
 module _ (why : Option Why) where
-  -- what is said of a declaration that was read, and of what it declares, is said of the whole text
-  by_declaration : (text : List ℕ) (P Q : Declared → Type 0) → ((s : Declared) → P s → Q s)
-      → MatchResult (declaration (take (max_declaration + 1) text)) P (λ r. why ≡ refused_for Declaration r) → MatchResult (declaration text) Q (λ r. why ≡ refused_for Declaration r)
-  by_declaration text P Q f says =
-      MatchResult-weaker (declaration text)
-      (subst (λ (d : Result Declared Refusal). MatchResult d P (λ r. why ≡ refused_for Declaration r)) (declaration-take text) says)
-      f (λ r refused. refused)
-
   pub SaysDeclared-take : (text : List ℕ) → SaysDeclared (take (max_declaration + 1) text) why → SaysDeclared text why
-  SaysDeclared-take text says = by_declaration text (λ _. why ≡ None) (λ _. why ≡ None) (λ _ h. h) says
+  SaysDeclared-take = declaration-kept (λ _ _. why ≡ None) (λ r. why ≡ refused_for Declaration r)
 
-  SaysAssignment-take : (text : List ℕ) (s : Declared) → SaysFault SecondText (workqueues_of_text s.table.names s.partition (take (max_certificate + 1) text)) why
-      → SaysFault SecondText (workqueues_of_text s.table.names s.partition text) why
-  SaysAssignment-take text s says =
-      subst (λ (r : Result Workqueues CertError). SaysFault SecondText r why) (text_reading-take (lanes_reading s.table.names s.partition) text) says
+  pub SaysAssigned-take : (declared text : List ℕ)
+      → SaysAssigned (take (max_declaration + 1) declared) (take (max_certificate + 1) text) why
+      → SaysAssigned declared text why
+  SaysAssigned-take =
+      both-kept (λ s. lanes_reading s.table.names s.partition) (λ _ _ _ _. why ≡ None)
+      (λ fault. why ≡ refused_for SecondText (cert_refusal fault)) (λ r. why ≡ refused_for Declaration r)
 
-  pub SaysAssigned-take : (declared text : List ℕ) → SaysAssigned (take (max_declaration + 1) declared) (take (max_certificate + 1) text) why → SaysAssigned declared text why
-  SaysAssigned-take declared text says = by_declaration declared _ _ (SaysAssignment-take text) says
+  pub SaysChecked-take : (declared text : List ℕ)
+      → SaysChecked (take (max_declaration + 1) declared) (take (max_certificate + 1) text) why
+      → SaysChecked declared text why
+  SaysChecked-take =
+      both-kept (λ s. answer_reading s.table.names s.partition) (λ _ _ s c. SaysLack s c why)
+      (λ fault. why ≡ refused_for SecondText (cert_refusal fault)) (λ r. why ≡ refused_for Declaration r)
 
-  SaysCertificate-take : (text : List ℕ) (s : Declared) → SaysCertificate s (take (max_certificate + 1) text) why → SaysCertificate s text why
-  SaysCertificate-take text s says =
-      subst (λ (r : Result Certificate CertError). MatchResult r (λ c. SaysLack s c why) (λ fault. why ≡ refused_for SecondText (cert_refusal fault)))
-      (text_reading-take (answer_reading s.table.names s.partition) text) says
-
-  pub SaysChecked-take : (declared text : List ℕ) → SaysChecked (take (max_declaration + 1) declared) (take (max_certificate + 1) text) why → SaysChecked declared text why
-  SaysChecked-take declared text says = by_declaration declared _ _ (SaysCertificate-take text) says
-
-  SaysRunUnder-take : (steps : List ℕ) (s : Declared) (a : Workqueues) → SaysRunUnder s a (take (max_certificate + 1) steps) why → SaysRunUnder s a steps why
-  SaysRunUnder-take steps s a says =
-      subst (λ (r : Result (List Step) CertError). MatchResult r (λ made. SaysSteps s a made why) (λ fault. why ≡ refused_for Run (cert_refusal fault)))
-      (text_reading-take (run_reading s.table.names) steps) says
-
-  SaysRun-take : (lanes steps : List ℕ) (s : Declared) → SaysRun s (take (max_certificate + 1) lanes) (take (max_certificate + 1) steps) why → SaysRun s lanes steps why
-  SaysRun-take lanes steps s says =
-      MatchResult-weaker (workqueues_of_text s.table.names s.partition lanes)
-      (subst (λ (r : Result Workqueues CertError). MatchResult r (λ a. SaysRunUnder s a (take (max_certificate + 1) steps) why) (λ fault. why ≡ refused_for SecondText (cert_refusal fault)))
-      (text_reading-take (lanes_reading s.table.names s.partition) lanes) says)
-      (λ a h. SaysRunUnder-take steps s a h) (λ fault refused. refused)
-
-  pub SaysReplayed-take : (declared lanes steps : List ℕ) → SaysReplayed (take (max_declaration + 1) declared) (take (max_certificate + 1) lanes) (take (max_certificate + 1) steps) why → SaysReplayed declared lanes steps why
-  SaysReplayed-take declared lanes steps says = by_declaration declared _ _ (SaysRun-take lanes steps) says
+  pub SaysReplayed-take : (declared lanes steps : List ℕ)
+      → SaysReplayed (take (max_declaration + 1) declared) (take (max_certificate + 1) lanes)
+      (take (max_certificate + 1) steps) why → SaysReplayed declared lanes steps why
+  SaysReplayed-take =
+      run-kept (λ s ws steps. SaysSteps s ws steps why) (λ fault. why ≡ refused_for Run (cert_refusal fault))
+      (λ fault. why ≡ refused_for SecondText (cert_refusal fault)) (λ r. why ≡ refused_for Declaration r)
 
 -- ---- answers, and why
 

@@ -1,5 +1,5 @@
 -- The commands as functions of the bytes of their texts: how each ends, what it answers, and why.
-use Rattle.std.specs.Prelude.{ℕ, List, Some, None, Result, Ok, Err}
+use Rattle.std.specs.Prelude.{Bool, true, false, ℕ, List, Some, None, Result, Ok, Err}
 use Rattle.wq_meter.specs.Shell.{Given}
 use Rattle.wq_meter.specs.declared.fault.Fault.{Fault}
 use Rattle.wq_meter.specs.declared.fault.Fault.TheVariants.{Memory}
@@ -29,6 +29,11 @@ two_texts = record { first = max_declaration; second = Some max_certificate; thi
 -- a declaration, an assignment and a run
 abbrev pub three_texts : Limits
 three_texts = record { first = max_declaration; second = Some max_certificate; third = Some max_certificate }
+
+-- a declaration, and an assignment or none
+abbrev pub one_or_two_texts : Bool → Limits
+one_or_two_texts true = two_texts
+one_or_two_texts false = one_text
 
 -- ---- the answers, and why
 

@@ -31,7 +31,7 @@ pub use deadlock::{DeadlockCommand, deadlock_cmd};
 pub use deadlocking::safe_text;
 pub use declaration::{Declaration, MAX_DECLARATION, MAX_DECLARATION_LINE, Stop, read_declaration};
 pub use end::End;
-pub use limits::{ONE_TEXT, THREE_TEXTS, TWO_TEXTS};
+pub use limits::{ONE_TEXT, THREE_TEXTS, TWO_TEXTS, one_or_two_texts};
 pub use outcome::end_of;
 pub use plan::{PlanCommand, plan_cmd};
 pub use refusal::{TOO_MANY_LANES, refuse};

@@ -1,5 +1,8 @@
 //! Which texts the commands have, and how long these may be.
 
+ghost use Rattle.std.specs.Prelude.{◌≡◌};
+ghost use Rattle.wq_commands.specs.Commands.{one_or_two_texts};
+
 use crate::declaration::MAX_DECLARATION;
 use wq_cert::MAX_CERTIFICATE;
 use wq_meter::Limits;
@@ -24,3 +27,10 @@ pub const THREE_TEXTS: Limits = Limits {
     second: Some(MAX_CERTIFICATE),
     third: Some(MAX_CERTIFICATE),
 };
+
+/// A declaration and, if `assigned`, an assignment.
+pub fn one_or_two_texts(assigned: bool) -> Limits
+    ensures { result ≡ one_or_two_texts assigned }
+{
+    if assigned { TWO_TEXTS } else { ONE_TEXT }
+}

@@ -22,12 +22,10 @@ use Rattle.wq_hang.specs.Answer.{IsHangOf}
 use Rattle.wq_cert.specs.Texts.{workqueues_of_text, cert_refusal}
 use Rattle.wq_names.specs.Names.{names_of}
 use Rattle.wq_meter.specs.Shell.{Given}
-use Rattle.wq_meter.specs.declared.texts.Limits.{Limits}
 use Rattle.wq_commands.specs.declared.end.End.{End}
 use Rattle.wq_commands.specs.declared.why.Outcome.{Outcome}
 use Rattle.wq_commands.specs.declared.end.End.TheVariants.{Good}
 use Rattle.wq_commands.specs.Answer.{declared_waits, PrintsRefusal}
-use Rattle.wq_commands.specs.Commands.{one_text, two_texts}
 use Rattle.wq_commands.specs.Declaration.{Declared, declaration}
 use Rattle.wq_commands.specs.Why.{SaysAssigned, SaysDeclared}
 use Rattle.wq_circles.specs.Components.{AreComponents}
@@ -204,11 +202,6 @@ abbrev pub OwnDraws : List ℕ → End → List ℕ → Type 0
 OwnDraws declared end out = (hops : List Hop) × OwnDrawsBy hops declared end out
 
 -- ---- the command, with an assignment or without one
-
--- how many texts it has, and how long they may be
-abbrev pub dot_limits : Bool → Limits
-dot_limits true = two_texts
-dot_limits false = one_text
 
 -- its answer in which the flushes of these waits are bold red, if something hangs, and why
 abbrev pub DrawsTextsBy : List Hop → Bool → Given → Outcome → List ℕ → Type 0

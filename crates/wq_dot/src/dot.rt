@@ -7,7 +7,7 @@
 
 use crate::dotting::draw;
 use std::alloc::{AllocError, Allocator};
-use wq_commands::{Answered, ONE_TEXT, Outcome, TWO_TEXTS};
+use wq_commands::{Answered, Outcome, one_or_two_texts};
 use wq_meter::{Command, Limits, Texts};
 
 /// The command `dot`: its texts are a declaration and, where there is one, an assignment.
@@ -26,20 +26,21 @@ pub struct DotCommand {
 }
 
 impl<A: Allocator + Copy> Command<A> for DotCommand {
-    ghost use Rattle.wq_dot.specs.Dotting.{DrawsTexts, dot_limits};
+    ghost use Rattle.wq_commands.specs.Commands.{one_or_two_texts};
+    ghost use Rattle.wq_dot.specs.Dotting.{DrawsTexts};
 
     type End = Outcome;
 
     type Stop = AllocError;
 
-    ghost limits = { λ command. dot_limits command.assigned };
+    ghost limits = { λ command. one_or_two_texts command.assigned };
 
     ghost answers = { λ command texts outcome out. DrawsTexts command.assigned texts outcome out };
 
     ghost stops = { λ _ _ _. Unit {0} };
 
     fn limits(&self) -> Limits {
-        if self.assigned { TWO_TEXTS } else { ONE_TEXT }
+        one_or_two_texts(self.assigned)
     }
 
     fn answer(&self, alloc: A, texts: &Texts<A>) -> Result<(Outcome, Vec<u8, A>), AllocError> {
