@@ -40,7 +40,8 @@ returns-in-Check-clause-ended g c =
     (EndsAsAsked Holds (IsInput (g.I.Read.remaining c.args.input.now.device)) (spelled r)) on.result)
     (sym arm.is)
     (ends_on_files g.W.Write.contents c.args.writer.now on.new.writer Holds
-    two_texts (λ t o out. ChecksTexts t o out) (Two arm.declaration arm.certificate) (EndsCheck Holds arm.declaration.now arm.certificate.now)
+    two_texts (λ t o out. ChecksTexts t o out) (Two arm.declaration arm.certificate)
+    (EndsCheck Holds arm.declaration.now arm.certificate.now)
     on.result on.ensures.ended
     (λ o t out from answer. (t.first, t.second, from.0, from.1, (ChecksTexts-kept t o out answer).0)))
 
@@ -54,7 +55,8 @@ returns-in-Deadlock-clause-ended g c =
     (EndsAsAsked Holds (IsInput (g.I.Read.remaining c.args.input.now.device)) (spelled r)) on.result)
     (sym arm.is)
     (ends_on_files g.W.Write.contents c.args.writer.now on.new.writer Holds
-    two_texts (λ t o out. JudgesTexts t o out) (Two arm.declaration arm.assignment) (EndsDeadlock Holds arm.declaration.now arm.assignment.now)
+    two_texts (λ t o out. JudgesTexts t o out) (Two arm.declaration arm.assignment)
+    (EndsDeadlock Holds arm.declaration.now arm.assignment.now)
     on.result on.ensures.ended
     (λ o t out from answer. (t.first, t.second, from.0, from.1, (JudgesTexts-kept t o out answer).0)))
 
@@ -68,7 +70,8 @@ returns-in-Hang-clause-ended g c =
     (EndsAsAsked Holds (IsInput (g.I.Read.remaining c.args.input.now.device)) (spelled r)) on.result)
     (sym arm.is)
     (ends_on_files g.W.Write.contents c.args.writer.now on.new.writer Holds
-    two_texts (λ t o out. HangsTexts t o out) (Two arm.declaration arm.assignment) (EndsHang Holds arm.declaration.now arm.assignment.now)
+    two_texts (λ t o out. HangsTexts t o out) (Two arm.declaration arm.assignment)
+    (EndsHang Holds arm.declaration.now arm.assignment.now)
     on.result on.ensures.ended
     (λ o t out from answer. (t.first, t.second, from.0, from.1, (HangsTexts-kept t o out answer).0)))
 
@@ -82,7 +85,8 @@ returns-in-Repair-clause-ended g c =
     (EndsAsAsked Holds (IsInput (g.I.Read.remaining c.args.input.now.device)) (spelled r)) on.result)
     (sym arm.is)
     (ends_on_files g.W.Write.contents c.args.writer.now on.new.writer Holds
-    two_texts (λ t o out. RepairsTexts (map (λ n. n.now) c.as_slice-names.result.now) t o out) (Two arm.declaration arm.assignment) (EndsRepair Holds arm.declaration.now arm.assignment.now (map (λ n. n.now) arm.names.items))
+    two_texts (λ t o out. RepairsTexts (map (λ n. n.now) c.as_slice-names.result.now) t o out) (Two arm.declaration arm.assignment)
+    (EndsRepair Holds arm.declaration.now arm.assignment.now (map (λ n. n.now) arm.names.items))
     on.result on.ensures.ended
     (λ o t out from answer. (
       t.first,
@@ -116,7 +120,8 @@ returns-in-Replay-clause-ended g c =
     (EndsAsAsked Holds (IsInput (g.I.Read.remaining c.args.input.now.device)) (spelled r)) on.result)
     (sym arm.is)
     (ends_on_files g.W.Write.contents c.args.writer.now on.new.writer Holds
-    three_texts (λ t o out. ReplaysTexts t o out) (Three arm.declaration arm.assignment arm.run') (EndsReplay Holds arm.declaration.now arm.assignment.now arm.run'.now)
+    three_texts (λ t o out. ReplaysTexts t o out) (Three arm.declaration arm.assignment arm.run')
+    (EndsReplay Holds arm.declaration.now arm.assignment.now arm.run'.now)
     on.result on.ensures.ended
     (λ o t out from answer. (t.first, t.second, t.third, from.0, from.1, from.2, (ReplaysTexts-kept t o out answer).0)))
 
