@@ -85,7 +85,8 @@ returns-in-Repair-clause-ended g c =
     (EndsAsAsked Holds (IsInput (g.I.Read.remaining c.args.input.now.device)) (spelled r)) on.result)
     (sym arm.is)
     (ends_on_files g.W.Write.contents c.args.writer.now on.new.writer Holds
-    two_texts (λ t o out. RepairsTexts (map (λ n. n.now) c.as_slice-names.result.now) t o out) (Two arm.declaration arm.assignment)
+    two_texts (λ t o out. RepairsTexts (map (λ n. n.now) c.as_slice-names.result.now) t o out)
+    (Two arm.declaration arm.assignment)
     (EndsRepair Holds arm.declaration.now arm.assignment.now (map (λ n. n.now) arm.names.items))
     on.result on.ensures.ended
     (λ o t out from answer. (
