@@ -1,20 +1,24 @@
 use Rattle.std.proofs.Common.{◌∷◌, None, Some, false, subst, sym, true}
 use Rattle.std.specs.Prelude.{option_map, option_to_list}
+use Rattle.wq_circles.specs.Circling.{CirclesTexts, circles_limits}
 use Rattle.wq_circles.proofs.Taking.{CirclesTexts-kept}
 use Rattle.wqplan.specs.Cause.{EndsReady}
 use Rattle.wqplan.specs.Ended.{EndedBy, EndsCircles, Has}
+use Rattle.wqplan.specs.declared.performing.Files.TheVariants.{One, Two}
 use Rattle.wqplan.proofs.FileLemmas.{ends_on_files}
 use Rattle.wqplan.proofs.performing.circles.Goals as goal
 
 pub returns-in-Some-clause-ended : goal.returns-in-Some-clause-ended
 returns-in-Some-clause-ended g c =
     let on = c.carry_out_files in
-    let Ends = EndsCircles (Has (g.O.World.opens c.args.world.now) g.O.File.Read.remaining) c.args.declaration.now in
+    let Holds = Has (g.O.World.opens c.args.world.now) g.O.File.Read.remaining in
+    let Ends = EndsCircles Holds c.args.declaration.now in
     subst
     (λ a. EndedBy g.W.Write.contents c.args.writer.now on.new.writer (Ends (option_map (λ s. s.now) a)) on.result)
     (sym c.in-Some.is)
-    (ends_on_files g.W.Write.contents c.args.writer.now on.new.writer _ _ _ _ (Ends (Some c.in-Some.assignment.now))
-    on.result on.ensures.ended
+    (ends_on_files g.W.Write.contents c.args.writer.now on.new.writer Holds
+    (circles_limits true) (λ t o out. CirclesTexts true t o out) (Two c.args.declaration c.in-Some.assignment)
+    (Ends (Some c.in-Some.assignment.now)) on.result on.ensures.ended
     (λ o t out from answer. (t.first, t.second, from.0, from.1, (CirclesTexts-kept true t o out answer).0)))
 
 pub returns-in-Some-clause-caused : goal.returns-in-Some-clause-caused
@@ -27,10 +31,12 @@ returns-in-Some-clause-caused g c =
 pub returns-in-None-clause-ended : goal.returns-in-None-clause-ended
 returns-in-None-clause-ended g c =
     let on = c.carry_out_files-in-None in
-    let Ends = EndsCircles (Has (g.O.World.opens c.args.world.now) g.O.File.Read.remaining) c.args.declaration.now in
+    let Holds = Has (g.O.World.opens c.args.world.now) g.O.File.Read.remaining in
+    let Ends = EndsCircles Holds c.args.declaration.now in
     subst
     (λ a. EndedBy g.W.Write.contents c.args.writer.now on.new.writer (Ends (option_map (λ s. s.now) a)) on.result)
     (sym c.in-None.is)
-    (ends_on_files g.W.Write.contents c.args.writer.now on.new.writer _ _ _ _ (Ends None)
-    on.result on.ensures.ended
+    (ends_on_files g.W.Write.contents c.args.writer.now on.new.writer Holds
+    (circles_limits false) (λ t o out. CirclesTexts false t o out) (One c.args.declaration)
+    (Ends None) on.result on.ensures.ended
     (λ o t out from answer. (t.first, from, (CirclesTexts-kept false t o out answer).0)))

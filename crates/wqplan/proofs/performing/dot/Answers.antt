@@ -1,20 +1,24 @@
 use Rattle.std.proofs.Common.{◌∷◌, None, Some, false, subst, sym, true}
 use Rattle.std.specs.Prelude.{option_map, option_to_list}
+use Rattle.wq_dot.specs.Dotting.{DrawsTexts, dot_limits}
 use Rattle.wq_dot.proofs.Taking.{DrawsTexts-kept}
 use Rattle.wqplan.specs.Cause.{EndsReady}
 use Rattle.wqplan.specs.Ended.{EndedBy, EndsDot, Has}
+use Rattle.wqplan.specs.declared.performing.Files.TheVariants.{One, Two}
 use Rattle.wqplan.proofs.FileLemmas.{ends_on_files}
 use Rattle.wqplan.proofs.performing.dot.Goals as goal
 
 pub returns-in-Some-clause-ended : goal.returns-in-Some-clause-ended
 returns-in-Some-clause-ended g c =
     let on = c.carry_out_files in
-    let Ends = EndsDot (Has (g.O.World.opens c.args.world.now) g.O.File.Read.remaining) c.args.declaration.now in
+    let Holds = Has (g.O.World.opens c.args.world.now) g.O.File.Read.remaining in
+    let Ends = EndsDot Holds c.args.declaration.now in
     subst
     (λ a. EndedBy g.W.Write.contents c.args.writer.now on.new.writer (Ends (option_map (λ s. s.now) a)) on.result)
     (sym c.in-Some.is)
-    (ends_on_files g.W.Write.contents c.args.writer.now on.new.writer _ _ _ _ (Ends (Some c.in-Some.assignment.now))
-    on.result on.ensures.ended
+    (ends_on_files g.W.Write.contents c.args.writer.now on.new.writer Holds
+    (dot_limits true) (λ t o out. DrawsTexts true t o out) (Two c.args.declaration c.in-Some.assignment)
+    (Ends (Some c.in-Some.assignment.now)) on.result on.ensures.ended
     (λ o t out from answer. (t.first, t.second, from.0, from.1, (DrawsTexts-kept true t o out answer).0)))
 
 pub returns-in-Some-clause-caused : goal.returns-in-Some-clause-caused
@@ -27,10 +31,12 @@ returns-in-Some-clause-caused g c =
 pub returns-in-None-clause-ended : goal.returns-in-None-clause-ended
 returns-in-None-clause-ended g c =
     let on = c.carry_out_files-in-None in
-    let Ends = EndsDot (Has (g.O.World.opens c.args.world.now) g.O.File.Read.remaining) c.args.declaration.now in
+    let Holds = Has (g.O.World.opens c.args.world.now) g.O.File.Read.remaining in
+    let Ends = EndsDot Holds c.args.declaration.now in
     subst
     (λ a. EndedBy g.W.Write.contents c.args.writer.now on.new.writer (Ends (option_map (λ s. s.now) a)) on.result)
     (sym c.in-None.is)
-    (ends_on_files g.W.Write.contents c.args.writer.now on.new.writer _ _ _ _ (Ends None)
-    on.result on.ensures.ended
+    (ends_on_files g.W.Write.contents c.args.writer.now on.new.writer Holds
+    (dot_limits false) (λ t o out. DrawsTexts false t o out) (One c.args.declaration)
+    (Ends None) on.result on.ensures.ended
     (λ o t out from answer. (t.first, from, (DrawsTexts-kept false t o out answer).0)))
