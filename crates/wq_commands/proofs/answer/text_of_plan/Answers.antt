@@ -1,6 +1,10 @@
-use Rattle.std.proofs.Common.{◌∙◌, sym, subst, arith}
+use Rattle.std.proofs.Common.{◌≡◌, ◌∙◌, IfOk, List, ℕ, map, ap, sym, subst, arith}
+use Rattle.wq_groups.specs.Assignment.{item_lanes}
+use Rattle.wq_graph.specs.Graph.{group_graph}
+use Rattle.wq_cert.specs.PlanText.{plan_text}
+use Rattle.wq_plan.specs.Plan.{chain_of}
 use Rattle.wq_plan.specs.Solve.{IsPlanned}
-use Rattle.wq_commands.specs.Answer.{declared_waits}
+use Rattle.wq_commands.specs.Answer.{declared_waits, ends_of}
 use Rattle.wq_commands.specs.Declaration.{Declared}
 use Rattle.wq_commands.proofs.AnswerLemmas.{ArePrintable-planned}
 use Rattle.wq_commands.proofs.answer.text_of_plan.Goals as goal
@@ -24,3 +28,15 @@ plan_text-requires-clause-items g c =
     (sym c.declared.view_is) c.requires.planned in
     let chain = c.deref.ensures.value ∙ c.in_ok-chain.ensures in
     (ArePrintable-planned s c.args.assignment.now c.args.chain.now _ c.declared.invariant planned chain).items
+
+pub returns : goal.returns
+returns g c =
+    let a = c.args.assignment.now in
+    let chain = c.deref.ensures.value ∙ c.in_ok-chain.ensures ∙ ap (map ends_of) c.requires.planned.longest in
+    let said = subst (λ (ends : List (ℕ × ℕ)). IfOk c.plan_text.result (λ text. text.items
+        ≡ plan_text c.declared.inside.table.names a.lanes (item_lanes a c.declared.inside.groups.group_of) ends))
+    chain c.plan_text.ensures in
+    subst (λ (d : Declared). IfOk c.plan_text.result (λ text. text.items ≡ plan_text d.table.names a.lanes
+        (item_lanes a d.partition.group_of)
+        (map ends_of (chain_of (group_graph (declared_waits c.args.declared.now)) a.lane_of_group))))
+    c.declared.view_is said
