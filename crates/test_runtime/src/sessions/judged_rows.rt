@@ -43,10 +43,7 @@ fn put_running(
     let running = core.running_in(*context);
     put_item_or_none(out, table, running.map(|r| r.entry.item))?;
     out.push_str(" waits ")?;
-    let (target, whole) = match core
-        .running_in(*context)
-        .and_then(|r| r.waiting)
-    {
+    let (target, whole) = match core.running_in(*context).and_then(|r| r.waiting) {
         None => (None, None),
         Some(waiting) if waiting.whole => (None, Some(waiting.target)),
         Some(waiting) => (Some(waiting.target), None),

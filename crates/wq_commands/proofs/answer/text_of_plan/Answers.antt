@@ -1,4 +1,5 @@
-use Rattle.std.proofs.Common.{◌≡◌, ◌∙◌, IfOk, List, ℕ, map, ap, sym, subst, arith}
+use Rattle.std.proofs.Common.{◌≡◌, ℕ, List, map, ◌∙◌, sym, ap, subst, arith}
+use Rattle.std.proofs.lemmas.Result.{IfOk-weaker}
 use Rattle.wq_groups.specs.Assignment.{item_lanes}
 use Rattle.wq_graph.specs.Graph.{group_graph}
 use Rattle.wq_cert.specs.PlanText.{plan_text}
@@ -31,12 +32,12 @@ plan_text-requires-clause-items g c =
 
 pub returns : goal.returns
 returns g c =
+    let s = c.args.declared.now in
     let a = c.args.assignment.now in
-    let chain = c.deref.ensures.value ∙ c.in_ok-chain.ensures ∙ ap (map ends_of) c.requires.planned.longest in
-    let said = subst (λ (ends : List (ℕ × ℕ)). IfOk c.plan_text.result (λ text. text.items
-        ≡ plan_text c.declared.inside.table.names a.lanes (item_lanes a c.declared.inside.groups.group_of) ends))
-    chain c.plan_text.ensures in
-    subst (λ (d : Declared). IfOk c.plan_text.result (λ text. text.items ≡ plan_text d.table.names a.lanes
-        (item_lanes a d.partition.group_of)
-        (map ends_of (chain_of (group_graph (declared_waits c.args.declared.now)) a.lane_of_group))))
-    c.declared.view_is said
+    let arcs : c.deref.result.now ≡ map ends_of (chain_of (group_graph (declared_waits s)) a.lane_of_group) =
+    c.deref.ensures.value ∙ c.in_ok-chain.ensures ∙ ap (map ends_of) c.requires.planned.longest in
+    IfOk-weaker c.plan_text.result _ _ (λ text printed. printed
+    ∙ ap (λ (d : Declared). plan_text d.table.names a.lanes (item_lanes a d.partition.group_of) c.deref.result.now)
+    c.declared.view_is
+    ∙ ap (λ (l : List (ℕ × ℕ)). plan_text s.table.names a.lanes (item_lanes a s.partition.group_of) l) arcs)
+    c.plan_text.ensures
