@@ -1,10 +1,8 @@
 -- Seeds that are drawn, files that are opened, and what follows for the ends of a command.
-use Rattle.std.proofs.Common.{◌≡◌, ◌≢◌, ◌⊎◌, ℕ, List, [], ◌∷◌, ◌++◌, Option, Some, None, Result, Ok, Err, inl, inr}
-use Rattle.std.proofs.Common.{refl, sym, subst, arith}
-use Rattle.std.proofs.lemmas.Grind.{common_steps}
-use Rattle.std.proofs.lemmas.List.Elements.{All-contains, All-nil, All-push}
-use Rattle.std.proofs.lemmas.List.Quantifiers.{Any-push}
-use Rattle.std.specs.List.{Any, Contains}
+use Rattle.std.proofs.Common.{◌≡◌, ◌≢◌, ◌⊎◌, ℕ, List, [], ◌∷◌, Option, Some, None, Result, Ok, Err, inl, inr, refl}
+use Rattle.std.proofs.Common.{sym, subst, arith}
+use Rattle.std.proofs.lemmas.List.Elements.{All-contains}
+use Rattle.std.specs.List.{Contains}
 use Rattle.wq_meter.specs.declared.fault.Fault.{Fault}
 use Rattle.wq_meter.specs.declared.fault.Fault.TheVariants.{Memory, Read, Write}
 use Rattle.wq_meter.specs.declared.shell.Stopped.{Stopped}
@@ -14,38 +12,12 @@ use Rattle.wq_commands.specs.declared.why.Outcome.{Outcome}
 use Rattle.wq_explain.specs.declared.explain.Explained.{Explained}
 use Rattle.wq_run.specs.declared.fault.CommandFault.{CommandFault}
 use Rattle.wq_run.specs.declared.fault.CommandFault.TheVariants.{Common, Tally, Thread}
-use Rattle.wq_run.specs.declared.fault.RunStop.{RunStop}
-use Rattle.wq_run.specs.declared.fault.RunStop.TheVariants as stop
-use Rattle.wq_run.specs.Fault.{end_or_stop}
-use Rattle.wqplan.specs.Cause.{EndsAlone, EndsReady, IsCaused, IsReady, IsUnready}
+use Rattle.wqplan.specs.Cause.{EndsAlone, EndsReady, IsCaused, IsOpened, IsReady}
 use Rattle.clap.specs.Words.{Text}
 use Rattle.wqplan.specs.CommandLine.{Asked, plans, runs, explains, files_of}
 use Rattle.wqplan.specs.Status.{end_or_common, explained_or_common}
 
-Any-more : {X : Type 0} (P : X → Type 0) (xs : List X) (y : X) → Any P xs → Any P (xs ++ y ∷ [])
-Any-more P xs y (k, x, below, is, holds) = (k, x, grind (arith, common_steps), grind (arith, common_steps), holds)
-
 module _ {F : Type 0} (Seeds : Option ℕ → Type 0) (Opens : Text → Option F → Type 0) where
-  abbrev pub Opened : Text → Type 0
-  Opened path = (file : F) × Opens path (Some file)
-
-  -- ---- one more file
-
-  pub ready_seed : (seed : ℕ) → Seeds (Some seed) → IsReady Seeds Opens []
-  ready_seed seed drawn = ((seed, drawn), All-nil Opened)
-
-  pub ready_more : (files : List Text) (path : Text) (file : F) → IsReady Seeds Opens files → Opens path (Some file)
-      → IsReady Seeds Opens (files ++ path ∷ [])
-  ready_more files path file ready opened = (ready.0, All-push Opened files path ready.1 (file, opened))
-
-  pub unready_more : (files : List Text) (path : Text) → IsUnready Seeds Opens files
-      → IsUnready Seeds Opens (files ++ path ∷ [])
-  unready_more files path (inl none) = inl none
-  unready_more files path (inr closed) = inr (Any-more (λ p. Opens p None) files path closed)
-
-  pub unready_last : (files : List Text) (path : Text) → Opens path None → IsUnready Seeds Opens (files ++ path ∷ [])
-  unready_last files path closed = inr (Any-push (λ p. Opens p None) files path closed)
-
   -- ---- ends
 
   module _ (files : List Text) (ready : IsReady Seeds Opens files) where
@@ -68,36 +40,21 @@ module _ {F : Type 0} (Seeds : Option ℕ → Type 0) (Opens : Text → Option F
         → result ≡ end_or_common ended → EndsReady Seeds Opens files (Unit {0}) ⊥ result
     files_caused ended result is = caused_by (Unit {0}) ended result is (λ _. tt)
 
-    run_caused : (ended : Result Outcome (Stopped RunStop))
-        → EndsReady Seeds Opens files (Unit {0}) (Unit {0}) (end_or_stop ended)
-    run_caused (Ok o) = ready
-    run_caused (Err (Faulted Memory)) = ready
-    run_caused (Err (Faulted Read)) = inr (ready, tt)
-    run_caused (Err (Faulted Write)) = ready
-    run_caused (Err (Unanswered stop.OutOfMemory)) = ready
-    run_caused (Err (Unanswered stop.Thread)) = (ready, tt)
-    run_caused (Err (Unanswered stop.Tally)) = (ready, tt)
-
-    pub run_caused_by : (ended : Result Outcome (Stopped RunStop)) (result : Result End CommandFault)
-        → result ≡ end_or_stop ended → EndsReady Seeds Opens files (Unit {0}) (Unit {0}) result
-    run_caused_by ended result is =
-        subst (EndsReady Seeds Opens files (Unit {0}) (Unit {0})) (sym is) (run_caused ended)
-
   -- a file that never opens leaves only a fault of reading
   pub never_opened : (files : List Text) (MayFail MayStart : Type 0) (result : Result End CommandFault)
       → EndsReady Seeds Opens files MayFail MayStart result
       → (path : Text) → Contains files path → ((file : F) → ¬ Opens path (Some file)) → result ≡ Err (Common Read)
   never_opened files MayFail MayStart (Ok end) ready path contains never =
-      let opened = All-contains Opened files path ready.1 contains in absurd (never opened.0 opened.1)
+      let opened = All-contains (IsOpened Opens) files path ready.1 contains in absurd (never opened.0 opened.1)
   never_opened files MayFail MayStart (Err (Common Read)) unready path contains never = refl
   never_opened files MayFail MayStart (Err (Common Write)) ready path contains never =
-      let opened = All-contains Opened files path ready.1 contains in absurd (never opened.0 opened.1)
+      let opened = All-contains (IsOpened Opens) files path ready.1 contains in absurd (never opened.0 opened.1)
   never_opened files MayFail MayStart (Err (Common Memory)) ready path contains never =
-      let opened = All-contains Opened files path ready.1 contains in absurd (never opened.0 opened.1)
+      let opened = All-contains (IsOpened Opens) files path ready.1 contains in absurd (never opened.0 opened.1)
   never_opened files MayFail MayStart (Err Thread) ready path contains never =
-      let opened = All-contains Opened files path ready.0.1 contains in absurd (never opened.0 opened.1)
+      let opened = All-contains (IsOpened Opens) files path ready.0.1 contains in absurd (never opened.0 opened.1)
   never_opened files MayFail MayStart (Err Tally) ready path contains never =
-      let opened = All-contains Opened files path ready.0.1 contains in absurd (never opened.0 opened.1)
+      let opened = All-contains (IsOpened Opens) files path ready.0.1 contains in absurd (never opened.0 opened.1)
 
   -- so does a seed that is never drawn
   pub never_drawn : (files : List Text) (MayFail MayStart : Type 0) (result : Result End CommandFault)

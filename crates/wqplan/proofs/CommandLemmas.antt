@@ -1,5 +1,5 @@
 -- The command that a parse of the program's words entered, and the files that it was given.
-use Rattle.std.proofs.Common.{refl, ap, ap₂, sym, subst, arith, ℕ, zero, suc, ◌≤◌, ◌⊎◌, inl, inr, Result, Ok, Err}
+use Rattle.std.proofs.Common.{refl, ap, ap₂, sym, subst, arith, ℕ, zero, suc, ◌≤◌, inl, inr, Result, Ok, Err}
 use Rattle.std.proofs.Common.{IsErrAnd, MatchResult, ◌∙◌, codes, Bool, true, false, cond, not, ◌==◌, ◌&&◌, [], ◌∷◌}
 use Rattle.std.proofs.Common.{List, Option, Some, None, ◌≡◌}
 use Rattle.std.specs.Prelude.{IfSome, IsSome, IsSomeAnd, option_map, pos, unwrap_or}
@@ -15,7 +15,7 @@ use Rattle.clap.specs.Matches.{matched_of, raw_values}
 use Rattle.clap.proofs.WalkLemmas.{first_value-rows, raw_values-rows}
 use Rattle.clap.specs.Lexer.{long_of, short_of, usize_max, without_minus}
 use Rattle.clap.proofs.OnLiterals.{clap_on_literals}
-use Rattle.wqplan.specs.CommandLine.{wqplan, is_no_option, many_rule, Asked, Asks, AsksFor, Calls, CallsRun}
+use Rattle.wqplan.specs.CommandLine.{wqplan, is_no_option, Asked, Asks, AsksFor, Calls, CallsRun}
 use Rattle.wqplan.specs.CommandLine.{GivesArguments, HasFewHelpers, IsHelpers, IsRepair, command_name, digit}
 use Rattle.wqplan.specs.CommandLine.{helpers_in, names_of}
 use Rattle.wqplan.specs.CommandLine.Asked.{plans, checks, judges, hangs, repairs, replays, finds, draws, runs, explains}

@@ -1,8 +1,8 @@
 -- The files of a command: they are opened, and have texts.
-use Rattle.std.proofs.Common.{◌≡◌, ℕ, List, [], ◌∷◌, Option, Some, None, Result, Ok, Err, inl, refl, sym, subst, arith}
+use Rattle.std.proofs.Common.{ℕ, List, [], ◌∷◌, Option, Some, None, Result, Ok, Err, sym, subst}
 use Rattle.std.proofs.lemmas.List.Elements.{All-cons, All-nil}
 use Rattle.std.specs.Borrow.{Bor}
-use Rattle.std.specs.List.{All, Any}
+use Rattle.std.specs.List.{All}
 use Rattle.clap.specs.Words.{Text}
 use Rattle.wq_meter.specs.Input.{IsInput}
 use Rattle.wq_meter.specs.Meter.{Meter}
@@ -13,29 +13,14 @@ use Rattle.wq_commands.specs.declared.end.End.{End}
 use Rattle.wq_commands.specs.declared.why.Outcome.{Outcome}
 use Rattle.wq_run.specs.declared.fault.CommandFault.{CommandFault}
 use Rattle.wq_run.specs.declared.fault.CommandFault.TheVariants.{Common, Tally, Thread}
-use Rattle.wqplan.specs.Cause.{IsCaused, IsOpened}
-use Rattle.wqplan.specs.CommandLine.{spelled}
+use Rattle.wqplan.specs.Cause.{IsOpened}
 use Rattle.wqplan.specs.Ended.{EndedBy, Has, IsInputIf}
 use Rattle.wqplan.specs.Files.{AreOpened, EndsFiles, HaveTexts, HoldsIf, paths_of}
-use Rattle.wqplan.specs.declared.command_line.Request.{Request}
-use Rattle.wqplan.specs.declared.command_line.Request.TheVariants as asks
 use Rattle.wqplan.specs.declared.performing.Files.{Files}
 use Rattle.wqplan.specs.declared.performing.Files.TheVariants.{One, Two, Three}
 
 module _ {F : Type 0} (Opens : Text → Option F → Type 0) where
-  -- ---- a file can't be opened
-
-  pub closed_first : (a : Text) (paths : List Text) → Opens a None → Any (λ path. Opens path None) (a ∷ paths)
-  closed_first a paths closed = (0, a, omega arith, refl, closed)
-
-  pub closed_second : (a b : Text) (paths : List Text) → Opens b None → Any (λ path. Opens path None) (a ∷ b ∷ paths)
-  closed_second a b paths closed = (1, b, omega arith, refl, closed)
-
-  pub closed_third : (a b d : Text) → Opens d None → Any (λ path. Opens path None) (a ∷ b ∷ d ∷ [])
-  closed_third a b d closed = (2, d, omega arith, refl, closed)
-
-  -- ---- all are opened
-
+  -- all are opened
   pub all_opened : (paths : Files (Bor Text)) (files : Files F) → AreOpened Opens paths files
       → All (IsOpened Opens) (paths_of paths)
   all_opened (One first) (One a) opened = All-cons (IsOpened Opens) first.now [] (a, opened) (All-nil (IsOpened Opens))
@@ -53,7 +38,7 @@ module _ {F : Type 0} (Opens : Text → Option F → Type 0) where
   all_opened (Three first second third) (One a) opened = absurd opened
   all_opened (Three first second third) (Two a b) opened = absurd opened
 
-  -- ---- the texts of what is opened
+  -- the texts of what is opened
 
   module _ (remaining : F → Option (List ℕ)) where
     holds_if : (limit : Option ℕ) (path : Text) (a : F) (text : List ℕ) → Opens path (Some a)
@@ -88,25 +73,6 @@ module _ {F : Type 0} (Opens : Text → Option F → Type 0) where
         holds_if limits.second second.now b t.second opened.1 other,
         holds_if limits.third third.now d t.third opened.2 last,
       )
-
-  -- ---- no seed
-
-  module _ (Seeds : Option ℕ → Type 0) where
-    -- without a seed nothing but `explain` is carried out
-    pub unready_asked : (InputFailed : Type 0) (request : Request)
-        → ((code : Option (Bor Text)) → ¬ (request ≡ asks.Explain code)) → Seeds None
-        → IsCaused Seeds Opens InputFailed (spelled request) (Err (Common Read))
-    unready_asked InputFailed (asks.Plan None) other none = inl (inl none)
-    unready_asked InputFailed (asks.Plan (Some file)) other none = inl (inl none)
-    unready_asked InputFailed (asks.Check declaration certificate) other none = inl (inl none)
-    unready_asked InputFailed (asks.Deadlock declaration assignment) other none = inl (inl none)
-    unready_asked InputFailed (asks.Hang declaration assignment) other none = inl (inl none)
-    unready_asked InputFailed (asks.Repair declaration assignment names) other none = inl (inl none)
-    unready_asked InputFailed (asks.Replay declaration assignment run) other none = inl (inl none)
-    unready_asked InputFailed (asks.Circles declaration assignment) other none = inl (inl none)
-    unready_asked InputFailed (asks.Dot declaration assignment) other none = inl (inl none)
-    unready_asked InputFailed (asks.Run declaration helpers) other none = inl (inl none)
-    unready_asked InputFailed (asks.Explain code) other none = absurd (other code refl)
 
 -- ---- how a command ends
 

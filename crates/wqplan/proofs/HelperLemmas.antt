@@ -1,6 +1,6 @@
 -- The number of helpers that a word of the command line says, as `clap` reads it.
 use Rattle.std.proofs.Common.{◌≡◌, ℕ, ◌<◌, ◌≤◌, Bool, true, false, List, Option, None, Some, Result, Ok, Err, refl, sym}
-use Rattle.std.proofs.Common.{subst, ◌∙◌, ◌^◌, arith}
+use Rattle.std.proofs.Common.{subst, arith}
 use Rattle.std.specs.Prelude.{IfSome, IsSome, nat_lt, if◌then◌else◌}
 use Rattle.std.specs.Str.Parse.{ParsesUnsigned}
 use Rattle.std.proofs.lemmas.Bool.{ltb-false, ltb-true}

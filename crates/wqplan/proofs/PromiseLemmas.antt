@@ -1,5 +1,5 @@
 -- What the program promises follows from how it ends.
-use Rattle.std.proofs.Common.{◌≡◌, ℕ, List, Option, Some, None, Result, Ok, Err, refl, subst, sym}
+use Rattle.std.proofs.Common.{◌≡◌, ℕ, List, Option, Some, None, Result, Ok, Err, subst}
 use Rattle.std.specs.Prelude.{IfOk}
 use Rattle.wq_meter.specs.Meter.{Meter, WritesWhole}
 use Rattle.wq_commands.specs.declared.end.End.{End}

@@ -1,5 +1,4 @@
 use Rattle.std.proofs.Common.{rules, codes, Some, ap, ◌≡◌, ◌∙◌}
-use Rattle.clap.specs.Lexer.{usize_max}
 use Rattle.clap.specs.Words.{Rule, new_rule, rule_of}
 use Rattle.wqplan.proofs.CommandLemmas.{range_given, many}
 use Rattle.wqplan.proofs.command_line.names.Goals as goal

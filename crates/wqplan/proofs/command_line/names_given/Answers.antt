@@ -1,4 +1,4 @@
-use Rattle.std.proofs.Common.{rules, ap, codes, map, List, None, Some, ◌≡◌, ◌∙◌}
+use Rattle.std.proofs.Common.{rules, ap, map, List, None, Some, ◌≡◌, ◌∙◌}
 use Rattle.std.specs.Borrow.{Bor}
 use Rattle.std.proofs.lemmas.Result.{IfOk-weaker}
 use Rattle.clap.specs.Words.{Text, found_of}

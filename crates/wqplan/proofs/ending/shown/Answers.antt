@@ -1,4 +1,4 @@
-use Rattle.std.proofs.Common.{◌≡◌, ℕ, inl, inr, refl, subst, sym, Result, Ok, Err, OnErr}
+use Rattle.std.proofs.Common.{◌≡◌, inl, inr, refl, subst, sym, Result, Ok, Err, OnErr}
 use Rattle.std.specs.Prelude.{◌⊎◌}
 use Rattle.wqplan.specs.Status.{unwritten_status}
 use Rattle.wqplan.specs.declared.world.Unwritten.{Unwritten}

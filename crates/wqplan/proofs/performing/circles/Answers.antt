@@ -1,7 +1,8 @@
 use Rattle.std.proofs.Common.{◌∷◌, None, Some, false, subst, sym, true}
 use Rattle.std.specs.Prelude.{option_map, option_to_list}
-use Rattle.wq_circles.specs.Circling.{CirclesTexts, circles_limits}
+use Rattle.wq_circles.specs.Circling.{CirclesTexts}
 use Rattle.wq_circles.proofs.Taking.{CirclesTexts-kept}
+use Rattle.wq_commands.specs.Commands.{one_text, two_texts}
 use Rattle.wqplan.specs.Cause.{EndsReady}
 use Rattle.wqplan.specs.Ended.{EndedBy, EndsCircles, Has}
 use Rattle.wqplan.specs.declared.performing.Files.TheVariants.{One, Two}
@@ -17,7 +18,7 @@ returns-in-Some-clause-ended g c =
     (λ a. EndedBy g.W.Write.contents c.args.writer.now on.new.writer (Ends (option_map (λ s. s.now) a)) on.result)
     (sym c.in-Some.is)
     (ends_on_files g.W.Write.contents c.args.writer.now on.new.writer Holds
-    (circles_limits true) (λ t o out. CirclesTexts true t o out) (Two c.args.declaration c.in-Some.assignment)
+    two_texts (λ t o out. CirclesTexts true t o out) (Two c.args.declaration c.in-Some.assignment)
     (Ends (Some c.in-Some.assignment.now)) on.result on.ensures.ended
     (λ o t out from answer. (t.first, t.second, from.0, from.1, (CirclesTexts-kept true t o out answer).0)))
 
@@ -37,6 +38,6 @@ returns-in-None-clause-ended g c =
     (λ a. EndedBy g.W.Write.contents c.args.writer.now on.new.writer (Ends (option_map (λ s. s.now) a)) on.result)
     (sym c.in-None.is)
     (ends_on_files g.W.Write.contents c.args.writer.now on.new.writer Holds
-    (circles_limits false) (λ t o out. CirclesTexts false t o out) (One c.args.declaration)
+    one_text (λ t o out. CirclesTexts false t o out) (One c.args.declaration)
     (Ends None) on.result on.ensures.ended
     (λ o t out from answer. (t.first, from, (CirclesTexts-kept false t o out answer).0)))
