@@ -10,7 +10,8 @@ returns g c =
     let said = option_map (λ v. v.items) c.in_ok-said.said in
     let file = c.args.assignment.file.now in
     let names = map (λ n. n.now) c.args.names.now in
-    let same = ap (λ (d : Declared). assignment_text d.table.names d.partition c.args.start.now names) c.declared.view_is in
+    let same =
+    ap (λ (d : Declared). assignment_text d.table.names d.partition c.args.start.now names) c.declared.view_is in
     record {
       said = said;
       reason = c.in_ok-said.ensures;
