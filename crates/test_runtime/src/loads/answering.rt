@@ -1,7 +1,5 @@
 //! The answer to a declaration and an assignment: they are judged, and then a load is run. It takes the time of both.
 
-ghost use Rattle.std.specs.Prelude.{◌≡◌, length};
-
 use crate::loads::load::Load;
 use crate::loads::running::run;
 use crate::testbed::{Bed, SEED, SettingTexts, refuse_text};
@@ -10,31 +8,24 @@ use std::sync::Wait;
 use std::thread::Threads;
 use std::time::Clock;
 use wq_cert::{CertError, read_assignment};
-use wq_commands::{Stop, read_declaration};
-use wq_groups::Groups;
-use wq_items::ItemTable;
+use wq_commands::{Declaration, Stop, read_declaration};
 
-/// Answers for the items of a table, in these groups, under the assignment in a text. Returns the status.
+/// Answers for what is declared, under the assignment in a text. Returns the status.
 fn answer_declared<R: Threads + Wait + Clock + Sync>(
     rt: &R,
     alloc: Global,
     rows: u32,
     helpers: u8,
-    table: &ItemTable<'_, Global>,
-    groups: &Groups<Global>,
+    declared: &Declaration<'_, Global>,
     assigned: &[u8],
     load: Load,
     out: &mut String,
-) -> Result<u8, AllocError>
-    requires { length groups.now.group_of ≡ length table.now.names }
-{
-    // What holds of all groups.
-    let _groups = groups.len();
+) -> Result<u8, AllocError> {
+    let Declaration { table, groups } = declared;
     match read_assignment(alloc, assigned, table, groups) {
         Ok(assignment) => {
             let bed = Bed {
-                table,
-                groups,
+                declared,
                 assignment: &assignment,
                 rows,
                 helpers,
@@ -58,13 +49,12 @@ pub fn answer<R: Threads + Wait + Clock + Sync>(
     out: &mut String,
 ) -> Result<u8, AllocError> {
     match read_declaration(alloc, SEED, &texts.declared) {
-        Ok(d) => answer_declared(
+        Ok(declared) => answer_declared(
             rt,
             alloc,
             rows,
             helpers,
-            &d.table,
-            &d.groups,
+            &declared,
             &texts.assigned,
             load,
             out,

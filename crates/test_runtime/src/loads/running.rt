@@ -2,9 +2,9 @@
 
 ghost use Rattle.std.specs.Prelude.{◌≡◌, length, vec_len, slice_index, IfOk};
 ghost use Rattle.std.specs.List.{All};
-ghost use Rattle.wq_groups.specs.Declaration.{declaration_of};
 ghost use Rattle.wq_core.specs.Wiring.{wiring, with_helpers};
 ghost use Rattle.wq_rescuer.specs.Executing.{NeverRan};
+ghost use Rattle.wq_commands.specs.Answer.{declared_waits};
 
 use crate::loads::client::Client;
 use crate::loads::load::Load;
@@ -68,12 +68,13 @@ fn run_counted<N: Naming + Send + Sync, R: Threads + Wait + Clock + Sync>(
 ) -> Result<u8, AllocError>
     requires { N.wiring
         ≡ with_helpers
-        (wiring (declaration_of bed.now.table.now bed.now.groups.now) bed.now.assignment.now) bed.now.helpers }
+        (wiring (declared_waits bed.now.declared.now) bed.now.assignment.now) bed.now.helpers }
 {
     let lanes = runtime.lanes();
     let contexts = contexts_of(alloc, &runtime)?;
-    let servers = make_servers(alloc, load, bed.table, contexts.len())?;
-    let clients = make_clients(alloc, load, bed.table.len(), lanes, working)?;
+    let declared = bed.declared;
+    let servers = make_servers(alloc, load, &declared.table, contexts.len())?;
+    let clients = make_clients(alloc, load, declared.table.len(), lanes, working)?;
     let Ok(begun) = Instant::now(rt) else {
         return fault(out, "clock");
     };
@@ -84,7 +85,16 @@ fn run_counted<N: Naming + Send + Sync, R: Threads + Wait + Clock + Sync>(
     let Ok(took) = begun.elapsed(rt) else {
         return fault(out, "clock");
     };
-    conclude(out, bed.table, load, runtime, lanes, &contexts, ran, took)
+    conclude(
+        out,
+        &declared.table,
+        load,
+        runtime,
+        lanes,
+        &contexts,
+        ran,
+        took,
+    )
 }
 
 /// Makes the runtime of this name and runs a load on it. Returns the status.
@@ -101,7 +111,7 @@ fn run_named<N: Naming + Send + Sync, R: Threads + Wait + Clock + Sync>(
     requires all_parts { N.parts ≡ 65536 }
     requires of_wiring { N.wiring
         ≡ with_helpers
-        (wiring (declaration_of bed.now.table.now bed.now.groups.now) bed.now.assignment.now) bed.now.helpers }
+        (wiring (declared_waits bed.now.declared.now) bed.now.assignment.now) bed.now.helpers }
     requires of_rows { N.rows ≡ bed.now.rows }
 {
     let Some(runtime) = make::<N>(alloc, blank, bed, out)? else {

@@ -1,8 +1,6 @@
 //! The answer to a declaration and an assignment: they are judged, and then what is
 //! asked is done with them. It takes the time of these.
 
-ghost use Rattle.std.specs.Prelude.{◌≡◌, length};
-
 use crate::sessions::requests::TaskText;
 use crate::testbed::{Bed, SEED, SettingTexts, refuse_text};
 use std::alloc::{AllocError, Global};
@@ -10,31 +8,24 @@ use std::sync::Wait;
 use std::thread::Threads;
 use std::time::Clock;
 use wq_cert::{CertError, read_assignment};
-use wq_commands::{Stop, read_declaration};
-use wq_groups::Groups;
-use wq_items::ItemTable;
+use wq_commands::{Declaration, Stop, read_declaration};
 
-/// Does what is asked with the items of a table, in these groups, under the assignment in a text. Returns the status.
+/// Does what is asked with what is declared, under the assignment in a text. Returns the status.
 fn answer_declared<R: Threads + Wait + Clock + Sync>(
     rt: &R,
     alloc: Global,
     rows: u32,
     helpers: u8,
-    table: &ItemTable<'_, Global>,
-    groups: &Groups<Global>,
+    declared: &Declaration<'_, Global>,
     assigned: &[u8],
     request: &TaskText<'_>,
     out: &mut String,
-) -> Result<u8, AllocError>
-    requires { length groups.now.group_of ≡ length table.now.names }
-{
-    // What holds of all groups.
-    let _groups = groups.len();
+) -> Result<u8, AllocError> {
+    let Declaration { table, groups } = declared;
     match read_assignment(alloc, assigned, table, groups) {
         Ok(assignment) => {
             let bed = Bed {
-                table,
-                groups,
+                declared,
                 assignment: &assignment,
                 rows,
                 helpers,
@@ -67,8 +58,7 @@ pub fn answer<R: Threads + Wait + Clock + Sync>(
                 alloc,
                 rows,
                 helpers,
-                &declared.table,
-                &declared.groups,
+                &declared,
                 &texts.assigned,
                 request,
                 out,

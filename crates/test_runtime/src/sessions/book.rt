@@ -9,6 +9,7 @@ use crate::testbed::{
     put_waiting,
 };
 use std::alloc::{AllocError, Global};
+use wq_commands::Declaration;
 use wq_core::{Core, MAX_HELPERS};
 use wq_groups::LaneId;
 use wq_history::{Asked, Book, BookError, LaneAsked};
@@ -305,9 +306,11 @@ pub(crate) fn keep_book(
     out: &mut String,
 ) -> Result<u8, AllocError> {
     let helpers = bed.helpers.min(MAX_HELPERS);
-    let core = Core::with_helpers(alloc, bed.table, bed.groups, bed.assignment, helpers)?;
+    let declared = bed.declared;
+    let Declaration { table, groups } = declared;
+    let core = Core::with_helpers(alloc, table, groups, bed.assignment, helpers)?;
     match Book::new(alloc, core, bed.rows) {
-        Ok(book) => call_book(alloc, bed.table, book, helpers, text, out),
+        Ok(book) => call_book(alloc, table, book, helpers, text, out),
         Err(BookError::OutOfMemory) => Err(AllocError),
         Err(error) => {
             writeln!(out, "refused {}", error.code())?;

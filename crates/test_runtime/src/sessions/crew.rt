@@ -4,9 +4,9 @@
 
 ghost use Rattle.std.specs.Prelude.{◌≡◌, vec_len, slice_index, IfOk};
 ghost use Rattle.std.specs.List.{All};
-ghost use Rattle.wq_groups.specs.Declaration.{declaration_of};
 ghost use Rattle.wq_core.specs.Wiring.{wiring, with_helpers};
 ghost use Rattle.wq_rescuer.specs.Executing.{NeverRan};
+ghost use Rattle.wq_commands.specs.Answer.{declared_waits};
 
 use crate::sessions::deed::{Deed, Plot};
 use crate::sessions::doer::Doer;
@@ -81,9 +81,10 @@ impl PlottedCrew {
     ) -> Result<CrewRan<'_, N>, AllocError>
         requires { N.wiring
             ≡ with_helpers
-            (wiring (declaration_of bed.now.table.now bed.now.groups.now) bed.now.assignment.now) bed.now.helpers }
+            (wiring (declared_waits bed.now.declared.now) bed.now.assignment.now) bed.now.helpers }
     {
-        let items = bed.table.len();
+        let declared = bed.declared;
+        let items = declared.table.len();
         let bodies = make_doers(alloc, &self.flags, 0, items, &self.plot.bodies)?;
         let first_caller = bodies.len();
         let callers = make_doers(alloc, &self.flags, first_caller, items, &self.plot.callers)?;
@@ -103,7 +104,7 @@ impl PlottedCrew {
     ) -> Result<u8, AllocError>
         requires { N.wiring
             ≡ with_helpers
-            (wiring (declaration_of bed.now.table.now bed.now.groups.now) bed.now.assignment.now) bed.now.helpers }
+            (wiring (declared_waits bed.now.declared.now) bed.now.assignment.now) bed.now.helpers }
     {
         let contexts = contexts_of(alloc, &runtime)?;
         let ran = self.perform(rt, alloc, &runtime, bed);

@@ -6,6 +6,7 @@ ghost use Rattle.wq_core.specs.State.{empty_state};
 use crate::testbed::{Bed, put_context, put_item_or_none, put_waiting};
 use hex::FromHexError;
 use std::alloc::{AllocError, Global};
+use wq_commands::Declaration;
 use wq_core::{Context, Core, MAX_HELPERS};
 use wq_groups::LaneId;
 use wq_history::{MAX_ROWS, RowError, RowFault, check_rows};
@@ -150,14 +151,10 @@ pub(crate) fn judge(
     let helpers = bed.helpers.min(MAX_HELPERS);
     match bytes_of(alloc, text)? {
         Some(packed) if packed.len() <= 12 * MAX_ROWS as usize => {
-            let mut core = Core::with_helpers(
-                alloc,
-                bed.table,
-                bed.groups,
-                bed.assignment,
-                helpers,
-            )?;
-            let status = judge_rows(alloc, bed.table, &mut core, helpers, &packed, out);
+            let declared = bed.declared;
+            let Declaration { table, groups } = declared;
+            let mut core = Core::with_helpers(alloc, table, groups, bed.assignment, helpers)?;
+            let status = judge_rows(alloc, table, &mut core, helpers, &packed, out);
             drop(core);
             status
         }

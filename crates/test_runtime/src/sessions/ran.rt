@@ -179,7 +179,7 @@ fn put_report<N: Naming, B: Body + Drop, C: Caller + Drop>(
     let seats = mem::replace(&mut ran.seats, Vec::new(alloc));
     match runtime.close(seats) {
         Ok(closed) => {
-            let text = report_text(alloc, bed.table, bed.groups, bed.assignment, &closed, &ran);
+            let text = report_text(alloc, bed.declared, bed.assignment, &closed, &ran);
             drop(closed);
             drop(ran);
             put_text(out, text)
@@ -215,7 +215,10 @@ pub(crate) fn put_end<N: Naming, B: Body + Shown + Drop, C: Caller + Shown + Dro
     account: Account,
 ) -> Result<u8, AllocError> {
     match (ran, account) {
-        (Ok(Ok(ran)), Account::Whole) => put_ran(out, bed.table, runtime, contexts, ran),
+        (Ok(Ok(ran)), Account::Whole) => {
+            let declared = bed.declared;
+            put_ran(out, &declared.table, runtime, contexts, ran)
+        }
         (Ok(Ok(ran)), Account::Report) => put_report(out, alloc, bed, runtime, ran),
         (Ok(Err(refused)), _) => put_refused(out, runtime, refused),
         (Err(error), _) => {

@@ -1,8 +1,8 @@
 //! What is asked: a task, and the text that says what is to be done in it. It takes the time of the task.
 
 ghost use Rattle.std.specs.Prelude.{◌≡◌};
-ghost use Rattle.wq_groups.specs.Declaration.{declaration_of};
 ghost use Rattle.wq_core.specs.Wiring.{wiring, with_helpers};
+ghost use Rattle.wq_commands.specs.Answer.{declared_waits};
 
 use crate::sessions::book::keep_book;
 use crate::sessions::crew::PlottedCrew;
@@ -63,8 +63,18 @@ impl Play<'_> {
         text: &[u8],
         account: Account,
     ) -> Result<Self, AllocError> {
-        match PlottedCrew::read(alloc, bed.table, text)? {
+        let declared = bed.declared;
+        match PlottedCrew::read(alloc, &declared.table, text)? {
             Ok(crew) => Ok(Play::Crew(crew, account)),
+            Err(line) => Ok(Play::Mistake(line)),
+        }
+    }
+
+    /// The calls of a text that a caller makes while rescuers make the declared flushes.
+    fn of_acts(alloc: Global, bed: &Bed<'_>, text: &[u8]) -> Result<Self, AllocError> {
+        let declared = bed.declared;
+        match Script::read(alloc, &declared.table, text)? {
+            Ok(script) => Ok(Play::Script(script)),
             Err(line) => Ok(Play::Mistake(line)),
         }
     }
@@ -80,10 +90,13 @@ impl Play<'_> {
     ) -> Result<u8, AllocError>
         requires { N.wiring
             ≡ with_helpers
-            (wiring (declaration_of bed.now.table.now bed.now.groups.now) bed.now.assignment.now) bed.now.helpers }
+            (wiring (declared_waits bed.now.declared.now) bed.now.assignment.now) bed.now.helpers }
     {
         match self {
-            Play::Calls(text) => keep_session(rt, alloc, runtime, bed.table, *text, out),
+            Play::Calls(text) => {
+                let declared = bed.declared;
+                keep_session(rt, alloc, runtime, &declared.table, *text, out)
+            }
             Play::Crew(crew, account) => crew.run(rt, alloc, runtime, bed, *account, out),
             Play::Script(script) => script.run(rt, alloc, runtime, bed, out),
             Play::Mistake(line) => {
@@ -108,7 +121,7 @@ fn play_named<N: Naming + Send + Sync, R: Threads + Wait + Clock + Sync>(
     requires all_parts { N.parts ≡ 65536 }
     requires of_wiring { N.wiring
         ≡ with_helpers
-        (wiring (declaration_of bed.now.table.now bed.now.groups.now) bed.now.assignment.now) bed.now.helpers }
+        (wiring (declared_waits bed.now.declared.now) bed.now.assignment.now) bed.now.helpers }
     requires of_rows { N.rows ≡ bed.now.rows }
 {
     match make::<N>(alloc, blank, bed, out)? {
@@ -145,10 +158,7 @@ impl TaskText<'_> {
             Task::Crew => Play::of_crew(alloc, bed, self.text, Account::Whole)?,
             Task::Report => Play::of_crew(alloc, bed, self.text, Account::Report)?,
             Task::Script => Play::Script(Script::of_all()),
-            Task::Acts => match Script::read(alloc, bed.table, self.text)? {
-                Ok(script) => Play::Script(script),
-                Err(line) => Play::Mistake(line),
-            },
+            Task::Acts => Play::of_acts(alloc, bed, self.text)?,
         };
         let status = play_new(rt, alloc, bed, &play, out);
         drop(play);

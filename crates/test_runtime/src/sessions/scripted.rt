@@ -4,8 +4,8 @@
 //! It takes the time of the bodies and the callers, and then that of printing the history that they leave.
 
 ghost use Rattle.std.specs.Prelude.{◌≡◌};
-ghost use Rattle.wq_groups.specs.Declaration.{declaration_of};
 ghost use Rattle.wq_core.specs.Wiring.{wiring, with_helpers};
+ghost use Rattle.wq_commands.specs.Answer.{declared_waits};
 
 use crate::sessions::lines::tell_text;
 use crate::sessions::ran::{Account, put_end};
@@ -71,10 +71,11 @@ impl Script {
     ) -> Result<ScriptRan<'t, 't, N>, AllocError>
         requires { N.wiring
             ≡ with_helpers
-            (wiring (declaration_of bed.now.table.now bed.now.groups.now) bed.now.assignment.now) bed.now.helpers }
+            (wiring (declared_waits bed.now.declared.now) bed.now.assignment.now) bed.now.helpers }
     {
-        let bodies = script_bodies(alloc, bed.table, count_contexts(runtime))?;
-        let callers = self.callers(alloc, bed.table.len())?;
+        let declared = bed.declared;
+        let bodies = script_bodies(alloc, &declared.table, count_contexts(runtime))?;
+        let callers = self.callers(alloc, declared.table.len())?;
         Ok(run_all(rt, alloc, runtime, bodies, callers))
     }
 
@@ -89,7 +90,7 @@ impl Script {
     ) -> Result<u8, AllocError>
         requires { N.wiring
             ≡ with_helpers
-            (wiring (declaration_of bed.now.table.now bed.now.groups.now) bed.now.assignment.now) bed.now.helpers }
+            (wiring (declared_waits bed.now.declared.now) bed.now.assignment.now) bed.now.helpers }
     {
         let contexts = contexts_of(alloc, &runtime)?;
         let ran = self.perform(rt, alloc, &runtime, bed);

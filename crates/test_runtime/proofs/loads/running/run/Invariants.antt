@@ -1,10 +1,10 @@
-use Rattle.wq_groups.specs.Declaration.{declaration_of}
 use Rattle.wq_core.specs.Wiring.{wiring, with_helpers}
+use Rattle.wq_commands.specs.Answer.{declared_waits}
 use Rattle.test_runtime.proofs.loads.running.run.Given as goal
 
 abbrev pub ghosts-run_named-N-Naming : goal.ghosts-run_named-N-Naming
 ghosts-run_named-N-Naming g a = record {
-  wiring = with_helpers (wiring (declaration_of a.bed.now.table.now a.bed.now.groups.now) a.bed.now.assignment.now) a.bed.now.helpers;
+  wiring = with_helpers (wiring (declared_waits a.bed.now.declared.now) a.bed.now.assignment.now) a.bed.now.helpers;
   rows = a.bed.now.rows;
 }
 
