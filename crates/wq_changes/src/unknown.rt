@@ -80,6 +80,20 @@ fn put_meant<A: Allocator + Copy>(
     put_line(alloc, text, &line)
 }
 
+/// That this is the name of no item, and which item was most likely meant.
+fn text_with_meant<A: Allocator + Copy>(
+    alloc: A,
+    file: &str,
+    name: &str,
+    item: &[u8],
+) -> Result<Vec<u8, A>, AllocError>
+    ensures { IfOk result (λ text. text.items ≡ unknown_line file.now name.now ++ meant_line file.now item.now) }
+{
+    let mut text = unknown_line(alloc, file, name)?;
+    put_meant(alloc, &mut text, file, item)?;
+    Ok(text)
+}
+
 /// What is said of a name that is that of no item.
 fn of_name<A: Allocator + Copy>(
     alloc: A,
@@ -89,11 +103,10 @@ fn of_name<A: Allocator + Copy>(
 ) -> Result<Vec<u8, A>, AllocError>
     ensures { IfOk result (λ text. SaysNoItem declaration.entry.file.now table.now.names name.now text.items) }
 {
-    let mut text = unknown_line(alloc, declaration.file, name)?;
-    if let Some(item) = item_meant(alloc, &lines_of(declaration.text), table, name)? {
-        put_meant(alloc, &mut text, declaration.file, item)?;
+    match item_meant(alloc, &lines_of(declaration.text), table, name)? {
+        Some(item) => text_with_meant(alloc, declaration.file, name, item),
+        None => unknown_line(alloc, declaration.file, name),
     }
-    Ok(text)
 }
 
 /// What is said of the first name that is that of no item. Nothing if there is none.
