@@ -125,6 +125,12 @@ def limit_repair_cases():
     chain = [b"flush %s %s" % pair for pair in zip(names[:300], names[1:300])]
     alone = lines_on([[name] for name in names])
     add("a chain of 300 on one workqueue", 300, chain, lines_on([names[:300]]))
+    long_chain = [b"flush %s %s" % pair for pair in zip(names[:600], names[1:600])]
+    add("a chain of 600 on one workqueue", 600, long_chain, lines_on([names[:600]]))
+    # The first item of the second workqueue waits for the first one of the first, whose last one waits for the other.
+    across = [b"flush %s %s" % (names[600], names[0]), b"flush %s %s" % (names[599], names[601])]
+    add("two waits across 600 items on a workqueue", 602, across, lines_on([names[:600], names[600:602]]))
+    add("the same with the workqueues the other way round", 602, across, lines_on([names[600:602], names[:600]]))
     add("a chain of 300 on 4,096 workqueues, every other without a rescuer", ITEM_LIMIT, chain, with_bare(alone, range(0, ITEM_LIMIT, 2)))
     add("a chain of 300 on 4,096 workqueues, and its last item has to stay", ITEM_LIMIT, chain, with_bare(alone, [299]), names[0])
     return cases
