@@ -367,6 +367,7 @@ def repairs():
     chained, on_near = declaration(ITEMS, chain()), declaration(ITEMS, near(512))
     yield "a chain, one workqueue", chained, one(), []
     yield "a chain, one workqueue, half may move", chained, one(), half
+    yield "a chain, one workqueue, half may move, and a misspelt name", chained, one(), [*half, "fffg"]
     yield "a chain, 64 workqueues, every other without a rescuer", chained, in_turn_with_bare(64, 2), []
     yield "a chain, 4,096 workqueues, one with a rescuer", chained, all_but_one_bare(), []
     yield "a chain of other items, 64 workqueues", declaration(ITEMS, shuffled(chain())), in_turn(64), []

@@ -1,6 +1,6 @@
 -- A group comes to another vertex: what leads where.
 use Rattle.std.proofs.Common.{◌≡◌, ◌≢◌, ℕ, ◌<◌, ◌⊎◌, inl, inr, Bool, true, false, List, [], ◌++◌, length, set, refl, sym, subst, ap, ◌∙◌, arith}
-use Rattle.std.specs.Prelude.{Contains, All, slice_index, if◌then◌else◌, ◌==◌}
+use Rattle.std.specs.Prelude.{Contains, All, Option, slice_index, if◌then◌else◌, ◌==◌}
 use Rattle.std.proofs.lemmas.Bool.{cases_eq, cases_Bool, false≢true, eqb-true, eq-eqb}
 use Rattle.std.proofs.lemmas.List.{length-set, get_or-set_same, get_or-set_other}
 use Rattle.std.proofs.lemmas.List.Elements.{All-set, All-append, Contains-append_left, Contains-append_right, Contains-append_cases, All-contains}
@@ -11,7 +11,7 @@ use Rattle.wq_repair.specs.Joined.{become}
 use Rattle.wq_repair.specs.Vertices.{Vertices, AreVertices, LeadsOn, LeadsTo, AreHeads, IsJoined, IsLevelled, heads_at, heads_moved}
 use Rattle.wq_repair.specs.Together.{IsAlone}
 use Rattle.wq_repair.proofs.Joining.{Circle-closed}
-use Rattle.wq_repair.specs.Near.{HoldsAt, GainsAt, AreNear, LeadEitherWay}
+use Rattle.wq_repair.specs.Near.{IsKnown, AreNear, LeadEitherWay}
 use Rattle.wq_repair.proofs.Levelled.{LeadsOn-from}
 use Rattle.wq_repair.proofs.Nearby.{LeadsTo-map}
 
@@ -147,8 +147,8 @@ module _ (at : List ℕ) (heads : List (List ℕ)) (g p : ℕ) (g_is : g < lengt
   either_new x y (inr leads) = inr (LeadsTo-map (LeadsOn at heads) (LeadsOn new_at new) to keeps y x leads)
 
   -- what is known of vertices still holds, if somebody is at p
-  module _ (sets more : List (List ℕ)) (somebody : (h : ℕ) × (h < length at) × (slice_index at h ≡ p))
-      (gains : GainsAt sets p (HoldsAt sets own) more) (near : AreNear at heads sets) where
+  module _ (known : List (Option ℕ)) (somebody : (h : ℕ) × (h < length at) × (slice_index at h ≡ p))
+      (near : AreNear at heads known) where
     -- somebody was at each new vertex
     was_at : (x : ℕ) → x < length at → (h : ℕ) × (h < length at) × (slice_index at h ≡ slice_index new_at x)
     was_at x is = elim (cases_eq x g) [
@@ -157,36 +157,25 @@ module _ (at : List ℕ) (heads : List (List ℕ)) (g p : ℕ) (g_is : g < lengt
     ]
 
     -- of two that were vertices
-    near_was : (x y : ℕ) → x < length at → y < length at → HoldsAt sets (slice_index new_at x) (slice_index new_at y)
+    near_was : (x y : ℕ) → x < length at → y < length at
+        → IsKnown known (slice_index new_at x) (slice_index new_at y)
         → LeadEitherWay at heads (slice_index new_at x) (slice_index new_at y)
     near_was x y x_is y_is has =
         let (h, h_is, at_h) = was_at x x_is in
         let (k, k_is, at_k) = was_at y y_is in
         subst (λ (z : ℕ). LeadEitherWay at heads z (slice_index new_at y)) at_h
         (subst (LeadEitherWay at heads (slice_index at h)) at_k (near h k h_is k_is
-        (subst (λ (z : ℕ). HoldsAt sets z (slice_index at k)) (sym at_h)
-        (subst (HoldsAt sets (slice_index new_at x)) (sym at_k) has))))
+        (subst (λ (z : ℕ). IsKnown known z (slice_index at k)) (sym at_h)
+        (subst (IsKnown known (slice_index new_at x)) (sym at_k) has))))
 
-    near_own : (y : ℕ) → y < length at → HoldsAt sets own (slice_index new_at y)
-        → LeadEitherWay at heads own (slice_index new_at y)
-    near_own y y_is has =
-        let (k, k_is, at_k) = was_at y y_is in
-        subst (LeadEitherWay at heads own) at_k (near g k g_is k_is (subst (HoldsAt sets own) (sym at_k) has))
-
-    pub AreNear-moved : AreNear new_at new more
+    pub AreNear-moved : AreNear new_at new known
     AreNear-moved x y x_new y_new has =
         let x_is : x < length at = omega (arith, x_new, length-set at g p) in
         let y_is : y < length at = omega (arith, y_new, length-set at g p) in
         let a : ℕ = slice_index new_at x in
         let b : ℕ = slice_index new_at y in
-        let found : LeadEitherWay new_at new (to a) (to b) = elim (gains a b has) [
-          | inl old ↦ either_new a b (near_was x y x_is y_is old)
-          | inr more ↦
-              subst (λ (z : ℕ). LeadEitherWay new_at new z (to b)) (to_own ∙ sym (ap to more.0 ∙ to_p))
-              (either_new own b (near_own y y_is more.1))
-        ] in
         subst (λ (z : ℕ). LeadEitherWay new_at new z b) (same_new x x_is)
-        (subst (LeadEitherWay new_at new (to a)) (same_new y y_is) found)
+        (subst (LeadEitherWay new_at new (to a)) (same_new y y_is) (either_new a b (near_was x y x_is y_is has)))
 
 -- vertices of the same height become one
 pub AreVertices-moved : (v : Vertices) (g p : ℕ) → AreVertices v → g < length v.at → p < length v.heads → slice_index v.at g ≢ p → IsAlone v.at g
@@ -279,47 +268,39 @@ module _ (v k m : Vertices) (g p own : ℕ) (are : AreVertices v) (g_is : g < le
 -- what is known of the vertices of group g and of p, at which somebody is
 module _ (v : Vertices) (g p : ℕ) (are : AreVertices v) (g_is : g < length v.at)
     (somebody : (h : ℕ) × (h < length v.at) × (slice_index v.at h ≡ p)) (apart : slice_index v.at g ≢ p)
-    (alone : IsAlone v.at g) (sets : List (List ℕ)) (near : AreNear v.at v.heads sets) where
+    (alone : IsAlone v.at g) (known : List (Option ℕ)) (near : AreNear v.at v.heads known) where
   p_inside : p < length v.heads
   p_inside = subst (λ (x : ℕ). x < length v.heads) somebody.2 (are.within somebody.0 0 somebody.1)
 
-  turned : (x y : ℕ) → LeadEitherWay v.at v.heads x y → LeadEitherWay v.at v.heads y x
-  turned x y (inl leads) = inr leads
-  turned x y (inr leads) = inl leads
-
   -- one is known to lead to the other
-  leads : HoldsAt sets p (slice_index v.at g) → LeadEitherWay v.at v.heads p (slice_index v.at g)
+  leads : IsKnown known (slice_index v.at g) p → LeadEitherWay v.at v.heads (slice_index v.at g) p
   leads has =
       let at_h = somebody.2 in
-      subst (λ (x : ℕ). LeadEitherWay v.at v.heads x (slice_index v.at g)) at_h
-      (near somebody.0 g somebody.1 g_is (subst (λ (x : ℕ). HoldsAt sets x (slice_index v.at g)) (sym at_h) has))
+      subst (LeadEitherWay v.at v.heads (slice_index v.at g)) at_h
+      (near g somebody.0 g_is somebody.1 (subst (IsKnown known (slice_index v.at g)) (sym at_h) has))
 
-  pub IsJoined-near : (here : ℕ) → here ≡ slice_index v.at g → HoldsAt sets p here → IsJoined v g p false v
+  pub IsJoined-near : (here : ℕ) → here ≡ slice_index v.at g → IsKnown known here p → IsJoined v g p false v
   IsJoined-near here here_is has =
-      let found = leads (subst (HoldsAt sets p) here_is has) in
+      let found = leads (subst (λ (x : ℕ). IsKnown known x p) here_is has) in
       IsJoined-not v v v g p (slice_index v.at g) are g_is p_inside apart alone refl refl refl (record {
         vertices = are;
         at = refl;
         heads = refl;
         yes = λ is. absurd (false≢true is);
-        no = λ is. turned p (slice_index v.at g) found;
+        no = λ is. found;
       })
 
   -- they become one
-  pub AreNear-joined : (new : Vertices) (more : List (List ℕ)) (here : ℕ) → here ≡ slice_index v.at g
-      → GainsAt sets p (HoldsAt sets here) more → IsJoined v g p true new → AreNear new.at new.heads more
-  AreNear-joined new more here here_is gains joined =
+  pub AreNear-joined : (new : Vertices) → IsJoined v g p true new → AreNear new.at new.heads known
+  AreNear-joined new joined =
       let (same_at, same_heads) = joined.yes refl in
-      let gains_own : GainsAt sets p (HoldsAt sets (slice_index v.at g)) more =
-      subst (λ (x : ℕ). GainsAt sets p (HoldsAt sets x) more) here_is gains in
-      subst (λ (l : List ℕ). AreNear l new.heads more) (sym same_at)
-      (subst (λ (h : List (List ℕ)). AreNear (set v.at g p) h more) (sym same_heads)
-      (AreNear-moved v.at v.heads g p g_is p_inside are.within are.heads_within apart alone sets more somebody gains_own
-      near))
+      subst (λ (l : List ℕ). AreNear l new.heads known) (sym same_at)
+      (subst (λ (h : List (List ℕ)). AreNear (set v.at g p) h known) (sym same_heads)
+      (AreNear-moved v.at v.heads g p g_is p_inside are.within are.heads_within apart alone known somebody near))
 
   -- they stay apart
-  pub AreNear-apart : (new : Vertices) → IsJoined v g p false new → AreNear new.at new.heads sets
+  pub AreNear-apart : (new : Vertices) → IsJoined v g p false new → AreNear new.at new.heads known
   AreNear-apart new joined =
       let same = joined.no refl in
-      subst (λ (l : List ℕ). AreNear l new.heads sets) (sym same.0)
-      (subst (λ (h : List (List ℕ)). AreNear v.at h sets) (sym same.1) near)
+      subst (λ (l : List ℕ). AreNear l new.heads known) (sym same.0)
+      (subst (λ (h : List (List ℕ)). AreNear v.at h known) (sym same.1) near)

@@ -18,7 +18,7 @@ ghost use Rattle.wq_repair.specs.Vertices.{AreHeads, AreVertices, IsJoined, IsLe
 
 use crate::levels::{do_fall, level, lowered};
 use crate::near::Near;
-use crate::parts::Parts;
+use crate::vertex_lists::{Filling, VertexLists, count_one};
 use std::alloc::{AllocError, Allocator};
 use std::marker::Model;
 use std::mem::replace;
@@ -253,16 +253,36 @@ impl<A: Allocator + Copy> Joined<A> {
         Ok(())
     }
 
-    /// Each vertex as a part.
-    pub(crate) fn parts(&self, alloc: A) -> Result<Parts<A>, AllocError> {
-        Parts::new(alloc, &self.vertex_of, &self.heads)
+    /// For each part those for which its vertices wait. `part_of` has the part of each vertex.
+    pub(crate) fn waits_of_parts(
+        &self,
+        alloc: A,
+        part_of: &[u16],
+    ) -> Result<VertexLists<A>, AllocError> {
+        let mut counts = vec![in alloc; 0u32; part_of.len()]?;
+        for (part, groups) in part_of.iter().zip(self.heads.iter()) {
+            for _ in groups {
+                count_one(counts.as_mut_slice(), *part);
+            }
+        }
+        let mut waits = Filling::new(alloc, counts.as_slice())?;
+        for (part, groups) in part_of.iter().zip(self.heads.iter()) {
+            for group in groups {
+                if let Some(vertex) = self.vertex_of.get(usize::from(*group)) {
+                    if let Some(other) = part_of.get(usize::from(*vertex)) {
+                        waits.put(*part, *other);
+                    }
+                }
+            }
+        }
+        Ok(waits.lists())
     }
 
     /// Notes that a search found a circle.
     fn note_circle(&self, alloc: A, near: &mut Near<A>) -> Result<(), AllocError>
         requires { AreVertices self.now }
-        ensures { IfOk result (λ _. AreNear self.now.at self.now.heads (map (λ s. s.words.items) near.old.sets.items)
-            → AreNear self.now.at self.now.heads (map (λ s. s.words.items) near.new.sets.items)) }
+        ensures { IfOk result (λ _. AreNear self.now.at self.now.heads near.old.known.items
+            → AreNear self.now.at self.now.heads near.new.known.items) }
     {
         near.searched(alloc, &self.vertex_of, &self.heads, &self.heights)
     }
@@ -296,21 +316,19 @@ fn join_unless_near<A: Allocator + Copy>(
     vertex: u16,
 ) -> Result<bool, AllocError>
     requires vertices { AreVertices joined.old }
-    requires near { AreNear joined.old.at joined.old.heads (map (λ s. s.words.items) near.old.sets.items) }
+    requires near { AreNear joined.old.at joined.old.heads near.old.known.items }
     requires group { group < length joined.old.at }
     requires somebody { (h : ℕ) × (h < length joined.old.at) × (slice_index joined.old.at h ≡ vertex) }
     requires apart { slice_index joined.old.at group ≢ vertex }
     requires alone { IsAlone joined.old.at group }
     ensures joined { IfOk result (λ is. IsJoined joined.old group vertex is joined.new) }
-    ensures near { IfOk result (λ _.
-        AreNear joined.new.at joined.new.heads (map (λ s. s.words.items) near.new.sets.items)) }
+    ensures near { IfOk result (λ _. AreNear joined.new.at joined.new.heads near.new.known.items) }
 {
     let own = joined.vertex(group);
-    if near.has(vertex, own) {
+    if near.has(own, vertex) {
         return Ok(false);
     }
     if joined.join(alloc, group, vertex)? {
-        near.put(alloc, own, vertex);
         return Ok(true);
     }
     joined.note_circle(alloc, near)?;
@@ -328,7 +346,7 @@ fn put_at_home<A: Allocator + Copy>(
     group: u16,
 ) -> Result<bool, AllocError>
     requires vertices { AreVertices joined.old }
-    requires near { AreNear joined.old.at joined.old.heads (map (λ s. s.words.items) near.old.sets.items) }
+    requires near { AreNear joined.old.at joined.old.heads near.old.known.items }
     requires lane { lane < length homes.old }
     requires group { group < length joined.old.at }
     requires homes { (p : ℕ) → slice_index_or homes.old lane None ≡ Some p
@@ -336,8 +354,7 @@ fn put_at_home<A: Allocator + Copy>(
         × (slice_index joined.old.at group ≢ p) }
     requires alone { IsAlone joined.old.at group }
     ensures put { IfOk result (λ is. IsPutAtHome joined.old homes.old lane group is joined.new homes.new) }
-    ensures near { IfOk result (λ _.
-        AreNear joined.new.at joined.new.heads (map (λ s. s.words.items) near.new.sets.items)) }
+    ensures near { IfOk result (λ _. AreNear joined.new.at joined.new.heads near.new.known.items) }
 {
     let at = usize::from(lane.get());
     match homes[at] {
@@ -347,6 +364,36 @@ fn put_at_home<A: Allocator + Copy>(
             Ok(true)
         }
     }
+}
+
+/// For each vertex the home to which its group is to come, if these groups come in this order: that of its lane, or the
+/// vertex of the first that comes from there.
+fn homes_to_be<A: Allocator + Copy>(
+    alloc: A,
+    joined: &Joined<A>,
+    old: &Assignment<A>,
+    homes: &[Option<u16>],
+    order: &[u16],
+) -> Result<Vec<Option<u16>, A>, AllocError>
+    requires one_each { length joined.now.at ≡ length old.now.lane_of_group }
+    requires order { All (λ g. g < length joined.now.at) order.now }
+{
+    let mut homes_then = Vec::new(alloc);
+    homes_then.extend_from_slice(homes)?;
+    let mut to_be: Vec<Option<u16>, A> = vec![in alloc; None; joined.vertices()]?;
+    for group in order {
+        let vertex = joined.vertex(*group);
+        let lane = old.lane(GroupId::new(*group)).get();
+        let Some(home) = homes_then.get_mut(usize::from(lane)) else {
+            continue;
+        };
+        if home.is_none() {
+            *home = Some(vertex);
+        } else if let Some(place) = to_be.get_mut(usize::from(vertex)) {
+            *place = *home;
+        }
+    }
+    Ok(to_be)
 }
 
 /// Puts these groups together, in this order, with those that come from the same lane of the old workqueues: at the
@@ -375,7 +422,8 @@ pub(crate) fn put_together<A: Allocator + Copy>(
 {
     let _lanes = old.lanes();
     let mut at_home = vec![in alloc; false; old.groups()]?;
-    let mut near = Near::none(alloc);
+    let to_be = homes_to_be(alloc, joined, old, homes, order)?;
+    let mut near = Near::new(alloc, to_be);
     for group in order {
         let lane = old.lane(GroupId::new(*group));
         at_home[usize::from(*group)] = put_at_home(alloc, joined, &mut near, homes, lane, *group)?;

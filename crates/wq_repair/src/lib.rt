@@ -25,6 +25,7 @@ mod repairing;
 mod scope;
 mod search;
 mod start;
+mod vertex_lists;
 mod wider;
 
 pub use answer::Answer;

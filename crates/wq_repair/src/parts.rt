@@ -6,6 +6,7 @@
 //! vertices and waits, times that of vertices asked about by 256; memory in the number of vertices and waits.
 
 use crate::bits::{Numbers, empty_sets};
+use crate::vertex_lists::VertexLists;
 use std::alloc::{AllocError, Allocator};
 
 /// So many words tell who leads to a part.
@@ -22,34 +23,23 @@ type Row = [u64; WORDS];
 pub(crate) struct Parts<A: Allocator> {
     /// For each vertex the one that stands for its part.
     part_of: Vec<u16, A>,
-    /// For each vertex that stands for a part, the vertices for which it waits.
-    targets: Vec<Vec<u16, A>, A>,
-    /// How many waits there are for each of these parts.
-    waits: Vec<u32, A>,
 }
 
 impl<A: Allocator + Copy> Parts<A> {
-    /// Each vertex is a part. `vertex_of` has the vertex of each group, and `heads` for each vertex the groups for
-    /// which those at it wait.
-    pub(crate) fn new(
-        alloc: A,
-        vertex_of: &[u16],
-        heads: &[Vec<u16, A>],
-    ) -> Result<Self, AllocError> {
-        let mut part_of = Vec::with_capacity(alloc, heads.len())?;
-        let mut targets = Vec::with_capacity(alloc, heads.len())?;
+    /// Each of so many vertices is a part.
+    pub(crate) fn new(alloc: A, vertices: usize) -> Result<Self, AllocError> {
+        let mut part_of = Vec::with_capacity(alloc, vertices)?;
         let mut vertex: u16 = 0;
-        for groups in heads {
+        for _ in 0..vertices {
             part_of.push(vertex)?;
-            targets.push(vertices_of(alloc, vertex_of, groups)?)?;
             vertex = vertex.wrapping_add(1);
         }
-        let waits = waits_for_each(alloc, targets.as_slice())?;
-        Ok(Parts {
-            part_of,
-            targets,
-            waits,
-        })
+        Ok(Parts { part_of })
+    }
+
+    /// For each vertex its part.
+    pub(crate) fn part_of(&self) -> &[u16] {
+        self.part_of.as_slice()
     }
 
     /// The part of a vertex.
@@ -61,81 +51,27 @@ impl<A: Allocator + Copy> Parts<A> {
     }
 
     /// These vertices become one. Each was a part alone.
-    pub(crate) fn unite(&mut self, alloc: A, vertices: &[u16]) -> Result<(), AllocError> {
+    pub(crate) fn unite(&mut self, vertices: &[u16]) {
         let Some(first) = vertices.first() else {
-            return Ok(());
+            return;
         };
-        let mut all = Vec::new(alloc);
-        let mut waits: u32 = 0;
         for vertex in vertices {
             if let Some(part) = self.part_of.get_mut(usize::from(*vertex)) {
                 *part = *first;
             }
-            if let Some(targets) = self.targets.get_mut(usize::from(*vertex)) {
-                all.extend_from_slice(targets)?;
-                *targets = Vec::new(alloc);
-            }
-            if let Some(own) = self.waits.get_mut(usize::from(*vertex)) {
-                waits = waits.saturating_add(*own);
-                *own = 0;
-            }
-        }
-        if let Some(targets) = self.targets.get_mut(usize::from(*first)) {
-            *targets = all;
-        }
-        if let Some(own) = self.waits.get_mut(usize::from(*first)) {
-            *own = waits;
-        }
-        Ok(())
-    }
-
-    /// The vertices for which a part waits.
-    fn targets(&self, part: u16) -> &[u16] {
-        match self.targets.get(usize::from(part)) {
-            Some(targets) => targets,
-            None => &[],
         }
     }
 
-    /// Takes off a part for which nobody who is left waits. Those that can be taken off then come to the end of a list.
-    fn take_off(
+    /// For each vertex a height, which those of a part share. It falls along all waits. `targets` has for each part
+    /// those for which it waits.
+    pub(crate) fn heights(
         &self,
-        part: u16,
-        waits: &mut [u32],
-        free: &mut Vec<u16, A>,
-    ) -> Result<(), AllocError> {
-        for vertex in self.targets(part) {
-            let target = self.part(*vertex);
-            if let Some(left) = waits.get_mut(usize::from(target)) {
-                *left = left.saturating_sub(1);
-                if *left == 0 {
-                    free.push(target)?;
-                }
-            }
-        }
-        Ok(())
-    }
-
-    /// The parts, each before those to which it leads.
-    fn downwards(&self, alloc: A) -> Result<Vec<u16, A>, AllocError> {
-        let mut waits = Vec::new(alloc);
-        waits.extend_from_slice(&self.waits)?;
-        let mut free = none_waits_for(alloc, waits.as_slice())?;
-        for place in 0..self.part_of.len() {
-            let Some(part) = free.get(place) else {
-                break;
-            };
-            let part = *part;
-            self.take_off(part, waits.as_mut_slice(), &mut free)?;
-        }
-        Ok(free)
-    }
-
-    /// For each vertex a height, which those of a part share. It falls along all waits.
-    pub(crate) fn heights(&self, alloc: A) -> Result<Vec<u16, A>, AllocError> {
+        alloc: A,
+        targets: &VertexLists<A>,
+    ) -> Result<Vec<u16, A>, AllocError> {
         let mut of_parts = vec![in alloc; 0u16; self.part_of.len()]?;
         let mut height = u16::MAX;
-        for part in &self.downwards(alloc)? {
+        for part in &downwards(alloc, targets)? {
             if let Some(own) = of_parts.get_mut(usize::from(*part)) {
                 *own = height;
             }
@@ -152,11 +88,12 @@ impl<A: Allocator + Copy> Parts<A> {
         Ok(heights)
     }
 
-    /// For each part which of these vertices, at most 256, lead to it or are in it. `downwards` has the parts, each
-    /// before those to which it leads.
+    /// For each part which of these vertices, at most 256, lead to it or are in it. `targets` has for each part those
+    /// for which it waits, and `downwards` the parts, each before those to which it leads.
     fn told(
         &self,
         alloc: A,
+        targets: &VertexLists<A>,
         downwards: &[u16],
         vertices: &[u16],
     ) -> Result<Vec<Row, A>, AllocError> {
@@ -168,11 +105,11 @@ impl<A: Allocator + Copy> Parts<A> {
         }
         for part in downwards {
             let row = row_of(rows.as_slice(), *part);
-            if is_empty(&row) {
+            if row.iter().all(|word| *word == 0) {
                 continue;
             }
-            for vertex in self.targets(*part) {
-                if let Some(told) = rows.get_mut(usize::from(self.part(*vertex))) {
+            for target in targets.of(*part) {
+                if let Some(told) = rows.get_mut(usize::from(*target)) {
                     add_row(told, &row);
                 }
             }
@@ -180,17 +117,19 @@ impl<A: Allocator + Copy> Parts<A> {
         Ok(rows)
     }
 
-    /// For each of these vertices, each of another part, the places of those of them that lead to it.
+    /// For each of these vertices, each of another part, the places of those of them that lead to it. `targets` has for
+    /// each part those for which it waits.
     pub(crate) fn leading(
         &self,
         alloc: A,
+        targets: &VertexLists<A>,
         vertices: &[u16],
     ) -> Result<Vec<Numbers<A>, A>, AllocError> {
-        let downwards = self.downwards(alloc)?;
+        let downwards = downwards(alloc, targets)?;
         let mut sets = empty_sets(alloc, vertices.len())?;
         let mut first: usize = 0;
         for some in vertices.chunks(AT_A_TIME) {
-            let rows = self.told(alloc, downwards.as_slice(), some)?;
+            let rows = self.told(alloc, targets, downwards.as_slice(), some)?;
             for (set, vertex) in sets.iter_mut().zip(vertices.iter()) {
                 set.set_words(first, &row_of(rows.as_slice(), self.part(*vertex)));
             }
@@ -205,43 +144,12 @@ impl<A: Allocator + Copy> Parts<A> {
     }
 }
 
-/// How many waits there are for each vertex. `targets` has for each vertex those for which it waits.
-fn waits_for_each<A: Allocator + Copy>(
-    alloc: A,
-    targets: &[Vec<u16, A>],
-) -> Result<Vec<u32, A>, AllocError> {
-    let mut waits = vec![in alloc; 0u32; targets.len()]?;
-    for some in targets {
-        for target in some {
-            if let Some(count) = waits.get_mut(usize::from(*target)) {
-                *count = count.saturating_add(1);
-            }
-        }
-    }
-    Ok(waits)
-}
-
-/// The vertices of these groups.
-fn vertices_of<A: Allocator + Copy>(
-    alloc: A,
-    vertex_of: &[u16],
-    groups: &[u16],
-) -> Result<Vec<u16, A>, AllocError> {
-    let mut vertices = Vec::with_capacity(alloc, groups.len())?;
-    for group in groups {
-        if let Some(vertex) = vertex_of.get(usize::from(*group)) {
-            vertices.push(*vertex)?;
-        }
-    }
-    Ok(vertices)
-}
-
 /// The parts for which nobody waits.
 fn none_waits_for<A: Allocator + Copy>(
     alloc: A,
     counts: &[u32],
 ) -> Result<Vec<u16, A>, AllocError> {
-    let mut free = Vec::new(alloc);
+    let mut free = Vec::with_capacity(alloc, counts.len())?;
     let mut part: u16 = 0;
     for count in counts {
         if *count == 0 {
@@ -252,17 +160,36 @@ fn none_waits_for<A: Allocator + Copy>(
     Ok(free)
 }
 
+/// The parts, each before those to which it leads. `targets` has for each part those for which it waits.
+pub(crate) fn downwards<A: Allocator + Copy>(
+    alloc: A,
+    targets: &VertexLists<A>,
+) -> Result<Vec<u16, A>, AllocError> {
+    let mut waits = targets.counts(alloc)?;
+    let mut free = none_waits_for(alloc, waits.as_slice())?;
+    for place in 0..targets.len() {
+        let Some(part) = free.get(place) else {
+            break;
+        };
+        let part = *part;
+        for target in targets.of(part) {
+            if let Some(left) = waits.get_mut(usize::from(*target)) {
+                *left = left.saturating_sub(1);
+                if *left == 0 {
+                    free.push(*target)?;
+                }
+            }
+        }
+    }
+    Ok(free)
+}
+
 /// The row of a part.
 fn row_of(rows: &[Row], part: u16) -> Row {
     match rows.get(usize::from(part)) {
         Some(row) => *row,
         None => [0; WORDS],
     }
-}
-
-/// Whether nobody is in a row.
-fn is_empty(row: &Row) -> bool {
-    row[0] | row[1] | row[2] | row[3] == 0
 }
 
 /// All who are in another row come to a row.

@@ -1,4 +1,4 @@
-use Rattle.std.proofs.Common.{◌≡◌, ◌<◌, ◌+◌, ℕ, Bool, false, List, length, map, replicate, set, subst, sym, ap, ◌∙◌}
+use Rattle.std.proofs.Common.{◌≡◌, ◌<◌, ◌+◌, ℕ, Bool, false, List, length, replicate, set, subst, sym, ap, ◌∙◌}
 use Rattle.std.proofs.Common.{arith, rules}
 use Rattle.std.specs.Prelude.{None, Some, slice_index, slice_index_or}
 use Rattle.std.proofs.lemmas.List.{length-replicate}
@@ -19,8 +19,8 @@ loop-group-init g c =
           c.requires.homes c.in_ok-at_home.at_home.items c.requires.vertices
           (ap length same ∙ length-replicate c.groups.result false ∙ c.groups.ensures ∙ sym c.requires.one_each)
           (marks-none c.in_ok-at_home.at_home.items c.groups.result same);
-      near = AreNear-none c.args.joined.now.at c.args.joined.now.heads
-          (map (λ s. s.words.items) c.none-near.result.sets.items) (ap (map (λ s. s.words.items)) c.none-near.ensures);
+      near = AreNear-none c.args.joined.now.at c.args.joined.now.heads c.new-near.result.known.items
+          c.new-near.ensures;
     }
 
 pub put_at_home-requires-clause-lane : goal.put_at_home-requires-clause-lane

@@ -1,13 +1,13 @@
 use Rattle.std.proofs.Common.{ℕ, List, map, subst}
-use Rattle.std.specs.Prelude.{IfOk}
+use Rattle.std.specs.Prelude.{IfOk, Option}
 use Rattle.wq_repair.specs.Near.{AreNear}
 use Rattle.wq_repair.specs.Vertices.{Vertices}
 use Rattle.wq_repair.proofs.joined.Joined.note_circle.Goals as goal
 
 pub returns : goal.returns
 returns g c =
-    let was : List (List ℕ) = map (λ s. s.words.items) c.args.near.now.sets.items in
-    let new : List (List ℕ) = map (λ s. s.words.items) c.searched.new.self.sets.items in
+    let was : List (Option ℕ) = c.args.near.now.known.items in
+    let new : List (Option ℕ) = c.searched.new.self.known.items in
     let at : List ℕ = c.self.inside.vertex_of.items in
     let seen : List (List ℕ) = map (λ l. l.items) c.deref-2.result.now in
     subst (λ (v : Vertices). IfOk c.searched.result (λ _. AreNear v.at v.heads was → AreNear v.at v.heads new))

@@ -1,4 +1,4 @@
-use Rattle.std.proofs.Common.{◌≡◌, ◌<◌, ◌≤◌, ℕ, List, length, map, subst, sym, ap, ◌∙◌, arith}
+use Rattle.std.proofs.Common.{◌<◌, ℕ, List, length, map, subst, sym, ap, arith}
 use Rattle.std.specs.Prelude.{All, slice_index}
 use Rattle.std.proofs.lemmas.List.{length-map}
 use Rattle.wq_repair.specs.Vertices.{Vertices, AreVertices, LeadsOn}
@@ -33,7 +33,7 @@ returns-then-do_fall-clause-vertices g c =
     } in
     let are : AreVertices v = subst AreVertices (sym c.self.view_is) c.requires in
     let heights : List ℕ = c.in_ok-heights.heights.items in
-    let fall = c.do_fall.ensures c.if-do_fall.true in
+    let fall = c.do_fall.ensures.yes c.if-do_fall.true in
     record {
       few = are.few;
       within = are.within;
