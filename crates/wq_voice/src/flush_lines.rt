@@ -7,24 +7,25 @@ use crate::block::Spot;
 use std::alloc::{AllocError, Allocator};
 use wq_diagnosis::lines_of;
 use wq_findings::flush_at;
-use wq_text::Line;
+use wq_text::{Line, Span};
 
 /// A line that declares flushes.
 #[derive(Clone, Copy)]
-struct FlushLine<'a> {
+struct FlushLine {
     /// Its number.
     no: u32,
     /// The place of its first flush among all that are declared.
     first: u32,
-    /// Its bytes.
-    bytes: &'a [u8],
+    /// Where it is in the text.
+    span: Span,
 }
 
 /// The lines that declare flushes, and for each flush, by place, which of them declares it.
 #[derive(Drop)]
 pub struct FlushLines<'a, A: Allocator> {
-    lines: Vec<FlushLine<'a>, A>,
-    line_of: Vec<usize, A>,
+    text: &'a [u8],
+    lines: Vec<FlushLine, A>,
+    line_of: Vec<u16, A>,
 }
 
 /// How many flushes a line declares: one for each name after the item's.
@@ -54,27 +55,36 @@ impl<'a, A: Allocator + Copy> FlushLines<'a, A> {
                 continue;
             }
             let first = u32::try_from(line_of.len()).unwrap_or(u32::MAX);
+            // There are no more lines that declare flushes than flushes, of which 16,384 are allowed.
+            let at = u16::try_from(lines.len()).unwrap_or(u16::MAX);
             for _ in 0..flushes {
-                line_of.push(lines.len())?;
+                line_of.push(at)?;
             }
             lines.push(FlushLine {
                 no: line.no(),
                 first,
-                bytes: line.bytes(),
+                span: line.span(),
             })?;
         }
-        Ok(FlushLines { lines, line_of })
+        Ok(FlushLines {
+            text,
+            lines,
+            line_of,
+        })
     }
 
     /// The line that declares the flush at this place.
-    fn line(&self, place: u32) -> Option<FlushLine<'a>> {
+    fn line(&self, place: u32) -> Option<FlushLine> {
         let at = self.line_of.get(place as usize)?;
-        self.lines.get(*at).copied()
+        self.lines.get(usize::from(*at)).copied()
     }
 
     /// The target of the flush at this place, in its line.
     pub(crate) fn spot(&self, place: u32) -> Spot<'a> {
-        let Some(FlushLine { no, first, bytes }) = self.line(place) else {
+        let Some(FlushLine { no, first, span }) = self.line(place) else {
+            return Spot::nowhere();
+        };
+        let Some(bytes) = self.text.get(span.start as usize..span.end as usize) else {
             return Spot::nowhere();
         };
         match flush_at(&lines_of(bytes), place.saturating_sub(first)) {
