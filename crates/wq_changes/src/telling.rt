@@ -9,7 +9,7 @@ ghost use Rattle.std.specs.List.{All};
 ghost use Rattle.wq_diagnosis.specs.Diagnosis.{shown_lines};
 ghost use Rattle.wq_voice.specs.Reasons.{plain_head};
 ghost use Rattle.wq_changes.specs.Changes.{IsOf};
-ghost use Rattle.wq_changes.specs.Told.{AreEach, GivesWhy, IsTold, IsToldWhy, TellsChanges, most_reasons};
+ghost use Rattle.wq_changes.specs.Told.{AddsEach, AreEach, GivesWhy, IsTold, IsToldWhy, TellsChanges, most_reasons};
 
 use crate::change::{Change, changes};
 use crate::places::Places;
@@ -178,20 +178,21 @@ fn all_whys<A: Allocator + Copy>(
     Ok(text)
 }
 
-/// What is changed, of each of these changes.
-fn all_told<A: Allocator + Copy>(
+/// A text, and behind it what is changed, of each of these changes.
+fn with_all_told<A: Allocator + Copy>(
     alloc: A,
     repair: &Repair<'_, '_, '_, '_, A>,
     changes: &[Change],
+    mut text: Vec<u8, A>,
 ) -> Result<Vec<u8, A>, AllocError>
     requires changes { All (IsOf repair.now.declared.now.partition.groups) changes.now }
     requires old { length repair.now.old.now.assignment.lane_of_group ≡ repair.now.declared.now.partition.groups }
     requires new { length repair.now.new.now.assignment.lane_of_group ≡ repair.now.declared.now.partition.groups }
-    ensures { IfOk result (λ text. AreEach (IsTold repair.now.assignment.file.now
+    ensures { IfOk result (λ all. AddsEach (IsTold repair.now.assignment.file.now
         repair.now.declared.now
-        (map (λ n. n.now) repair.now.names.now) repair.now.old.now repair.now.new.now) changes.now text.items) }
+        (map (λ n. n.now) repair.now.names.now) repair.now.old.now repair.now.new.now) changes.now
+        text.items all.items) }
 {
-    let mut text = Vec::new(alloc);
     for change in changes {
         let one = told(alloc, repair, change)?;
         put(&mut text, &one)?;
@@ -217,8 +218,7 @@ pub(crate) fn of_changes<A: Allocator + Copy>(
     let list = all.as_slice();
     let items = declared.table.len();
     let (first, others) = list.split_at(list.len().min(most_reasons(items)));
-    let mut text = all_whys(alloc, repair, first)?;
-    let alone = all_told(alloc, repair, others)?;
-    put(&mut text, &alone)?;
+    let whys = all_whys(alloc, repair, first)?;
+    let text = with_all_told(alloc, repair, others, whys)?;
     Ok(text)
 }

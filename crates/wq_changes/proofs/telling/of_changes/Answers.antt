@@ -1,4 +1,4 @@
-use Rattle.std.proofs.Common.{◌≡◌, ℕ, List, ◌++◌, length, map, take, drop, min, sym, ap, subst, ◌∙◌}
+use Rattle.std.proofs.Common.{◌≡◌, ℕ, List, length, map, take, drop, min, sym, ap, subst, ◌∙◌}
 use Rattle.std.specs.List.{All}
 use Rattle.std.proofs.lemmas.List.Elements.{All-take, All-drop}
 use Rattle.wq_commands.specs.Declaration.{Declared}
@@ -18,8 +18,8 @@ all_whys-requires-clause-changes g c =
     subst (All (IsOf groups)) (sym c.split_at.ensures.front)
     (All-take (IsOf groups) c.min.result c.as_slice-list.result.now (subst (All (IsOf groups)) (sym all) (All-IsOf groups r.old.now r.new.now)))
 
-pub all_told-requires-clause-changes : goal.all_told-requires-clause-changes
-all_told-requires-clause-changes g c =
+pub with_all_told-requires-clause-changes : goal.with_all_told-requires-clause-changes
+with_all_told-requires-clause-changes g c =
     let r = c.args.repair.now in
     let groups = r.declared.now.partition.groups in
     let all : c.as_slice-list.result.now ≡ changes_of groups r.old.now r.new.now = c.as_slice-list.ensures.value
@@ -46,10 +46,16 @@ returns g c =
     let front : c.split_at.result.0.now ≡ take most cs =
     c.split_at.ensures.front ∙ ap (λ (n : ℕ). take n c.as_slice-list.result.now) mid ∙ ap (λ (l : List Change). take (min (length cs) most) l) all ∙ take_least most cs in
     let back : c.split_at.result.1.now ≡ drop most cs =
-    c.split_at.ensures.back ∙ ap (λ (n : ℕ). drop n c.as_slice-list.result.now) mid ∙ ap (λ (l : List Change). drop (min (length cs) most) l) all ∙ drop_least most cs in (
-      c.in_ok-text.text.items,
-      c.in_ok-alone.alone.items,
-      c.in_ok-put.ensures.added ∙ ap (λ (b : List ℕ). c.in_ok-text.text.items ++ b) c.deref.ensures.value,
-      subst (λ (l : List Change). AreEach (IsToldWhy r.declaration.file.now r.assignment.file.now s names r.old.now r.new.now) l c.in_ok-text.text.items) front c.in_ok-text.ensures,
-      subst (λ (l : List Change). AreEach (IsTold r.assignment.file.now s names r.old.now r.new.now) l c.in_ok-alone.alone.items) back c.in_ok-alone.ensures,
+    c.split_at.ensures.back
+    ∙ ap (λ (n : ℕ). drop n c.as_slice-list.result.now) mid
+    ∙ ap (λ (l : List Change). drop (min (length cs) most) l) all
+    ∙ drop_least most cs in
+    let Whys = IsToldWhy r.declaration.file.now r.assignment.file.now s names r.old.now r.new.now in
+    let Told = IsTold r.assignment.file.now s names r.old.now r.new.now in
+    let (others, is, each) = c.in_ok-text.ensures in (
+      c.in_ok-whys.whys.items,
+      others,
+      is,
+      subst (λ (l : List Change). AreEach Whys l c.in_ok-whys.whys.items) front c.in_ok-whys.ensures,
+      subst (λ (l : List Change). AreEach Told l others) back each,
     )
