@@ -102,7 +102,8 @@ unknown_line file name =
 abbrev pub meant_line : List ℕ → List ℕ → List ℕ
 meant_line file item = shown_lines ((((file ++ codes ": note: did you mean `") ++ item) ++ codes "`?") ∷ [])
 
--- what is said of this name, which is that of no item; and which item was most likely meant, if its name is like it
+-- what is said of this name, which is that of no item: that it is the name of none, and nothing else or that an item
+-- was meant, which is declared. Which item that is, and whether one is named, isn't said here
 abbrev pub SaysNoItem : List ℕ → List (List ℕ) → List ℕ → List ℕ → Type 0
 SaysNoItem file items name text = (text ≡ unknown_line file name)
     ⊎ ((i : ℕ) × (item : List ℕ) × (item_named items item ≡ Some i)

@@ -7,9 +7,7 @@ ghost use Rattle.wq_circles.specs.ComponentsText.{AreBetween};
 ghost use Rattle.wq_changes.specs.Circles.{TellsCircle};
 
 use std::alloc::{AllocError, Allocator};
-use wq_commands::Declaration;
-use wq_core::Workqueues;
-use wq_deadlock::own_lanes;
+use wq_commands::{Assigned, Declaration};
 use wq_diagnosis::Source;
 use wq_graph::WaitArc;
 use wq_hang::Rounds;
@@ -26,8 +24,8 @@ pub(crate) fn of_circle<'a, A: Allocator + Copy>(
     ensures { IfOk result (λ text. TellsCircle declaration.entry.file.now
         declared.now circle.now text.items) }
 {
-    let assignment = own_lanes(alloc, &declared.groups)?;
-    let workqueues = Workqueues::new(assignment, Vec::new(alloc));
+    let own = Assigned::own_lanes(alloc, declared)?;
+    let workqueues = own.workqueues();
     let flushes = FlushLines::new(alloc, declaration.text)?;
     let subject = Subject {
         declaration,
@@ -37,11 +35,11 @@ pub(crate) fn of_circle<'a, A: Allocator + Copy>(
         },
         wording: Wording::OfGroups,
         declared,
-        workqueues: &workqueues,
+        workqueues,
         flushes: &flushes,
         names: &[],
     };
-    let mut rounds = Rounds::new(alloc, &declared.table, &declared.groups, &workqueues)?;
+    let mut rounds = Rounds::new(alloc, &declared.table, &declared.groups, workqueues)?;
     let mut text = Vec::new(alloc);
     put_round(alloc, &mut text, &subject, &mut rounds, circle)?;
     Ok(text)

@@ -17,12 +17,10 @@ ghost use Rattle.wq_circles.specs.Circling.{CirclesAssigned, CirclesDeclared, Ci
 use crate::joining::components;
 use crate::printing::circles_text;
 use std::alloc::{AllocError, Allocator};
-use wq_cert::CertError;
 use wq_commands::{
-    Answered, Assigned, Declaration, End, Stop, Texts, Which, read_declaration, safe_text,
+    Answered, Assigned, Declaration, End, Texts, Which, read_declaration, safe_text,
 };
-use wq_core::Workqueues;
-use wq_deadlock::{bare_waits, own_lanes};
+use wq_deadlock::bare_waits;
 use wq_graph::WaitArc;
 
 /// The answer where these components are found, and these flushes lead to workqueues without a rescuer.
@@ -43,8 +41,7 @@ fn print_components<A: Allocator + Copy>(
         let text = safe_text(alloc)?;
         return Ok(Answered::plain(End::Good, text));
     }
-    let declared = assigned.declared;
-    let text = circles_text(alloc, &declared.table, components, waits)?;
+    let text = circles_text(alloc, assigned.table(), components, waits)?;
     Ok(Answered::plain(End::Bad, text))
 }
 
@@ -82,8 +79,7 @@ fn circle_declared<A: Allocator + Copy>(
             drop(assigned);
             answer
         }
-        Err(CertError::OutOfMemory) => Err(AllocError),
-        Err(fault) => { Answered::refused(alloc, Which::Certificate, fault.code(), fault.line()) }
+        Err(fault) => Answered::unread(alloc, Which::Certificate, fault),
     }
 }
 
@@ -96,9 +92,7 @@ fn circle_groups<A: Allocator + Copy>(
         CirclesAssigned declared.now (all_rescued (own_lanes declared.now.partition.groups)) a.end a.text.items) }
     ensures why { IfOk result (λ a. a.why ≡ None) }
 {
-    let assignment = own_lanes(alloc, &declared.groups)?;
-    let workqueues = Workqueues::new(assignment, Vec::new(alloc));
-    let assigned = Assigned::new(declared, workqueues);
+    let assigned = Assigned::own_lanes(alloc, declared)?;
     circle_assigned(alloc, &assigned)
 }
 
@@ -118,10 +112,7 @@ fn circle_both<A: Allocator + Copy>(
             drop(declared);
             answer
         }
-        Err(Stop::Refused { code, line }) => {
-            Answered::refused(alloc, Which::Declaration, code, line)
-        }
-        Err(Stop::OutOfMemory) => Err(AllocError),
+        Err(stop) => Answered::stopped(alloc, stop),
     }
 }
 
@@ -140,10 +131,7 @@ fn circle_own<A: Allocator + Copy>(
             drop(declared);
             answer
         }
-        Err(Stop::Refused { code, line }) => {
-            Answered::refused(alloc, Which::Declaration, code, line)
-        }
-        Err(Stop::OutOfMemory) => Err(AllocError),
+        Err(stop) => Answered::stopped(alloc, stop),
     }
 }
 

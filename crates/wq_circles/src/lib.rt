@@ -4,11 +4,9 @@
 //! What the layer above relies on: the bytes written are the answer text to the bytes read. A flush is printed
 //! exactly where the workqueue of its target leads to that of its item by way of workqueues that have a rescuer, or
 //! where it leads from a workqueue that has a rescuer to one that has none. And `safe` is printed exactly where no
-//! run ends stuck. Below that, `lowest` tells for each vertex of a wait graph the lowest-numbered one that it is
-//! together with: two vertices have the same answer exactly where they are the same vertex or each leads to the
-//! other. The rule is that of "The command `circles`" in docs/FORMAT.md. It takes the time of reading the texts, of
-//! two wait graphs, of two searches through the first one (one along the arcs and one against them, each in time and
-//! memory in the number of vertices and arcs), and of writing the answer.
+//! run ends stuck. The rule is that of "The command `circles`" in docs/FORMAT.md. It takes the time of reading the
+//! texts, of two wait graphs, of two searches through the first one (one along the arcs and one against them, each in
+//! time and memory in the number of vertices and arcs), and of writing the answer.
 #![tactic(auto)]
 
 mod circles;
@@ -24,5 +22,3 @@ mod walk;
 
 pub use circles::CirclesCommand;
 pub use joining::components;
-pub use printing::{circles_text, components_text};
-pub use together::lowest;

@@ -6,8 +6,8 @@
 ghost use Rattle.std.specs.Prelude.{◌≡◌, ◌<◌, ◌++◌, ◌^◌, length, map, flat_map, IfOk, OnOk};
 ghost use Rattle.std.specs.List.{All};
 ghost use Rattle.wq_text.specs.LineText.{line_text};
-ghost use Rattle.wq_circles.specs.ComponentsText.{components_line, component_line, component_lines, components_text};
-ghost use Rattle.wq_circles.specs.ComponentsText.{bare_line, bare_lines, circles_text, AreBetween};
+ghost use Rattle.wq_circles.specs.ComponentsText.{count_line, arcs_lines, bare_lines, components_text, circles_text};
+ghost use Rattle.wq_circles.specs.ComponentsText.{AreBetween};
 
 use std::alloc::{AllocError, Allocator};
 use wq_cert::put_arc_line;
@@ -15,54 +15,43 @@ use wq_graph::WaitArc;
 use wq_items::ItemTable;
 use wq_text::{put, put_end, put_number};
 
-/// Adds `component M`.
-fn put_component_line<A: Allocator + Copy>(
+/// Adds a line of a word and a count, as `components N`.
+fn put_count_line<A: Allocator + Copy>(
     out: &mut Vec<u8, A>,
-    arcs: &[WaitArc],
+    word: &[u8],
+    count: usize,
 ) -> Result<(), AllocError>
-    requires { length arcs.now < 2 ^ 32 }
-    ensures { OnOk result (out.new.items ≡ out.old.items ++ line_text (component_line (length arcs.now))) }
+    requires { count < 2 ^ 32 }
+    ensures { OnOk result (out.new.items ≡ out.old.items ++ line_text (count_line word.now count)) }
 {
-    put(out, b"component")?;
-    put_number(out, arcs.len() as u32)?;
+    put(out, word)?;
+    put_number(out, count as u32)?;
     put_end(out)
 }
 
-/// Adds `component M` and the arcs.
-fn put_component<A: Allocator + Copy>(
+/// Adds this word with the number of arcs, and the arcs.
+fn put_arcs<A: Allocator + Copy>(
     out: &mut Vec<u8, A>,
     table: &ItemTable<'_, A>,
+    word: &[u8],
     arcs: &[WaitArc],
 ) -> Result<(), AllocError>
     requires { AreBetween (length table.now.names) arcs.now }
     ensures { OnOk result (out.new.items
-        ≡ out.old.items ++ flat_map line_text (component_lines table.now.names arcs.now)) }
+        ≡ out.old.items ++ flat_map line_text (arcs_lines table.now.names word.now arcs.now)) }
 {
-    put_component_line(out, arcs)?;
+    put_count_line(out, word, arcs.len())?;
     for arc in arcs {
         put_arc_line(out, table, (arc.src, arc.dst))?;
     }
     Ok(())
 }
 
-/// Adds `components N`.
-fn put_components_line<A: Allocator + Copy>(
-    out: &mut Vec<u8, A>,
-    components: &[Vec<WaitArc, A>],
-) -> Result<(), AllocError>
-    requires { length components.now < 2 ^ 32 }
-    ensures { OnOk result (out.new.items ≡ out.old.items ++ line_text (components_line (length components.now))) }
-{
-    put(out, b"components")?;
-    put_number(out, components.len() as u32)?;
-    put_end(out)
-}
-
 /// The text of components: how many there are, and the arcs of each, each arc as an item and its target.
 ///
 /// There are fewer than 4,294,967,296 components, and each has fewer than 4,294,967,296 arcs, from items of the table
 /// to items of it. The only error is out of memory (20).
-pub fn components_text<A: Allocator + Copy>(
+fn components_text<A: Allocator + Copy>(
     alloc: A,
     table: &ItemTable<'_, A>,
     components: &[Vec<WaitArc, A>],
@@ -72,24 +61,11 @@ pub fn components_text<A: Allocator + Copy>(
     ensures { IfOk result (λ text. text.items ≡ components_text table.now.names (map (λ l. l.items) components.now)) }
 {
     let mut out = Vec::new(alloc);
-    put_components_line(&mut out, components)?;
+    put_count_line(&mut out, b"components", components.len())?;
     for arcs in components {
-        put_component(&mut out, table, arcs)?;
+        put_arcs(&mut out, table, b"component", arcs)?;
     }
     Ok(out)
-}
-
-/// Adds `norescuer M`.
-fn put_bare_line<A: Allocator + Copy>(
-    out: &mut Vec<u8, A>,
-    arcs: &[WaitArc],
-) -> Result<(), AllocError>
-    requires { length arcs.now < 2 ^ 32 }
-    ensures { OnOk result (out.new.items ≡ out.old.items ++ line_text (bare_line (length arcs.now))) }
-{
-    put(out, b"norescuer")?;
-    put_number(out, arcs.len() as u32)?;
-    put_end(out)
 }
 
 /// Adds flushes that lead to workqueues without a rescuer: `norescuer M` and the arcs, where there are any.
@@ -104,17 +80,13 @@ fn put_bare<A: Allocator + Copy>(
     if arcs.is_empty() {
         return Ok(());
     }
-    put_bare_line(out, arcs)?;
-    for arc in arcs {
-        put_arc_line(out, table, (arc.src, arc.dst))?;
-    }
-    Ok(())
+    put_arcs(out, table, b"norescuer", arcs)
 }
 
 /// The text of components, and of flushes that lead to workqueues without a rescuer.
 ///
 /// The only error is out of memory (20).
-pub fn circles_text<A: Allocator + Copy>(
+pub(crate) fn circles_text<A: Allocator + Copy>(
     alloc: A,
     table: &ItemTable<'_, A>,
     components: &[Vec<WaitArc, A>],

@@ -90,7 +90,7 @@ fn lowest_of_components<A: Allocator + Copy>(
 /// or where each leads to the other.
 ///
 /// The only error is out of memory (20), which can't occur for a graph without vertices.
-pub fn lowest<A: Allocator + Copy>(
+pub(crate) fn lowest<A: Allocator + Copy>(
     alloc: A,
     graph: &WaitGraph<A>,
 ) -> Result<Vec<u16, A>, AllocError>

@@ -5,6 +5,7 @@ use Rattle.wq_text.specs.Refusal.{Refusal}
 use Rattle.wq_core.specs.declared.step.Step.{Step}
 use Rattle.wq_core.specs.Workqueues.{Workqueues, wiring_of}
 use Rattle.wq_cert.specs.declared.fault.CertError.{CertError}
+use Rattle.wq_cert.specs.declared.fault.CertError.TheVariants as faults
 use Rattle.wq_cert.specs.Certificate.{Certificate}
 use Rattle.wq_cert.specs.Texts.{answer_of, workqueues_of_text, run_of, cert_refusal}
 use Rattle.wq_checker.specs.declared.answer.Yes.{Yes}
@@ -17,12 +18,30 @@ use Rattle.wq_commands.specs.declared.why.Which.{Which}
 use Rattle.wq_commands.specs.declared.why.Which.TheVariants.{Declaration, Certificate as SecondText, Run}
 use Rattle.wq_commands.specs.declared.why.Why.{Why}
 use Rattle.wq_commands.specs.declared.why.Why.TheVariants.{NotLawful, Refused, No as Lacks}
-use Rattle.wq_commands.specs.Answer.{declared_waits}
+use Rattle.wq_commands.specs.declared.declaration.Stop.{Stop}
+use Rattle.wq_commands.specs.declared.declaration.Stop.TheVariants as stops
+use Rattle.wq_commands.specs.declared.end.End.{End}
+use Rattle.wq_commands.specs.Answer.{declared_waits, PrintsRefusal}
 use Rattle.wq_commands.specs.Declaration.{Declared, declaration}
 
 -- this text is refused
 abbrev pub refused_for : Which → Refusal → Option Why
 refused_for which r = Some (Refused which r.code r.line)
+
+-- this text is refused: that is printed, and said beside it
+abbrev pub AnswersRefusal : Which → Refusal → End → List ℕ → Option Why → Type 0
+AnswersRefusal which r end out why = PrintsRefusal r end out × (why ≡ refused_for which r)
+
+-- the answer in place of a declaration: its refusal. Out of memory has no answer
+abbrev pub IsStopped : Stop → End → List ℕ → Option Why → Type 0
+IsStopped (stops.Refused code line) end out why =
+    AnswersRefusal Declaration (record { code = code; line = line }) end out why
+IsStopped stops.OutOfMemory end out why = ⊥
+
+-- the answer in place of this text, which comes after the declaration: its refusal. Out of memory has no answer
+abbrev pub IsUnread : Which → CertError → End → List ℕ → Option Why → Type 0
+IsUnread which faults.OutOfMemory end out why = ⊥
+IsUnread which fault end out why = AnswersRefusal which (cert_refusal fault) end out why
 
 -- a declaration: it is refused, or there is nothing to say
 abbrev pub SaysDeclared : List ℕ → Option Why → Type 0

@@ -12,9 +12,9 @@ ghost use Rattle.wq_commands.specs.Answer.{Answers, AnswersDeclared, PrintsCircl
 ghost use Rattle.wq_commands.specs.Why.{SaysDeclared};
 
 use crate::arc_ends::ends_of;
-use crate::declaration::{Declaration, Stop, read_declaration};
+use crate::declaration::{Declaration, read_declaration};
 use crate::end::End;
-use crate::why::{Answered, Which};
+use crate::why::Answered;
 use std::alloc::{AllocError, Allocator};
 use wq_cert::{circle_text, plan_text};
 use wq_core::Step;
@@ -119,9 +119,6 @@ pub(crate) fn answer_text<A: Allocator + Copy>(
             drop(declared);
             answer
         }
-        Err(Stop::Refused { code, line }) => {
-            Answered::refused(alloc, Which::Declaration, code, line)
-        }
-        Err(Stop::OutOfMemory) => Err(AllocError),
+        Err(stop) => Answered::stopped(alloc, stop),
     }
 }

@@ -3,13 +3,18 @@
 //! Reading takes the time and the memory of reading the text of the workqueues.
 
 ghost use Rattle.std.specs.Prelude.{◌≡◌, IfOk, IfErr, Ok, length};
+ghost use Rattle.wq_core.specs.Wiring.{own_lanes};
+ghost use Rattle.wq_core.specs.Workqueues.{all_rescued};
 ghost use Rattle.wq_cert.specs.Texts.{workqueues_of_text, IsCertFaultOf};
+ghost use Rattle.wq_commands.specs.Assigned.{IsAssigned};
 
 use crate::declaration::Declaration;
-use std::alloc::Allocator;
+use std::alloc::{AllocError, Allocator};
 use std::marker::Model;
 use wq_cert::{CertError, read_workqueues};
 use wq_core::Workqueues;
+use wq_deadlock::own_lanes;
+use wq_items::ItemTable;
 
 /// What is declared, and workqueues that its groups are on.
 #[derive(Drop)]
@@ -42,9 +47,40 @@ impl<'t, 'a, A: Allocator> Assigned<'t, 'a, A> {
             workqueues,
         }
     }
+
+    /// The declared items with their flushes; and what holds of each value of this type.
+    pub fn table(&self) -> &ItemTable<'a, A>
+        ensures is { result.now ≡ self.now.declared.table }
+        ensures assigned { IsAssigned self.now }
+    {
+        let declared = self.declared;
+        &declared.table
+    }
+
+    /// The workqueues; and what holds of each value of this type.
+    pub fn workqueues(&self) -> &Workqueues<A>
+        ensures is { result.now ≡ self.now.workqueues }
+        ensures assigned { IsAssigned self.now }
+    {
+        &self.workqueues
+    }
 }
 
 impl<'t, 'a, A: Allocator + Copy> Assigned<'t, 'a, A> {
+    /// Each declared group on a workqueue of its own, which has a rescuer.
+    ///
+    /// The only error is out of memory (20).
+    pub fn own_lanes(alloc: A, declared: &'t Declaration<'a, A>) -> Result<Self, AllocError>
+        ensures { IfOk result (λ a. a ≡ record {
+          declared = declared.now;
+          workqueues = all_rescued (own_lanes declared.now.partition.groups);
+        }) }
+    {
+        let assignment = own_lanes(alloc, &declared.groups)?;
+        let workqueues = Workqueues::new(assignment, Vec::new(alloc));
+        Ok(Assigned::new(declared, workqueues))
+    }
+
     /// Reads the workqueues in the text of an assignment of the declared groups.
     ///
     /// The errors are those of `read_workqueues`.

@@ -12,11 +12,11 @@ ghost use Rattle.wq_commands.specs.Checking.{yes_words, no_details, no_words, Na
 ghost use Rattle.wq_commands.specs.Checking.{ChecksDeclared, Checks};
 ghost use Rattle.wq_commands.specs.Why.{lack, SaysLack, SaysCertificate, SaysChecked};
 
-use crate::declaration::{Declaration, Stop, read_declaration};
+use crate::declaration::{Declaration, read_declaration};
 use crate::end::End;
 use crate::why::{Answered, Which};
 use std::alloc::{AllocError, Allocator};
-use wq_cert::{CertAnswer, CertError, read_answer};
+use wq_cert::{CertAnswer, read_answer};
 use wq_checker::{No, Yes, check_answer};
 use wq_items::{ItemId, ItemTable};
 use wq_text::{put, put_end, put_number, put_word};
@@ -166,8 +166,7 @@ fn check_declared<A: Allocator + Copy>(
             drop(claim);
             answer
         }
-        Err(CertError::OutOfMemory) => Err(AllocError),
-        Err(fault) => { Answered::refused(alloc, Which::Certificate, fault.code(), fault.line()) }
+        Err(fault) => Answered::unread(alloc, Which::Certificate, fault),
     }
 }
 
@@ -188,9 +187,6 @@ pub(crate) fn check<A: Allocator + Copy>(
             drop(declared);
             answer
         }
-        Err(Stop::Refused { code, line }) => {
-            Answered::refused(alloc, Which::Declaration, code, line)
-        }
-        Err(Stop::OutOfMemory) => Err(AllocError),
+        Err(stop) => Answered::stopped(alloc, stop),
     }
 }

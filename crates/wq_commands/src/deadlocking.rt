@@ -13,11 +13,11 @@ ghost use Rattle.wq_commands.specs.declared.why.Which.TheVariants.{Certificate};
 ghost use Rattle.wq_commands.specs.Why.{SaysFault, SaysAssigned};
 
 use crate::assigned::Assigned;
-use crate::declaration::{Declaration, Stop, read_declaration};
+use crate::declaration::{Declaration, read_declaration};
 use crate::end::End;
 use crate::why::{Answered, Which};
 use std::alloc::{AllocError, Allocator};
-use wq_cert::{CertError, run_text};
+use wq_cert::run_text;
 use wq_core::Step;
 use wq_deadlock::{Judged, judge as judge_workqueues};
 use wq_text::{put, put_end};
@@ -43,8 +43,7 @@ fn deadlock_text<A: Allocator + Copy>(
     requires { IsHang (declared_waits assigned.now.declared) assigned.now.workqueues steps.now }
     ensures { IfOk result (λ text. text.items ≡ run_text assigned.now.declared.table.names steps.now) }
 {
-    let declared = assigned.declared;
-    run_text(alloc, &declared.table, steps)
+    run_text(alloc, assigned.table(), steps)
 }
 
 /// What is printed of this verdict on workqueues.
@@ -106,8 +105,7 @@ fn judge_declared<A: Allocator + Copy>(
             drop(assigned);
             answer
         }
-        Err(CertError::OutOfMemory) => Err(AllocError),
-        Err(fault) => { Answered::refused(alloc, Which::Certificate, fault.code(), fault.line()) }
+        Err(fault) => Answered::unread(alloc, Which::Certificate, fault),
     }
 }
 
@@ -127,9 +125,6 @@ pub(crate) fn judge<A: Allocator + Copy>(
             drop(declared);
             answer
         }
-        Err(Stop::Refused { code, line }) => {
-            Answered::refused(alloc, Which::Declaration, code, line)
-        }
-        Err(Stop::OutOfMemory) => Err(AllocError),
+        Err(stop) => Answered::stopped(alloc, stop),
     }
 }

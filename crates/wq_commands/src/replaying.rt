@@ -9,11 +9,11 @@ ghost use Rattle.wq_commands.specs.Replaying.{ReplaysDeclared, ReplaysRun};
 ghost use Rattle.wq_commands.specs.Why.{unlawful, SaysSteps, SaysRunUnder, SaysRun, SaysReplayed};
 
 use crate::assigned::Assigned;
-use crate::declaration::{Declaration, Stop, read_declaration};
+use crate::declaration::{Declaration, read_declaration};
 use crate::end::End;
 use crate::why::{Answered, Which, Why};
 use std::alloc::{AllocError, Allocator};
-use wq_cert::{CertError, read_run};
+use wq_cert::read_run;
 use wq_checker::{RunEnd, check_run_on};
 use wq_core::Step;
 use wq_text::{put, put_end, put_number};
@@ -108,16 +108,14 @@ fn replay_assigned<A: Allocator + Copy>(
         ReplaysAssigned assigned.now.declared assigned.now.workqueues text.now a.end a.text.items) }
     ensures why { IfOk result (λ a. SaysRunUnder assigned.now.declared assigned.now.workqueues text.now a.why) }
 {
-    let declared = assigned.declared;
-    match read_run(alloc, text, &declared.table) {
+    match read_run(alloc, text, assigned.table()) {
         Ok(steps) => {
             let answer = replay_steps(alloc, assigned, steps.as_slice());
             // Written as a call, so that the proof has one step for it.
             drop(steps);
             answer
         }
-        Err(CertError::OutOfMemory) => Err(AllocError),
-        Err(fault) => Answered::refused(alloc, Which::Run, fault.code(), fault.line()),
+        Err(fault) => Answered::unread(alloc, Which::Run, fault),
     }
 }
 
@@ -137,8 +135,7 @@ fn replay_declared<A: Allocator + Copy>(
             drop(assigned);
             answer
         }
-        Err(CertError::OutOfMemory) => Err(AllocError),
-        Err(fault) => { Answered::refused(alloc, Which::Certificate, fault.code(), fault.line()) }
+        Err(fault) => Answered::unread(alloc, Which::Certificate, fault),
     }
 }
 
@@ -160,9 +157,6 @@ pub(crate) fn replay<A: Allocator + Copy>(
             drop(declared);
             answer
         }
-        Err(Stop::Refused { code, line }) => {
-            Answered::refused(alloc, Which::Declaration, code, line)
-        }
-        Err(Stop::OutOfMemory) => Err(AllocError),
+        Err(stop) => Answered::stopped(alloc, stop),
     }
 }

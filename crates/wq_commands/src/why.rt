@@ -8,11 +8,13 @@ ghost use Rattle.std.specs.Prelude.{◌≡◌, IfOk, None, Some};
 ghost use Rattle.wq_commands.specs.Answer.{PrintsRefusal};
 ghost use Rattle.wq_commands.specs.declared.end.End.TheVariants.{Bad};
 ghost use Rattle.wq_commands.specs.declared.why.Why.TheVariants.{No as Lacks};
-ghost use Rattle.wq_commands.specs.Why.{refused_for};
+ghost use Rattle.wq_commands.specs.Why.{refused_for, IsStopped, IsUnread};
 
+use crate::declaration::Stop;
 use crate::end::End;
 use crate::refusal::refuse;
 use std::alloc::{AllocError, Allocator};
+use wq_cert::CertError;
 use wq_checker::No;
 
 /// One of the texts that a command answers to.
@@ -54,7 +56,7 @@ pub struct Answered<A: Allocator> {
 
 impl<A: Allocator + Copy> Answered<A> {
     /// The answer where this text is refused. The only error is out of memory (20).
-    pub fn refused(alloc: A, which: Which, code: u32, line: u32) -> Result<Self, AllocError>
+    fn refused(alloc: A, which: Which, code: u32, line: u32) -> Result<Self, AllocError>
         ensures printed { IfOk result (λ a. PrintsRefusal (record { code = code; line = line }) a.end a.text.items) }
         ensures why { IfOk result (λ a. a.why ≡ refused_for which (record { code = code; line = line })) }
     {
@@ -64,6 +66,33 @@ impl<A: Allocator + Copy> Answered<A> {
             text,
             why: Some(Why::Refused { which, code, line }),
         })
+    }
+
+    /// The answer where no declaration is read, for this reason. The only error is out of memory (20), which the reason
+    /// may be, too.
+    pub fn stopped(alloc: A, stop: Stop) -> Result<Self, AllocError>
+        ensures { IfOk result (λ a. IsStopped stop a.end a.text.items a.why) }
+    {
+        match stop {
+            Stop::Refused { code, line } => Answered::refused(
+                alloc,
+                Which::Declaration,
+                code,
+                line,
+            ),
+            Stop::OutOfMemory => Err(AllocError),
+        }
+    }
+
+    /// The answer where this text after the declaration isn't read, for this fault. The only error is out of memory
+    /// (20), which the fault may be, too.
+    pub fn unread(alloc: A, which: Which, fault: CertError) -> Result<Self, AllocError>
+        ensures { IfOk result (λ a. IsUnread which fault a.end a.text.items a.why) }
+    {
+        match fault {
+            CertError::OutOfMemory => Err(AllocError),
+            fault => Answered::refused(alloc, which, fault.code(), fault.line()),
+        }
     }
 
     /// The answer to a certificate that lacks this.

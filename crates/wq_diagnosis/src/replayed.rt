@@ -242,12 +242,7 @@ fn of_run<A: Allocator + Copy>(
             said
         }
         Err(CertError::OutOfMemory) => Err(AllocError),
-        Err(
-            CertError::BadCertLine { .. }
-            | CertError::NotAllItems { .. }
-            | CertError::GroupSplit { .. }
-            | CertError::NumberOutOfRange { .. },
-        ) => Ok(None),
+        Err(_) => Ok(None),
     }
 }
 
@@ -287,12 +282,7 @@ fn of_declared<A: Allocator + Copy>(
             said
         }
         Err(CertError::OutOfMemory) => Err(AllocError),
-        Err(
-            CertError::BadCertLine { .. }
-            | CertError::NotAllItems { .. }
-            | CertError::GroupSplit { .. }
-            | CertError::NumberOutOfRange { .. },
-        ) => Ok(None),
+        Err(_) => Ok(None),
     }
 }
 

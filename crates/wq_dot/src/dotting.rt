@@ -27,11 +27,10 @@ use crate::flushes::{bold_flushes, bold_red, hanging_flushes, marked};
 use crate::shortest::shortest_waits;
 use crate::titles::{circles_title, plan_title};
 use std::alloc::{AllocError, Allocator};
-use wq_cert::CertError;
 use wq_circles::components;
-use wq_commands::{Answered, Assigned, Declaration, End, Stop, Texts, Which, read_declaration};
+use wq_commands::{Answered, Assigned, Declaration, End, Texts, Which, read_declaration};
 use wq_core::Workqueues;
-use wq_deadlock::{bare_waits, own_lanes};
+use wq_deadlock::bare_waits;
 use wq_graph::WaitArc;
 use wq_groups::Assignment;
 use wq_hang::Hop;
@@ -49,10 +48,8 @@ fn draw_plan<A: Allocator + Copy>(
     requires rescued { assigned.now.workqueues.bare ≡ [] }
     ensures { IfOk result (λ text. DrawsPlan assigned.now.declared (map (λ c. c.now) comments.now) text.items) }
 {
-    let declared = assigned.declared;
-    let table = &declared.table;
-    let looks = bold_flushes(alloc, table, chain)?;
-    let workqueues = assigned.workqueues.assignment().lanes();
+    let looks = bold_flushes(alloc, assigned.table(), chain)?;
+    let workqueues = assigned.workqueues().assignment().lanes();
     let title = plan_title(alloc, workqueues, marked(looks.as_slice()))?;
     drawing_text(
         alloc,
@@ -83,10 +80,8 @@ fn draw_components<A: Allocator + Copy>(
     ensures { IfOk result (λ text. DrawsCircles assigned.now.declared (map (λ c. c.now) comments.now)
         assigned.now.workqueues (map (λ n. n.now) called.now) hanging.now hops.now text.items) }
 {
-    let declared = assigned.declared;
-    let table = &declared.table;
-    let bare = assigned.workqueues.bare();
-    let looks = hanging_flushes(alloc, table, components, waits, hops)?;
+    let bare = assigned.workqueues().bare();
+    let looks = hanging_flushes(alloc, assigned.table(), components, waits, hops)?;
     let red = marked(looks.as_slice());
     let bold = bold_red(looks.as_slice());
     let title = circles_title(alloc, hanging, waits.len() as u32, bare, red, bold)?;
@@ -159,9 +154,7 @@ fn draw_own_lanes<A: Allocator + Copy>(
         (all_rescued (own_lanes declared.now.partition.groups)) []
         (codes "every assignment can hang") hops text.items) }
 {
-    let assignment = own_lanes(alloc, &declared.groups)?;
-    let workqueues = Workqueues::new(assignment, Vec::new(alloc));
-    let assigned = Assigned::new(declared, workqueues);
+    let assigned = Assigned::own_lanes(alloc, declared)?;
     draw_circles(
         alloc,
         &assigned,
@@ -269,8 +262,7 @@ fn draw_declared<A: Allocator + Copy>(
             drop(assigned);
             answer
         }
-        Err(CertError::OutOfMemory) => Err(AllocError),
-        Err(fault) => { Answered::refused(alloc, Which::Certificate, fault.code(), fault.line()) }
+        Err(fault) => Answered::unread(alloc, Which::Certificate, fault),
     }
 }
 
@@ -322,10 +314,7 @@ fn draw_both<A: Allocator + Copy>(
             drop(declared);
             answer
         }
-        Err(Stop::Refused { code, line }) => {
-            Answered::refused(alloc, Which::Declaration, code, line)
-        }
-        Err(Stop::OutOfMemory) => Err(AllocError),
+        Err(stop) => Answered::stopped(alloc, stop),
     }
 }
 
@@ -344,10 +333,7 @@ fn draw_own<A: Allocator + Copy>(
             drop(declared);
             answer
         }
-        Err(Stop::Refused { code, line }) => {
-            Answered::refused(alloc, Which::Declaration, code, line)
-        }
-        Err(Stop::OutOfMemory) => Err(AllocError),
+        Err(stop) => Answered::stopped(alloc, stop),
     }
 }
 

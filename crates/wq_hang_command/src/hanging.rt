@@ -15,8 +15,8 @@ ghost use Rattle.wq_commands.specs.Why.{SaysFault, SaysAssigned};
 ghost use Rattle.wq_hang_command.specs.Hanging.{HangsAssigned, HangsDeclared, Hangs};
 
 use std::alloc::{AllocError, Allocator};
-use wq_cert::{CertError, run_text};
-use wq_commands::{Answered, Assigned, Declaration, End, Stop, Which, read_declaration, safe_text};
+use wq_cert::run_text;
+use wq_commands::{Answered, Assigned, Declaration, End, Which, read_declaration, safe_text};
 use wq_core::Step;
 use wq_hang::{Answer, hang as shortest_hang};
 
@@ -29,8 +29,7 @@ fn hang_text<A: Allocator + Copy>(
     requires { IsShortestHang (wiring_of (declared_waits assigned.now.declared) assigned.now.workqueues) steps.now }
     ensures { IfOk result (λ text. text.items ≡ run_text assigned.now.declared.table.names steps.now) }
 {
-    let declared = assigned.declared;
-    run_text(alloc, &declared.table, steps)
+    run_text(alloc, assigned.table(), steps)
 }
 
 /// What is printed of this answer.
@@ -92,8 +91,7 @@ fn hang_declared<A: Allocator + Copy>(
             drop(assigned);
             answer
         }
-        Err(CertError::OutOfMemory) => Err(AllocError),
-        Err(fault) => { Answered::refused(alloc, Which::Certificate, fault.code(), fault.line()) }
+        Err(fault) => Answered::unread(alloc, Which::Certificate, fault),
     }
 }
 
@@ -113,9 +111,6 @@ pub(crate) fn hang<A: Allocator + Copy>(
             drop(declared);
             answer
         }
-        Err(Stop::Refused { code, line }) => {
-            Answered::refused(alloc, Which::Declaration, code, line)
-        }
-        Err(Stop::OutOfMemory) => Err(AllocError),
+        Err(stop) => Answered::stopped(alloc, stop),
     }
 }

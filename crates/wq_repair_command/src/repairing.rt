@@ -21,8 +21,8 @@ use crate::circle::text_of_circle;
 use crate::movers::items_that_may_move;
 use crate::run::text_of_hang;
 use std::alloc::{AllocError, Allocator};
-use wq_cert::{CertError, read_workqueues};
-use wq_commands::{Answered, End, Stop, Which, read_declaration, refuse};
+use wq_cert::read_workqueues;
+use wq_commands::{Answered, End, Which, read_declaration, refuse};
 use wq_core::Workqueues;
 use wq_groups::Groups;
 use wq_items::{ItemId, ItemTable};
@@ -168,8 +168,7 @@ fn repair_declared<A: Allocator + Copy>(
             drop(workqueues);
             answer
         }
-        Err(CertError::OutOfMemory) => Err(AllocError),
-        Err(fault) => { Answered::refused(alloc, Which::Certificate, fault.code(), fault.line()) }
+        Err(fault) => Answered::unread(alloc, Which::Certificate, fault),
     }
 }
 
@@ -190,9 +189,6 @@ pub(crate) fn repair_texts<A: Allocator + Copy>(
             drop(declared);
             answer
         }
-        Err(Stop::Refused { code, line }) => {
-            Answered::refused(alloc, Which::Declaration, code, line)
-        }
-        Err(Stop::OutOfMemory) => Err(AllocError),
+        Err(stop) => Answered::stopped(alloc, stop),
     }
 }

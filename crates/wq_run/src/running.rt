@@ -25,7 +25,7 @@ use std::sync::ledger::Blank;
 use std::thread::Threads;
 use wq_api::{Naming, NewError, WqRuntime};
 use wq_commands::{
-    Answered, Declaration, End, Stop, TOO_MANY_LANES, Which, Why, read_declaration, refuse,
+    Answered, Declaration, End, TOO_MANY_LANES, Which, Why, read_declaration, refuse,
     text_of_circle,
 };
 use wq_graph::WaitArc;
@@ -197,10 +197,9 @@ pub(crate) fn answer_run<A: Allocator + Copy + Send + Sync, R: Threads + Wait + 
             drop(declared);
             answer
         }
-        Err(Stop::Refused { code, line }) => {
-            let refused = Answered::refused(alloc, Which::Declaration, code, line)?;
+        Err(stop) => {
+            let refused = Answered::stopped(alloc, stop)?;
             Ok(refused)
         }
-        Err(Stop::OutOfMemory) => Err(RunStop::OutOfMemory),
     }
 }

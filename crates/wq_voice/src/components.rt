@@ -25,8 +25,7 @@ use std::alloc::{AllocError, Allocator};
 use wq_cert::CertError;
 use wq_circles::components;
 use wq_commands::{Assigned, Declaration, Stop, read_declaration};
-use wq_core::Workqueues;
-use wq_deadlock::{bare_waits, own_lanes};
+use wq_deadlock::bare_waits;
 use wq_diagnosis::Source;
 use wq_graph::WaitArc;
 use wq_hang::{Hop, Rounds};
@@ -178,12 +177,7 @@ fn of_declared<'a, A: Allocator + Copy>(
             Ok(Some(said?))
         }
         Err(CertError::OutOfMemory) => Err(AllocError),
-        Err(
-            CertError::BadCertLine { .. }
-            | CertError::NotAllItems { .. }
-            | CertError::GroupSplit { .. }
-            | CertError::NumberOutOfRange { .. },
-        ) => Ok(None),
+        Err(_) => Ok(None),
     }
 }
 
@@ -220,8 +214,7 @@ fn of_groups<'a, A: Allocator + Copy>(
     ensures { IfOk result (λ said. GivesReasonsOfGroups declaration.entry.file.now
         declared.now said.items) }
 {
-    let assignment = own_lanes(alloc, &declared.groups)?;
-    let workqueues = Workqueues::new(assignment, Vec::new(alloc));
+    let own = Assigned::own_lanes(alloc, declared)?;
     let flushes = FlushLines::new(alloc, declaration.text)?;
     let subject = Subject {
         declaration,
@@ -231,7 +224,7 @@ fn of_groups<'a, A: Allocator + Copy>(
         },
         wording: Wording::OfGroups,
         declared,
-        workqueues: &workqueues,
+        workqueues: own.workqueues(),
         flushes: &flushes,
         names: &[],
     };

@@ -19,8 +19,6 @@ use crate::waits::Wording;
 use std::alloc::{AllocError, Allocator};
 use wq_cert::CertError;
 use wq_commands::{Assigned, Declaration, Stop, read_declaration};
-use wq_core::Workqueues;
-use wq_deadlock::own_lanes;
 use wq_diagnosis::Source;
 use wq_hang::{Answer, hang};
 use wq_names::workqueue_names;
@@ -126,12 +124,7 @@ pub(crate) fn of_declared<'a, A: Allocator + Copy>(
             said
         }
         Err(CertError::OutOfMemory) => Err(AllocError),
-        Err(
-            CertError::BadCertLine { .. }
-            | CertError::NotAllItems { .. }
-            | CertError::GroupSplit { .. }
-            | CertError::NumberOutOfRange { .. },
-        ) => Ok(None),
+        Err(_) => Ok(None),
     }
 }
 
@@ -168,8 +161,7 @@ fn of_groups<'a, A: Allocator + Copy>(
     ensures { IfOk result (λ said. GivesReasonOfGroups declaration.entry.file.now
         declared.now (option_map (λ text. text.items) said)) }
 {
-    let assignment = own_lanes(alloc, &declared.groups)?;
-    let workqueues = Workqueues::new(assignment, Vec::new(alloc));
+    let own = Assigned::own_lanes(alloc, declared)?;
     let flushes = FlushLines::new(alloc, declaration.text)?;
     let subject = Subject {
         declaration,
@@ -179,7 +171,7 @@ fn of_groups<'a, A: Allocator + Copy>(
         },
         wording: Wording::OfGroups,
         declared,
-        workqueues: &workqueues,
+        workqueues: own.workqueues(),
         flushes: &flushes,
         names: &[],
     };

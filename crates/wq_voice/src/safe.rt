@@ -67,12 +67,7 @@ fn safe_declared<A: Allocator + Copy>(
             said
         }
         Err(CertError::OutOfMemory) => Err(AllocError),
-        Err(
-            CertError::BadCertLine { .. }
-            | CertError::NotAllItems { .. }
-            | CertError::GroupSplit { .. }
-            | CertError::NumberOutOfRange { .. },
-        ) => Ok(None),
+        Err(_) => Ok(None),
     }
 }
 

@@ -1,15 +1,13 @@
-use Rattle.std.proofs.Common.{◌≡◌, ◌==◌, ◌⊎◌, inl, inr, ℕ, List, [], length, map, sym, ap, ap₂, subst, ◌∙◌, arith}
+use Rattle.std.proofs.Common.{◌==◌, ◌⊎◌, inl, inr, ℕ, List, [], map, sym, ap, ap₂, subst, ◌∙◌, arith}
 use Rattle.std.specs.Prelude.{◌≢◌}
-use Rattle.std.specs.List.{All}
 use Rattle.std.proofs.lemmas.List.{length-map}
+use Rattle.wq_items.specs.Table.{Table}
 use Rattle.wq_graph.specs.declared.arc.WaitArc.{WaitArc}
 use Rattle.wq_deadlock.specs.Judging.{bare_waits}
 use Rattle.wq_commands.specs.declared.end.End.{End}
 use Rattle.wq_commands.specs.Answer.{declared_waits}
-use Rattle.wq_commands.specs.Assigned.{Assigned, IsAssigned}
-use Rattle.wq_commands.specs.Declaration.{Declared}
 use Rattle.wq_circles.specs.Circling.{CirclesAssigned}
-use Rattle.wq_circles.specs.ComponentsText.{AreBetween, circles_text}
+use Rattle.wq_circles.specs.ComponentsText.{circles_text}
 use Rattle.wq_circles.proofs.OfAssigned.{few_components, between_items, not_empty, waits_between_items}
 use Rattle.wq_circles.proofs.circling.print_components.Goals as goal
 use Rattle.wq_circles.proofs.circling.print_components.Goals.{else-is_empty-via-then-is_empty+else-is_empty-2}
@@ -17,30 +15,19 @@ use Rattle.wq_circles.proofs.circling.print_components.Goals.{else-is_empty-via-
 
 pub circles_text-requires-clause-few : goal.circles_text-requires-clause-few
 circles_text-requires-clause-few g c =
-    let a = c.args.assigned.now in
-    let is : IsAssigned a = subst IsAssigned c.assigned.view_is c.assigned.invariant in
-    omega (arith, few_components a is _ c.requires.found, length-map c.args.components.now (λ v. v.items))
+    omega (
+      arith,
+      few_components c.args.assigned.now c.table.ensures.assigned _ c.requires.found,
+      length-map c.args.components.now (λ v. v.items),
+    )
 
 pub circles_text-requires-clause-between : goal.circles_text-requires-clause-between
 circles_text-requires-clause-between g c =
-    let a = c.args.assigned.now in
-    let is : IsAssigned a = subst IsAssigned c.assigned.view_is c.assigned.invariant in
-    let items : length c.declared.inside.table.names ≡ length a.declared.table.names =
-    ap (λ (s : Declared). length s.table.names) c.declared.view_is
-    ∙ ap (λ (x : Assigned). length x.declared.table.names) c.assigned.view_is in
-    subst (λ (n : ℕ). All (AreBetween n) (map (λ v. v.items) c.args.components.now)) (sym items)
-    (between_items a is _ c.requires.found)
+    rw c.table.ensures.is (between_items c.args.assigned.now c.table.ensures.assigned _ c.requires.found)
 
 pub circles_text-requires-clause-waits : goal.circles_text-requires-clause-waits
 circles_text-requires-clause-waits g c =
-    let a = c.args.assigned.now in
-    let is : IsAssigned a = subst IsAssigned c.assigned.view_is c.assigned.invariant in
-    let items : length c.declared.inside.table.names ≡ length a.declared.table.names =
-    ap (λ (s : Declared). length s.table.names) c.declared.view_is
-    ∙ ap (λ (x : Assigned). length x.declared.table.names) c.assigned.view_is in
-    subst (λ (n : ℕ). AreBetween n c.args.waits.now) (sym items)
-    (subst (λ (l : List WaitArc). AreBetween (length a.declared.table.names) l) (sym c.requires.waits)
-    (waits_between_items a is))
+    rw (c.table.ensures.is, c.requires.waits) (waits_between_items c.args.assigned.now c.table.ensures.assigned)
 
 pub returns-clause-answer : goal.returns-clause-answer
 returns-clause-answer g c =
@@ -48,9 +35,6 @@ returns-clause-answer g c =
     let ws = c.args.assigned.now.workqueues in
     let components : List (List WaitArc) = map (λ v. v.items) c.args.components.now in
     let waits = bare_waits (declared_waits s) ws in
-    let names : c.declared.inside.table.names ≡ s.table.names =
-    ap (λ (d : Declared). d.table.names) c.declared.view_is
-    ∙ ap (λ (x : Assigned). x.declared.table.names) c.assigned.view_is in
     let some : (components ≢ []) ⊎ (waits ≢ []) = elim c.else-is_empty.branch [
       | else-is_empty-via-then-is_empty+else-is_empty-2 w ↦
           inr
@@ -64,6 +48,6 @@ returns-clause-answer g c =
     ] in
     let text =
     ap (λ v. v.items) c.plain-2.ensures.text ∙ c.in_ok-text-2.ensures
-    ∙ ap₂ (λ (n : List (List ℕ)) (l : List WaitArc). circles_text n components l) names c.requires.waits in
+    ∙ ap₂ (λ (t : Table) (l : List WaitArc). circles_text t.names components l) c.table.ensures.is c.requires.waits in
     subst (λ (end : End). CirclesAssigned s ws end c.plain-2.result.text.items) (sym c.plain-2.ensures.end)
     (record { components = components; some = some; are = c.requires.found; text = text })

@@ -1,17 +1,11 @@
-use Rattle.std.proofs.Common.{◌≡◌, ◌<◌, ◌≤◌, length, sym, ap, subst, ◌∙◌, arith}
-use Rattle.std.specs.List.{All}
-use Rattle.wq_items.specs.Table.{Table}
-use Rattle.wq_core.specs.declared.step.Step.{Step}
-use Rattle.wq_cert.specs.RunText.{step_item}
-use Rattle.wq_commands.specs.Assigned.{Assigned, IsAssigned}
-use Rattle.wq_commands.specs.Declaration.{Declared}
+use Rattle.std.proofs.Common.{◌≤◌, length, arith}
 use Rattle.wq_commands.proofs.NamedSteps.{step_item-hang, length-hang}
 use Rattle.wq_commands.proofs.deadlocking.deadlock_text.Goals as goal
 
 pub run_text-requires-clause-few : goal.run_text-requires-clause-few
 run_text-requires-clause-few g c =
     let a = c.args.assigned.now in
-    let is : IsAssigned a = subst IsAssigned c.assigned.view_is c.assigned.invariant in
+    let is = c.table.ensures.assigned in
     let few : length c.args.steps.now ≤ 45056 = length-hang a.declared is.declared a.workqueues is.assignment
     c.args.steps.now c.requires.deadlocks in
     omega (arith, few)
@@ -19,8 +13,6 @@ run_text-requires-clause-few g c =
 pub run_text-requires-clause-items : goal.run_text-requires-clause-items
 run_text-requires-clause-items g c =
     let a = c.args.assigned.now in
-    let is : IsAssigned a = subst IsAssigned c.assigned.view_is c.assigned.invariant in
-    let same : c.declared.inside.table ≡ a.declared.table =
-    ap (λ (d : Declared). d.table) c.declared.view_is ∙ ap (λ (x : Assigned). x.declared.table) c.assigned.view_is in
-    subst (λ (t : Table). All (λ (step : Step). step_item step < length t.names) c.args.steps.now) (sym same)
+    let is = c.table.ensures.assigned in
+    rw c.table.ensures.is
     (step_item-hang a.declared is.declared a.workqueues is.assignment c.args.steps.now c.requires.deadlocks)

@@ -1,22 +1,7 @@
-use Rattle.std.proofs.Common.{◌≡◌}
-use Rattle.std.proofs.lemmas.Result.{IfOk-weaker}
-use Rattle.wq_cert.specs.Texts.{workqueues_of_text}
-use Rattle.wq_commands.specs.Answer.{PrintsRefusal}
-use Rattle.wq_commands.specs.Deadlocking.{JudgesDeclared}
-use Rattle.wq_commands.specs.Declaration.{declaration}
-use Rattle.wq_commands.specs.declared.why.Which.TheVariants.{Declaration, Certificate}
-use Rattle.wq_commands.specs.Why.{refused_for, SaysFault}
-use Rattle.wq_commands.proofs.CheckLemmas.{MatchResult-ok}
 use Rattle.wq_commands.proofs.deadlocking.judge.Goals as goal
 
 pub returns-in-Ok-clause-answer : goal.returns-in-Ok-clause-answer
-returns-in-Ok-clause-answer g c =
-    IfOk-weaker c.judge_declared-answer.result _ _
-    (λ a judges. MatchResult-ok (declaration c.args.text.now) _ (λ s. JudgesDeclared s c.args.assigned.now a.end a.text.items) (λ r. PrintsRefusal r a.end a.text.items) c.in-Ok.ensures.declaration judges)
-    c.judge_declared-answer.ensures.answer
+returns-in-Ok-clause-answer g c = rw c.in-Ok.ensures.declaration c.judge_declared-answer.ensures.answer
 
 pub returns-in-Ok-clause-why : goal.returns-in-Ok-clause-why
-returns-in-Ok-clause-why g c =
-    IfOk-weaker c.judge_declared-answer.result _ _
-    (λ a says. MatchResult-ok (declaration c.args.text.now) _ (λ s. SaysFault Certificate (workqueues_of_text s.table.names s.partition c.args.assigned.now) a.why) (λ r. a.why ≡ refused_for Declaration r) c.in-Ok.ensures.declaration says)
-    c.judge_declared-answer.ensures.why
+returns-in-Ok-clause-why g c = rw c.in-Ok.ensures.declaration c.judge_declared-answer.ensures.why

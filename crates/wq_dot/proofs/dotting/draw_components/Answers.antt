@@ -1,17 +1,15 @@
-use Rattle.std.proofs.Common.{◌++◌, ℕ, Bool, List, length, map, sym, ap, ap₂, subst, ◌∙◌, arith}
-use Rattle.std.specs.List.{All}
+use Rattle.std.proofs.Common.{◌++◌, ℕ, Bool, List, length, map, ap, ap₂, ◌∙◌, arith}
 use Rattle.std.proofs.lemmas.List.FromFn.{length-map-range_with_len}
 use Rattle.std.proofs.lemmas.Result.{IfOk-weaker}
-use Rattle.wq_items.specs.Table.{flush_count}
+use Rattle.wq_items.specs.Table.{flush_count, Table}
 use Rattle.wq_graph.specs.declared.arc.WaitArc.{WaitArc}
+use Rattle.wq_core.specs.Workqueues.{Workqueues}
 use Rattle.wq_commands.specs.Answer.{declared_waits}
-use Rattle.wq_commands.specs.Assigned.{Assigned, IsAssigned}
-use Rattle.wq_commands.specs.Declaration.{Declared}
 use Rattle.wq_commands.proofs.AnswerLemmas.{IsDeclaration-sound}
 use Rattle.wq_circles.proofs.OfAssigned.{waits_between_items}
 use Rattle.wq_dot.specs.declared.look.FlushLook.{FlushLook}
 use Rattle.wq_dot.specs.Drawing.{drawing_text}
-use Rattle.wq_dot.specs.Flushes.{AreFlushes, AreMarkable, all_arcs, bold_red, marked, red_look_at, red_looks_of}
+use Rattle.wq_dot.specs.Flushes.{all_arcs, bold_red, marked, red_look_at, red_looks_of}
 use Rattle.wq_dot.specs.Dotting.{circles_title}
 use Rattle.wq_dot.proofs.Placed.{AreFlushes-shortest, AreMarkable-components, AreMarkable-waits}
 use Rattle.wq_dot.proofs.dotting.draw_components.Goals as goal
@@ -19,34 +17,24 @@ use Rattle.wq_dot.proofs.dotting.draw_components.Goals as goal
 pub hanging_flushes-requires-clause-places : goal.hanging_flushes-requires-clause-places
 hanging_flushes-requires-clause-places g c =
     let a = c.args.assigned.now in
-    let is : IsAssigned a = subst IsAssigned c.assigned.view_is c.assigned.invariant in
-    let count =
-    ap (λ (s : Declared). flush_count s.table.waits) c.declared.view_is
-    ∙ ap (λ (x : Assigned). flush_count x.declared.table.waits) c.assigned.view_is in
-    subst (λ (n : ℕ). All (AreMarkable n) (map (λ v. v.items) c.args.components.now)) (sym count)
+    let is = c.table.ensures.assigned in
+    rw c.table.ensures.is
     (AreMarkable-components (declared_waits a.declared) a.workqueues _ (IsDeclaration-sound a.declared is.declared)
     is.assignment.assignment c.requires.found)
 
 pub hanging_flushes-requires-clause-waits : goal.hanging_flushes-requires-clause-waits
 hanging_flushes-requires-clause-waits g c =
     let a = c.args.assigned.now in
-    let is : IsAssigned a = subst IsAssigned c.assigned.view_is c.assigned.invariant in
-    let count =
-    ap (λ (s : Declared). flush_count s.table.waits) c.declared.view_is
-    ∙ ap (λ (x : Assigned). flush_count x.declared.table.waits) c.assigned.view_is in
-    subst (λ (n : ℕ). AreMarkable n c.args.waits.now) (sym count)
-    (subst (AreMarkable (flush_count a.declared.table.waits)) (sym c.requires.waits)
+    let is = c.table.ensures.assigned in
+    rw (c.table.ensures.is, c.requires.waits)
     (AreMarkable-waits (declared_waits a.declared) a.workqueues (IsDeclaration-sound a.declared is.declared)
-    is.assignment.assignment))
+    is.assignment.assignment)
 
 pub hanging_flushes-requires-clause-hops : goal.hanging_flushes-requires-clause-hops
 hanging_flushes-requires-clause-hops g c =
     let a = c.args.assigned.now in
-    let is : IsAssigned a = subst IsAssigned c.assigned.view_is c.assigned.invariant in
-    let count =
-    ap (λ (s : Declared). flush_count s.table.waits) c.declared.view_is
-    ∙ ap (λ (x : Assigned). flush_count x.declared.table.waits) c.assigned.view_is in
-    subst (λ (n : ℕ). AreFlushes n c.args.hops.now) (sym count)
+    let is = c.table.ensures.assigned in
+    rw c.table.ensures.is
     (AreFlushes-shortest (declared_waits a.declared) a.workqueues (IsDeclaration-sound a.declared is.declared)
     c.args.hops.now c.requires.shortest)
 
@@ -57,8 +45,9 @@ marked-red-requires g c =
       ap (λ (l : List FlushLook). length l) (c.as_slice.ensures.value ∙ c.in_ok-looks.ensures),
       length-map-range_with_len
           (red_look_at c.args.hops.now (all_arcs (map (λ v. v.items) c.args.components.now) ++ c.args.waits.now)) 0
-          (flush_count c.declared.inside.table.waits),
-      c.declared.invariant.table.few_flushes,
+          (flush_count c.table.result.now.waits),
+      ap (λ (t : Table). flush_count t.waits) c.table.ensures.is,
+      c.table.ensures.assigned.declared.table.few_flushes,
     )
 
 pub bold_red-bold-requires : goal.bold_red-bold-requires
@@ -68,8 +57,9 @@ bold_red-bold-requires g c =
       ap (λ (l : List FlushLook). length l) (c.as_slice-2.ensures.value ∙ c.in_ok-looks.ensures),
       length-map-range_with_len
           (red_look_at c.args.hops.now (all_arcs (map (λ v. v.items) c.args.components.now) ++ c.args.waits.now)) 0
-          (flush_count c.declared.inside.table.waits),
-      c.declared.invariant.table.few_flushes,
+          (flush_count c.table.result.now.waits),
+      ap (λ (t : Table). flush_count t.waits) c.table.ensures.is,
+      c.table.ensures.assigned.declared.table.few_flushes,
     )
 
 pub drawing_text-requires : goal.drawing_text-requires
@@ -78,16 +68,14 @@ drawing_text-requires g c = record {
       ap (λ (l : List FlushLook). length l) (c.as_slice-4.ensures.value ∙ c.in_ok-looks.ensures)
       ∙ length-map-range_with_len
       (red_look_at c.args.hops.now (all_arcs (map (λ v. v.items) c.args.components.now) ++ c.args.waits.now)) 0
-      (flush_count c.declared.inside.table.waits)
-      ∙ ap (λ (s : Declared). flush_count s.table.waits) c.declared.view_is
-      ∙ ap (λ (x : Assigned). flush_count x.declared.table.waits) c.assigned.view_is;
+      (flush_count c.table.result.now.waits)
+      ∙ ap (λ (t : Table). flush_count t.waits) c.table.ensures.is;
 }
 
 pub overflow_cast-waits : goal.overflow_cast-waits
 overflow_cast-waits g c =
-    let a = c.args.assigned.now in
-    let is : IsAssigned a = subst IsAssigned c.assigned.view_is c.assigned.invariant in
-    omega (arith, ap (λ (l : List WaitArc). length l) c.requires.waits, (waits_between_items a is).0)
+    let few = (waits_between_items c.args.assigned.now c.table.ensures.assigned).0 in
+    omega (arith, ap (λ (l : List WaitArc). length l) c.requires.waits, few)
 
 pub returns : goal.returns
 returns g c =
@@ -102,10 +90,8 @@ returns g c =
     let waits = c.args.waits.now in
     let bare = c.bare-bare.result.now in
     let components = map (λ v. v.items) c.args.components.now in
-    let count =
-    ap (λ (d : Declared). flush_count d.table.waits) c.declared.view_is
-    ∙ ap (λ (x : Assigned). flush_count x.declared.table.waits) c.assigned.view_is in
-    let bare_is = c.bare-bare.ensures ∙ ap (λ (x : Assigned). x.workqueues.bare) c.assigned.view_is in
+    let count = ap (λ (t : Table). flush_count t.waits) c.table.ensures.is in
+    let bare_is = c.bare-bare.ensures ∙ ap (λ (ws : Workqueues). ws.bare) c.workqueues.ensures.is in
     let looks_with : List WaitArc → List FlushLook =
     λ l. red_looks_of (flush_count t.waits) hops (all_arcs components ++ l) in
     let title_with : ℕ → List Bool → List FlushLook → List ℕ =

@@ -1,18 +1,16 @@
-use Rattle.std.proofs.Common.{ℕ, Bool, List, [], length, map, sym, ap, ap₂, subst, ◌∙◌, arith}
+use Rattle.std.proofs.Common.{ℕ, Bool, List, [], length, map, ap, ap₂, ◌∙◌, arith}
 use Rattle.std.proofs.lemmas.List.FromFn.{length-map-range_with_len}
 use Rattle.std.proofs.lemmas.Result.{IfOk-weaker}
-use Rattle.wq_items.specs.Table.{flush_count}
+use Rattle.wq_items.specs.Table.{flush_count, Table}
 use Rattle.wq_groups.specs.Assignment.{Assignment}
 use Rattle.wq_graph.specs.declared.arc.WaitArc.{WaitArc}
-use Rattle.wq_core.specs.Workqueues.{all_rescued}
+use Rattle.wq_core.specs.Workqueues.{Workqueues, all_rescued}
 use Rattle.wq_commands.specs.Answer.{declared_waits}
-use Rattle.wq_commands.specs.Assigned.{Assigned, IsAssigned}
-use Rattle.wq_commands.specs.Declaration.{Declared}
 use Rattle.wq_commands.proofs.AnswerLemmas.{IsDeclaration-sound}
 use Rattle.wq_dot.specs.declared.look.FlushLook.{FlushLook}
 use Rattle.wq_dot.specs.declared.look.FlushLook.TheVariants.{Bold}
 use Rattle.wq_dot.specs.Drawing.{drawing_text}
-use Rattle.wq_dot.specs.Flushes.{AreMarkable, look_at, looks_of, marked}
+use Rattle.wq_dot.specs.Flushes.{look_at, looks_of, marked}
 use Rattle.wq_dot.specs.Dotting.{declared_looks, drawing_of, plan_title}
 use Rattle.wq_dot.proofs.Placed.{AreMarkable-planned}
 use Rattle.wq_dot.proofs.dotting.draw_plan.Goals as goal
@@ -20,11 +18,8 @@ use Rattle.wq_dot.proofs.dotting.draw_plan.Goals as goal
 pub bold_flushes-requires : goal.bold_flushes-requires
 bold_flushes-requires g c =
     let a = c.args.assigned.now in
-    let is : IsAssigned a = subst IsAssigned c.assigned.view_is c.assigned.invariant in
-    let count =
-    ap (λ (s : Declared). flush_count s.table.waits) c.declared.view_is
-    ∙ ap (λ (x : Assigned). flush_count x.declared.table.waits) c.assigned.view_is in
-    subst (λ (n : ℕ). AreMarkable n c.args.chain.now) (sym count)
+    let is = c.table.ensures.assigned in
+    rw c.table.ensures.is
     (AreMarkable-planned (declared_waits a.declared) a.workqueues.assignment c.args.chain.now
     (IsDeclaration-sound a.declared is.declared) c.requires.planned)
 
@@ -33,17 +28,17 @@ marked-requires g c =
     omega (
       arith,
       ap (λ (l : List FlushLook). length l) (c.as_slice.ensures.value ∙ c.in_ok-looks.ensures),
-      length-map-range_with_len (look_at Bold c.args.chain.now) 0 (flush_count c.declared.inside.table.waits),
-      c.declared.invariant.table.few_flushes,
+      length-map-range_with_len (look_at Bold c.args.chain.now) 0 (flush_count c.table.result.now.waits),
+      ap (λ (t : Table). flush_count t.waits) c.table.ensures.is,
+      c.table.ensures.assigned.declared.table.few_flushes,
     )
 
 pub drawing_text-requires : goal.drawing_text-requires
 drawing_text-requires g c = record {
   looks =
       ap (λ (l : List FlushLook). length l) (c.as_slice-3.ensures.value ∙ c.in_ok-looks.ensures)
-      ∙ length-map-range_with_len (look_at Bold c.args.chain.now) 0 (flush_count c.declared.inside.table.waits)
-      ∙ ap (λ (s : Declared). flush_count s.table.waits) c.declared.view_is
-      ∙ ap (λ (x : Assigned). flush_count x.declared.table.waits) c.assigned.view_is;
+      ∙ length-map-range_with_len (look_at Bold c.args.chain.now) 0 (flush_count c.table.result.now.waits)
+      ∙ ap (λ (t : Table). flush_count t.waits) c.table.ensures.is;
 }
 
 pub returns : goal.returns
@@ -53,13 +48,11 @@ returns g c =
     let a = ws.assignment in
     let chain = c.args.chain.now in
     let comments = map (λ v. v.now) c.args.comments.now in
-    let count =
-    ap (λ (d : Declared). flush_count d.table.waits) c.declared.view_is
-    ∙ ap (λ (x : Assigned). flush_count x.declared.table.waits) c.assigned.view_is in
+    let count = ap (λ (t : Table). flush_count t.waits) c.table.ensures.is in
     let lanes =
     c.lanes-workqueues.ensures.lanes
     ∙ ap (λ (x : Assignment). x.lanes) c.assignment.ensures
-    ∙ ap (λ (x : Assigned). x.workqueues.assignment.lanes) c.assigned.view_is in
+    ∙ ap (λ (x : Workqueues). x.assignment.lanes) c.workqueues.ensures.is in
     let counted = c.marked.ensures ∙ ap marked (c.as_slice.ensures.value ∙ c.in_ok-looks.ensures) in
     let title = c.as_slice-2.ensures.value ∙ c.in_ok-title.ensures ∙ ap₂ plan_title lanes counted in
     let looks = c.as_slice-3.ensures.value ∙ c.in_ok-looks.ensures in

@@ -1,10 +1,4 @@
-use Rattle.std.proofs.Common.{◌≡◌}
 use Rattle.std.proofs.lemmas.Result.{IfOk-weaker, IfErr-weaker}
-use Rattle.wq_commands.specs.Declaration.{declaration}
-use Rattle.wq_commands.specs.declared.why.Which.TheVariants.{Declaration}
-use Rattle.wq_commands.specs.Why.{refused_for}
-use Rattle.wq_commands.proofs.CheckLemmas.{MatchResult-ok}
-use Rattle.wq_run.specs.Running.{run_why}
 use Rattle.wq_run.proofs.AnswerLemmas.{RunsPlan-declared, Stops-declared}
 use Rattle.wq_run.proofs.running.answer_run.Goals as goal
 
@@ -13,10 +7,7 @@ returns-in-Ok-clause-ran g c =
     IfOk-weaker c.run_explained-answer.result _ _ (λ a runs. RunsPlan-declared c.args.helpers c.args.text.now _ a.end a.text.items c.in-Ok.ensures.declaration runs) c.run_explained-answer.ensures.ran
 
 pub returns-in-Ok-clause-why : goal.returns-in-Ok-clause-why
-returns-in-Ok-clause-why g c =
-    IfOk-weaker c.run_explained-answer.result _ _
-    (λ a says. MatchResult-ok (declaration c.args.text.now) _ (λ _. a.why ≡ run_why a.end) (λ r. a.why ≡ refused_for Declaration r) c.in-Ok.ensures.declaration says)
-    c.run_explained-answer.ensures.why
+returns-in-Ok-clause-why g c = rw c.in-Ok.ensures.declaration c.run_explained-answer.ensures.why
 
 pub returns-in-Ok-clause-stopped : goal.returns-in-Ok-clause-stopped
 returns-in-Ok-clause-stopped g c =
