@@ -22,7 +22,9 @@ use Rattle.wq_history.specs.declared.sleepers.Sleepers.TheVariants.{Contexts}
 use Rattle.wq_history.specs.declared.sleepers.WokenContexts.{WokenContexts}
 use Rattle.wq_history.specs.declared.sleepers.WokenContexts.TheVariants.{Nobody, One, All as AllOf, Everybody}
 use Rattle.wq_history.specs.declared.sleepers.Wake.{Wake}
-use Rattle.wq_history.specs.Waits.{Condition, WorkOn, EndOf, ItemDone, LaneDone, AllDone, IsMetIn, sleepers_for, nobody, one_context, every_context, WakesContext, WakesContexts, WakesOne, WakesAll, startable, LetsAllGo, BecomesMet, WakesEnough, WakesByDeed, WakesByCancel, WakesBy}
+use Rattle.wq_history.specs.Waits.{Condition, WorkOn, EndOf, ItemDone, LaneDone, AllDone, IsMetIn, sleepers_for, nobody}
+use Rattle.wq_history.specs.Waits.{one_context, by_closing, WakesContext, WakesContexts, WakesOne, WakesAll, startable}
+use Rattle.wq_history.specs.Waits.{LetsAllGo, BecomesMet, WakesEnough, WakesByDeed, WakesByCancel, WakesBy}
 use Rattle.wq_history.specs.Events.{step_of}
 use Rattle.wq_history.specs.History.{MayCome}
 use Rattle.wq_history.specs.Book.{BookView, state, IsBook, Appends}
@@ -35,9 +37,11 @@ pub record Suffices (s t : State) (k l : Bool) (wake : Wake) : Type 0 where
   pub all : (c : Condition) → LetsAllGo c → (¬ IsMetIn s k c) → IsMetIn t l c → WakesAll wake (sleepers_for c)
   pub one_each : (q : ℕ) → (startable (lane_at t q) ≤ startable (lane_at s q)) ⊎ ((startable (lane_at t q) ≤ startable (lane_at s q) + 1) × WakesOne wake (Contexts q))
 
--- those are woken who wait for item i, and for lane q; and those who wait for all, if all is done in this state
-abbrev pub WakesWaitersIn : State → ℕ → ℕ → Wake → Type 0
-WakesWaitersIn t q i wake = (wake.item_waiters ≡ Some i) × (wake.lane_waiters ≡ Some q) × (IsTrue wake.destroyers ↔ (¬ HasUnfinished t))
+-- those are woken who wait for item i, and for lane q; and those who wait for all, if all is done in this state, and
+-- this says whether the book is closed
+abbrev pub WakesWaitersIn : State → Bool → ℕ → ℕ → Wake → Type 0
+WakesWaitersIn t k q i wake =
+    (wake.item_waiters ≡ Some i) × (wake.lane_waiters ≡ Some q) × (IsTrue wake.destroyers ↔ IsMetIn t k AllDone)
 
 -- what was unfinished is unfinished still
 abbrev Keeps : State → State → Type 0
@@ -55,16 +59,17 @@ module _ (s t : State) (keeps : Keeps s t) where
   kept-all done h = done (record { lane = h.lane; entry = h.entry; unfinished = keeps h.lane h.entry h.unfinished })
 
   -- only contexts can have to be woken
-  pub keeps-contexts : (k l : Bool) (wake : Wake) → ((q : ℕ) → (¬ IsMetIn s k (EndOf q)) → IsMetIn t l (EndOf q) → WakesContexts wake.contexts q)
+  pub keeps-contexts : (k : Bool) (wake : Wake)
+      → ((q : ℕ) → (¬ IsMetIn s k (EndOf q)) → IsMetIn t k (EndOf q) → WakesContexts wake.contexts q)
       → ((q : ℕ) → (startable (lane_at t q) ≤ startable (lane_at s q)) ⊎ ((startable (lane_at t q) ≤ startable (lane_at s q) + 1) × WakesOne wake (Contexts q)))
-      → Suffices s t k l wake
-  keeps-contexts k l wake ends one = record { all = all; one_each = one } where
-    all : (c : Condition) → LetsAllGo c → (¬ IsMetIn s k c) → IsMetIn t l c → WakesAll wake (sleepers_for c)
+      → Suffices s t k k wake
+  keeps-contexts k wake ends one = record { all = all; one_each = one } where
+    all : (c : Condition) → LetsAllGo c → (¬ IsMetIn s k c) → IsMetIn t k c → WakesAll wake (sleepers_for c)
     all (WorkOn q) lets before now = absurd lets
     all (EndOf q) lets before now = ends q before now
     all (ItemDone i mark) lets before now = absurd (before (kept-item i mark now))
     all (LaneDone q mark) lets before now = absurd (before (kept-lane q mark now))
-    all AllDone lets before now = absurd (before (kept-all now))
+    all AllDone lets before now = absurd (before (now.0, kept-all now.1))
 
 -- ---- one lane changes
 
@@ -118,7 +123,9 @@ module _ (s : State) (q : ℕ) (new : Lane) (next : ℕ) where
       before (now.0, sym is ∙ now.1)
 
   -- entries of item i alone have ended on this lane: those are woken who wait for either
-  module _ (k : Bool) (wake : Wake) (i : ℕ) (others : (e : Entry) → e.item ≢ i → IsUnfinishedOn (lane_at s q) e → IsUnfinishedOn new e) (woken : WakesWaitersIn later q i wake) where
+  module _ (k : Bool) (wake : Wake) (i : ℕ)
+      (others : (e : Entry) → e.item ≢ i → IsUnfinishedOn (lane_at s q) e → IsUnfinishedOn new e)
+      (woken : WakesWaitersIn later k q i wake) where
     ends-wake : ((p : ℕ) → (¬ IsMetIn s k (EndOf p)) → IsMetIn later k (EndOf p) → WakesContexts wake.contexts p)
         → ((p : ℕ) → (startable (lane_at later p) ≤ startable (lane_at s p)) ⊎ ((startable (lane_at later p) ≤ startable (lane_at s p) + 1) × WakesOne wake (Contexts p)))
         → Suffices s later k k wake
@@ -180,7 +187,8 @@ module _ (w : Wiring) (s : State) (sound : IsSoundState w s) (k : Bool) where
       let q : ℕ = lane_of w i in
       let y : Entry = record { number = s.next; item = i } in
       let new : Lane = with_queued y (lane_at s q) in
-      keeps-contexts s (later s q new (s.next + 1)) (keeps_later s q new (s.next + 1) (λ e h. unfinished-queued (lane_at s q) y e h)) k k (one_context q)
+      keeps-contexts s (later s q new (s.next + 1))
+      (keeps_later s q new (s.next + 1) (λ e h. unfinished-queued (lane_at s q) y e h)) k (one_context q)
       (λ p before now.
       let here : p ≡ q = ended_here s q new (s.next + 1) k p before now in
       absurd (elim (cases_later s q new (s.next + 1) p) [
@@ -198,7 +206,8 @@ module _ (w : Wiring) (s : State) (sound : IsSoundState w s) (k : Bool) where
   ended-contexts t q p woken (inr (never, is)) here now = absurd (never (subst (λ (x : ℕ). IsMetIn t k (EndOf x)) here now))
 
   pub cancelled-suffices : (i : ℕ) (wake : Wake) → IfEnded (effect w s (CancelStep i)) (lane_of w i) wake.contexts
-      → WakesWaitersIn (effect w s (CancelStep i)) (lane_of w i) i wake → Suffices s (effect w s (CancelStep i)) k k wake
+      → WakesWaitersIn (effect w s (CancelStep i)) k (lane_of w i) i wake
+      → Suffices s (effect w s (CancelStep i)) k k wake
   cancelled-suffices i wake ended woken =
       let q : ℕ = lane_of w i in
       let new : Lane = with_cancelled i (lane_at s q) in
@@ -213,7 +222,8 @@ module _ (w : Wiring) (s : State) (sound : IsSoundState w s) (k : Bool) where
     pub started-suffices : (i : ℕ) (wake : Wake) → MayDo w s q c (DoStart i) → IfEnded (done_by s q c (DoStart i)) q wake.contexts → Suffices s (done_by s q c (DoStart i)) k k wake
     started-suffices i wake may ended =
         let new : Lane = with_started c i own in
-        keeps-contexts s (done_by s q c (DoStart i)) (keeps_later s q new s.next (λ e h. unfinished-started own c i e (sound.once q) place may.idle h)) k k wake
+        keeps-contexts s (done_by s q c (DoStart i))
+        (keeps_later s q new s.next (λ e h. unfinished-started own c i e (sound.once q) place may.idle h)) k wake
         (λ p before now. ended-contexts (done_by s q c (DoStart i)) q p wake.contexts ended (ended_here s q new s.next k p before now) now)
         (λ p. inl (fewer_later s q new s.next (startable-started c i own may.idle) p))
 
@@ -222,7 +232,8 @@ module _ (w : Wiring) (s : State) (sound : IsSoundState w s) (k : Bool) where
         → Suffices s (with_lane s q (with_run_by own c (option_map f (run_by own c)))) k k nobody
     going_on-suffices f keeps =
         let new : Lane = with_run_by own c (option_map f (run_by own c)) in
-        keeps-contexts s (with_lane s q new) (keeps_later s q new s.next (λ e h. unfinished-going_on own c f e keeps h)) k k nobody
+        keeps-contexts s (with_lane s q new)
+        (keeps_later s q new s.next (λ e h. unfinished-going_on own c f e keeps h)) k nobody
         (λ p before now. absurd (same_pending s q new s.next (pending_kept own c (option_map f (run_by own c))) k p before now))
         (λ p. inl (fewer_later s q new s.next (startable-going_on c f own keeps) p))
 
@@ -237,7 +248,7 @@ module _ (w : Wiring) (s : State) (sound : IsSoundState w s) (k : Bool) where
     IfPending t i woken = (HasPending t i × (woken ≡ One q)) ⊎ ((¬ HasPending t i) × (woken ≡ Nobody))
 
     pub finished-suffices : (i : ℕ) (wake : Wake) → MayDo w s q c (DoFinish i) → IfPending (done_by s q c (DoFinish i)) i wake.contexts
-        → WakesWaitersIn (done_by s q c (DoFinish i)) q i wake → Suffices s (done_by s q c (DoFinish i)) k k wake
+        → WakesWaitersIn (done_by s q c (DoFinish i)) k q i wake → Suffices s (done_by s q c (DoFinish i)) k k wake
     finished-suffices i wake (r, runs, may) pending woken =
         ends-wake s q new s.next k wake i (λ e other h. unfinished-finished own c r e runs (λ is. other (is ∙ may.entry)) h) woken
         (λ p before now. absurd (same_pending s q new s.next (pending_kept own c None) k p before now))
@@ -258,14 +269,10 @@ module _ (w : Wiring) (s : State) (sound : IsSoundState w s) (k : Bool) where
             inl (fewer_later s q new s.next (startable-finished_none c r own runs (λ e there of_item.
             none (record { lane = q; entry = e; pending = subst (λ (ps : List Entry). Contains ps e) (sym (here q)) there; of_item = of_item ∙ may.entry }))) p)
 
--- ---- closing
-
-pub closed-suffices : (s : State) (k l : Bool) → Suffices s s k l every_context
-closed-suffices s k l = keeps-contexts s s (λ p e h. h) k l every_context (λ q before now. tt) (λ q. inl (omega arith))
-
 -- nothing changes
 pub same-suffices : (s : State) (k : Bool) (wake : Wake) → Suffices s s k k wake
-same-suffices s k wake = keeps-contexts s s (λ p e h. h) k k wake (λ q before now. absurd (before now)) (λ q. inl (omega arith))
+same-suffices s k wake =
+    keeps-contexts s s (λ p e h. h) k wake (λ q before now. absurd (before now)) (λ q. inl (omega arith))
 
 -- ---- events
 
@@ -309,13 +316,13 @@ module _ (old : BookView) (event : Event) (said : Bool) (n : ℕ) (sound : IsSou
   by_deed q c (DoFinish i) place may is wakes =
       by_state (done_by before q c (DoFinish i)) is (finished-suffices old.wiring before sound old.closed q c place i wake may
       (subst (λ (t : State). IfPending old.wiring before sound old.closed q c place t i wake.contexts) is wakes.0)
-      (subst (λ (t : State). WakesWaitersIn t q i wake) is wakes.1))
+      (subst (λ (t : State). WakesWaitersIn t old.closed q i wake) is wakes.1))
 
   by_cancel : (i : ℕ) → state book ≡ effect old.wiring before (CancelStep i) → WakesByCancel book (lane_of old.wiring i) i wake → WakesEnough old book wake
   by_cancel i is wakes =
       by_state (effect old.wiring before (CancelStep i)) is (cancelled-suffices old.wiring before sound old.closed i wake
       (subst (λ (t : State). IfEnded old.wiring before sound old.closed t (lane_of old.wiring i) wake.contexts) is wakes.0)
-      (subst (λ (t : State). WakesWaitersIn t (lane_of old.wiring i) i wake) is wakes.1))
+      (subst (λ (t : State). WakesWaitersIn t old.closed (lane_of old.wiring i) i wake) is wakes.1))
 
 module _ (old : BookView) (sound : IsSoundState old.wiring (state old)) (few : old.wiring.helpers ≤ max_helpers) (wake : Wake) where
   -- there is a place for each helper
@@ -354,10 +361,15 @@ event-enough old new event said n wake book few appends wakes =
     subst (λ (b : BookView). WakesEnough old b wake) (sym appends.is_new)
     (by_event old (IsSoundState-legal old.wiring old.rows book.legal) few wake event said n appends.may (subst (λ (b : BookView). WakesBy b event said wake) appends.is_new wakes))
 
-pub closing-enough : (old : BookView) → WakesEnough old (record old { closed = true }) every_context
-closing-enough old =
-    let suffices = closed-suffices (state old) old.closed true in
-    record { all = λ c lets becomes. suffices.all c lets becomes.before becomes.now; one_each = suffices.one_each }
+pub closing-enough : (old : BookView) → WakesEnough old (record old { closed = true }) by_closing
+closing-enough old = record { all = all; one_each = λ q. inl (omega arith) } where
+  all : (c : Condition) → LetsAllGo c → BecomesMet old (record old { closed = true }) c
+      → WakesAll by_closing (sleepers_for c)
+  all (WorkOn q) lets becomes = absurd lets
+  all (EndOf q) lets becomes = tt
+  all (ItemDone i mark) lets becomes = absurd (becomes.before becomes.now)
+  all (LaneDone q mark) lets becomes = absurd (becomes.before becomes.now)
+  all AllDone lets becomes = refl
 
 pub unchanged-enough : (b : BookView) (wake : Wake) → WakesEnough b b wake
 unchanged-enough b wake =

@@ -62,9 +62,10 @@ cancelled-wakes old new i wake sound states closed wirings wakes =
     subst (λ (t : State). IfEnded t old.closed (lane_of w i) wake.contexts) states
     (subst (λ (k : Bool). IfEnded (state new) k (lane_of w i) wake.contexts) closed
     (subst (λ (q : ℕ). IfEnded (state new) new.closed q wake.contexts) own wakes.0)) in
-    let waiters : WakesWaitersIn (effect w s (CancelStep i)) (lane_of w i) i wake =
-    subst (λ (t : State). WakesWaitersIn t (lane_of w i) i wake) states
-    (subst (λ (q : ℕ). WakesWaitersIn (state new) q i wake) own wakes.1) in
+    let waiters : WakesWaitersIn (effect w s (CancelStep i)) old.closed (lane_of w i) i wake =
+    subst (λ (t : State). WakesWaitersIn t old.closed (lane_of w i) i wake) states
+    (subst (λ (k : Bool). WakesWaitersIn (state new) k (lane_of w i) i wake) closed
+    (subst (λ (q : ℕ). WakesWaitersIn (state new) new.closed q i wake) own wakes.1)) in
     let suffices = cancelled-suffices w s sound old.closed i wake ended waiters in
     suffices-wakes old new wake
     (subst (λ (k : Bool). Suffices s (state new) old.closed k wake) (sym closed)

@@ -39,7 +39,7 @@ use Rattle.wq_history.specs.History.{asks_waiting}
 use Rattle.wq_history.specs.Book.{BookView, state, free, Appends, LacksRows, IsAwake, IsWaitingBy, WaitsFor, RunsItem}
 use Rattle.wq_history.specs.Book.{IsNext, HasNothingToStart, IsWrongToStart, IsNotAwake}
 use Rattle.wq_history.specs.Waits.{Condition, WorkOn, EndOf, ItemDone, LaneDone, AllDone, IsMet, nobody, one_context}
-use Rattle.wq_history.specs.Waits.{every_context, WakesBy}
+use Rattle.wq_history.specs.Waits.{by_closing, WakesBy}
 
 -- ---- what calls are about
 
@@ -155,7 +155,7 @@ WritesTwo old (CancelSync i) ask taken new = (3 ≤ free old) × ((between : Boo
 WritesTwo old _ ask taken new = ⊥
 
 -- the call is done, and there is no row for it: a context has nothing to start, and its lane has ended; the book is
--- closed; nothing is unfinished
+-- closed; a closed book has nothing unfinished
 abbrev pub IsDone : BookView → Call → Type 0
 IsDone b (Start c) = HasNothingToStart b c.lane c.number × IsMet b (EndOf c.lane)
 IsDone b Close = Unit {0}
@@ -168,7 +168,7 @@ after b Close = record b { closed = true }
 after b _ = b
 
 -- it is too early: an entry below the mark is unfinished; a context has nothing to start, and its lane hasn't ended;
--- an entry is unfinished
+-- an entry is unfinished, or the book isn't closed
 abbrev pub IsEarly : BookView → Call → Type 0
 IsEarly b (Told x mark) = (0 < asks_waiting x b.rows) × IsUnfinishedBelow (state b) x mark
 IsEarly b (Start c) = HasNothingToStart b c.lane c.number × (¬ IsMet b (EndOf c.lane))
@@ -230,9 +230,10 @@ RefusesWait b q c whole target e =
 
 -- ---- who is woken, and who sleeps
 
--- whom a call wakes that is done without a row: all contexts, once the book is closed
+-- whom a call wakes that is done without a row: once the book is closed, all contexts, and all who wait until all is
+-- done
 abbrev pub woken_by_done : Call → Wake
-woken_by_done Close = every_context
+woken_by_done Close = by_closing
 woken_by_done _ = nobody
 
 -- whom a refused call wakes: a start passes its wake-up on, since it may have been woken in place of another context

@@ -30,14 +30,15 @@ pub data Condition : Type 0 where
   AllDone : Condition
 
 -- the condition is met in this state, if this says whether the book is closed. An entry may be started if it is pending
--- and its item isn't running. A lane has ended if the book is closed and nothing is pending on the lane. An item, a
--- lane or all is done if no entry of it is unfinished, below the mark if there is one
+-- and its item isn't running. A lane has ended if the book is closed and nothing is pending on the lane. An item or a
+-- lane is done if no entry of it is unfinished below the mark; all is done if the book is closed and nothing is
+-- unfinished
 abbrev pub IsMetIn : State → Bool → Condition → Type 0
 IsMetIn s closed (WorkOn q) = (e : Entry) × (next_of (lane_at s q) ≡ Some e)
 IsMetIn s closed (EndOf q) = (closed ≡ true) × ((lane_at s q).pending ≡ [])
 IsMetIn s closed (ItemDone i mark) = ¬ HasUnfinishedBelow s i mark
 IsMetIn s closed (LaneDone q mark) = ¬ IsBusyBelow (lane_at s q) mark
-IsMetIn s closed AllDone = ¬ HasUnfinished s
+IsMetIn s closed AllDone = (closed ≡ true) × (¬ HasUnfinished s)
 
 -- the condition is met in this book
 abbrev pub IsMet : BookView → Condition → Type 0
@@ -72,9 +73,9 @@ nobody = record { contexts = Nobody; item_waiters = None; lane_waiters = None; d
 abbrev pub one_context : ℕ → Wake
 one_context q = record { contexts = One q; item_waiters = None; lane_waiters = None; destroyers = false }
 
--- all contexts of all lanes are woken
-abbrev pub every_context : Wake
-every_context = record { contexts = Everybody; item_waiters = None; lane_waiters = None; destroyers = false }
+-- all contexts of all lanes are woken, and all who wait until all is done
+abbrev pub by_closing : Wake
+by_closing = record { contexts = Everybody; item_waiters = None; lane_waiters = None; destroyers = true }
 
 -- one context of lane q is woken, or all of them
 abbrev pub WakesContext : WokenContexts → ℕ → Type 0

@@ -27,6 +27,7 @@ ghost use Rattle.wq_history.specs.Book.{IsWaitingBy, HelperRuns, HelperWaitsBy, 
 ghost use Rattle.wq_history.specs.Book.{IsWrongToStart, RefusesNew, RefusesItem, RefusesLane, RefusesHelp};
 ghost use Rattle.wq_history.specs.Answers.{AnswersAsk, AnswersTold, AnswersAskLane, AnswersToldLane, AnswersStart};
 ghost use Rattle.wq_history.specs.Answers.{AnswersOver};
+ghost use Rattle.wq_history.specs.Waits.{AllDone, IsMet};
 ghost use Rattle.wq_history.specs.Calls.{IsUnfinishedBelow, AlwaysWrites, Writes, AnswersAs, RefusesQueue};
 ghost use Rattle.wq_history.specs.Calls.{RefusesAskLane, RefusesWait, subject_of};
 
@@ -621,6 +622,13 @@ impl<A: Allocator> Book<A> {
         ensures { IsTrue result ↔ (¬ HasUnfinished (state self.now)) }
     {
         self.work == 0
+    }
+
+    /// Whether all is done: the book is closed, and no entry is unfinished.
+    pub fn all_done(&self) -> bool
+        ensures { IsTrue result ↔ IsMet self.now AllDone }
+    {
+        self.closed && self.is_idle()
     }
 
     /// Whether some ask is waiting. Where none is, for each item and each lane as
