@@ -5,6 +5,7 @@
 -- is said by MayCome; how many free rows it needs by rows_needed; and both by Appends. Where there is no row to
 -- write, the call is done; or it is too early, and then nothing is changed, and its caller sleeps and calls again.
 use Rattle.std.specs.Prelude.{◌≡◌, ℕ, ◌<◌, ◌≤◌, ◌⊎◌, length, Bool, true, false, Option, Some, None, Result, Ok, Err}
+use Rattle.std.specs.Prelude.{MatchOption}
 use Rattle.wq_items.specs.Table.{ItemWaitsBy}
 use Rattle.wq_core.specs.declared.step.Context.{Context}
 use Rattle.wq_core.specs.declared.entry.Running.{Running}
@@ -24,16 +25,13 @@ use Rattle.wq_history.specs.declared.call.Call.TheVariants.{Finish, Close, Drain
 use Rattle.wq_history.specs.declared.call.Reply.{Reply}
 use Rattle.wq_history.specs.declared.call.Reply.TheVariants.{Wrote, WroteTwo, Done, NotYet}
 use Rattle.wq_history.specs.declared.fault.BookError.{BookError}
-use Rattle.wq_history.specs.declared.fault.BookError.TheVariants.{HistoryFull as BookFull, Closed as BookClosed}
-use Rattle.wq_history.specs.declared.fault.BookError.TheVariants.{Undeclared as BookUndeclared}
-use Rattle.wq_history.specs.declared.fault.BookError.TheVariants.{TooManyWaits as BookTooManyWaits}
-use Rattle.wq_history.specs.declared.fault.BookError.TheVariants.{WrongLane as BookWrongLane, NoItem as BookNoItem}
 use Rattle.wq_history.specs.declared.fault.CallError.{CallError}
 use Rattle.wq_history.specs.declared.fault.CallError.TheVariants.{HistoryFull, Closed, Undeclared, TooManyWaits}
 use Rattle.wq_history.specs.declared.fault.CallError.TheVariants.{WrongLane, NotAsked, NoItem}
 use Rattle.wq_history.specs.declared.sleepers.Sleepers.{Sleepers}
 use Rattle.wq_history.specs.declared.sleepers.Sleepers.TheVariants.{Contexts, ItemWaiters, LaneWaiters, Destroyers}
 use Rattle.wq_history.specs.declared.sleepers.Wake.{Wake}
+use Rattle.wq_history.specs.Errors.{call_error}
 use Rattle.wq_history.specs.Events.{ask_event, told_event, start_event, wait_event, over_event, finish_event}
 use Rattle.wq_history.specs.History.{asks_waiting}
 use Rattle.wq_history.specs.Book.{BookView, state, free, Appends, LacksRows, IsAwake, IsWaitingBy, WaitsFor, RunsItem}
@@ -202,13 +200,7 @@ AlwaysWrites _ = ⊥
 
 -- a call is refused, by this error of a named call
 abbrev pub RefusesAs : BookView → Call → BookError → Type 0
-RefusesAs b call BookFull = Refuses b call HistoryFull
-RefusesAs b call BookClosed = Refuses b call Closed
-RefusesAs b call BookUndeclared = Refuses b call Undeclared
-RefusesAs b call BookTooManyWaits = Refuses b call TooManyWaits
-RefusesAs b call BookWrongLane = Refuses b call WrongLane
-RefusesAs b call BookNoItem = Refuses b call NoItem
-RefusesAs b call _ = ⊥
+RefusesAs b call e = MatchOption (call_error e) ⊥ (λ why. Refuses b call why)
 
 -- a call by name writes a row, or it is refused, and then nothing is changed
 abbrev pub AnswersAs : BookView → Call → Result Row BookError → BookView → Type 0
