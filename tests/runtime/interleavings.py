@@ -76,7 +76,7 @@ class World:
         return not any(entry[0] < mark for entry in self.unfinished(state, q))
 
     def all_done(self, state):
-        return not any(self.unfinished(state, q) for q in range(self.lanes))
+        return state[1] and not any(self.unfinished(state, q) for q in range(self.lanes))
 
     def is_pending(self, state, item):
         return any(entry[1] == item for entry in state[2][self.items[item]])

@@ -1,27 +1,13 @@
 -- What a call writes and counts, and why it is refused.
-use Rattle.std.proofs.Common.{◌≡◌, ℕ, zero, suc, ◌<◌, ◌≤◌, ◌⊎◌, inl, inr, Bool, true, false, List, refl, sym, ap, subst, ◌∙◌}
-use Rattle.std.specs.Prelude.{◌+◌, Result, Ok, Err, IfErr, OnOk, sum}
+use Rattle.std.proofs.Common.{◌≡◌, ℕ, zero, suc, ◌<◌, ◌≤◌, inl, inr, Bool, true, false, List, refl, sym, ap, subst, ◌∙◌}
+use Rattle.std.proofs.Common.{◌+◌, Result, Ok, Err, IfErr, OnOk, sum}
 use Rattle.std.proofs.lemmas.Bool.{cases_lt}
-use Rattle.wq_core.specs.declared.step.Context.{Context}
-use Rattle.wq_core.specs.Wiring.{Wiring}
-use Rattle.wq_rows.specs.declared.event.Event.{Event}
-use Rattle.wq_rows.specs.declared.event.Row.{Row}
+use Rattle.wq_history.proofs.Words.{Context, Wiring, Event, Row, told_event, wait_event, over_event, finish_event}
+use Rattle.wq_history.proofs.Words.{MayCome, BookView, WakesEnough, RefusesToTell, Replies}
+use Rattle.wq_held.proofs.Words.{Subject, Flush, Call, Told, CancelSync, Start, Wait, Over, Finish, Close, Drain, Reply}
+use Rattle.wq_held.proofs.Words.{Wrote, WroteTwo, Done, NotYet, CallError, HistoryFull, NotAsked, Wake}
 use Rattle.wq_counts.specs.declared.kind.Kind.TheVariants.{Finish as FinishKind}
 use Rattle.wq_counts.specs.Counting.{wait_kind, over_kind, raised, noted, noted_as}
-use Rattle.wq_history.specs.declared.asking.Subject.{Subject}
-use Rattle.wq_history.specs.declared.call.Flush.{Flush}
-use Rattle.wq_history.specs.declared.call.Call.{Call}
-use Rattle.wq_history.specs.declared.call.Call.TheVariants.{Queue, Cancel, Ask, Told, CancelSync, Start, Wait, Over, Finish, Close, Drain}
-use Rattle.wq_history.specs.declared.call.Reply.{Reply}
-use Rattle.wq_history.specs.declared.call.Reply.TheVariants.{Wrote, WroteTwo, Done, NotYet}
-use Rattle.wq_history.specs.declared.fault.CallError.{CallError}
-use Rattle.wq_history.specs.declared.fault.CallError.TheVariants.{HistoryFull, Closed, Undeclared, TooManyWaits, WrongLane, NotAsked, NoItem}
-use Rattle.wq_history.specs.Events.{told_event, wait_event, over_event, finish_event}
-use Rattle.wq_history.specs.History.{MayCome}
-use Rattle.wq_history.specs.Book.{BookView}
-use Rattle.wq_history.specs.declared.sleepers.Wake.{Wake}
-use Rattle.wq_history.specs.Waits.{WakesEnough}
-use Rattle.wq_history.specs.Calls.{RefusesToTell, RefusesIf, Refuses, Replies}
 use Rattle.wq_history.proofs.CallRows.{told-yes, over-yes, finish-yes}
 use Rattle.wq_history.proofs.Wakes.{unchanged-enough}
 use Rattle.wq_held.specs.declared.fault.SeatError.{SeatError}
@@ -35,13 +21,9 @@ use Rattle.wq_api.specs.Taking.{WritesOne, IsAnswered, Took}
 pub never_two : (old new : BookView) (call : Call) (ask taken : Row) → WritesOne call
     → Replies old call (WroteTwo ask taken) new → ⊥
 never_two old new (CancelSync i) ask taken writes replies = absurd writes
-never_two old new (Start c) ask taken writes replies = absurd writes
-never_two old new Close ask taken writes replies = absurd writes
-never_two old new Drain ask taken writes replies = absurd writes
 never_two old new _ ask taken writes replies = absurd replies
 
 pub never_done : (old new : BookView) (call : Call) → WritesOne call → Replies old call Done new → ⊥
-never_done old new (CancelSync i) writes replies = absurd writes
 never_done old new (Start c) writes replies = absurd writes
 never_done old new Close writes replies = absurd writes
 never_done old new Drain writes replies = absurd writes
@@ -131,11 +113,6 @@ barred_by P w counts call e gone full (inr (named, needs, over, is)) = subst P (
 pub told_refused : (b : BookView) (x : Subject) (e : CallError) → RefusesToTell b x e → e ≡ NotAsked
 told_refused b x NotAsked why = refl
 told_refused b x _ why = absurd why
-
--- a context that can't make a call is refused for one cause alone
-pub wrong_lane : (wrong : Type 0) (e : CallError) → RefusesIf wrong e → (e ≡ WrongLane) × wrong
-wrong_lane wrong WrongLane why = (refl, why)
-wrong_lane wrong _ why = absurd why
 
 -- ---- answers under the lock
 

@@ -1,9 +1,9 @@
 -- What is known of a runtime's workqueues without its lock.
-use Rattle.std.proofs.Common.{◌≡◌, ℕ, ◌<◌, ◌≤◌, Bool, true, List, length, map, get_or, ap, ◌∙◌, arith}
+use Rattle.std.proofs.Common.{◌≡◌, ℕ, ◌<◌, ◌≤◌, true, List, length, map, get_or, ap, ◌∙◌, arith}
 use Rattle.std.specs.List.{range_with_len}
 use Rattle.std.proofs.lemmas.List.{get_or_past}
 use Rattle.std.proofs.lemmas.List.FromFn.{length-map-range_with_len, get_or-map-range_with_len}
-use Rattle.wq_core.specs.Wiring.{Wiring, helpers_of}
+use Rattle.wq_history.proofs.Words.{Wiring, helpers_of}
 use Rattle.wq_core.proofs.Contexts.{helpers_of-none}
 
 -- there is a number for each lane

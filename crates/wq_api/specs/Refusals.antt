@@ -21,22 +21,18 @@ RefusesCancelWork w i NoItem = items w ≤ i
 RefusesCancelWork w i HistoryFull = i < items w
 RefusesCancelWork w i _ = ⊥
 
--- `wait_for` or `wait_all_for` on lane q, through a seat with these counts: no such lane, or it can't make this step;
--- the seat is full; what the lane runs declares no such flush, or has made as many waits as it declares
-abbrev pub RefusesWaitFor : Wiring → List ℕ → ℕ → CallError → Type 0
-RefusesWaitFor w counts q WrongLane = (w.lanes ≤ q) ⊎ SeatHasRoom counts
-RefusesWaitFor w counts q HistoryFull = (q < w.lanes) × (seat_rows ≤ sum counts)
-RefusesWaitFor w counts q Undeclared = (q < w.lanes) × SeatHasRoom counts
-RefusesWaitFor w counts q TooManyWaits = (q < w.lanes) × SeatHasRoom counts
-RefusesWaitFor w counts q _ = ⊥
-
--- the same of a context that exists if `there` says so
+-- a wait of a context that exists if `there` says so, through a seat with these counts: no such context, or it can't
+-- make this step; the seat is full; what it runs declares no such flush, or has made as many waits as it declares
 abbrev pub RefusesWaitOf : Type 0 → List ℕ → CallError → Type 0
 RefusesWaitOf there counts WrongLane = (¬ there) ⊎ SeatHasRoom counts
 RefusesWaitOf there counts HistoryFull = there × (seat_rows ≤ sum counts)
 RefusesWaitOf there counts Undeclared = there × SeatHasRoom counts
 RefusesWaitOf there counts TooManyWaits = there × SeatHasRoom counts
 RefusesWaitOf there counts _ = ⊥
+
+-- `wait_for` or `wait_all_for` on lane q
+abbrev pub RefusesWaitFor : Wiring → List ℕ → ℕ → CallError → Type 0
+RefusesWaitFor w counts q e = RefusesWaitOf (q < w.lanes) counts e
 
 -- the same of context c of lane q
 abbrev pub RefusesWaitIn : Wiring → List ℕ → ℕ → ℕ → CallError → Type 0

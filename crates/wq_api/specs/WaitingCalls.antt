@@ -5,8 +5,8 @@ use Rattle.wq_core.specs.Wiring.{Wiring, items, HasContext}
 use Rattle.wq_counts.specs.declared.kind.Kind.TheVariants.{Cancel as CancelKind, Ask as AskKind, Told as ToldKind}
 use Rattle.wq_counts.specs.Counting.{raised, raised_asked, raised_told, wait_kind, over_kind}
 use Rattle.wq_history.specs.declared.fault.CallError.{CallError}
-use Rattle.wq_history.specs.declared.fault.CallError.TheVariants.{HistoryFull, Closed, Undeclared, TooManyWaits}
-use Rattle.wq_history.specs.declared.fault.CallError.TheVariants.{WrongLane, NotAsked, NoItem}
+use Rattle.wq_history.specs.declared.fault.CallError.TheVariants.{HistoryFull, Undeclared, TooManyWaits, WrongLane}
+use Rattle.wq_history.specs.declared.fault.CallError.TheVariants.{NotAsked, NoItem}
 use Rattle.wq_held.specs.Locked.{SeatHasRoom, IsOnLane}
 use Rattle.wq_api.specs.Refusals.{RefusesWaitOf}
 
@@ -29,12 +29,7 @@ flushed old i false = raised old i AskKind false
 -- counted; otherwise nothing was counted
 abbrev pub flush_refused : List ℕ → ℕ → CallError → List ℕ
 flush_refused old i NotAsked = raised old i AskKind true
-flush_refused old i HistoryFull = old
-flush_refused old i Closed = old
-flush_refused old i Undeclared = old
-flush_refused old i TooManyWaits = old
-flush_refused old i WrongLane = old
-flush_refused old i NoItem = old
+flush_refused old i _ = old
 
 -- counts after an ask and a cancellation in one call, with these answers
 abbrev pub asked_and_cancelled : List ℕ → ℕ → Bool → Bool → List ℕ
@@ -51,12 +46,7 @@ CountsCancelSync old new i taken =
 -- counted; otherwise nothing was counted
 abbrev pub RefusedCancelSync : List ℕ → List ℕ → ℕ → CallError → Type 0
 RefusedCancelSync old new i NotAsked = (taken : Bool) × (new ≡ asked_and_cancelled old i true taken)
-RefusedCancelSync old new i HistoryFull = new ≡ old
-RefusedCancelSync old new i Closed = new ≡ old
-RefusedCancelSync old new i Undeclared = new ≡ old
-RefusedCancelSync old new i TooManyWaits = new ≡ old
-RefusedCancelSync old new i WrongLane = new ≡ old
-RefusedCancelSync old new i NoItem = new ≡ old
+RefusedCancelSync old new i _ = new ≡ old
 
 -- ---- flushes of lanes
 
@@ -77,12 +67,7 @@ lane_flushed old q false = raised_asked old q false
 -- ask stays counted; otherwise nothing was counted
 abbrev pub lane_flush_refused : List ℕ → ℕ → CallError → List ℕ
 lane_flush_refused old q NotAsked = raised_asked old q true
-lane_flush_refused old q HistoryFull = old
-lane_flush_refused old q Closed = old
-lane_flush_refused old q Undeclared = old
-lane_flush_refused old q TooManyWaits = old
-lane_flush_refused old q WrongLane = old
-lane_flush_refused old q NoItem = old
+lane_flush_refused old q _ = old
 
 -- ---- waits of contexts, for an item or for its whole lane
 
@@ -100,38 +85,22 @@ abbrev pub HasWaiter : Wiring → ℕ → Bool → ℕ → Result Bool CallError
 HasWaiter w q whole b (Ok unfinished) = IsDeclaredOn w q whole b
 HasWaiter w q whole b (Err TooManyWaits) = IsDeclaredOn w q whole b
 HasWaiter w q whole b (Err Undeclared) = IsUndeclaredOn w q whole b
-HasWaiter w q whole b (Err HistoryFull) = Unit {0}
-HasWaiter w q whole b (Err Closed) = Unit {0}
-HasWaiter w q whole b (Err WrongLane) = Unit {0}
-HasWaiter w q whole b (Err NotAsked) = Unit {0}
-HasWaiter w q whole b (Err NoItem) = Unit {0}
+HasWaiter w q whole b (Err e) = Unit {0}
 
 -- counts after a wait of this kind that is over, with this answer
 abbrev pub waited_for : List ℕ → Bool → ℕ → Bool → List ℕ
 waited_for old whole b unfinished = raised (raised old b (wait_kind whole) unfinished) b (over_kind whole) true
 
--- counts after a refused wait of this kind of lane q's rescuer: if it no longer waits (64), its wait stays counted;
--- otherwise nothing was counted
-abbrev pub RefusedWaitFor : Wiring → List ℕ → List ℕ → ℕ → Bool → ℕ → CallError → Type 0
-RefusedWaitFor w old new q whole b WrongLane =
-    (new ≡ old) ⊎ ((q < w.lanes) × (unfinished : Bool) × (new ≡ raised old b (wait_kind whole) unfinished))
-RefusedWaitFor w old new q whole b HistoryFull = new ≡ old
-RefusedWaitFor w old new q whole b Closed = new ≡ old
-RefusedWaitFor w old new q whole b Undeclared = new ≡ old
-RefusedWaitFor w old new q whole b TooManyWaits = new ≡ old
-RefusedWaitFor w old new q whole b NotAsked = new ≡ old
-RefusedWaitFor w old new q whole b NoItem = new ≡ old
-
--- the same of a context that exists if `there` says so
+-- counts after a refused wait of this kind of a context that exists if `there` says so: if it no longer waits (64), its
+-- wait stays counted; otherwise nothing was counted
 abbrev pub RefusedWaitOf : Type 0 → List ℕ → List ℕ → Bool → ℕ → CallError → Type 0
 RefusedWaitOf there old new whole b WrongLane =
     (new ≡ old) ⊎ (there × (unfinished : Bool) × (new ≡ raised old b (wait_kind whole) unfinished))
-RefusedWaitOf there old new whole b HistoryFull = new ≡ old
-RefusedWaitOf there old new whole b Closed = new ≡ old
-RefusedWaitOf there old new whole b Undeclared = new ≡ old
-RefusedWaitOf there old new whole b TooManyWaits = new ≡ old
-RefusedWaitOf there old new whole b NotAsked = new ≡ old
-RefusedWaitOf there old new whole b NoItem = new ≡ old
+RefusedWaitOf there old new whole b _ = new ≡ old
+
+-- the same of lane q's rescuer
+abbrev pub RefusedWaitFor : Wiring → List ℕ → List ℕ → ℕ → Bool → ℕ → CallError → Type 0
+RefusedWaitFor w old new q whole b e = RefusedWaitOf (q < w.lanes) old new whole b e
 
 -- the same of context c of lane q
 abbrev pub RefusedWaitIn : Wiring → List ℕ → List ℕ → ℕ → ℕ → Bool → ℕ → CallError → Type 0

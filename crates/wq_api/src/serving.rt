@@ -37,107 +37,44 @@ impl<N: Naming, A: Allocator> WqRuntime<N, A> {
     ///
     /// The only error is `WrongLane` (64), where there is no such context or it runs
     /// an entry. After an error nothing is changed.
-    pub fn next_in<R: Wait>(
-        &self,
-        rt: &R,
-        q: LaneId,
-        helper: u8,
-    ) -> Result<Option<ItemId>, CallError>
-        ensures took { GivesItem (λ answer. IsAnswered N.wiring N.rows (Start (context_of q helper)) answer) result }
-        ensures started { IfOk result (λ next. HasContext N.wiring q helper
-            × IfSome next (λ item. IsOnLane N.wiring q item)) }
+    #[tactic(auto, using(crate::proofs::Contexts::by_start))]
+    pub fn next_in<R: Wait>(&self, rt: &R, context: Context) -> Result<Option<ItemId>, CallError>
+        ensures took { GivesItem (λ answer. IsAnswered N.wiring N.rows (Start context) answer) result }
+        ensures started { IfOk result (λ next. HasContext N.wiring context.lane context.number
+            × IfSome next (λ item. IsOnLane N.wiring context.lane item)) }
         ensures refused { IfErr result (λ e. e ≡ WrongLane) }
-        ensures cause { OnErr result (WasWrongToStartIn N.wiring N.rows q helper) }
+        ensures cause { OnErr result (WasWrongToStartIn N.wiring N.rows context.lane context.number) }
     {
-        self.start(
-            rt,
-            Context {
-                lane: q,
-                number: helper,
-            },
-        )
+        self.start(rt, context)
     }
 
-    /// Makes what a context runs wait for an item (`flush_work` in a work function), until none of its entries that
-    /// were queued before the call is unfinished: true where one was when the wait began.
-    ///
-    /// The error is the first of these that holds: `WrongLane` (64), where there is no such context;
-    /// `HistoryFull` (60), where the seat is full; `WrongLane` (64), where the context runs nothing
-    /// or waits; `Undeclared` (62), where what it runs declares no flush of this item alone;
-    /// `TooManyWaits` (63). Then nothing is changed or counted. Once it waits, the only error could
-    /// be `WrongLane`, where another caller drove this context on; then the wait stays counted.
-    pub fn wait_for_in<R: Wait>(
-        &self,
-        rt: &R,
-        seat: &mut Seat<N, A>,
-        q: LaneId,
-        helper: u8,
-        target: ItemId,
-    ) -> Result<bool, CallError>
-        ensures took { Waits N.wiring N.rows seat.old (context_of q helper) (flush_of false target) result seat.new }
-        ensures counted { IfOk result (λ unfinished. HasContext N.wiring q helper
-            × (target < items N.wiring)
-            × SeatHasRoom seat.old
-            × (seat.new ≡ waited_for seat.old false target unfinished)) }
-        ensures refused { IfErr result (λ e. RefusesWaitIn N.wiring seat.old q helper e
-            × RefusedWaitIn N.wiring seat.old seat.new q helper false target e) }
-        ensures waiter { HasContext N.wiring q helper → SeatHasRoom seat.old
-            → HasWaiter N.wiring q false target result }
-    {
-        let flush = Flush {
-            target,
-            whole: false,
-        };
-        self.wait(
-            rt,
-            seat,
-            &Context {
-                lane: q,
-                number: helper,
-            },
-            &flush,
-        )
-    }
-
-    /// Makes what a context runs wait for the whole workqueue of an item
-    /// (`flush_workqueue` in a work function), until none of the entries that were queued
-    /// on it before the call is unfinished: true where one was when the wait began.
+    /// Makes what a context runs wait for an item (`flush_work` in a work function), or for the whole workqueue of the
+    /// item (`flush_workqueue`), until none of the entries there that were queued before the call is unfinished: true
+    /// where one was when the wait began.
     ///
     /// The error is the first of these that holds: `WrongLane` (64), where there is no such context; `HistoryFull`
     /// (60), where the seat is full; `WrongLane` (64), where the context runs nothing or waits; `Undeclared` (62),
-    /// where what it runs declares no flush of the whole workqueue of this very item; `TooManyWaits` (63). Then nothing
-    /// is changed or counted. Once it waits, the only error could be `WrongLane`, where another caller drove this
-    /// context on; then the wait stays counted.
-    pub fn wait_all_for_in<R: Wait>(
+    /// where what it runs declares no such flush; `TooManyWaits` (63). Then nothing is changed or counted. Once it
+    /// waits, the only error could be `WrongLane`, where another caller drove this context on; then the wait stays
+    /// counted.
+    pub fn wait_in<R: Wait>(
         &self,
         rt: &R,
         seat: &mut Seat<N, A>,
-        q: LaneId,
-        helper: u8,
-        target: ItemId,
+        context: Context,
+        flush: Flush,
     ) -> Result<bool, CallError>
-        ensures took { Waits N.wiring N.rows seat.old (context_of q helper) (flush_of true target) result seat.new }
-        ensures counted { IfOk result (λ unfinished. HasContext N.wiring q helper
-            × (target < items N.wiring)
+        ensures took { Waits N.wiring N.rows seat.old context flush result seat.new }
+        ensures counted { IfOk result (λ unfinished. HasContext N.wiring context.lane context.number
+            × (flush.target < items N.wiring)
             × SeatHasRoom seat.old
-            × (seat.new ≡ waited_for seat.old true target unfinished)) }
-        ensures refused { IfErr result (λ e. RefusesWaitIn N.wiring seat.old q helper e
-            × RefusedWaitIn N.wiring seat.old seat.new q helper true target e) }
-        ensures waiter { HasContext N.wiring q helper → SeatHasRoom seat.old → HasWaiter N.wiring q true target result }
+            × (seat.new ≡ waited_for seat.old flush.whole flush.target unfinished)) }
+        ensures refused { IfErr result (λ e. RefusesWaitIn N.wiring seat.old context.lane context.number e
+            × RefusedWaitIn N.wiring seat.old seat.new context.lane context.number flush.whole flush.target e) }
+        ensures waiter { HasContext N.wiring context.lane context.number → SeatHasRoom seat.old
+            → HasWaiter N.wiring context.lane flush.whole flush.target result }
     {
-        let flush = Flush {
-            target,
-            whole: true,
-        };
-        self.wait(
-            rt,
-            seat,
-            &Context {
-                lane: q,
-                number: helper,
-            },
-            &flush,
-        )
+        self.wait(rt, seat, &context, &flush)
     }
 
     /// Finishes what a context runs, an entry of this item.
@@ -148,26 +85,17 @@ impl<N: Naming, A: Allocator> WqRuntime<N, A> {
         &self,
         rt: &R,
         seat: &mut Seat<N, A>,
-        q: LaneId,
-        helper: u8,
+        context: Context,
         item: ItemId,
     ) -> Result<(), CallError>
         ensures took { GivesDone (λ answer.
-            Took N.wiring N.rows seat.old (Finish (context_of q helper) item) answer seat.new) result }
-        ensures counted { OnOk result (HasContext N.wiring q helper
-            × IsOnLane N.wiring q item
+            Took N.wiring N.rows seat.old (Finish context item) answer seat.new) result }
+        ensures counted { OnOk result (HasContext N.wiring context.lane context.number
+            × IsOnLane N.wiring context.lane item
             × (seat.new ≡ raised seat.old item FinishKind true)) }
         ensures refused { IfErr result (λ e. (e ≡ WrongLane) × (seat.new ≡ seat.old)) }
     {
-        self.finish(
-            rt,
-            seat,
-            Context {
-                lane: q,
-                number: helper,
-            },
-            item,
-        )
+        self.finish(rt, seat, context, item)
     }
 
     // ---- the rescuer
@@ -184,7 +112,7 @@ impl<N: Naming, A: Allocator> WqRuntime<N, A> {
         ensures refused { IfErr result (λ e. e ≡ WrongLane) }
         ensures cause { OnErr result (WasWrongToStartIn N.wiring N.rows q 0) }
     {
-        self.next_in(rt, q, 0)
+        self.next_in(rt, Context { lane: q, number: 0 })
     }
 
     /// Makes what the rescuer of a workqueue runs wait for an item (`flush_work` in a work function), until none of its
@@ -211,7 +139,11 @@ impl<N: Naming, A: Allocator> WqRuntime<N, A> {
             × RefusedWaitFor N.wiring seat.old seat.new q false target e) }
         ensures waiter { q < N.wiring.lanes → SeatHasRoom seat.old → HasWaiter N.wiring q false target result }
     {
-        self.wait_for_in(rt, seat, q, 0, target)
+        let of_item = Flush {
+            target,
+            whole: false,
+        };
+        self.wait_in(rt, seat, Context { lane: q, number: 0 }, of_item)
     }
 
     /// Makes what the rescuer of a workqueue runs wait for the whole workqueue of an item
@@ -239,7 +171,11 @@ impl<N: Naming, A: Allocator> WqRuntime<N, A> {
             × RefusedWaitFor N.wiring seat.old seat.new q true target e) }
         ensures waiter { q < N.wiring.lanes → SeatHasRoom seat.old → HasWaiter N.wiring q true target result }
     {
-        self.wait_all_for_in(rt, seat, q, 0, target)
+        let of_lane = Flush {
+            target,
+            whole: true,
+        };
+        self.wait_in(rt, seat, Context { lane: q, number: 0 }, of_lane)
     }
 
     /// Finishes what the rescuer of a workqueue runs, an entry of this item.
@@ -258,7 +194,7 @@ impl<N: Naming, A: Allocator> WqRuntime<N, A> {
         ensures counted { OnOk result (IsOnLane N.wiring q item × (seat.new ≡ raised seat.old item FinishKind true)) }
         ensures refused { IfErr result (λ e. (e ≡ WrongLane) × (seat.new ≡ seat.old)) }
     {
-        self.finish_in(rt, seat, q, 0, item)
+        self.finish_in(rt, seat, Context { lane: q, number: 0 }, item)
     }
 
     // ---- helpers
@@ -277,7 +213,7 @@ impl<N: Naming, A: Allocator> WqRuntime<N, A> {
         if h == 0 {
             return Err(CallError::WrongLane);
         }
-        self.next_in(rt, q, h)
+        self.next_in(rt, Context { lane: q, number: h })
     }
 
     /// Makes what a helper of a workqueue runs wait for an item, as `wait_for` does for the rescuer.
@@ -307,7 +243,11 @@ impl<N: Naming, A: Allocator> WqRuntime<N, A> {
         if h == 0 {
             return Err(CallError::WrongLane);
         }
-        self.wait_for_in(rt, seat, q, h, target)
+        let of_item = Flush {
+            target,
+            whole: false,
+        };
+        self.wait_in(rt, seat, Context { lane: q, number: h }, of_item)
     }
 
     /// Makes what a helper of a workqueue runs wait for the whole workqueue of an
@@ -338,7 +278,11 @@ impl<N: Naming, A: Allocator> WqRuntime<N, A> {
         if h == 0 {
             return Err(CallError::WrongLane);
         }
-        self.wait_all_for_in(rt, seat, q, h, target)
+        let of_lane = Flush {
+            target,
+            whole: true,
+        };
+        self.wait_in(rt, seat, Context { lane: q, number: h }, of_lane)
     }
 
     /// Finishes what a helper of a workqueue runs, an entry of this item.
@@ -363,6 +307,6 @@ impl<N: Naming, A: Allocator> WqRuntime<N, A> {
         if h == 0 {
             return Err(CallError::WrongLane);
         }
-        self.finish_in(rt, seat, q, h, item)
+        self.finish_in(rt, seat, Context { lane: q, number: h }, item)
     }
 }

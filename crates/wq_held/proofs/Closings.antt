@@ -1,94 +1,28 @@
--- What a runtime that is closed has to show: an entry is unfinished or none is, the seats that were taken in are summed up,
--- and the sums are compared with the tallies.
-use Rattle.std.proofs.Common.{◌≡◌, ◌≢◌, ℕ, zero, suc, ◌+◌, ◌*◌, ◌<◌, ◌≤◌, ◌↔◌, ◌⊎◌, inl, inr, Bool, false, cond, List, [], ◌∷◌, ◌++◌, length, get_or, take, drop, ◌-◌, replicate, refl, sym, ap, subst, ◌∙◌, arith}
-use Rattle.std.specs.Prelude.{Option, Some, None, sum, slice_get, slice_index, IsTrue}
+-- What a runtime that is closed has to show: the seats that were taken in are summed up, and the sums are compared with
+-- the tallies.
+use Rattle.std.proofs.Common.{◌≡◌, ℕ, suc, ◌+◌, ◌*◌, ◌<◌, ◌≤◌, ◌↔◌, ◌⊎◌, inl, inr, Bool, false, cond, List, [], ◌∷◌}
+use Rattle.std.proofs.Common.{◌++◌, length, get_or, take, drop, ◌-◌, replicate, refl, sym, ap, subst, ◌∙◌, arith, Some}
+use Rattle.std.proofs.Common.{sum, slice_get, slice_index, IsTrue}
 use Rattle.std.specs.List.{sum_by, count_by}
 use Rattle.std.proofs.lemmas.Bool.{cases_lt, false_from_ne_true}
 use Rattle.std.proofs.lemmas.List.{get_or_past, get_or-replicate, length-replicate, take-append-drop}
 use Rattle.std.proofs.lemmas.List.Sums.{sum_by-append, sum_by-cons}
-use Rattle.wq_items.proofs.Lists.{Contains-first}
-use Rattle.wq_core.specs.declared.entry.Entry.{Entry}
-use Rattle.wq_core.specs.declared.entry.Running.{Running}
-use Rattle.wq_core.specs.Wiring.{Wiring, IsWiring, items}
-use Rattle.wq_core.specs.State.{Lane, State, idle_lane, IsUnfinishedOn, HasUnfinished}
-use Rattle.wq_core.proofs.LaneLemmas.{idle_lane-unfinished}
-use Rattle.wq_rows.specs.declared.event.Event.{Event}
-use Rattle.wq_rows.specs.declared.event.Event.TheVariants.{Queue, Cancel, Start, Wait, Over, Finish, Ask, Told, WaitAll, OverAll, AskLane, ToldLane, Help}
-use Rattle.wq_rows.specs.declared.event.Row.{Row}
-use Rattle.wq_rows.specs.Packing.{item_in, lane_in}
+use Rattle.wq_history.proofs.Words.{Wiring, IsWiring, items, HasUnfinished, Event, Row, item_in, lane_in, subject_in}
+use Rattle.wq_history.proofs.Words.{begins_to_wait, ends_a_wait, IsThere, IsLegal, all_asks_waiting, BookView, state}
+use Rattle.wq_history.proofs.Words.{IsBook}
+use Rattle.wq_held.proofs.Words.{Subject, OfItem, OfLane}
+use Rattle.wq_rows.specs.declared.event.Event.TheVariants.{AskLane, ToldLane}
 use Rattle.wq_counts.specs.declared.kind.Kind.{Kind}
 use Rattle.wq_counts.specs.declared.kind.LaneKind.{LaneKind}
 use Rattle.wq_counts.specs.Counting.{counts_each, place, lane_place, kind_in, lane_kind_in, is_of, is_of_lane, tally, tally_lane, HasCountsOf, AreTallies}
 use Rattle.wq_counts.proofs.Places.{IsItemPlace, IsLanePlace, cases_place}
 use Rattle.wq_counts.proofs.Tallies.{is_of-parts, is_of_lane-parts, made-tally, made_lane-tally}
-use Rattle.wq_history.specs.declared.asking.Subject.{Subject}
-use Rattle.wq_history.specs.declared.asking.Subject.TheVariants.{Item as OfItem, Lane as OfLane}
-use Rattle.wq_history.specs.Events.{subject_in, begins_to_wait, ends_a_wait}
-use Rattle.wq_history.specs.History.{IsThere, IsLegal, all_asks_waiting}
-use Rattle.wq_history.specs.Book.{BookView, state, IsBook}
 use Rattle.wq_history.proofs.Counting.{CountsAsks-none, all_asks_waiting-count}
 use Rattle.wq_history.proofs.LegalRows.{AreCounted-legal, IsLegal-prefix}
 use Rattle.wq_history.proofs.KeptRows.{exist}
 use Rattle.wq_held.specs.Locked.{slots, IsProtected, IsSeat}
 use Rattle.wq_held.proofs.Locking.{sum-replicate_zero, item_slot, lane_slot}
 use Rattle.wq_held.specs.Closing.{SumsSeats, Agrees, IsClosed}
-
--- ---- an entry is unfinished, or none is
-
--- some of these helpers runs something, or none does
-none_runs : (helping : List (Option Running)) → ((h : ℕ) (r : Running) → get_or helping h None ≢ Some r) → (h : ℕ) (r : Running) → get_or (None ∷ helping) h None ≢ Some r
-none_runs helping none zero r is = cc
-none_runs helping none (suc h) r is = none h r is
-
-cases_helping : (helping : List (Option Running)) → ((h : ℕ) × (r : Running) × (get_or helping h None ≡ Some r)) ⊎ ((h : ℕ) (r : Running) → get_or helping h None ≢ Some r)
-cases_helping [] = inr (λ h r is. cc)
-cases_helping (Some r ∷ helping) = inl (zero, r, refl)
-cases_helping (None ∷ helping) = elim (cases_helping helping) [
-  | inl some ↦ inl (suc some.0, some.1, some.2)
-  | inr none ↦ inr (none_runs helping none)
-]
-
--- on a lane on which nothing is pending, and whose contexts run nothing
-none_on : (helping : List (Option Running)) → ((h : ℕ) (r : Running) → get_or helping h None ≢ Some r)
-    → (e : Entry) → ¬ IsUnfinishedOn (record { pending = []; running = None; helping = helping }) e
-none_on helping none e (inl (k, lt, at)) = omega arith
-none_on helping none e (inr (zero, r, runs, is)) = cc
-none_on helping none e (inr (suc h, r, runs, is)) = none h r runs
-
--- for a lane with these entries pending, and whose rescuer and helpers run these
-cases_lane : (pending : List Entry) (running : Option Running) (helping : List (Option Running))
-    → ((e : Entry) × IsUnfinishedOn (record { pending = pending; running = running; helping = helping }) e)
-    ⊎ ((e : Entry) → ¬ IsUnfinishedOn (record { pending = pending; running = running; helping = helping }) e)
-cases_lane (e ∷ es) running helping = inl (e, inl (Contains-first (e ∷ es) e refl))
-cases_lane [] (Some r) helping = inl (r.entry, inr (zero, r, refl, refl))
-cases_lane [] None helping = elim (cases_helping helping) [
-  | inl some ↦ inl (some.1.entry, inr (suc some.0, some.1, some.2, refl))
-  | inr none ↦ inr (none_on helping none)
-]
-
-none_more : (lane : Lane) (lanes : List Lane) → ((e : Entry) → ¬ IsUnfinishedOn lane e)
-    → ((q : ℕ) (e : Entry) → ¬ IsUnfinishedOn (get_or lanes q idle_lane) e)
-    → (q : ℕ) (e : Entry) → ¬ IsUnfinishedOn (get_or (lane ∷ lanes) q idle_lane) e
-none_more lane lanes here there zero e = here e
-none_more lane lanes here there (suc q) e = there q e
-
-cases_lanes : (lanes : List Lane) → ((q : ℕ) × (e : Entry) × IsUnfinishedOn (get_or lanes q idle_lane) e)
-    ⊎ ((q : ℕ) (e : Entry) → ¬ IsUnfinishedOn (get_or lanes q idle_lane) e)
-cases_lanes [] = inr (λ q e. idle_lane-unfinished e)
-cases_lanes (lane ∷ lanes) = elim (cases_lane lane.pending lane.running lane.helping) [
-  | inl some ↦ inl (zero, some.0, some.1)
-  | inr here ↦ elim (cases_lanes lanes) [
-    | inl some ↦ inl (suc some.0, some.1, some.2)
-    | inr there ↦ inr (none_more lane lanes here there)
-  ]
-]
-
--- if it isn't so that none is, one is
-pub unfinished-not_idle : (s : State) (idle : Bool) → ((¬ HasUnfinished s) → IsTrue idle) → idle ≡ false → HasUnfinished s
-unfinished-not_idle s idle says not = elim (cases_lanes s.lanes) [
-  | inl some ↦ (let found : HasUnfinished s = record { lane = some.0; entry = some.1; unfinished = some.2 } in found)
-  | inr none ↦ (let is : IsTrue idle = says (λ h. none h.lane h.entry h.unfinished) in cc)
-]
 
 -- ---- seats that are taken in one by one
 
@@ -119,57 +53,57 @@ IsGathered-none n parts total all sums parts_in amount_in seats_left empty parts
   total_is = refl;
 }
 
--- the last one that is left is taken in
-pub IsGathered-more : (w : Wiring) (parts total : ℕ) (all left rest : List (List ℕ)) (sums new seat counts : List ℕ)
-    (parts_in amount_in seats_left ledger parts_new amount_new seats_rest ledger_new one amount : ℕ)
-    → IsGathered (slots w) parts total all left sums parts_in amount_in seats_left ledger
-    → left ≡ rest ++ (seat ∷ []) → seats_rest + 1 ≡ seats_left → counts ≡ seat → IsSeat w counts one amount
-    → ((p : ℕ) → slice_index new p ≡ slice_index sums p + slice_index counts p) → sum new ≡ sum sums + sum counts
-    → length new ≡ length sums → parts_new ≡ parts_in + one → amount_new ≡ amount_in + amount → ledger_new ≡ ledger
-    → IsGathered (slots w) parts total all rest new parts_new amount_new seats_rest ledger_new
-IsGathered-more w parts total all left rest sums new seat counts parts_in amount_in seats_left ledger parts_new amount_new seats_rest ledger_new one amount old left_is fewer counts_are is_seat each sum_is length_is parts_more amount_more ledger_same =
-    record {
-      sums_are = λ p.
-          let f : List ℕ → ℕ = λ s. get_or s p 0 in
-          let split : sum_by f left ≡ sum_by f rest + sum_by f (seat ∷ []) = ap (sum_by f) left_is ∙ sum_by-append f rest (seat ∷ []) in
-          let last : sum_by f (seat ∷ []) ≡ f seat + 0 = sum_by-cons f seat [] in
-          let same : f counts ≡ f seat = ap f counts_are in
-          let before : f sums + sum_by f left ≡ sum_by f all = old.sums_are p in
-          let added : f new ≡ f sums + f counts = each p in
-          let now : f new + sum_by f rest ≡ sum_by f all = omega (arith, split, last, same, before, added) in
-          now;
-      a_count_each = length_is ∙ old.a_count_each;
-      parts_are = omega (arith, old.parts_are, parts_more, is_seat.one_part, fewer);
-      amount_is = omega (arith, old.amount_is, amount_more, is_seat.amount_is, sum_is);
-      total_is = ledger_same ∙ old.total_is;
-    }
+module _ {n parts total : ℕ} {all left : List (List ℕ)} {sums : List ℕ} {parts_in amount_in seats_left ledger : ℕ}
+    (old : IsGathered n parts total all left sums parts_in amount_in seats_left ledger) where
+  -- the last one that is left is taken in
+  pub IsGathered-more : {w : Wiring} {counts : List ℕ} {one amount : ℕ} → IsSeat w counts one amount
+      → (rest : List (List ℕ)) (new seat : List ℕ) (parts_new amount_new seats_rest ledger_new : ℕ)
+      → left ≡ rest ++ (seat ∷ []) → seats_rest + 1 ≡ seats_left → counts ≡ seat
+      → ((p : ℕ) → slice_index new p ≡ slice_index sums p + slice_index counts p) → sum new ≡ sum sums + sum counts
+      → length new ≡ length sums → parts_new ≡ parts_in + one → amount_new ≡ amount_in + amount → ledger_new ≡ ledger
+      → IsGathered n parts total all rest new parts_new amount_new seats_rest ledger_new
+  IsGathered-more {w} {counts} is_seat rest new seat parts_new amount_new seats_rest ledger_new left_is fewer counts_are
+      each sum_is length_is parts_more amount_more ledger_same = record {
+        sums_are = λ p.
+            let f : List ℕ → ℕ = λ s. get_or s p 0 in
+            let split : sum_by f left ≡ sum_by f rest + sum_by f (seat ∷ []) =
+            ap (sum_by f) left_is ∙ sum_by-append f rest (seat ∷ []) in
+            let last : sum_by f (seat ∷ []) ≡ f seat + 0 = sum_by-cons f seat [] in
+            let same : f counts ≡ f seat = ap f counts_are in
+            let before : f sums + sum_by f left ≡ sum_by f all = old.sums_are p in
+            let added : f new ≡ f sums + f counts = each p in
+            let now : f new + sum_by f rest ≡ sum_by f all = omega (arith, split, last, same, before, added) in
+            now;
+        a_count_each = length_is ∙ old.a_count_each;
+        parts_are = omega (arith, old.parts_are, parts_more, is_seat.one_part, fewer);
+        amount_is = omega (arith, old.amount_is, amount_more, is_seat.amount_is, sum_is);
+        total_is = ledger_same ∙ old.total_is;
+      }
 
--- what two that are added count together is bounded by the ledger
-pub few_gathered : (w : Wiring) (parts total : ℕ) (all left : List (List ℕ)) (sums counts : List ℕ) (parts_in amount_in seats_left ledger one amount amount_new : ℕ)
-    → IsGathered (slots w) parts total all left sums parts_in amount_in seats_left ledger → IsSeat w counts one amount
-    → amount_new ≡ amount_in + amount → amount_new ≤ ledger → total < 4294967296 → sum sums + sum counts < 18446744073709551616
-few_gathered w parts total all left sums counts parts_in amount_in seats_left ledger one amount amount_new old is_seat more bound few =
-    omega (arith, old.amount_is, old.total_is, is_seat.amount_is, more, bound, few)
+  -- what two that are added count together is bounded by the ledger
+  pub few_gathered : {w : Wiring} {counts : List ℕ} {one amount : ℕ} (amount_new : ℕ) → IsSeat w counts one amount
+      → amount_new ≡ amount_in + amount → amount_new ≤ ledger → total < 4294967296
+      → sum sums + sum counts < 18446744073709551616
+  few_gathered amount_new is_seat more bound few =
+      omega (arith, old.amount_is, old.total_is, is_seat.amount_is, more, bound, few)
+
+  pub SumsSeats-gathered : left ≡ [] → SumsSeats all sums
+  SumsSeats-gathered none = λ p.
+      let f : List ℕ → ℕ = λ s. get_or s p 0 in
+      let before : f sums + sum_by f left ≡ sum_by f all = old.sums_are p in
+      let nothing : sum_by f left ≡ 0 = ap (sum_by f) none in
+      let now : f sums ≡ sum_by f all = omega (arith, before, nothing) in
+      now
+
+  pub total-gathered : seats_left ≡ 0 → (parts_in ≡ parts → amount_in ≡ ledger) → sum sums ≡ total
+  total-gathered none whole =
+      let all_parts : parts_in ≡ parts = omega (arith, old.parts_are, none) in
+      omega (arith, whole all_parts, old.amount_is, old.total_is)
 
 -- none is left
 pub none_left : (left rest : List (List ℕ)) (n : ℕ) → n ≡ 0 → left ≡ rest ++ [] → rest ≡ take (n - 1) left → left ≡ []
-none_left left rest n none left_is taken = left_is ∙ ap (λ (xs : List (List ℕ)). xs ++ []) (taken ∙ ap (λ (k : ℕ). take (k - 1) left) none)
-
-pub SumsSeats-gathered : (n parts total : ℕ) (all left : List (List ℕ)) (sums : List ℕ) (parts_in amount_in seats_left ledger : ℕ)
-    → IsGathered n parts total all left sums parts_in amount_in seats_left ledger → left ≡ [] → SumsSeats all sums
-SumsSeats-gathered n parts total all left sums parts_in amount_in seats_left ledger old none = λ p.
-    let f : List ℕ → ℕ = λ s. get_or s p 0 in
-    let before : f sums + sum_by f left ≡ sum_by f all = old.sums_are p in
-    let nothing : sum_by f left ≡ 0 = ap (sum_by f) none in
-    let now : f sums ≡ sum_by f all = omega (arith, before, nothing) in
-    now
-
-pub total-gathered : (n parts total : ℕ) (all left : List (List ℕ)) (sums : List ℕ) (parts_in amount_in seats_left ledger : ℕ)
-    → IsGathered n parts total all left sums parts_in amount_in seats_left ledger → seats_left ≡ 0
-    → (parts_in ≡ parts → amount_in ≡ ledger) → sum sums ≡ total
-total-gathered n parts total all left sums parts_in amount_in seats_left ledger old none whole =
-    let all_parts : parts_in ≡ parts = omega (arith, old.parts_are, none) in
-    omega (arith, whole all_parts, old.amount_is, old.total_is)
+none_left left rest n none left_is taken =
+    left_is ∙ ap (λ (xs : List (List ℕ)). xs ++ []) (taken ∙ ap (λ (k : ℕ). take (k - 1) left) none)
 
 -- ---- a runtime that was closed
 

@@ -1,13 +1,9 @@
 -- Lanes without helpers: if their rescuer finds nothing to start, they are idle.
-use Rattle.std.proofs.Common.{◌≡◌, ℕ, zero, suc, ◌≤◌, not, List, [], ◌∷◌, length, get_or, replicate, refl, sym, ap, ap₂, ◌∙◌, arith}
-use Rattle.std.specs.Prelude.{Option, Some, None, find}
-use Rattle.wq_core.specs.declared.entry.Entry.{Entry}
-use Rattle.wq_core.specs.declared.entry.Running.{Running}
-use Rattle.wq_core.specs.Wiring.{max_helpers, helpers_of}
-use Rattle.wq_core.specs.State.{Lane, lane_at, idle_lane, run_by, RunsIn, is_running, next_of}
-use Rattle.wq_core.specs.Held.{IsSoundState}
+use Rattle.std.proofs.Common.{◌≡◌, ℕ, zero, suc, ◌≤◌, not, List, [], ◌∷◌, length, get_or, replicate, refl, sym, ap, ap₂}
+use Rattle.std.proofs.Common.{◌∙◌, arith, Option, Some, None, find}
+use Rattle.wq_history.proofs.Words.{Entry, Running, max_helpers, helpers_of, Lane, lane_at, idle_lane, run_by, RunsIn}
+use Rattle.wq_history.proofs.Words.{is_running, next_of, IsSoundState, BookView, state, IsBook, HasNothingToStart}
 use Rattle.wq_core.proofs.Contexts.{helpers_of-few, none_passes, is_running-some}
-use Rattle.wq_history.specs.Book.{BookView, state, IsBook, HasNothingToStart}
 use Rattle.wq_history.proofs.LegalRows.{IsSoundState-legal}
 
 nothing_there : {X : Type 0} (o : Option X) → ((x : X) → ¬ (o ≡ Some x)) → o ≡ None

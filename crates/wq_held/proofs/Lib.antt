@@ -3,3 +3,4 @@ pub mod RefusedMaking
 pub mod Closings
 pub mod TakenTurns
 pub mod IdleLanes
+pub mod Words

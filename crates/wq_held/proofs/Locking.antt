@@ -1,20 +1,15 @@
 -- What the lock guards stays as it has to be: one more row, counted or not, and a book that is closed.
-use Rattle.std.proofs.Common.{◌≡◌, ℕ, ◌+◌, ◌*◌, ◌<◌, ◌≤◌, replicate, Bool, cond, List, [], ◌∷◌, ◌++◌, length, sym, ap, subst, ◌∙◌, arith}
-use Rattle.std.specs.Prelude.{sum}
+use Rattle.std.proofs.Common.{◌≡◌, ℕ, ◌+◌, ◌*◌, ◌<◌, ◌≤◌, replicate, Bool, cond, List, [], ◌∷◌, ◌++◌, length, sym, ap}
+use Rattle.std.proofs.Common.{subst, ◌∙◌, arith, sum}
 use Rattle.std.proofs.lemmas.List.{length-replicate}
 use Rattle.std.proofs.lemmas.List.Folds.{sum_by-replicate}
-use Rattle.wq_core.specs.Wiring.{Wiring, items, max_helpers}
-use Rattle.wq_core.specs.Deadlock.{IsSafe, IsStuck}
-use Rattle.wq_core.specs.Rules.{deed_item}
-use Rattle.wq_rows.specs.declared.event.Event.{Event}
-use Rattle.wq_rows.specs.declared.event.Event.TheVariants.{Queue, Cancel, Start, Wait, Over, Finish, Ask, Told, WaitAll, OverAll, AskLane, ToldLane, Help}
-use Rattle.wq_rows.specs.declared.event.Row.{Row}
+use Rattle.wq_history.proofs.Words.{Wiring, items, max_helpers, IsSafe, Event, Row, item_in, steps_of, subject_in}
+use Rattle.wq_history.proofs.Words.{state_after, IsThere, IsLegal, BookView, IsBook, Appends}
+use Rattle.wq_core.specs.Deadlock.{IsStuck}
+use Rattle.wq_rows.specs.declared.event.Event.TheVariants.{AskLane, ToldLane}
 use Rattle.wq_counts.specs.Counting.{counts_each, slot_in, is_counted, AreTallies, noted_as, counted_rows}
 use Rattle.wq_counts.proofs.Tallies.{AreTallies-more, HasCountsOf-noted_as, sum-noted_as, counted_rows-more, AreTallies-none, item_within}
-use Rattle.wq_history.specs.Events.{steps_of, subject_in}
-use Rattle.wq_history.specs.History.{state_after, IsThere, IsLegal}
 use Rattle.wq_history.proofs.LegalRows.{IsRun-legal}
-use Rattle.wq_history.specs.Book.{BookView, IsBook, Appends}
 use Rattle.wq_history.proofs.KeptRows.{exist}
 use Rattle.wq_held.specs.Locked.{max_runtime_lanes, slots, IsProtected, Holds}
 
@@ -35,19 +30,9 @@ lane_slot w q there = omega (arith, there, lanes_within_slots w)
 
 -- an event has one, if its item or lane exists
 in_slots : (w : Wiring) (event : Event) → IsThere w (subject_in event) → slot_in event < slots w
-in_slots w (Queue i) there = item_slot w i there
-in_slots w (Cancel i) there = item_slot w i there
-in_slots w (Start q i) there = item_slot w i there
-in_slots w (Wait q b) there = item_slot w b there
-in_slots w (Over q b) there = item_slot w b there
-in_slots w (Finish q i) there = item_slot w i there
-in_slots w (Ask i) there = item_slot w i there
-in_slots w (Told i) there = item_slot w i there
-in_slots w (WaitAll q b) there = item_slot w b there
-in_slots w (OverAll q b) there = item_slot w b there
 in_slots w (AskLane q) there = lane_slot w q there
 in_slots w (ToldLane q) there = lane_slot w q there
-in_slots w (Help q h deed) there = item_slot w (deed_item deed) there
+in_slots w event there = item_slot w (item_in event) there
 
 -- ---- one more row
 

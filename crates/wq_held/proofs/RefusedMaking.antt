@@ -1,12 +1,9 @@
 -- Why making a runtime can be refused.
-use Rattle.std.proofs.Common.{◌≡◌, ℕ, ◌<◌, ◌≤◌, ◌⊎◌, inl, inr, Bool, true, false, sym, subst, ◌∙◌, arith}
-use Rattle.std.specs.Prelude.{IsTrue, ◌↔◌}
+use Rattle.std.proofs.Common.{◌≡◌, ℕ, ◌<◌, ◌≤◌, ◌⊎◌, inl, inr, Bool, true, false, sym, subst, ◌∙◌, arith, IsTrue, ◌↔◌}
 use Rattle.std.proofs.lemmas.Bool.{cases_lt}
-use Rattle.wq_core.specs.Wiring.{Wiring, IsWiring, items, lane_of, with_helpers, max_helpers}
-use Rattle.wq_core.specs.Deadlock.{IsSafe}
-use Rattle.wq_rows.specs.Stored.{max_rows}
-use Rattle.wq_history.specs.declared.fault.BookError.{BookError}
-use Rattle.wq_history.specs.declared.fault.BookError.TheVariants.{HistoryFull, Closed, Undeclared, TooManyWaits, WrongLane, NoItem, TooManyRows, OutOfMemory}
+use Rattle.wq_history.proofs.Words.{Wiring, IsWiring, items, lane_of, max_helpers, IsSafe, max_rows}
+use Rattle.wq_held.proofs.Words.{BookError, TooManyRows, OutOfMemory}
+use Rattle.wq_core.specs.Wiring.{with_helpers}
 use Rattle.wq_history.specs.Book.{RefusesNew}
 use Rattle.wq_held.specs.declared.fault.NewError.TheVariants.{NotSafe}
 use Rattle.wq_held.specs.Locked.{max_runtime_lanes, slots}

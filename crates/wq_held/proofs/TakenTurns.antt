@@ -1,29 +1,16 @@
 -- A call under the lock: what its rows are about is there, what the lock guards stays as it has to be, enough are
 -- woken, and whoever sleeps has a group.
-use Rattle.std.proofs.Common.{◌≡◌, ℕ, zero, suc, ◌<◌, ◌≤◌, Bool, List, refl, sym, ap, subst, ◌∙◌, arith}
-use Rattle.std.specs.Prelude.{Result, Ok, Err, sum}
-use Rattle.wq_core.specs.declared.step.Context.{Context}
-use Rattle.wq_core.specs.Wiring.{Wiring, items, max_helpers}
-use Rattle.wq_core.specs.Held.{IsSoundState}
+use Rattle.std.proofs.Common.{◌≡◌, ℕ, zero, suc, ◌<◌, ◌≤◌, Bool, List, refl, sym, ap, subst, ◌∙◌, arith, Result, Ok}
+use Rattle.std.proofs.Common.{Err, sum}
+use Rattle.wq_history.proofs.Words.{Context, Wiring, items, max_helpers, IsSoundState, Event, AskEvent, Row, subject_in}
+use Rattle.wq_history.proofs.Words.{start_event, IsThere, BookView, state, IsBook, IsUnfinishedBelow, IsRowOf, Writes}
+use Rattle.wq_history.proofs.Words.{WritesTwo, after, IsEarly, Answers, waiters_for, sleepers_of}
+use Rattle.wq_held.proofs.Words.{Subject, OfItem, OfLane, Flush, Call, Ask, Told, CancelSync, Start, Over, Close, Drain}
+use Rattle.wq_held.proofs.Words.{Reply, Wrote, WroteTwo, Done, NotYet, CallError}
 use Rattle.wq_core.proofs.LaneLemmas.{lane_within}
 use Rattle.wq_core.proofs.Machines.{unfinished-own_lane}
-use Rattle.wq_rows.specs.declared.event.Event.{Event}
-use Rattle.wq_rows.specs.declared.event.Event.TheVariants.{Ask as AskEvent}
-use Rattle.wq_rows.specs.declared.event.Row.{Row}
 use Rattle.wq_counts.specs.Counting.{AreTallies, counted_rows, noted, noted_as}
 use Rattle.wq_counts.proofs.Tallies.{counted_rows-le-length}
-use Rattle.wq_history.specs.declared.asking.Subject.{Subject}
-use Rattle.wq_history.specs.declared.asking.Subject.TheVariants.{Item as OfItem, Lane as OfLane}
-use Rattle.wq_history.specs.declared.call.Flush.{Flush}
-use Rattle.wq_history.specs.declared.call.Call.{Call}
-use Rattle.wq_history.specs.declared.call.Call.TheVariants.{Queue, Cancel, Ask, Told, CancelSync, Start, Wait, Over, Finish, Close, Drain}
-use Rattle.wq_history.specs.declared.call.Reply.{Reply}
-use Rattle.wq_history.specs.declared.call.Reply.TheVariants.{Wrote, WroteTwo, Done, NotYet}
-use Rattle.wq_history.specs.declared.fault.CallError.{CallError}
-use Rattle.wq_history.specs.Events.{subject_in, start_event}
-use Rattle.wq_history.specs.History.{IsThere}
-use Rattle.wq_history.specs.Book.{BookView, state, IsBook}
-use Rattle.wq_history.specs.Calls.{IsUnfinishedBelow, IsRowOf, Writes, WritesTwo, after, IsEarly, Answers, waiters_for, sleepers_of}
 use Rattle.wq_history.proofs.KeptRows.{exist}
 use Rattle.wq_history.proofs.LegalRows.{IsSoundState-legal}
 use Rattle.wq_history.proofs.Upheld.{answer-upheld}

@@ -161,6 +161,7 @@ impl<N: Naming, A: Allocator> Held<N, A> {
         ensures closes { OnOk result (Closes self.now seats) }
         ensures refused { IfErr result (RefusesClose self.now seats) }
     {
+        self.book.legal();
         if !self.book.is_idle() || self.book.has_waiting_asks() {
             return Err(CloseWhy::NotIdle);
         }

@@ -76,7 +76,7 @@ fn by_end<A: Allocator>(book: &Book<A>, contexts: WokenContexts, q: LaneId, item
         contexts,
         item_waiters: Some(item),
         lane_waiters: Some(q),
-        destroyers: book.is_idle(),
+        destroyers: book.all_done(),
     }
 }
 
@@ -133,12 +133,12 @@ pub(crate) fn by_row<A: Allocator>(book: &Book<A>, row: &Row) -> Wake
     }
 }
 
-/// Whom a call wakes that is done without a row: the closing, all contexts.
+/// Whom a call wakes that is done without a row: the closing, all contexts, and all waits in `destroy`.
 pub(crate) fn by_done(call: &Call) -> Wake
     ensures { result ≡ woken_by_done call.now }
 {
     match *call {
-        Call::Close => Wake::every_context(),
+        Call::Close => Wake::by_closing(),
         _ => Wake::nobody(),
     }
 }

@@ -1,54 +1,32 @@
 -- Calls by name: what the relation says of a call is what the contract of its name says.
-use Rattle.std.proofs.Common.{◌≡◌, ℕ, ◌⊎◌, inl, inr, Bool, true, false, refl, sym, ap, subst, ◌∙◌}
-use Rattle.std.specs.Prelude.{Some, None}
-use Rattle.wq_core.specs.declared.entry.Running.{Running}
+use Rattle.std.proofs.Common.{◌≡◌, ℕ, inl, inr, Bool, true, false, refl, sym, ap, subst, ◌∙◌, Some, None, MatchOption}
+use Rattle.wq_history.proofs.Words.{Running, IsHeldBack, CancelEvent, AskEvent, AskLaneEvent, Row, item_in, Subject}
+use Rattle.wq_history.proofs.Words.{OfItem, OfLane, Flush, Call, Queue, Cancel, Ask, Told, Start, Wait, Over, Finish}
+use Rattle.wq_history.proofs.Words.{Wrote, Done, NotYet, BookError, CallError, WrongLane, NotAsked, told_event}
+use Rattle.wq_history.proofs.Words.{start_event, wait_event, over_event, finish_event, asks_waiting, BookView, state}
+use Rattle.wq_history.proofs.Words.{Appends, AppendsOne, RunsItem, IsWaiting, IsNotAwake, RefusesIf, Refuses, Replies}
 use Rattle.wq_core.specs.declared.entry.Waiting.{Waiting as WaitOf}
-use Rattle.wq_core.specs.Rules.{IsHeldBack}
-use Rattle.wq_rows.specs.declared.event.Event.TheVariants.{Cancel as CancelEvent, Ask as AskEvent, Told as ToldEvent, AskLane as AskLaneEvent, ToldLane as ToldLaneEvent}
-use Rattle.wq_rows.specs.declared.event.Row.{Row}
-use Rattle.wq_rows.specs.Packing.{item_in}
 use Rattle.wq_history.specs.declared.asking.Ask.TheVariants.{Idle as ItemIdle, Waiting as ItemWaiting}
 use Rattle.wq_history.specs.declared.asking.Asked.{Asked}
-use Rattle.wq_history.specs.declared.asking.Told.TheVariants.{Done as ItemTold, NotYet as ItemNotYet, NotAsked as ItemNotAsked}
+use Rattle.wq_history.specs.declared.asking.Told.TheVariants.{Done as ItemTold}
 use Rattle.wq_history.specs.declared.asking.LaneAsk.TheVariants.{Idle as LaneIdle, Waiting as LaneWaiting}
 use Rattle.wq_history.specs.declared.asking.LaneAsked.{LaneAsked}
-use Rattle.wq_history.specs.declared.asking.LaneTold.TheVariants.{Done as LaneTold, NotYet as LaneNotYet, NotAsked as LaneNotAsked}
-use Rattle.wq_history.specs.declared.asking.Subject.{Subject}
-use Rattle.wq_history.specs.declared.asking.Subject.TheVariants.{Item as OfItem, Lane as OfLane}
-use Rattle.wq_history.specs.declared.call.Flush.{Flush}
-use Rattle.wq_history.specs.declared.call.Call.{Call}
-use Rattle.wq_history.specs.declared.call.Call.TheVariants.{Queue, Cancel, Ask, Told, CancelSync, Start, Wait, Over, Finish, Close, Drain}
-use Rattle.wq_history.specs.declared.call.Reply.TheVariants.{Wrote, Done, NotYet}
-use Rattle.wq_history.specs.declared.fault.BookError.{BookError}
-use Rattle.wq_history.specs.declared.fault.BookError.TheVariants.{HistoryFull as BookFull, Closed as BookClosed, Undeclared as BookUndeclared, TooManyWaits as BookTooManyWaits, WrongLane as BookWrongLane, NoItem as BookNoItem, TooManyRows, OutOfMemory}
-use Rattle.wq_history.specs.declared.fault.CallError.{CallError}
-use Rattle.wq_history.specs.declared.fault.CallError.TheVariants.{HistoryFull, Closed, Undeclared, TooManyWaits, WrongLane, NotAsked, NoItem}
+use Rattle.wq_history.specs.declared.asking.LaneTold.TheVariants.{Done as LaneTold}
+use Rattle.wq_history.specs.declared.fault.BookError.TheVariants.{HistoryFull as BookFull, WrongLane as BookWrongLane}
 use Rattle.wq_history.specs.Errors.{call_error, IsOfBook}
-use Rattle.wq_history.specs.Events.{told_event, start_event, wait_event, over_event, finish_event}
-use Rattle.wq_history.specs.History.{asks_waiting}
-use Rattle.wq_history.specs.Book.{BookView, state, Appends, AppendsOne, LaneRuns, RunsItem, IsWaiting, IsNotAwake}
+use Rattle.wq_history.specs.Book.{LaneRuns}
 use Rattle.wq_history.specs.Book.{RefusesItem, RefusesLane}
 use Rattle.wq_history.specs.Answers.{AnswersAsk, AnswersTold, AnswersAskLane, AnswersToldLane, AnswersStart, AnswersOver}
-use Rattle.wq_history.specs.Calls.{RefusesToTell, RefusesIf, Refuses, Replies, AlwaysWrites, RefusesAs}
-use Rattle.wq_history.proofs.CallRows.{appends-as, appends_event, told-yes, start-yes, over-yes, finish-yes, start-item, held-back}
+use Rattle.wq_history.specs.Calls.{AlwaysWrites, RefusesAs}
+use Rattle.wq_history.proofs.CallRows.{wrong-only, appends-as, appends_event, told-yes, start-yes, over-yes}
+use Rattle.wq_history.proofs.CallRows.{finish-yes, start-item, held-back}
 
 -- ---- refusals
-
--- what holds for a refusal holds for the same refusal
-moved : (P : CallError → Type 0) (x e : CallError) → Some x ≡ Some e → P e → P x
-moved P x e is holds = let same : e ≡ x = cc in subst P same holds
 
 -- a refused call, by the error of its name
 pub refused_as : (b : BookView) (call : Call) (x : BookError) (e : CallError) → call_error x ≡ Some e
     → Refuses b call e → RefusesAs b call x
-refused_as b call BookFull e is why = moved (λ y. Refuses b call y) HistoryFull e is why
-refused_as b call BookClosed e is why = moved (λ y. Refuses b call y) Closed e is why
-refused_as b call BookUndeclared e is why = moved (λ y. Refuses b call y) Undeclared e is why
-refused_as b call BookTooManyWaits e is why = moved (λ y. Refuses b call y) TooManyWaits e is why
-refused_as b call BookWrongLane e is why = moved (λ y. Refuses b call y) WrongLane e is why
-refused_as b call BookNoItem e is why = moved (λ y. Refuses b call y) NoItem e is why
-refused_as b call TooManyRows e is why = absurd cc
-refused_as b call OutOfMemory e is why = absurd cc
+refused_as b call x e is why = subst (λ o. MatchOption o ⊥ (λ y. Refuses b call y)) (sym is) why
 
 pub cancel_refused : (b : BookView) (i : ℕ) (x : BookError) → RefusesAs b (Cancel i) x → RefusesItem b i CancelEvent x
 cancel_refused b i BookFull why = why
@@ -61,14 +39,10 @@ ask_refused b i _ why = why
 -- a call with one cause of refusal
 pub lane_refused : (wrong : Type 0) (x : BookError) (e : CallError) → call_error x ≡ Some e → RefusesIf wrong e
     → RefusesLane wrong x
-lane_refused wrong BookFull e is why = moved (λ y. RefusesIf wrong y) HistoryFull e is why
-lane_refused wrong BookClosed e is why = moved (λ y. RefusesIf wrong y) Closed e is why
-lane_refused wrong BookUndeclared e is why = moved (λ y. RefusesIf wrong y) Undeclared e is why
-lane_refused wrong BookTooManyWaits e is why = moved (λ y. RefusesIf wrong y) TooManyWaits e is why
-lane_refused wrong BookWrongLane e is why = moved (λ y. RefusesIf wrong y) WrongLane e is why
-lane_refused wrong BookNoItem e is why = moved (λ y. RefusesIf wrong y) NoItem e is why
-lane_refused wrong TooManyRows e is why = absurd cc
-lane_refused wrong OutOfMemory e is why = absurd cc
+lane_refused wrong x e is why = let only = (wrong-only wrong e).1 why in by x (is ∙ ap Some only.0) only.1 where
+  by : (y : BookError) → call_error y ≡ Some WrongLane → wrong → RefusesLane wrong y
+  by BookWrongLane same holds = holds
+  by _ same holds = absurd cc
 
 -- a call with one cause of refusal is refused as one by name
 pub lane_of_book : (wrong : Type 0) (e : CallError) → RefusesIf wrong e → IsOfBook e
@@ -83,12 +57,7 @@ row_of_book b (Ask (OfItem i)) NotAsked writes why = why
 row_of_book b (Ask (OfLane q)) NotAsked writes why = why
 row_of_book b (Wait c f) NotAsked writes why = why
 row_of_book b (Finish c i) NotAsked writes why = why
-row_of_book b (Told x mark) NotAsked writes why = absurd writes
-row_of_book b (CancelSync i) NotAsked writes why = absurd writes
-row_of_book b (Start c) NotAsked writes why = absurd writes
-row_of_book b (Over c f) NotAsked writes why = absurd writes
-row_of_book b Close NotAsked writes why = absurd writes
-row_of_book b Drain NotAsked writes why = absurd writes
+row_of_book b call NotAsked writes why = absurd writes
 row_of_book b call _ writes why = tt
 
 -- ---- replies
@@ -101,14 +70,12 @@ ask_idle old new i row is replies = (
   appends-as old new row.event (AskEvent i) row.yes false row.number row.number replies.0 is refl replies.1,
 )
 
-pub ask_waits : (old new : BookView) (i : ℕ) (row : Row) (asked : Asked) → row.yes ≡ true
-    → asked ≡ record { item = i; mark = row.number } → Replies old (Ask (OfItem i)) (Wrote row) new
-    → AnswersAsk old new i (ItemWaiting asked)
-ask_waits old new i row asked waits is replies =
-    subst (λ (a : Asked). AnswersAsk old new i (ItemWaiting a)) (sym is) (
-      refl,
-      appends-as old new row.event (AskEvent i) row.yes true row.number row.number replies.0 waits refl replies.1,
-    )
+pub ask_waits : (old new : BookView) (i : ℕ) (row : Row) → row.yes ≡ true → Replies old (Ask (OfItem i)) (Wrote row) new
+    → AnswersAsk old new i (ItemWaiting (record { item = i; mark = row.number }))
+ask_waits old new i row waits replies = (
+  refl,
+  appends-as old new row.event (AskEvent i) row.yes true row.number row.number replies.0 waits refl replies.1,
+)
 
 -- the same of a lane
 pub ask_lane_idle : (old new : BookView) (q : ℕ) (row : Row) → row.yes ≡ false
@@ -118,19 +85,19 @@ ask_lane_idle old new q row is replies = (
   appends-as old new row.event (AskLaneEvent q) row.yes false row.number row.number replies.0 is refl replies.1,
 )
 
-pub ask_lane_waits : (old new : BookView) (q : ℕ) (row : Row) (asked : LaneAsked) → row.yes ≡ true
-    → asked ≡ record { lane = q; mark = row.number } → Replies old (Ask (OfLane q)) (Wrote row) new
-    → AnswersAskLane old new q (LaneWaiting asked)
-ask_lane_waits old new q row asked waits is replies =
-    subst (λ (a : LaneAsked). AnswersAskLane old new q (LaneWaiting a)) (sym is) (
-      refl,
-      appends-as old new row.event (AskLaneEvent q) row.yes true row.number row.number replies.0 waits refl replies.1,
-    )
+pub ask_lane_waits : (old new : BookView) (q : ℕ) (row : Row) → row.yes ≡ true
+    → Replies old (Ask (OfLane q)) (Wrote row) new
+    → AnswersAskLane old new q (LaneWaiting (record { lane = q; mark = row.number }))
+ask_lane_waits old new q row waits replies = (
+  refl,
+  appends-as old new row.event (AskLaneEvent q) row.yes true row.number row.number replies.0 waits refl replies.1,
+)
 
 -- no ask waits
-no_ask : (b : BookView) (x : Subject) (e : CallError) → RefusesToTell b x e → asks_waiting x b.rows ≡ 0
-no_ask b x NotAsked why = why
-no_ask b x _ why = absurd why
+pub no_ask : (b : BookView) (x : Subject) (mark : ℕ) (e : CallError) → Refuses b (Told x mark) e
+    → asks_waiting x b.rows ≡ 0
+no_ask b x mark NotAsked why = why
+no_ask b x mark _ why = absurd why
 
 -- who is told, is told by a row that says yes
 told_row : (old new : BookView) (x : Subject) (mark : ℕ) (row : Row) → Replies old (Told x mark) (Wrote row) new
@@ -141,41 +108,13 @@ told_row old new x mark row replies =
     let yes : row.yes ≡ true = told-yes old.wiring old.rows x row.yes mark told.may in
     subst (λ (k : Bool). Appends old new (told_event x) k mark) yes told
 
-pub told_done : (old new : BookView) (asked : Asked) (i mark : ℕ) (row : Row) → i ≡ asked.item → mark ≡ asked.mark
-    → Replies old (Told (OfItem i) mark) (Wrote row) new → AnswersTold old new asked ItemTold
-told_done old new asked i mark row item number replies =
-    subst (λ (n : ℕ). Appends old new (ToldEvent asked.item) true n) number
-    (subst (λ (j : ℕ). Appends old new (ToldEvent j) true mark) item (told_row old new (OfItem i) mark row replies))
+pub told_done : (old new : BookView) (asked : Asked) (row : Row)
+    → Replies old (Told (OfItem asked.item) asked.mark) (Wrote row) new → AnswersTold old new asked ItemTold
+told_done old new asked row replies = told_row old new (OfItem asked.item) asked.mark row replies
 
-pub told_not_yet : (old new : BookView) (asked : Asked) (i mark : ℕ) → i ≡ asked.item → mark ≡ asked.mark
-    → Replies old (Told (OfItem i) mark) NotYet new → AnswersTold old new asked (ItemNotYet asked)
-told_not_yet old new asked i mark item number replies =
-    let now = subst (λ (n : ℕ). Replies old (Told (OfItem asked.item) n) NotYet new) number
-    (subst (λ (j : ℕ). Replies old (Told (OfItem j) mark) NotYet new) item replies) in
-    (refl, now.1, now.0.0, now.0.1)
-
-pub told_not_asked : (old new : BookView) (asked : Asked) (i mark : ℕ) (e : CallError) → i ≡ asked.item
-    → Refuses old (Told (OfItem i) mark) e → new ≡ old → AnswersTold old new asked (ItemNotAsked asked)
-told_not_asked old new asked i mark e item why same =
-    (refl, same, subst (λ (j : ℕ). asks_waiting (OfItem j) old.rows ≡ 0) item (no_ask old (OfItem i) e why))
-
-pub told_lane_done : (old new : BookView) (asked : LaneAsked) (q mark : ℕ) (row : Row) → q ≡ asked.lane
-    → mark ≡ asked.mark → Replies old (Told (OfLane q) mark) (Wrote row) new → AnswersToldLane old new asked LaneTold
-told_lane_done old new asked q mark row lane number replies =
-    subst (λ (n : ℕ). Appends old new (ToldLaneEvent asked.lane) true n) number
-    (subst (λ (j : ℕ). Appends old new (ToldLaneEvent j) true mark) lane (told_row old new (OfLane q) mark row replies))
-
-pub told_lane_not_yet : (old new : BookView) (asked : LaneAsked) (q mark : ℕ) → q ≡ asked.lane → mark ≡ asked.mark
-    → Replies old (Told (OfLane q) mark) NotYet new → AnswersToldLane old new asked (LaneNotYet asked)
-told_lane_not_yet old new asked q mark lane number replies =
-    let now = subst (λ (n : ℕ). Replies old (Told (OfLane asked.lane) n) NotYet new) number
-    (subst (λ (j : ℕ). Replies old (Told (OfLane j) mark) NotYet new) lane replies) in
-    (refl, now.1, now.0.0, now.0.1)
-
-pub told_lane_not_asked : (old new : BookView) (asked : LaneAsked) (q mark : ℕ) (e : CallError) → q ≡ asked.lane
-    → Refuses old (Told (OfLane q) mark) e → new ≡ old → AnswersToldLane old new asked (LaneNotAsked asked)
-told_lane_not_asked old new asked q mark e lane why same =
-    (refl, same, subst (λ (j : ℕ). asks_waiting (OfLane j) old.rows ≡ 0) lane (no_ask old (OfLane q) e why))
+pub told_lane_done : (old new : BookView) (asked : LaneAsked) (row : Row)
+    → Replies old (Told (OfLane asked.lane) asked.mark) (Wrote row) new → AnswersToldLane old new asked LaneTold
+told_lane_done old new asked row replies = told_row old new (OfLane asked.lane) asked.mark row replies
 
 -- ---- contexts
 
@@ -258,3 +197,5 @@ finish_refused b q h i _ runs why = why
 -- nothing runs, so nothing is awake
 pub not_awake : (b : BookView) (q h : ℕ) → ((r : Running) → ¬ LaneRuns b q h r) → IsNotAwake b q h
 not_awake b q h none = λ r awake. none r awake.0
+
+pub ruleset by_finish = (finish_done, finish_refused, not_awake)

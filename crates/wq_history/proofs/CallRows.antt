@@ -1,27 +1,14 @@
 -- Rows of calls: what they say, and what they are about.
-use Rattle.std.proofs.Common.{◌≡◌, ℕ, zero, suc, ◌<◌, ◌≤◌, Bool, true, false, List, [], ◌∷◌, refl, subst, arith}
-use Rattle.std.specs.Prelude.{◌↔◌, IsTrue, not, Contains}
+use Rattle.std.proofs.Common.{◌≡◌, ℕ, zero, suc, ◌<◌, ◌≤◌, Bool, true, false, List, [], ◌∷◌, refl, subst, arith, ◌↔◌}
+use Rattle.std.proofs.Common.{IsTrue, not, Contains}
 use Rattle.wq_items.proofs.Lists.{Contains-first}
-use Rattle.wq_core.specs.declared.entry.Entry.{Entry}
-use Rattle.wq_core.specs.declared.step.HelpStep.{HelpStep}
-use Rattle.wq_core.specs.declared.step.HelpStep.TheVariants.{Start as DoStart, Wait as DoWait, WaitAll as DoWaitAll, Over as DoOver, OverAll as DoOverAll, Finish as DoFinish}
-use Rattle.wq_core.specs.Wiring.{Wiring, helpers_of, HasContext}
-use Rattle.wq_core.specs.State.{State, lane_at}
-use Rattle.wq_core.specs.Rules.{IsHeldBack}
-use Rattle.wq_rows.specs.declared.event.Event.{Event}
-use Rattle.wq_rows.specs.declared.event.Event.TheVariants.{Queue as QueueEvent, Cancel as CancelEvent}
-use Rattle.wq_rows.specs.declared.event.Row.{Row}
-use Rattle.wq_rows.specs.Packing.{lane_in, item_in}
-use Rattle.wq_history.specs.declared.asking.Subject.{Subject}
-use Rattle.wq_history.specs.declared.asking.Subject.TheVariants.{Item as OfItem, Lane as OfLane}
+use Rattle.wq_history.proofs.Words.{Entry, HelpStep, DoStart, Wiring, helpers_of, HasContext, State, lane_at}
+use Rattle.wq_history.proofs.Words.{IsHeldBack, Event, QueueEvent, CancelEvent, Row, lane_in, item_in, Subject, OfItem}
+use Rattle.wq_history.proofs.Words.{OfLane, Wrote, CallError, WrongLane, event_in, ask_event, told_event, start_event}
+use Rattle.wq_history.proofs.Words.{over_event, finish_event, state_after, asks_waiting, IsThere, SaysUnfinishedOf}
+use Rattle.wq_history.proofs.Words.{MayCome, BookView, state, free, IsBook, HasPendingOn, LacksRows, Appends}
+use Rattle.wq_history.proofs.Words.{AppendsOne, subject_of, IsUnfinishedBelow, RefusesIf, Writes, Replies}
 use Rattle.wq_history.specs.declared.call.Call.TheVariants.{Queue as QueueCall, Cancel as CancelCall}
-use Rattle.wq_history.specs.declared.call.Reply.TheVariants.{Wrote}
-use Rattle.wq_history.specs.declared.fault.CallError.{CallError}
-use Rattle.wq_history.specs.declared.fault.CallError.TheVariants.{HistoryFull, Closed, Undeclared, TooManyWaits, WrongLane, NotAsked, NoItem}
-use Rattle.wq_history.specs.Events.{event_in, ask_event, told_event, start_event, over_event, finish_event}
-use Rattle.wq_history.specs.History.{state_after, asks_waiting, IsThere, SaysUnfinishedOf, MayCome}
-use Rattle.wq_history.specs.Book.{BookView, state, free, IsBook, HasPendingOn, LacksRows, Appends, AppendsOne}
-use Rattle.wq_history.specs.Calls.{subject_of, IsUnfinishedBelow, RefusesIf, Writes, Replies}
 use Rattle.wq_history.proofs.KeptRows.{exist}
 
 -- ---- the same row
@@ -100,11 +87,7 @@ start-item q (suc h) i = refl
 
 lane-event : (q c : ℕ) (deed : HelpStep) → lane_in (event_in q c deed) ≡ q
 lane-event q zero (DoStart i) = refl
-lane-event q zero (DoWait b) = refl
-lane-event q zero (DoWaitAll b) = refl
-lane-event q zero (DoOver b) = refl
-lane-event q zero (DoOverAll b) = refl
-lane-event q zero (DoFinish i) = refl
+lane-event q zero _ = refl
 lane-event q (suc h) deed = refl
 
 -- a helper that does something exists
@@ -127,13 +110,8 @@ context-appended w b new q c deed said n of_wiring book appends =
 
 -- a call of a context that can't make it has one refusal
 pub wrong-only : (wrong : Type 0) (e : CallError) → ((e ≡ WrongLane) × wrong) ↔ RefusesIf wrong e
-wrong-only wrong HistoryFull = ((λ why. let bad : HistoryFull ≡ WrongLane = why.0 in absurd cc), (λ why. absurd why))
-wrong-only wrong Closed = ((λ why. let bad : Closed ≡ WrongLane = why.0 in absurd cc), (λ why. absurd why))
-wrong-only wrong Undeclared = ((λ why. let bad : Undeclared ≡ WrongLane = why.0 in absurd cc), (λ why. absurd why))
-wrong-only wrong TooManyWaits = ((λ why. let bad : TooManyWaits ≡ WrongLane = why.0 in absurd cc), (λ why. absurd why))
 wrong-only wrong WrongLane = ((λ why. why.1), (λ why. (refl, why)))
-wrong-only wrong NotAsked = ((λ why. let bad : NotAsked ≡ WrongLane = why.0 in absurd cc), (λ why. absurd why))
-wrong-only wrong NoItem = ((λ why. let bad : NoItem ≡ WrongLane = why.0 in absurd cc), (λ why. absurd why))
+wrong-only wrong e = ((λ why. let bad : e ≡ WrongLane = why.0 in absurd cc), (λ why. absurd why))
 
 -- what holds a wait back is what is unfinished below its mark
 pub held-back : (w : Wiring) (s : State) (whole : Bool) (b mark : ℕ) → IsHeldBack w s whole b mark

@@ -1,19 +1,15 @@
 -- Asks that wait: what one more row does to their counts.
-use Rattle.std.proofs.Common.{◌≡◌, ◌≢◌, ℕ, zero, suc, ◌+◌, ◌-◌, ◌*◌, ◌<◌, ◌≤◌, ◌⊎◌, inl, inr, Bool, true, false, cond, eqb, List, [], ◌∷◌, ◌++◌, length, get_or, set, refl, sym, ap, ◌∙◌, arith}
-use Rattle.std.specs.Prelude.{Some, sum, ◌&&◌}
+use Rattle.std.proofs.Common.{◌≡◌, ◌≢◌, ℕ, zero, suc, ◌+◌, ◌-◌, ◌*◌, ◌<◌, ◌≤◌, ◌⊎◌, inl, inr, Bool, true, false, cond}
+use Rattle.std.proofs.Common.{eqb, List, [], ◌∷◌, ◌++◌, length, get_or, set, refl, sym, ap, ◌∙◌, arith, Some, sum, ◌&&◌}
 use Rattle.std.specs.List.{count_by}
 use Rattle.std.proofs.lemmas.Bool.{cases_eq, eq-eqb, ne_eqb}
 use Rattle.std.proofs.lemmas.List.{get_or-set_same, get_or-set_other}
 use Rattle.std.proofs.lemmas.List.Sums.{sum_by_push, get_or-le-sum_by}
-use Rattle.wq_core.specs.declared.step.Step.{Step}
-use Rattle.wq_rows.specs.declared.event.Event.{Event}
+use Rattle.wq_history.proofs.Words.{Step, Event, Row, Subject, OfItem, OfLane, step_of, ask_event, told_event}
+use Rattle.wq_history.proofs.Words.{begins_to_wait, ends_a_wait, is_ask, is_told, asks_waiting, all_asks_waiting}
+use Rattle.wq_history.proofs.Words.{AskView, CountsAll, CountsAsks, ask_place}
 use Rattle.wq_rows.specs.declared.event.Event.TheVariants.{Ask, Told, AskLane, ToldLane}
-use Rattle.wq_rows.specs.declared.event.Row.{Row}
-use Rattle.wq_history.specs.declared.asking.Subject.{Subject}
-use Rattle.wq_history.specs.declared.asking.Subject.TheVariants.{Item as OfItem, Lane as OfLane}
-use Rattle.wq_history.specs.Events.{step_of, is_subject, ask_event, told_event, asks, tells, begins_to_wait, ends_a_wait, is_ask, is_told}
-use Rattle.wq_history.specs.History.{asks_waiting, all_asks_waiting}
-use Rattle.wq_history.specs.Counts.{AskView, CountsAll, CountsAsks, ask_place}
+use Rattle.wq_history.specs.Events.{is_subject, asks, tells}
 
 -- ---- places
 
@@ -52,7 +48,7 @@ pub is_ask-ask_event : (x : Subject) → is_ask (ask_event x) ≡ true
 is_ask-ask_event (OfItem i) = refl
 is_ask-ask_event (OfLane q) = refl
 
-is_told-ask_event : (x : Subject) → is_told (ask_event x) ≡ false
+pub is_told-ask_event : (x : Subject) → is_told (ask_event x) ≡ false
 is_told-ask_event (OfItem i) = refl
 is_told-ask_event (OfLane q) = refl
 

@@ -1,40 +1,26 @@
 -- What contexts do: the steps and events of it, when these may come, and what they are about.
-use Rattle.std.proofs.Common.{◌≡◌, ◌≢◌, ℕ, zero, suc, ◌<◌, ◌≤◌, inl, inr, Bool, true, false, List, refl, sym, subst, ◌∙◌, arith}
-use Rattle.std.specs.Prelude.{Option, Some, None, IfNone, ◌↔◌, IsTrue}
+use Rattle.std.proofs.Common.{◌≡◌, ◌≢◌, ℕ, zero, suc, ◌<◌, ◌≤◌, inl, inr, Bool, true, false, List, refl, sym, subst}
+use Rattle.std.proofs.Common.{◌∙◌, arith, Option, Some, None, IfNone, ◌↔◌, IsTrue}
 use Rattle.std.specs.Bool.{beq}
 use Rattle.std.specs.Cmp.{both_ways}
-use Rattle.wq_core.specs.declared.entry.Entry.{Entry}
-use Rattle.wq_core.specs.declared.entry.Waiting.{Waiting}
-use Rattle.wq_core.specs.declared.entry.Running.{Running}
-use Rattle.wq_core.specs.declared.step.Step.TheVariants.{Help as HelperStep}
-use Rattle.wq_core.specs.declared.step.HelpStep.{HelpStep}
-use Rattle.wq_core.specs.declared.step.HelpStep.TheVariants.{Start as DoStart, Wait as DoWait, WaitAll as DoWaitAll, Over as DoOver, OverAll as DoOverAll, Finish as DoFinish}
-use Rattle.wq_core.specs.Wiring.{Wiring, IsWiring, max_helpers, HasContext, HasHelper, items, lane_of}
-use Rattle.wq_core.specs.State.{State, lane_at, run_by, next_of, is_running, RunsIn, HasUnfinishedOf, IsBusy}
-use Rattle.wq_core.specs.Rules.{Lawful, Gives, MayDo, MayWait, MayBeOver, IsHeldBack, step_in, deed_item, wait_deed, over_deed}
-use Rattle.wq_core.specs.Held.{IsSoundState, Machine, IsMachine}
+use Rattle.wq_history.proofs.Words.{Entry, Waiting, Running, HelperStep, HelpStep, DoStart, DoWait, DoWaitAll, DoOver}
+use Rattle.wq_history.proofs.Words.{DoOverAll, DoFinish, Wiring, IsWiring, max_helpers, HasContext, HasHelper, items}
+use Rattle.wq_history.proofs.Words.{lane_of, State, lane_at, run_by, next_of, is_running, RunsIn, HasUnfinishedOf}
+use Rattle.wq_history.proofs.Words.{IsBusy, Lawful, Gives, MayDo, MayWait, MayBeOver, IsHeldBack, step_in, deed_item}
+use Rattle.wq_history.proofs.Words.{wait_deed, over_deed, IsSoundState, Machine, IsMachine, Event, Row, step_of}
+use Rattle.wq_history.proofs.Words.{event_in, SaysUnfinishedOf, Says, MayComeIn, MayCome, subject_of, rows_needed}
+use Rattle.wq_history.proofs.Words.{BookView, state, IsWaiting}
 use Rattle.wq_core.proofs.Contexts.{helpers_of-few, next-may}
 use Rattle.wq_core.proofs.Safety.{lawful-step_in}
-use Rattle.wq_rows.specs.declared.event.Event.{Event}
 use Rattle.wq_rows.specs.declared.event.Event.TheVariants.{Start, Over, Finish, Told, OverAll, ToldLane, Help}
-use Rattle.wq_rows.specs.declared.event.Row.{Row}
 use Rattle.wq_rows.specs.Packing.{HelpMayAnswer, MayAnswer}
-use Rattle.wq_history.specs.Events.{step_of, event_in}
-use Rattle.wq_history.specs.History.{SaysUnfinishedOf, Says, MayComeIn, MayCome}
-use Rattle.wq_history.specs.Calls.{subject_of}
-use Rattle.wq_history.specs.Reserve.{rows_needed}
-use Rattle.wq_history.specs.Book.{BookView, state, IsWaiting}
 use Rattle.wq_history.proofs.WaitEvents.{declared-item}
 
 -- ---- steps and events
 
 pub step_of-event_in : (q c : ℕ) (deed : HelpStep) (said : Bool) → step_of (event_in q c deed) said ≡ Some (step_in q c deed)
 step_of-event_in q zero (DoStart i) said = refl
-step_of-event_in q zero (DoWait b) said = refl
-step_of-event_in q zero (DoWaitAll b) said = refl
-step_of-event_in q zero (DoOver b) said = refl
-step_of-event_in q zero (DoOverAll b) said = refl
-step_of-event_in q zero (DoFinish i) said = refl
+step_of-event_in q zero _ said = refl
 step_of-event_in q (suc h) deed said = refl
 
 pub helper-event : (q c : ℕ) (deed : HelpStep) → c ≢ 0 → Help q c deed ≡ event_in q c deed
@@ -44,22 +30,14 @@ helper-event q (suc h) deed some = refl
 -- no row need be free
 pub no_rows-event_in : (w : Wiring) (q c : ℕ) (deed : HelpStep) (said : Bool) → rows_needed w (event_in q c deed) said ≡ 0
 no_rows-event_in w q zero (DoStart i) said = refl
-no_rows-event_in w q zero (DoWait b) said = refl
-no_rows-event_in w q zero (DoWaitAll b) said = refl
-no_rows-event_in w q zero (DoOver b) said = refl
-no_rows-event_in w q zero (DoOverAll b) said = refl
-no_rows-event_in w q zero (DoFinish i) said = refl
+no_rows-event_in w q zero _ said = refl
 no_rows-event_in w q (suc h) deed said = refl
 
 -- an event may come with what its deed says and the number of its step, if that is lawful
 pub deed_may_come : (w : Wiring) (s : State) (waiting q c : ℕ) (deed : HelpStep) (said : Bool) (n : ℕ) → Says w s deed said
     → Lawful w s (step_in q c deed) → Gives s (step_in q c deed) n → MayComeIn w s waiting (event_in q c deed) said n
 deed_may_come w s waiting q zero (DoStart i) said n says lawful gives = (says, (lawful, gives))
-deed_may_come w s waiting q zero (DoWait b) said n says lawful gives = (says, (lawful, gives))
-deed_may_come w s waiting q zero (DoWaitAll b) said n says lawful gives = (says, (lawful, gives))
-deed_may_come w s waiting q zero (DoOver b) said n says lawful gives = (says, (lawful, gives))
-deed_may_come w s waiting q zero (DoOverAll b) said n says lawful gives = (says, (lawful, gives))
-deed_may_come w s waiting q zero (DoFinish i) said n says lawful gives = (says, (lawful, gives))
+deed_may_come w s waiting q zero _ said n says lawful gives = (says, (lawful, gives))
 deed_may_come w s waiting q (suc h) deed said n says lawful gives = (says, (lawful, gives))
 
 -- ---- what a deed says

@@ -1,21 +1,14 @@
 -- One more row: what it does to the replay, and why the history stays legal.
 use Rattle.std.proofs.Common.{◌≡◌, ℕ, zero, suc, ◌⊎◌, inl, inr, Bool, false, List, [], ◌∷◌, ◌++◌, take, refl, sym, ap}
-use Rattle.std.proofs.Common.{subst, ◌∙◌}
-use Rattle.std.specs.Prelude.{Option, Some, None, IfSome, slice_get}
+use Rattle.std.proofs.Common.{subst, ◌∙◌, Option, Some, None, IfSome, slice_get}
 use Rattle.std.specs.List.{cons_option}
 use Rattle.std.proofs.lemmas.List.{append-nil}
 use Rattle.std.proofs.lemmas.List.Elements.{filter_map-append}
-use Rattle.wq_core.specs.declared.step.Step.{Step}
-use Rattle.wq_core.specs.Wiring.{Wiring}
-use Rattle.wq_core.specs.State.{State, empty_state}
-use Rattle.wq_core.specs.Rules.{Lawful, effect}
+use Rattle.wq_history.proofs.Words.{Step, Wiring, State, empty_state, Lawful, effect, Event, Row, step_of, steps_of}
+use Rattle.wq_history.proofs.Words.{subject_in, state_after, asks_waiting, MayComeIn, MayCome, MayFollow, IsLegal}
 use Rattle.wq_core.specs.Runs.{end_of}
 use Rattle.wq_core.proofs.RunLemmas.{after-more}
-use Rattle.wq_rows.specs.declared.event.Event.{Event}
 use Rattle.wq_rows.specs.declared.event.Event.TheVariants.{Queue, Cancel, Ask, Told, AskLane, ToldLane}
-use Rattle.wq_rows.specs.declared.event.Row.{Row}
-use Rattle.wq_history.specs.Events.{step_of, steps_of, subject_in}
-use Rattle.wq_history.specs.History.{state_after, asks_waiting, MayComeIn, MayCome, MayFollow, IsLegal}
 
 -- ---- lists
 

@@ -1,30 +1,18 @@
 -- What a book holds, and that it still holds this after one more row.
 use Rattle.std.proofs.Common.{◌≡◌, ℕ, zero, suc, ◌+◌, ◌-◌, ◌*◌, ◌<◌, ◌≤◌, ◌^◌, inr, cond, Bool, true, false, List, []}
 use Rattle.std.proofs.Common.{◌∷◌, ◌++◌, length, length-append, get_or, replicate, refl, sym, ap, subst, ◌∙◌, arith}
-use Rattle.std.specs.Prelude.{Option, Some, None, IfSome, IsTrue, ◌↔◌, is_some, slice_get, sum_by, max, ◌&&◌, Contains}
+use Rattle.std.proofs.Common.{Option, Some, None, IfSome, IsTrue, ◌↔◌, is_some, slice_get, sum_by, max, ◌&&◌, Contains}
 use Rattle.std.proofs.Math.Nat.{le-max_left, le-max_right}
 use Rattle.std.proofs.lemmas.List.{length-replicate}
 use Rattle.std.proofs.lemmas.List.Folds.{sum_by-replicate}
 use Rattle.wq_items.proofs.Lists.{Contains-first}
-use Rattle.wq_core.specs.declared.entry.Entry.{Entry}
-use Rattle.wq_core.specs.declared.entry.Running.{Running}
-use Rattle.wq_core.specs.declared.step.Step.{Step}
-use Rattle.wq_core.specs.Wiring.{Wiring, items, lane_of, HasContext}
-use Rattle.wq_core.specs.State.{State, idle_lane, lane_at, run_by, empty_state}
-use Rattle.wq_core.specs.Rules.{Lawful, effect}
-use Rattle.wq_core.specs.Work.{lane_work, work_left}
-use Rattle.wq_core.specs.Held.{Machine, IsMachine, machine_after}
+use Rattle.wq_history.proofs.Words.{Entry, Running, Step, Wiring, items, lane_of, HasContext, State, idle_lane, lane_at}
+use Rattle.wq_history.proofs.Words.{run_by, empty_state, Lawful, effect, lane_work, work_left, Machine, IsMachine}
+use Rattle.wq_history.proofs.Words.{machine_after, Row, max_rows, Subject, OfItem, OfLane, step_of, is_ask, is_told}
+use Rattle.wq_history.proofs.Words.{state_after, IsThere, MayFollow, reserved, free_rows, AskView, CountsAll}
+use Rattle.wq_history.proofs.Words.{CountsAsks, AreCounted, Replays, HoldsBook, ask_place, IsBook}
 use Rattle.wq_core.proofs.RunLemmas.{next-effect}
 use Rattle.wq_core.proofs.Sound.{IsSoundState-effect}
-use Rattle.wq_rows.specs.declared.event.Row.{Row}
-use Rattle.wq_rows.specs.Stored.{max_rows}
-use Rattle.wq_history.specs.declared.asking.Subject.{Subject}
-use Rattle.wq_history.specs.declared.asking.Subject.TheVariants.{Item as OfItem, Lane as OfLane}
-use Rattle.wq_history.specs.Events.{step_of, is_ask, is_told}
-use Rattle.wq_history.specs.History.{state_after, IsThere, MayFollow}
-use Rattle.wq_history.specs.Reserve.{reserved, free_rows}
-use Rattle.wq_history.specs.Counts.{AskView, CountsAll, CountsAsks, AreCounted, Replays, HoldsBook, ask_place}
-use Rattle.wq_history.specs.Book.{IsBook}
 use Rattle.wq_history.proofs.Histories.{state_after-step, state_after-none, IsLegal-more, MayCome-lawful}
 use Rattle.wq_history.proofs.Counting.{count-more, all_asks_waiting-count}
 use Rattle.wq_history.proofs.Deeds.{runs-context}

@@ -1,16 +1,13 @@
 -- No work is left exactly where nothing is unfinished.
-use Rattle.std.proofs.Common.{◌≡◌, ◌≢◌, ℕ, zero, suc, ◌<◌, ◌≤◌, ◌↔◌, inl, inr, Bool, eqb, List, [], ◌∷◌, length, get_or, Option, Some, None, refl, sym, ap, ◌∙◌, arith}
-use Rattle.std.specs.Prelude.{Contains, IsTrue, sum_by}
-use Rattle.std.proofs.lemmas.Bool.{eqb-true, eq-eqb}
-use Rattle.std.proofs.lemmas.List.Sums.{sum_by-le, get_or-le-sum_by}
+use Rattle.std.proofs.Common.{◌≡◌, ℕ, zero, suc, ◌<◌, ◌≤◌, ◌↔◌, inl, inr, Bool, false, eqb, List, [], ◌∷◌, length}
+use Rattle.std.proofs.Common.{get_or, Option, Some, None, refl, sym, ap, subst, ◌∙◌, arith, Contains, IsTrue, sum_by}
+use Rattle.std.proofs.lemmas.Bool.{cases_eq, eqb-true, eq-eqb}
+use Rattle.std.proofs.lemmas.List.Sums.{sum_by-cons, get_or-le-sum_by}
 use Rattle.wq_items.proofs.Lists.{Contains-here}
-use Rattle.wq_core.specs.declared.entry.Entry.{Entry}
-use Rattle.wq_core.specs.declared.entry.Waiting.{Waiting}
-use Rattle.wq_core.specs.declared.entry.Running.{Running}
-use Rattle.wq_core.specs.Wiring.{Wiring}
-use Rattle.wq_core.specs.State.{Lane, State, idle_lane, lane_at, RunsIn, IsUnfinishedOn, HasUnfinished}
-use Rattle.wq_core.specs.Work.{whole_work, waits_over, running_work, lane_work, work_left}
-use Rattle.wq_core.specs.Held.{IsSoundRunning, IsSoundState}
+use Rattle.wq_history.proofs.Words.{Entry, Waiting, Running, Wiring, Lane, State, idle_lane, lane_at, RunsIn}
+use Rattle.wq_history.proofs.Words.{IsUnfinishedOn, HasUnfinished, lane_work, work_left, IsSoundState}
+use Rattle.wq_core.specs.Work.{whole_work, waits_over, running_work}
+use Rattle.wq_core.specs.Held.{IsSoundRunning}
 use Rattle.wq_core.proofs.Contexts.{runs_place}
 use Rattle.wq_core.proofs.LaneLemmas.{lane_within}
 
@@ -32,34 +29,42 @@ lane-some w lane e sound (inr (suc h, r, runs, same)) =
     let place : suc h ≤ length lane.helping = runs_place lane (suc h) r runs in
     omega (arith, running-some w r (sound (suc h) r runs), ap (running_work w) runs, get_or-le-sum_by (running_work w) lane.helping h None (omega (arith, place)))
 
--- ---- where nothing is unfinished there is none
+-- ---- where work is left, something is unfinished
 
--- what is at a place, whatever would be past the end
-get_or_any : {X : Type 0} (xs : List X) (k : ℕ) (d e : X) → k < length xs → get_or xs k d ≡ get_or xs k e
-get_or_any [] k d e lt = absurd (omega arith)
-get_or_any (x ∷ xs) zero d e lt = refl
-get_or_any (x ∷ xs) (suc k) d e lt = get_or_any xs k d e (omega arith)
+-- a sum that isn't 0 has a part that isn't
+some_part : {X : Type 0} (f : X → ℕ) (d : X) (xs : List X) → 1 ≤ sum_by f xs
+    → (k : ℕ) × (k < length xs) × (1 ≤ f (get_or xs k d))
+some_part f d [] some = absurd (omega (arith, some))
+some_part f d (x ∷ xs) some = elim (cases_eq (f x) 0) [
+  | inl none ↦ (
+      let rest = some_part f d xs (omega (arith, some, none, sum_by-cons f x xs)) in
+      (suc rest.0, omega (arith, rest.1), rest.2)
+      )
+  | inr here ↦ (0, omega arith, omega (arith, here))
+]
 
-helping-none : (w : Wiring) (os : List (Option Running)) → ((h : ℕ) (r : Running) → get_or os h None ≢ Some r) → sum_by (running_work w) os ≡ 0
-helping-none w os none = omega (arith, sum_by-le (running_work w) 0 os each) where
-  by : (o : Option Running) → ((r : Running) → o ≢ Some r) → running_work w o ≤ 0
-  by None never = omega arith
-  by (Some r) never = absurd (never r refl)
+lane-unfinished : (w : Wiring) (lane : Lane) → 1 ≤ lane_work w lane → (e : Entry) × IsUnfinishedOn lane e
+lane-unfinished w lane some = by lane.pending refl lane.running refl where
+  helper : (k : ℕ) (o : Option Running) → get_or lane.helping k None ≡ o → 1 ≤ running_work w o
+      → (e : Entry) × IsUnfinishedOn lane e
+  helper k None is work = absurd (omega (arith, work))
+  helper k (Some r) is work = (r.entry, inr (suc k, r, is, refl))
 
-  each : (k : ℕ) (d : Option Running) → k < length os → running_work w (get_or os k d) ≤ 0
-  each k d lt = by (get_or os k d) (λ r is. none k r (get_or_any os k None d lt ∙ is))
+  by : (ps : List Entry) → lane.pending ≡ ps → (o : Option Running) → lane.running ≡ o
+      → (e : Entry) × IsUnfinishedOn lane e
+  by (p ∷ ps) is o runs = (p, inl (subst (λ (xs : List Entry). Contains xs p) (sym is) (Contains-here p ps)))
+  by [] is (Some r) runs = (r.entry, inr (zero, r, runs, refl))
+  by [] is None runs =
+      let pending = ap (λ (xs : List Entry). sum_by (λ (f : Entry). whole_work w f.item) xs) is in
+      let others = some_part (running_work w) None lane.helping
+      (omega (arith, some, pending, ap (running_work w) runs)) in
+      helper others.0 (get_or lane.helping others.0 None) refl others.2
 
-lane-none : (w : Wiring) (lane : Lane) → ((e : Entry) → ¬ IsUnfinishedOn lane e) → lane_work w lane ≡ 0
-lane-none w lane none =
-    omega (arith, pending lane.pending (λ e there. none e (inl there)), runs lane.running refl, helping-none w lane.helping (λ h r is. none r.entry (inr (suc h, r, is, refl))))
-  where
-    pending : (ps : List Entry) → ((e : Entry) → ¬ Contains ps e) → sum_by (λ (f : Entry). whole_work w f.item) ps ≡ 0
-    pending [] never = refl
-    pending (p ∷ ps) never = absurd (never p (Contains-here p ps))
-
-    runs : (o : Option Running) → lane.running ≡ o → running_work w lane.running ≡ 0
-    runs None is = ap (running_work w) is
-    runs (Some r) is = absurd (none r.entry (inr (zero, r, is, refl)))
+some-unfinished : (w : Wiring) (s : State) → 1 ≤ work_left w s → HasUnfinished s
+some-unfinished w s some =
+    let lane = some_part (lane_work w) idle_lane s.lanes some in
+    let found = lane-unfinished w (lane_at s lane.0) lane.2 in
+    record { lane = lane.0; entry = found.0; unfinished = found.1 }
 
 -- ---- all lanes
 
@@ -73,11 +78,18 @@ idle-exactly w s sound = (to, from) where
       omega (arith, nothing, part, some)
 
   from : (¬ HasUnfinished s) → work_left w s ≡ 0
-  from none = omega (arith, sum_by-le (lane_work w) 0 s.lanes each) where
-    each : (k : ℕ) (d : Lane) → k < length s.lanes → lane_work w (get_or s.lanes k d) ≤ 0
-    each k d lt =
-        let here : lane_work w (lane_at s k) ≡ 0 = lane-none w (lane_at s k) (λ e unfinished. none (record { lane = k; entry = e; unfinished = unfinished })) in
-        omega (arith, here, ap (lane_work w) (get_or_any s.lanes k idle_lane d lt))
+  from none = by (work_left w s) refl where
+    by : (n : ℕ) → work_left w s ≡ n → work_left w s ≡ 0
+    by zero is = is
+    by (suc n) is = absurd (none (some-unfinished w s (omega (arith, is))))
+
+-- if it isn't so that nothing is unfinished, something is
+pub busy-unfinished : (w : Wiring) (s : State) (idle : Bool) → IsSoundState w s → ((¬ HasUnfinished s) → IsTrue idle)
+    → idle ≡ false → HasUnfinished s
+busy-unfinished w s idle sound says not = by (work_left w s) refl where
+  by : (n : ℕ) → work_left w s ≡ n → HasUnfinished s
+  by zero is = let yes : IsTrue idle = says ((idle-exactly w s sound).0 is) in absurd cc
+  by (suc n) is = some-unfinished w s (omega (arith, is))
 
 -- so the test says so
 pub idle-answer : (w : Wiring) (s : State) (work : ℕ) (b : Bool) → IsSoundState w s → work ≡ work_left w s → b ≡ eqb work 0 → IsTrue b ↔ (¬ HasUnfinished s)

@@ -1,33 +1,25 @@
 -- Judging: what one more row does to a replay, and why a row is at fault.
-use Rattle.std.proofs.Common.{◌≡◌, ℕ, ◌+◌, ◌-◌, ◌*◌, ◌<◌, ◌≤◌, ◌↔◌, true, false, eqb, List, append_assoc}
-use Rattle.std.proofs.Common.{length-append, length-take, [], ◌∷◌, ◌++◌, length, get_or, take, refl, sym, ap, subst}
-use Rattle.std.proofs.Common.{◌∙◌, arith}
-use Rattle.std.specs.Prelude.{Option, Some, None, IfSome, IfNone, IsTrue, ◌&&◌}
+use Rattle.std.proofs.Common.{◌≡◌, ℕ, ◌+◌, ◌-◌, ◌*◌, ◌<◌, ◌≤◌, ◌↔◌, true, false, eqb, List, append_assoc, length-append}
+use Rattle.std.proofs.Common.{length-take, [], ◌∷◌, ◌++◌, length, get_or, take, refl, sym, ap, subst, ◌∙◌, arith}
+use Rattle.std.proofs.Common.{Option, Some, None, IfSome, IfNone, IsTrue, ◌&&◌}
 use Rattle.std.specs.Option.{option_eq}
 use Rattle.std.proofs.lemmas.Bool.{eqb-true, eq-eqb}
 use Rattle.std.proofs.lemmas.List.{append-nil}
 use Rattle.std.proofs.lemmas.List.Elements.{All-nil}
 use Rattle.std.proofs.lemmas.List.Sums.{count_by-le-length}
 use Rattle.std.specs.List.{IsSplitAt}
-use Rattle.wq_core.specs.declared.step.Step.{Step}
-use Rattle.wq_core.specs.declared.step.Step.TheVariants.{Queue as QueueStep}
+use Rattle.wq_history.proofs.Words.{Step, QueueStep, Wiring, State, empty_state, Lawful, Gives, Machine, IsMachine}
+use Rattle.wq_history.proofs.Words.{machine_after, Event, Row, max_rows, Subject, step_of, subject_in, ask_event}
+use Rattle.wq_history.proofs.Words.{told_event, is_ask, state_after, asks_waiting, Makes, MayComeIn, MayCome, MayFollow}
+use Rattle.wq_history.proofs.Words.{IsLegal, AskView, AreCounted, Replays, ask_place, stepped, counted}
 use Rattle.wq_core.specs.declared.step.StepError.{StepError}
 use Rattle.wq_core.specs.declared.step.StepError.TheVariants.{NotLawful, NumbersUsedUp}
-use Rattle.wq_core.specs.Wiring.{Wiring}
-use Rattle.wq_core.specs.State.{State, empty_state}
-use Rattle.wq_core.specs.Rules.{Lawful, Gives}
-use Rattle.wq_core.specs.Held.{Machine, IsMachine, IsDone, IsRefusal, UsesUp, machine_after}
+use Rattle.wq_core.specs.Held.{IsDone, IsRefusal, UsesUp}
 use Rattle.wq_core.proofs.Numbers.{Gives-one}
-use Rattle.wq_rows.specs.declared.event.Event.{Event}
-use Rattle.wq_rows.specs.declared.event.Row.{Row}
 use Rattle.wq_rows.specs.Packing.{packed, IsPackable, IsRowInRange, IsPackedRow}
-use Rattle.wq_rows.specs.Stored.{max_rows, IsStored}
+use Rattle.wq_rows.specs.Stored.{IsStored}
 use Rattle.wq_rows.proofs.StoredLemmas.{IsStored-length, IsStored-push, IsSplitAt-parts, empty_list}
-use Rattle.wq_history.specs.declared.asking.Subject.{Subject}
-use Rattle.wq_history.specs.Events.{step_of, subject_in, ask_event, told_event, is_ask}
-use Rattle.wq_history.specs.History.{state_after, asks_waiting, Makes, MayComeIn, MayCome, MayFollow, IsLegal}
-use Rattle.wq_history.specs.Counts.{AskView, AreCounted, Replays, ask_place}
-use Rattle.wq_history.specs.Judging.{IsJudged, IsJudgedUpTo, stepped, counted}
+use Rattle.wq_history.specs.Judging.{IsJudged, IsJudgedUpTo}
 use Rattle.wq_history.proofs.Counting.{asks_waiting-count}
 use Rattle.wq_history.proofs.Holding.{AreFirst, Replays-noted, Replays-made, Replays-first}
 use Rattle.wq_history.proofs.LegalRows.{AreCounted-more}
@@ -123,90 +115,111 @@ pub record JudgedSoFar (old : Machine) (bytes left : List ℕ) (now : Machine) (
   pub wired : now.wiring ≡ old.wiring
   pub replays : Replays now rows asks
 
--- how many bytes are judged
-pub judged-length : (old : Machine) (bytes left : List ℕ) (now : Machine) (asks : AskView) (count : ℕ) → JudgedSoFar old bytes left now asks count
-    → 12 * count + length left ≡ length bytes
-judged-length old bytes left now asks count so_far =
-    omega (arith, so_far.counted_rows, IsStored-length so_far.judged_bytes so_far.rows so_far.stored, length-append so_far.judged_bytes left, ap length so_far.joined)
-
-judged-is : (old : Machine) (bytes left : List ℕ) (now : Machine) (asks : AskView) (count : ℕ) (so_far : JudgedSoFar old bytes left now asks count)
-    → IsJudged old so_far.judged_bytes so_far.rows now
-judged-is old bytes left now asks count so_far = record {
-  stored = so_far.stored;
-  legal = subst (λ (w : Wiring). IsLegal w so_far.rows) so_far.wired so_far.replays.legal;
-  replay =
-      ap (λ (w : Wiring). record { wiring = w; state = now.state }) so_far.wired
-      ∙ ap (λ (s : State). record { wiring = old.wiring; state = s }) (so_far.replays.replay ∙ ap (λ (w : Wiring). state_after w so_far.rows) so_far.wired);
-}
-
-place-of : (old : Machine) (bytes left : List ℕ) (now : Machine) (asks : AskView) (count : ℕ) → JudgedSoFar old bytes left now asks count → 0 < length left
-    → IsJudgedUpTo old bytes (count + 1) now
-place-of old bytes left now asks count so_far some = record {
-  rows = so_far.rows;
-  judged_bytes = so_far.judged_bytes;
-  left = left;
-  joined = so_far.joined;
-  judged = judged-is old bytes left now asks count so_far;
-  some_left = some;
-  at_is = omega (arith, so_far.counted_rows);
-}
-
--- the next bytes don't hold a row
-pub bad-row : (old : Machine) (bytes left front after : List ℕ) (now : Machine) (asks : AskView) (count : ℕ) → JudgedSoFar old bytes left now asks count
-    → IsSplitAt left 12 front after → ((row : Row) → ¬ IsPackedRow front row) → (place : IsJudgedUpTo old bytes (count + 1) now) × ((row : Row) → ¬ IsPackedRow (take 12 place.left) row)
-unfolding place-of
-bad-row old bytes left front after now asks count so_far split none =
-    (place-of old bytes left now asks count so_far (omega (arith, split.0)), (λ row holds. none row (subst (λ (l : List ℕ). IsPackedRow l row) (sym split.1) holds)))
-
--- fewer than 12 bytes are left, but at least one
-pub cut-off : (old : Machine) (bytes left : List ℕ) (now : Machine) (asks : AskView) (count : ℕ) → JudgedSoFar old bytes left now asks count
-    → length left < 12 → 0 < length left → (place : IsJudgedUpTo old bytes (count + 1) now) × ((row : Row) → ¬ IsPackedRow (take 12 place.left) row)
-unfolding place-of
-cut-off old bytes left now asks count so_far short some = (
-  place-of old bytes left now asks count so_far some,
-  (λ row holds. let len : 12 ≡ length (take 12 left) = ap length holds.holds in omega (arith, short, len, length-take 12 left)),
-)
-
--- the next row may not follow
-pub not-legal : (old : Machine) (bytes left front after : List ℕ) (now : Machine) (asks : AskView) (count waiting : ℕ) (row : Row) → JudgedSoFar old bytes left now asks count
-    → IsSplitAt left 12 front after → IsPackedRow front row → waiting ≡ get_or asks.counts (ask_place (subject_in row.event)) 0
-    → (¬ MayComeIn now.wiring now.state waiting row.event row.yes row.number)
-    → (place : IsJudgedUpTo old bytes (count + 1) now) × ((r : Row) × IsPackedRow (take 12 place.left) r × (¬ MayFollow old.wiring place.rows r))
-unfolding place-of
-not-legal old bytes left front after now asks count waiting row so_far split is_row counted_is never = (
-  place-of old bytes left now asks count so_far (omega (arith, split.0)),
-  (
-    row,
-    subst (λ (l : List ℕ). IsPackedRow l row) split.1 is_row,
-    (λ may. never ((MayFollow-here now so_far.rows asks row waiting so_far.replays counted_is).1 (subst (λ (w : Wiring). MayFollow w so_far.rows row) (sym so_far.wired) may))),
-  ),
-)
-
 stepped-wiring : (m : Machine) (o : Option Step) → (stepped m o).wiring ≡ m.wiring
 stepped-wiring m None = refl
 stepped-wiring m (Some step) = refl
 
--- one more row is judged
-pub judged-next : (old : Machine) (bytes left front after : List ℕ) (now : Machine) (asks : AskView) (count waiting : ℕ) (row : Row) → JudgedSoFar old bytes left now asks count
-    → IsSplitAt left 12 front after → IsPackedRow front row → waiting ≡ get_or asks.counts
-    (ask_place (subject_in row.event)) 0
-    → length bytes ≤ 12 * max_rows
-    → MayComeIn now.wiring now.state waiting row.event row.yes row.number
-    → JudgedSoFar old bytes after (stepped now (step_of row.event row.yes)) (counted asks row.event row.yes) (count + 1)
-judged-next old bytes left front after now asks count waiting row so_far split is_row counted_is few may = record {
-  rows = so_far.rows ++ (row ∷ []);
-  judged_bytes = so_far.judged_bytes ++ packed row;
-  joined =
-      append_assoc so_far.judged_bytes (packed row) after
-      ∙ ap (λ (l : List ℕ). so_far.judged_bytes ++ l) (ap (λ (l : List ℕ). l ++ after) is_row.holds ∙ sym (IsSplitAt-parts left front after split))
-      ∙ so_far.joined;
-  stored = IsStored-push so_far.judged_bytes so_far.rows row so_far.stored is_row.packable is_row.in_range;
-  counted_rows = omega (arith, so_far.counted_rows, length-append so_far.rows (row ∷ []));
-  wired = stepped-wiring now (step_of row.event row.yes) ∙ so_far.wired;
-  replays =
-      Replays-follow now so_far.rows asks row so_far.replays ((MayFollow-here now so_far.rows asks row waiting so_far.replays counted_is).0 may)
-      (omega (arith, so_far.counted_rows, judged-length old bytes left now asks count so_far, split.0, few));
-}
+module _ {old : Machine} {bytes left : List ℕ} {now : Machine} {asks : AskView} {count : ℕ}
+    (so_far : JudgedSoFar old bytes left now asks count) where
+  -- how many bytes are judged
+  pub judged-length : 12 * count + length left ≡ length bytes
+  judged-length =
+      omega (
+        arith,
+        so_far.counted_rows,
+        IsStored-length so_far.judged_bytes so_far.rows so_far.stored,
+        length-append so_far.judged_bytes left,
+        ap length so_far.joined,
+      )
+
+  judged-is : IsJudged old so_far.judged_bytes so_far.rows now
+  judged-is = record {
+    stored = so_far.stored;
+    legal = subst (λ (w : Wiring). IsLegal w so_far.rows) so_far.wired so_far.replays.legal;
+    replay =
+        let replay = so_far.replays.replay ∙ ap (λ (w : Wiring). state_after w so_far.rows) so_far.wired in
+        ap (λ (w : Wiring). record { wiring = w; state = now.state }) so_far.wired
+        ∙ ap (λ (s : State). record { wiring = old.wiring; state = s }) replay;
+  }
+
+  abbrev place-of : 0 < length left → IsJudgedUpTo old bytes (count + 1) now
+  place-of some = record {
+    rows = so_far.rows;
+    judged_bytes = so_far.judged_bytes;
+    left = left;
+    joined = so_far.joined;
+    judged = judged-is;
+    some_left = some;
+    at_is = omega (arith, so_far.counted_rows);
+  }
+
+  -- the next bytes don't hold a row
+  pub bad-row : (front after : List ℕ) → IsSplitAt left 12 front after → ((row : Row) → ¬ IsPackedRow front row)
+      → (place : IsJudgedUpTo old bytes (count + 1) now) × ((row : Row) → ¬ IsPackedRow (take 12 place.left) row)
+  bad-row front after split none = (
+    place-of (omega (arith, split.0)),
+    (λ row holds. none row (subst (λ (l : List ℕ). IsPackedRow l row) (sym split.1) holds)),
+  )
+
+  -- fewer than 12 bytes are left, but at least one
+  pub cut-off : length left < 12 → 0 < length left
+      → (place : IsJudgedUpTo old bytes (count + 1) now) × ((row : Row) → ¬ IsPackedRow (take 12 place.left) row)
+  cut-off short some = (
+    place-of some,
+    (λ row holds. let len : 12 ≡ length (take 12 left) = ap length holds.holds in
+        omega (arith, short, len, length-take 12 left)),
+  )
+
+  -- the next row is looked at, with as many asks as are counted
+  module _ (row : Row) (waiting : ℕ)
+      (counted_is : waiting ≡ get_or asks.counts (ask_place (subject_in row.event)) 0) where
+    -- it may not follow
+    pub not-legal : (front after : List ℕ) → IsSplitAt left 12 front after → IsPackedRow front row
+        → (¬ MayComeIn now.wiring now.state waiting row.event row.yes row.number)
+        → (place : IsJudgedUpTo old bytes (count + 1) now)
+        × ((r : Row) × IsPackedRow (take 12 place.left) r × (¬ MayFollow old.wiring place.rows r))
+    not-legal front after split is_row never = (
+      place-of (omega (arith, split.0)),
+      (
+        row,
+        subst (λ (l : List ℕ). IsPackedRow l row) split.1 is_row,
+        (λ may. never ((MayFollow-here now so_far.rows asks row waiting so_far.replays counted_is).1
+            (subst (λ (w : Wiring). MayFollow w so_far.rows row) (sym so_far.wired) may))),
+      ),
+    )
+
+    -- it may
+    module _ (come : MayComeIn now.wiring now.state waiting row.event row.yes row.number) where
+      pub follows : MayFollow now.wiring so_far.rows row
+      follows = (MayFollow-here now so_far.rows asks row waiting so_far.replays counted_is).0 come
+
+      -- one more row is judged
+      pub judged-next : (front after : List ℕ) → IsSplitAt left 12 front after → IsPackedRow front row
+          → length bytes ≤ 12 * max_rows → JudgedSoFar old bytes after (stepped now (step_of row.event row.yes))
+          (counted asks row.event row.yes) (count + 1)
+      judged-next front after split is_row few = record {
+        rows = so_far.rows ++ (row ∷ []);
+        judged_bytes = so_far.judged_bytes ++ packed row;
+        joined =
+            let parts = ap (λ (l : List ℕ). l ++ after) is_row.holds ∙ sym (IsSplitAt-parts left front after split) in
+            append_assoc so_far.judged_bytes (packed row) after
+            ∙ ap (λ (l : List ℕ). so_far.judged_bytes ++ l) parts ∙ so_far.joined;
+        stored =
+            IsStored-push so_far.judged_bytes so_far.rows row so_far.stored is_row.packable is_row.in_range;
+        counted_rows = omega (arith, so_far.counted_rows, length-append so_far.rows (row ∷ []));
+        wired = stepped-wiring now (step_of row.event row.yes) ∙ so_far.wired;
+        replays =
+            Replays-follow now so_far.rows asks row so_far.replays follows
+            (omega (arith, so_far.counted_rows, judged-length, split.0, few));
+      }
+
+  -- nothing is left
+  pub judged-all : length left ≡ 0 → (rows : List Row) × IsJudged old bytes rows now × (count ≡ length rows)
+  judged-all none =
+      let all : so_far.judged_bytes ≡ bytes =
+      sym (append-nil so_far.judged_bytes)
+      ∙ ap (λ (l : List ℕ). so_far.judged_bytes ++ l) (sym (empty_list left none)) ∙ so_far.joined in
+      (so_far.rows, subst (λ (l : List ℕ). IsJudged old l so_far.rows now) all judged-is, so_far.counted_rows)
 
 pub judged-first : (old : Machine) (bytes : List ℕ) (asks : AskView) → IsMachine old → old.state ≡ empty_state old.wiring
     → AreFirst old.wiring asks → JudgedSoFar old bytes bytes old asks 0
@@ -219,11 +232,3 @@ judged-first old bytes asks machine empty none = record {
   wired = refl;
   replays = Replays-first old asks machine empty none;
 }
-
--- nothing is left
-pub judged-all : (old : Machine) (bytes left : List ℕ) (now : Machine) (asks : AskView) (count : ℕ) → JudgedSoFar old bytes left now asks count → length left ≡ 0
-    → (rows : List Row) × IsJudged old bytes rows now × (count ≡ length rows)
-judged-all old bytes left now asks count so_far none =
-    let all : so_far.judged_bytes ≡ bytes =
-    sym (append-nil so_far.judged_bytes) ∙ ap (λ (l : List ℕ). so_far.judged_bytes ++ l) (sym (empty_list left none)) ∙ so_far.joined in
-    (so_far.rows, subst (λ (l : List ℕ). IsJudged old l so_far.rows now) all (judged-is old bytes left now asks count so_far), so_far.counted_rows)

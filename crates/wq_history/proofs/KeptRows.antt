@@ -1,31 +1,24 @@
 -- Rows that are kept, and what may come at a place of a legal history.
-use Rattle.std.proofs.Common.{◌≡◌, ℕ, ◌+◌, ◌<◌, ◌≤◌, ◌↔◌, Bool, true, false, cond, List, [], ◌∷◌, ◌++◌, length, append_assoc, refl, sym, ap, subst, ◌∙◌, arith}
-use Rattle.std.specs.Prelude.{Some, None, IsTrue, ◌&&◌}
+use Rattle.std.proofs.Common.{◌≡◌, ℕ, ◌+◌, ◌<◌, ◌≤◌, ◌↔◌, Bool, true, false, cond, List, [], ◌∷◌, ◌++◌, length}
+use Rattle.std.proofs.Common.{append_assoc, refl, sym, ap, subst, ◌∙◌, arith, Some, None, IsTrue, ◌&&◌}
 use Rattle.std.specs.List.{All, count_by}
 use Rattle.std.specs.Cmp.{both_ways}
 use Rattle.std.proofs.lemmas.List.Elements.{All-head, All-tail}
-use Rattle.wq_core.specs.declared.step.Step.{Step}
-use Rattle.wq_core.specs.declared.step.Step.TheVariants.{Queue as QueueStep, Cancel as CancelStep, Start as StartStep, Wait as WaitStep, Over as OverStep, WaitAll as WaitAllStep, OverAll as OverAllStep, Finish as FinishStep, Help as HelperStep}
-use Rattle.wq_core.specs.declared.step.HelpStep.TheVariants.{Start as DoStart, Wait as DoWait, WaitAll as DoWaitAll, Over as DoOver, OverAll as DoOverAll, Finish as DoFinish}
-use Rattle.wq_core.specs.Wiring.{Wiring, IsWiring, items, lane_of}
-use Rattle.wq_core.specs.State.{State, lane_at, HasUnfinishedOf, IsBusy}
-use Rattle.wq_core.specs.Rules.{Lawful, effect}
+use Rattle.wq_history.proofs.Words.{Step, QueueStep, CancelStep, HelperStep, DoStart, DoWait, DoWaitAll, DoOver}
+use Rattle.wq_history.proofs.Words.{DoOverAll, DoFinish, Wiring, IsWiring, items, lane_of, State, lane_at}
+use Rattle.wq_history.proofs.Words.{HasUnfinishedOf, IsBusy, Lawful, effect, work_left, IsSoundState, Event, Row}
+use Rattle.wq_history.proofs.Words.{lane_in, Subject, OfItem, OfLane, step_of, subject_in, told_event, is_ask, is_told}
+use Rattle.wq_history.proofs.Words.{state_after, asks_waiting, all_asks_waiting, IsThere, MayCome, MayFollow, IsLegal}
+use Rattle.wq_history.proofs.Words.{reserved, rows_needed}
+use Rattle.wq_core.specs.declared.step.Step.TheVariants.{Start as StartStep, Wait as WaitStep, Over as OverStep}
+use Rattle.wq_core.specs.declared.step.Step.TheVariants.{WaitAll as WaitAllStep, OverAll as OverAllStep}
+use Rattle.wq_core.specs.declared.step.Step.TheVariants.{Finish as FinishStep}
 use Rattle.wq_core.specs.Runs.{IsRescuerStep}
-use Rattle.wq_core.specs.Work.{work_left}
-use Rattle.wq_core.specs.Held.{IsSoundState}
 use Rattle.wq_core.proofs.Contexts.{MayStart-first}
 use Rattle.wq_core.proofs.Numbers.{Gives-one}
 use Rattle.wq_core.proofs.WorkLemmas.{work_left-rescuer}
 use Rattle.wq_core.proofs.WorkChanges.{work_left-cancelled}
-use Rattle.wq_rows.specs.declared.event.Event.{Event}
 use Rattle.wq_rows.specs.declared.event.Event.TheVariants.{Queue, Cancel, Start, Wait, Over, Finish, Ask, Told, WaitAll, OverAll, AskLane, ToldLane, Help}
-use Rattle.wq_rows.specs.declared.event.Row.{Row}
-use Rattle.wq_rows.specs.Packing.{lane_in}
-use Rattle.wq_history.specs.declared.asking.Subject.{Subject}
-use Rattle.wq_history.specs.declared.asking.Subject.TheVariants.{Item as OfItem, Lane as OfLane}
-use Rattle.wq_history.specs.Events.{step_of, subject_in, told_event, is_ask, is_told}
-use Rattle.wq_history.specs.History.{state_after, asks_waiting, all_asks_waiting, IsThere, MayCome, MayFollow, IsLegal}
-use Rattle.wq_history.specs.Reserve.{reserved, rows_needed}
 use Rattle.wq_history.proofs.Histories.{state_after-step, state_after-none}
 use Rattle.wq_history.proofs.Counting.{count-more}
 use Rattle.wq_history.proofs.LegalRows.{IsLegal-prefix, IsLegal-last, IsSoundState-legal, asked-there, some-wait}
@@ -84,20 +77,13 @@ kept_row w rows row legal may none = by_event row.event row.yes row.number may n
   by_event (Cancel i) true n come none =
       stepping (Cancel i) true n (CancelStep i) refl refl refl (omega (arith, work_left-cancelled w s i sound come.1.0))
   by_event (Cancel i) false n come none = absurd (omega (arith, none))
-  by_event (Start q i) said n come none = acting (Start q i) said n (StartStep q i) refl tt refl refl come.1.0
-  by_event (Wait q b) said n come none = acting (Wait q b) said n (WaitStep q b) refl tt refl refl come.1.0
-  by_event (Over q b) said n come none = acting (Over q b) said n (OverStep q b) refl tt refl refl come.1.0
-  by_event (Finish q i) said n come none = acting (Finish q i) said n (FinishStep q i) refl tt refl refl come.1.0
   by_event (Ask i) true n come none = absurd (omega (arith, none))
   by_event (Ask i) false n come none = absurd (omega (arith, none))
   by_event (Told i) said n come none = told (OfItem i) said n refl refl refl come.1
-  by_event (WaitAll q b) said n come none = acting (WaitAll q b) said n (WaitAllStep q b) refl tt refl refl come.1.0
-  by_event (OverAll q b) said n come none = acting (OverAll q b) said n (OverAllStep q b) refl tt refl refl come.1.0
   by_event (AskLane q) true n come none = absurd (omega (arith, none))
   by_event (AskLane q) false n come none = absurd (omega (arith, none))
   by_event (ToldLane q) said n come none = told (OfLane q) said n refl refl refl come.1
-  by_event (Help q h deed) said n come none =
-      acting (Help q h deed) said n (HelperStep q h deed) refl tt refl refl come.1.0
+  by_event event said n come none = acting event said n _ refl tt refl refl come.1.0
 
 pub kept_rows : (w : Wiring) (rows more : List Row) → IsLegal w (rows ++ more) → All (λ (row : Row). rows_needed w row.event row.yes ≡ 0) more
     → length more ≤ reserved w rows
@@ -132,18 +118,19 @@ one_answer w rows event said other n m legal not_told a b = by_event event said 
   by_event (Cancel i) true false told a b = absurd (b.1.0 a.1.0)
   by_event (Cancel i) false true told a b = absurd (a.1.0 b.1.0)
   by_event (Cancel i) false false told a b = (refl, a.1.1 ∙ sym b.1.1)
-  by_event (Start q i) x y told a b = (a.0 ∙ sym b.0, Gives-one w s (StartStep q i) n m sound a.1.1 b.1.1)
   by_event (Wait q t) x y told a b = (same_word (HasUnfinishedOf s t) x y a.0 b.0, Gives-one w s (WaitStep q t) n m sound a.1.1 b.1.1)
-  by_event (Over q t) x y told a b = (a.0 ∙ sym b.0, Gives-one w s (OverStep q t) n m sound a.1.1 b.1.1)
-  by_event (Finish q i) x y told a b = (a.0 ∙ sym b.0, Gives-one w s (FinishStep q i) n m sound a.1.1 b.1.1)
   by_event (Ask i) x y told a b = (same_word (HasUnfinishedOf s i) x y a.1 b.1, a.2 ∙ sym b.2)
   by_event (Told i) x y told a b = absurd cc
   by_event (WaitAll q t) x y told a b =
       (same_word (IsBusy (lane_at s (lane_of w t))) x y a.0 b.0, Gives-one w s (WaitAllStep q t) n m sound a.1.1 b.1.1)
-  by_event (OverAll q t) x y told a b = (a.0 ∙ sym b.0, Gives-one w s (OverAllStep q t) n m sound a.1.1 b.1.1)
   by_event (AskLane q) x y told a b = (same_word (IsBusy (lane_at s q)) x y a.1 b.1, a.2 ∙ sym b.2)
   by_event (ToldLane q) x y told a b = absurd cc
-  by_event (Help q h deed) x y told a b = (says_one w s deed x y a.0 b.0, Gives-one w s (HelperStep q h deed) n m sound a.1.1 b.1.1)
+  by_event (Help q h deed) x y told a b =
+      (says_one w s deed x y a.0 b.0, Gives-one w s (HelperStep q h deed) n m sound a.1.1 b.1.1)
+  by_event (Start q i) x y told a b = (a.0 ∙ sym b.0, Gives-one w s (StartStep q i) n m sound a.1.1 b.1.1)
+  by_event (Over q t) x y told a b = (a.0 ∙ sym b.0, Gives-one w s (OverStep q t) n m sound a.1.1 b.1.1)
+  by_event (OverAll q t) x y told a b = (a.0 ∙ sym b.0, Gives-one w s (OverAllStep q t) n m sound a.1.1 b.1.1)
+  by_event (Finish q i) x y told a b = (a.0 ∙ sym b.0, Gives-one w s (FinishStep q i) n m sound a.1.1 b.1.1)
 
 -- ---- items and lanes
 

@@ -1,29 +1,21 @@
 -- What holds for legal histories: prefixes, runs, and the asks that wait.
-use Rattle.std.proofs.Common.{◌≡◌, ℕ, zero, suc, ◌+◌, ◌-◌, ◌*◌, ◌<◌, ◌≤◌, ◌↔◌, Bool, true, false, cond, eqb, List, []}
-use Rattle.std.proofs.Common.{◌∷◌, ◌++◌, length, take, get_or, set, append_assoc, refl, sym, ap, subst, ◌∙◌, arith}
-use Rattle.std.specs.Prelude.{Option, Some, None, slice_get, sum, ◌&&◌}
+use Rattle.std.proofs.Common.{◌≡◌, ℕ, zero, suc, ◌+◌, ◌-◌, ◌<◌, ◌≤◌, ◌↔◌, Bool, true, false, cond, eqb, List, [], ◌∷◌}
+use Rattle.std.proofs.Common.{◌++◌, length, take, get_or, set, append_assoc, refl, sym, ap, subst, ◌∙◌, arith, Option}
+use Rattle.std.proofs.Common.{Some, None, slice_get, sum, ◌&&◌}
 use Rattle.std.proofs.lemmas.Bool.{eqb-true}
 use Rattle.std.specs.List.{count_by, cons_option}
 use Rattle.std.proofs.lemmas.List.{append-nil, length-set, take-append-le}
 use Rattle.std.proofs.lemmas.List.Sums.{sum_by-set, get_or-le-sum_by}
 use Rattle.std.proofs.lemmas.Option.{slice_get_within}
-use Rattle.wq_core.specs.declared.step.Step.{Step}
-use Rattle.wq_core.specs.declared.step.Step.TheVariants.{Queue as QueueStep, Cancel as CancelStep, Start as StartStep, Wait as WaitStep, Over as OverStep, WaitAll as WaitAllStep, OverAll as OverAllStep, Finish as FinishStep, Help as HelperStep}
-use Rattle.wq_core.specs.Wiring.{Wiring, items}
-use Rattle.wq_core.specs.State.{empty_state}
+use Rattle.wq_history.proofs.Words.{Step, Wiring, items, empty_state, IsSoundState, Event, Row, Subject, OfItem, OfLane}
+use Rattle.wq_history.proofs.Words.{step_of, steps_of, ask_event, told_event, begins_to_wait, ends_a_wait, is_ask}
+use Rattle.wq_history.proofs.Words.{is_told, state_after, asks_waiting, all_asks_waiting, IsThere, MayCome, MayFollow}
+use Rattle.wq_history.proofs.Words.{IsLegal, AskView, AreCounted, ask_place, counted}
 use Rattle.wq_core.specs.Runs.{IsRun}
-use Rattle.wq_core.specs.Held.{IsSoundState}
 use Rattle.wq_core.proofs.RunLemmas.{IsRunFrom-more}
 use Rattle.wq_core.proofs.Sound.{IsSoundState-end_of}
-use Rattle.wq_rows.specs.declared.event.Event.{Event}
-use Rattle.wq_rows.specs.declared.event.Event.TheVariants.{Queue, Cancel, Start, Wait, Over, Finish, Ask, Told, WaitAll, OverAll, AskLane, ToldLane, Help}
-use Rattle.wq_rows.specs.declared.event.Row.{Row}
-use Rattle.wq_history.specs.declared.asking.Subject.{Subject}
-use Rattle.wq_history.specs.declared.asking.Subject.TheVariants.{Item as OfItem, Lane as OfLane}
-use Rattle.wq_history.specs.Events.{step_of, steps_of, ask_event, told_event, begins_to_wait, ends_a_wait, is_ask, is_told}
-use Rattle.wq_history.specs.History.{state_after, asks_waiting, all_asks_waiting, IsThere, MayCome, MayFollow, IsLegal}
-use Rattle.wq_history.specs.Counts.{AskView, AreCounted, ask_place}
-use Rattle.wq_history.specs.Judging.{with_ask, without_ask, counted}
+use Rattle.wq_rows.specs.declared.event.Event.TheVariants.{Queue, Cancel, Ask, Told, AskLane, ToldLane}
+use Rattle.wq_history.specs.Judging.{with_ask, without_ask}
 use Rattle.wq_history.proofs.Histories.{steps_of-more, IsLegal-more, MayCome-lawful}
 use Rattle.wq_history.proofs.Counting.{IsNobodys, IsNobodys-nothing, IsNobodys-step, count-more, CountsAsks-same, CountsAsks-asked, CountsAsks-told, asks_waiting-count, all_asks_waiting-count, within-some}
 use Rattle.wq_history.proofs.Holding.{asks-first}
@@ -179,25 +171,17 @@ AreCounted-more w rows asks row old may = by_event row.event row.yes row.number 
 
   by_event : (event : Event) (said : Bool) (n : ℕ) → MayCome w rows event said n
       → AreCounted w (rows ++ (record { event = event; yes = said; number = n } ∷ [])) (counted asks event said)
-  by_event (Queue i) true n may = same (Queue i) true n (IsNobodys-step (Queue i) true n (QueueStep i) refl)
   by_event (Queue i) false n may = same (Queue i) false n (IsNobodys-nothing (Queue i) n refl)
-  by_event (Cancel i) true n may = same (Cancel i) true n (IsNobodys-step (Cancel i) true n (CancelStep i) refl)
   by_event (Cancel i) false n may = same (Cancel i) false n (IsNobodys-nothing (Cancel i) n refl)
-  by_event (Start q i) said n may = same (Start q i) said n (IsNobodys-step (Start q i) said n (StartStep q i) refl)
-  by_event (Wait q b) said n may = same (Wait q b) said n (IsNobodys-step (Wait q b) said n (WaitStep q b) refl)
-  by_event (Over q b) said n may = same (Over q b) said n (IsNobodys-step (Over q b) said n (OverStep q b) refl)
-  by_event (Finish q i) said n may = same (Finish q i) said n (IsNobodys-step (Finish q i) said n (FinishStep q i) refl)
   by_event (Ask i) false n may = same (Ask i) false n (IsNobodys-nothing (Ask i) n refl)
   by_event (Ask i) true n may = asked (OfItem i) n may.0
   by_event (Told i) false n may = let said : false ≡ true = may.0 in absurd cc
   by_event (Told i) true n may = told (OfItem i) n may.1
-  by_event (WaitAll q b) said n may = same (WaitAll q b) said n (IsNobodys-step (WaitAll q b) said n (WaitAllStep q b) refl)
-  by_event (OverAll q b) said n may = same (OverAll q b) said n (IsNobodys-step (OverAll q b) said n (OverAllStep q b) refl)
   by_event (AskLane q) false n may = same (AskLane q) false n (IsNobodys-nothing (AskLane q) n refl)
   by_event (AskLane q) true n may = asked (OfLane q) n may.0
   by_event (ToldLane q) false n may = let said : false ≡ true = may.0 in absurd cc
   by_event (ToldLane q) true n may = told (OfLane q) n may.1
-  by_event (Help q h deed) said n may = same (Help q h deed) said n (IsNobodys-step (Help q h deed) said n (HelperStep q h deed) refl)
+  by_event event said n may = same event said n (IsNobodys-step event said n _ refl)
 
 one_more_count : (w : Wiring) (rows : List Row) (row : Row) → GivesCounts w rows → GivesCounts w (rows ++ (row ∷ []))
 one_more_count w rows row before legal =

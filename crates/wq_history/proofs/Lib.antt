@@ -18,3 +18,4 @@ pub mod Uniqueness
 pub mod OneAnswer
 pub mod Woken
 pub mod Sleeping
+pub mod Words

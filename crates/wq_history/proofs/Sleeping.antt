@@ -1,18 +1,12 @@
 -- Who sleeps, sleeps for something that isn't so yet, among those who are woken once it is.
-use Rattle.std.proofs.Common.{◌≡◌, ℕ, inl, inr, refl, sym, ap, subst, ◌∙◌}
-use Rattle.std.specs.Prelude.{Some, None}
-use Rattle.wq_core.specs.declared.entry.Running.{Running}
+use Rattle.std.proofs.Common.{◌≡◌, ℕ, inl, inr, refl, sym, ap, subst, ◌∙◌, Some, None}
+use Rattle.wq_history.proofs.Words.{Running, Context, lane_at, next_of, Subject, OfItem, OfLane, BookView, state}
+use Rattle.wq_history.proofs.Words.{IsWaiting, Condition, WorkOn, EndOf, AllDone, sleepers_for, Flush, Call, Told}
+use Rattle.wq_history.proofs.Words.{Start, Over, Drain, subject_of, IsUnfinishedBelow, IsEarly, waiters_for}
+use Rattle.wq_history.proofs.Words.{sleepers_of}
 use Rattle.wq_core.specs.declared.entry.Waiting.{Waiting as WaitOf}
-use Rattle.wq_core.specs.declared.step.Context.{Context}
-use Rattle.wq_core.specs.State.{lane_at, next_of}
-use Rattle.wq_history.specs.declared.asking.Subject.{Subject}
-use Rattle.wq_history.specs.declared.asking.Subject.TheVariants.{Item as OfItem, Lane as OfLane}
-use Rattle.wq_history.specs.Book.{BookView, state, IsWaiting}
-use Rattle.wq_history.specs.Waits.{Condition, WorkOn, EndOf, AllDone, IsMet, sleepers_for}
-use Rattle.wq_history.specs.declared.call.Flush.{Flush}
-use Rattle.wq_history.specs.declared.call.Call.{Call}
-use Rattle.wq_history.specs.declared.call.Call.TheVariants.{Queue, Cancel, Ask, Told, CancelSync, Start, Wait, Over, Finish, Close, Drain}
-use Rattle.wq_history.specs.Calls.{subject_of, IsUnfinishedBelow, WaitsWith, IsEarly, Awaits, done_below, waiters_for, sleepers_of}
+use Rattle.wq_history.specs.Waits.{IsMet}
+use Rattle.wq_history.specs.Calls.{WaitsWith, Awaits, done_below}
 
 -- what isn't done yet
 not-done : (b : BookView) (x : Subject) (mark : ℕ) → IsUnfinishedBelow (state b) x mark → ¬ IsMet b (done_below x mark)

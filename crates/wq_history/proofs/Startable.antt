@@ -1,20 +1,20 @@
 -- How many entries of a lane may be started, before and after the lane has changed.
-use Rattle.std.proofs.Common.{◌≡◌, ◌≢◌, ℕ, ◌+◌, ◌≤◌, inl, inr, Bool, true, false, cond, not, eqb, List, [], ◌∷◌, ◌++◌, Option, Some, None, refl, sym, ap, subst, ◌∙◌, arith}
-use Rattle.std.specs.Prelude.{AllPairs, Contains, option_map, find}
+use Rattle.std.proofs.Common.{◌≡◌, ◌≢◌, ℕ, ◌+◌, ◌≤◌, inl, inr, Bool, true, false, cond, not, eqb, List, [], ◌∷◌, ◌++◌}
+use Rattle.std.proofs.Common.{Option, Some, None, refl, sym, ap, subst, ◌∙◌, arith, AllPairs, Contains, option_map}
+use Rattle.std.proofs.Common.{find}
 use Rattle.std.specs.List.{count_by, filter}
 use Rattle.std.proofs.lemmas.Bool.{cases_eq}
 use Rattle.std.proofs.lemmas.List.Elements.{All-contains}
 use Rattle.std.proofs.lemmas.List.Filters.{sum_by-filter_both}
 use Rattle.std.proofs.lemmas.List.Sums.{sum_by-cons, sum_by_push}
 use Rattle.wq_items.proofs.Lists.{Contains-here, Contains-later, AllPairs-head, AllPairs-tail}
-use Rattle.wq_core.specs.declared.entry.Entry.{Entry}
-use Rattle.wq_core.specs.declared.entry.Running.{Running}
-use Rattle.wq_core.specs.State.{Lane, run_by, with_run_by, RunsIn, is_running, next_of, pending_of}
-use Rattle.wq_core.specs.Rules.{begun, with_queued, with_cancelled, with_started, with_finished}
+use Rattle.wq_history.proofs.Words.{Entry, Running, Lane, run_by, with_run_by, RunsIn, is_running, next_of, with_queued}
+use Rattle.wq_history.proofs.Words.{with_cancelled, with_started, with_finished, startable}
+use Rattle.wq_core.specs.State.{pending_of}
+use Rattle.wq_core.specs.Rules.{begun}
 use Rattle.wq_core.proofs.Contexts.{cases_run_by, pending_kept, same_run, is_running-some, some-is_running}
 use Rattle.wq_core.proofs.LaneLemmas.{same_running}
 use Rattle.wq_core.proofs.Sound.{Differ}
-use Rattle.wq_history.specs.Waits.{startable}
 
 -- ---- entries whose items don't run
 

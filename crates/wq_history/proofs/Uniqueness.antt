@@ -1,24 +1,12 @@
 -- A book writes one row for a call: which one, the call and the book say.
-use Rattle.std.proofs.Common.{◌≡◌, ℕ, zero, suc, true, false, refl, sym, ap, subst, ◌∙◌}
-use Rattle.std.specs.Prelude.{Some}
-use Rattle.wq_core.specs.declared.entry.Entry.{Entry}
-use Rattle.wq_core.specs.declared.step.HelpStep.{HelpStep}
-use Rattle.wq_core.specs.declared.step.HelpStep.TheVariants.{Start as DoStart, Finish as DoFinish}
-use Rattle.wq_core.specs.Rules.{wait_deed, over_deed}
-use Rattle.wq_rows.specs.declared.event.Event.{Event}
-use Rattle.wq_rows.specs.declared.event.Event.TheVariants.{Queue as QueueEvent, Cancel as CancelEvent}
-use Rattle.wq_rows.specs.declared.event.Row.{Row}
-use Rattle.wq_history.specs.declared.asking.Subject.{Subject}
-use Rattle.wq_history.specs.declared.asking.Subject.TheVariants.{Item as OfItem, Lane as OfLane}
-use Rattle.wq_history.specs.Events.{is_told, event_in, ask_event, told_event, start_event, wait_event, over_event}
-use Rattle.wq_history.specs.Events.{finish_event}
-use Rattle.wq_history.specs.History.{MayCome}
-use Rattle.wq_history.specs.Book.{BookView, IsBook, IsNext}
+use Rattle.std.proofs.Common.{◌≡◌, ℕ, zero, suc, true, false, refl, sym, ap, subst, ◌∙◌, Some}
+use Rattle.wq_history.proofs.Words.{Entry, HelpStep, DoStart, DoFinish, wait_deed, over_deed, Event, QueueEvent}
+use Rattle.wq_history.proofs.Words.{CancelEvent, Row, is_told, event_in, ask_event, told_event, start_event, wait_event}
+use Rattle.wq_history.proofs.Words.{over_event, finish_event, MayCome, BookView, IsBook, IsNext, Call, Queue, Cancel}
+use Rattle.wq_history.proofs.Words.{Ask, Told, Start, Wait, Over, Finish, IsRowOf, Writes}
+use Rattle.wq_history.proofs.Counting.{is_told-ask_event}
 use Rattle.wq_history.proofs.KeptRows.{one_answer}
 use Rattle.wq_history.proofs.CallRows.{told-yes}
-use Rattle.wq_history.specs.declared.call.Call.{Call}
-use Rattle.wq_history.specs.declared.call.Call.TheVariants.{Queue, Cancel, Ask, Told, CancelSync, Start, Wait, Over, Finish, Close, Drain}
-use Rattle.wq_history.specs.Calls.{IsRowOf, Writes}
 
 -- rows with the same fields
 pub same-row : (r s : Row) → r.event ≡ s.event → r.yes ≡ s.yes → r.number ≡ s.number → r ≡ s
@@ -38,10 +26,6 @@ same-event b new next r s event book not_told one other first second =
     same-row r s (one ∙ sym other) same.0 same.1
 
 -- ---- events of which nobody is told
-
-ask-told : (x : Subject) → is_told (ask_event x) ≡ false
-ask-told (OfItem i) = refl
-ask-told (OfLane q) = refl
 
 context-told : (q c : ℕ) (deed : HelpStep) → is_told (event_in q c deed) ≡ false
 context-told q zero (DoStart i) = refl
@@ -66,12 +50,11 @@ one-row b new next (Queue i) r s book one first other second = same-event b new 
 one-row b new next (Cancel i) r s book one first other second = same-event b new next r s
     (CancelEvent i) book refl one other first second
 one-row b new next (Ask x) r s book one first other second = same-event b new next r s (ask_event x) book
-    (ask-told x) one other first second
+    (is_told-ask_event x) one other first second
 one-row b new next (Told x mark) r s book one first other second =
     let yes : r.yes ≡ true = told-yes b.wiring b.rows x r.yes r.number (comes b new r (told_event x) one.0 first) in
     let also : s.yes ≡ true = told-yes b.wiring b.rows x s.yes s.number (comes b next s (told_event x) other.0 second) in
     same-row r s (one.0 ∙ sym other.0) (yes ∙ sym also) (one.1 ∙ sym other.1)
-one-row b new next (CancelSync i) r s book one first other second = absurd one
 one-row b new next (Start c) r s book one first other second =
     let same : other.0 ≡ one.0 = one-next b c.lane other.0 one.0 other.1 one.1 in
     let event : s.event ≡ start_event c.lane c.number one.0 = other.2 ∙ ap
@@ -87,5 +70,4 @@ one-row b new next (Over c f) r s book one first other second =
 one-row b new next (Finish c i) r s book one first other second =
     same-event b new next r s (finish_event c.lane c.number i) book
     (context-told c.lane c.number (DoFinish i)) one other first second
-one-row b new next Close r s book one first other second = absurd one
-one-row b new next Drain r s book one first other second = absurd one
+one-row b new next _ r s book one first other second = absurd one

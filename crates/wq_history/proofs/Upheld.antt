@@ -1,32 +1,16 @@
 -- What holds of a book after an answer, and what an answer is about.
 use Rattle.std.proofs.Common.{◌≡◌, ℕ, zero, suc, ◌+◌, ◌<◌, ◌≤◌, inl, inr, Bool, true, false, cond, [], ◌∷◌, ◌++◌}
-use Rattle.std.proofs.Common.{length-append, refl, sym, ap, subst, ◌∙◌, arith}
-use Rattle.std.specs.Prelude.{Result, Ok, Err, ◌&&◌}
-use Rattle.wq_core.specs.declared.step.Context.{Context}
-use Rattle.wq_core.specs.declared.step.HelpStep.{HelpStep}
-use Rattle.wq_core.specs.declared.step.HelpStep.TheVariants.{Start as DoStart, Finish as DoFinish}
-use Rattle.wq_core.specs.Wiring.{Wiring, items, lane_of, HasContext}
-use Rattle.wq_core.specs.State.{lane_at, is_running}
-use Rattle.wq_core.specs.Rules.{wait_deed, over_deed}
+use Rattle.std.proofs.Common.{length-append, refl, sym, ap, subst, ◌∙◌, arith, Result, Ok, Err, ◌&&◌}
+use Rattle.wq_history.proofs.Words.{Context, HelpStep, DoStart, DoFinish, Wiring, items, lane_of, HasContext, lane_at}
+use Rattle.wq_history.proofs.Words.{is_running, wait_deed, over_deed, Event, Row, item_in, Subject, Flush, Call}
+use Rattle.wq_history.proofs.Words.{CancelSync, Close, Reply, Wrote, WroteTwo, Done, NotYet, CallError, subject_in}
+use Rattle.wq_history.proofs.Words.{event_in, is_ask, ask_event, start_event, wait_event, over_event, finish_event}
+use Rattle.wq_history.proofs.Words.{IsThere, MayCome, rows_needed, BookView, state, free, IsBook, Appends, IsNext}
+use Rattle.wq_history.proofs.Words.{Writes, WritesTwo, after, Replies, Answers}
 use Rattle.wq_core.proofs.Contexts.{next-may}
-use Rattle.wq_rows.specs.declared.event.Event.{Event}
-use Rattle.wq_rows.specs.declared.event.Row.{Row}
-use Rattle.wq_rows.specs.Packing.{item_in}
-use Rattle.wq_history.specs.declared.asking.Subject.{Subject}
-use Rattle.wq_history.specs.declared.call.Flush.{Flush}
-use Rattle.wq_history.specs.declared.call.Call.{Call}
-use Rattle.wq_history.specs.declared.call.Call.TheVariants.{Queue as QueueCall, Ask as AskCall, CancelSync}
+use Rattle.wq_history.specs.declared.call.Call.TheVariants.{Queue as QueueCall, Ask as AskCall}
 use Rattle.wq_history.specs.declared.call.Call.TheVariants.{Start as StartCall, Wait as WaitCall, Over as OverCall}
-use Rattle.wq_history.specs.declared.call.Call.TheVariants.{Finish as FinishCall, Close}
-use Rattle.wq_history.specs.declared.call.Reply.{Reply}
-use Rattle.wq_history.specs.declared.call.Reply.TheVariants.{Wrote, WroteTwo, Done, NotYet}
-use Rattle.wq_history.specs.declared.fault.CallError.{CallError}
-use Rattle.wq_history.specs.Events.{subject_in, event_in, is_ask, ask_event, start_event, wait_event, over_event}
-use Rattle.wq_history.specs.Events.{finish_event}
-use Rattle.wq_history.specs.History.{IsThere, MayCome}
-use Rattle.wq_history.specs.Reserve.{rows_needed}
-use Rattle.wq_history.specs.Book.{BookView, state, free, IsBook, Appends, IsNext}
-use Rattle.wq_history.specs.Calls.{Writes, WritesTwo, after, Replies, Answers}
+use Rattle.wq_history.specs.declared.call.Call.TheVariants.{Finish as FinishCall}
 use Rattle.wq_history.proofs.Histories.{IsLegal-more}
 use Rattle.wq_history.proofs.Holding.{free_rows-noted}
 use Rattle.wq_history.proofs.LegalRows.{IsSoundState-legal}

@@ -1,18 +1,11 @@
 -- What is waited for, and events of asks, whatever they are about.
-use Rattle.std.proofs.Common.{◌≡◌, ℕ, Bool, ◌<◌, ◌↔◌, List, get_or, None, refl, arith}
-use Rattle.std.specs.Prelude.{IsTrue}
+use Rattle.std.proofs.Common.{◌≡◌, ℕ, Bool, ◌<◌, ◌↔◌, List, get_or, None, refl, arith, IsTrue}
 use Rattle.wq_items.specs.Table.{ItemWaitsBy}
 use Rattle.wq_items.proofs.Tables.{ItemWaits-below}
-use Rattle.wq_core.specs.Wiring.{Wiring, IsWiring, items}
-use Rattle.wq_core.specs.State.{State, lane_at, IsBusy, IsBusyBelow}
-use Rattle.wq_core.specs.Held.{IsSoundState}
+use Rattle.wq_history.proofs.Words.{Wiring, IsWiring, items, State, lane_at, IsBusy, IsBusyBelow, IsSoundState, Row}
+use Rattle.wq_history.proofs.Words.{Subject, OfItem, OfLane, step_of, ask_event, told_event, IsThere, MayComeIn}
+use Rattle.wq_history.proofs.Words.{MayCome, AskView, CountsAsks, ask_place}
 use Rattle.wq_core.proofs.LaneLemmas.{ItemWaits-by}
-use Rattle.wq_rows.specs.declared.event.Row.{Row}
-use Rattle.wq_history.specs.declared.asking.Subject.{Subject}
-use Rattle.wq_history.specs.declared.asking.Subject.TheVariants.{Item as OfItem, Lane as OfLane}
-use Rattle.wq_history.specs.Events.{step_of, ask_event, told_event}
-use Rattle.wq_history.specs.History.{IsThere, MayComeIn, MayCome}
-use Rattle.wq_history.specs.Counts.{AskView, CountsAsks, ask_place}
 use Rattle.wq_history.proofs.Counting.{asks_waiting-count}
 
 -- ---- waits

@@ -1,25 +1,13 @@
 -- What is written: a row is paid for, and a book holds with it what it held before.
 use Rattle.std.proofs.Common.{◌≡◌, ℕ, ◌+◌, ◌<◌, ◌≤◌, Bool, true, false, cond, List, [], ◌∷◌, ◌++◌, length, refl, sym}
-use Rattle.std.proofs.Common.{ap, subst, ◌∙◌, arith}
-use Rattle.std.specs.Prelude.{Some, None, ◌&&◌}
-use Rattle.wq_core.specs.declared.step.Step.{Step}
-use Rattle.wq_core.specs.declared.step.Step.TheVariants.{Queue as QueueStep}
-use Rattle.wq_core.specs.Wiring.{Wiring, IsWiring, items}
-use Rattle.wq_core.specs.State.{State}
-use Rattle.wq_core.specs.Rules.{effect}
-use Rattle.wq_core.specs.Work.{work_left}
-use Rattle.wq_core.specs.Held.{Machine, IsDone, machine_after}
+use Rattle.std.proofs.Common.{ap, subst, ◌∙◌, arith, Some, None, ◌&&◌}
+use Rattle.wq_history.proofs.Words.{Step, QueueStep, Wiring, IsWiring, items, State, effect, work_left, Machine}
+use Rattle.wq_history.proofs.Words.{machine_after, Event, Row, max_rows, step_of, is_ask, is_told, state_after, MayCome}
+use Rattle.wq_history.proofs.Words.{MayFollow, IsLegal, reserved, free_rows, rows_needed, AskView, AreCounted, Replays}
+use Rattle.wq_history.proofs.Words.{HoldsBook, counted}
+use Rattle.wq_core.specs.Held.{IsDone}
 use Rattle.wq_core.proofs.WorkChanges.{work_left-queued}
-use Rattle.wq_rows.specs.declared.event.Event.{Event}
-use Rattle.wq_rows.specs.declared.event.Event.TheVariants.{Queue, Cancel, Start, Wait, Over, Finish, Ask, Told}
-use Rattle.wq_rows.specs.declared.event.Event.TheVariants.{WaitAll, OverAll, AskLane, ToldLane, Help}
-use Rattle.wq_rows.specs.declared.event.Row.{Row}
-use Rattle.wq_rows.specs.Stored.{max_rows}
-use Rattle.wq_history.specs.Events.{step_of, is_ask, is_told}
-use Rattle.wq_history.specs.History.{state_after, MayCome, MayFollow, IsLegal}
-use Rattle.wq_history.specs.Reserve.{reserved, free_rows, rows_needed}
-use Rattle.wq_history.specs.Counts.{AskView, AreCounted, Replays, HoldsBook}
-use Rattle.wq_history.specs.Judging.{counted}
+use Rattle.wq_rows.specs.declared.event.Event.TheVariants.{Queue, Cancel, Ask, AskLane}
 use Rattle.wq_history.proofs.Histories.{state_after-step, state_after-none}
 use Rattle.wq_history.proofs.Counting.{count-more, IsNobodys-step, CountsAsks-same}
 use Rattle.wq_history.proofs.Holding.{reserved-held, length-more, Replays-noted, Replays-made}
@@ -71,21 +59,12 @@ paid_row w rows written wiring legal may = by_event written.event written.yes ma
       → reserved w (rows ++ (row e k ∷ [])) + 1 ≤ reserved w rows + rows_needed w e k
   by_event (Queue i) true come = queued_row w rows i n wiring legal come.0
   by_event (Queue i) false come = omega (arith, noted_row w rows (row (Queue i) false) refl refl)
-  by_event (Cancel i) true come = kept (Cancel i) true come refl
   by_event (Cancel i) false come = omega (arith, noted_row w rows (row (Cancel i) false) refl refl)
-  by_event (Start q i) k come = kept (Start q i) k come refl
-  by_event (Wait q b) k come = kept (Wait q b) k come refl
-  by_event (Over q b) k come = kept (Over q b) k come refl
-  by_event (Finish q i) k come = kept (Finish q i) k come refl
   by_event (Ask i) true come = omega (arith, noted_row w rows (row (Ask i) true) refl refl)
   by_event (Ask i) false come = omega (arith, noted_row w rows (row (Ask i) false) refl refl)
-  by_event (Told i) k come = kept (Told i) k come refl
-  by_event (WaitAll q b) k come = kept (WaitAll q b) k come refl
-  by_event (OverAll q b) k come = kept (OverAll q b) k come refl
   by_event (AskLane q) true come = omega (arith, noted_row w rows (row (AskLane q) true) refl refl)
   by_event (AskLane q) false come = omega (arith, noted_row w rows (row (AskLane q) false) refl refl)
-  by_event (ToldLane q) k come = kept (ToldLane q) k come refl
-  by_event (Help q h deed) k come = kept (Help q h deed) k come refl
+  by_event event k come = kept event k come refl
 
 -- ---- a book with one more row
 

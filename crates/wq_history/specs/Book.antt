@@ -1,11 +1,9 @@
 -- Books: a history with room for a given number of rows, and what each call answers.
-use Rattle.std.specs.Prelude.{◌≡◌, ℕ, zero, suc, ◌+◌, ◌<◌, ◌≤◌, ◌⊎◌, List, ◌∷◌, [], ◌++◌, length, Some, None, Bool}
-use Rattle.std.specs.Prelude.{true, false, ⊤}
-use Rattle.wq_items.specs.Table.{ItemWaitsBy}
+use Rattle.std.specs.Prelude.{◌≡◌, ℕ, zero, suc, ◌+◌, ◌<◌, ◌≤◌, ◌⊎◌, List, ◌∷◌, [], ◌++◌, length, Some, None, Bool, ⊤}
 use Rattle.wq_core.specs.declared.entry.Entry.{Entry}
 use Rattle.wq_core.specs.declared.entry.Waiting.{Waiting}
 use Rattle.wq_core.specs.declared.entry.Running.{Running}
-use Rattle.wq_core.specs.Wiring.{Wiring, IsWiring, items, declared_by, HasContext}
+use Rattle.wq_core.specs.Wiring.{Wiring, IsWiring, items, HasContext}
 use Rattle.wq_core.specs.State.{State, lane_at, run_by, next_of, RunsIn, IsPendingOn}
 use Rattle.wq_core.specs.Rules.{IsHeldBack}
 use Rattle.wq_rows.specs.declared.event.Event.{Event}

@@ -5,6 +5,7 @@
 -- is said by MayCome; how many free rows it needs by rows_needed; and both by Appends. Where there is no row to
 -- write, the call is done; or it is too early, and then nothing is changed, and its caller sleeps and calls again.
 use Rattle.std.specs.Prelude.{◌≡◌, ℕ, ◌<◌, ◌≤◌, ◌⊎◌, length, Bool, true, false, Option, Some, None, Result, Ok, Err}
+use Rattle.std.specs.Prelude.{MatchOption}
 use Rattle.wq_items.specs.Table.{ItemWaitsBy}
 use Rattle.wq_core.specs.declared.step.Context.{Context}
 use Rattle.wq_core.specs.declared.entry.Running.{Running}
@@ -24,22 +25,19 @@ use Rattle.wq_history.specs.declared.call.Call.TheVariants.{Finish, Close, Drain
 use Rattle.wq_history.specs.declared.call.Reply.{Reply}
 use Rattle.wq_history.specs.declared.call.Reply.TheVariants.{Wrote, WroteTwo, Done, NotYet}
 use Rattle.wq_history.specs.declared.fault.BookError.{BookError}
-use Rattle.wq_history.specs.declared.fault.BookError.TheVariants.{HistoryFull as BookFull, Closed as BookClosed}
-use Rattle.wq_history.specs.declared.fault.BookError.TheVariants.{Undeclared as BookUndeclared}
-use Rattle.wq_history.specs.declared.fault.BookError.TheVariants.{TooManyWaits as BookTooManyWaits}
-use Rattle.wq_history.specs.declared.fault.BookError.TheVariants.{WrongLane as BookWrongLane, NoItem as BookNoItem}
 use Rattle.wq_history.specs.declared.fault.CallError.{CallError}
 use Rattle.wq_history.specs.declared.fault.CallError.TheVariants.{HistoryFull, Closed, Undeclared, TooManyWaits}
 use Rattle.wq_history.specs.declared.fault.CallError.TheVariants.{WrongLane, NotAsked, NoItem}
 use Rattle.wq_history.specs.declared.sleepers.Sleepers.{Sleepers}
 use Rattle.wq_history.specs.declared.sleepers.Sleepers.TheVariants.{Contexts, ItemWaiters, LaneWaiters, Destroyers}
 use Rattle.wq_history.specs.declared.sleepers.Wake.{Wake}
+use Rattle.wq_history.specs.Errors.{call_error}
 use Rattle.wq_history.specs.Events.{ask_event, told_event, start_event, wait_event, over_event, finish_event}
 use Rattle.wq_history.specs.History.{asks_waiting}
 use Rattle.wq_history.specs.Book.{BookView, state, free, Appends, LacksRows, IsAwake, IsWaitingBy, WaitsFor, RunsItem}
 use Rattle.wq_history.specs.Book.{IsNext, HasNothingToStart, IsWrongToStart, IsNotAwake}
 use Rattle.wq_history.specs.Waits.{Condition, WorkOn, EndOf, ItemDone, LaneDone, AllDone, IsMet, nobody, one_context}
-use Rattle.wq_history.specs.Waits.{every_context, WakesBy}
+use Rattle.wq_history.specs.Waits.{by_closing, WakesBy}
 
 -- ---- what calls are about
 
@@ -155,7 +153,7 @@ WritesTwo old (CancelSync i) ask taken new = (3 ≤ free old) × ((between : Boo
 WritesTwo old _ ask taken new = ⊥
 
 -- the call is done, and there is no row for it: a context has nothing to start, and its lane has ended; the book is
--- closed; nothing is unfinished
+-- closed; a closed book has nothing unfinished
 abbrev pub IsDone : BookView → Call → Type 0
 IsDone b (Start c) = HasNothingToStart b c.lane c.number × IsMet b (EndOf c.lane)
 IsDone b Close = Unit {0}
@@ -168,7 +166,7 @@ after b Close = record b { closed = true }
 after b _ = b
 
 -- it is too early: an entry below the mark is unfinished; a context has nothing to start, and its lane hasn't ended;
--- an entry is unfinished
+-- an entry is unfinished, or the book isn't closed
 abbrev pub IsEarly : BookView → Call → Type 0
 IsEarly b (Told x mark) = (0 < asks_waiting x b.rows) × IsUnfinishedBelow (state b) x mark
 IsEarly b (Start c) = HasNothingToStart b c.lane c.number × (¬ IsMet b (EndOf c.lane))
@@ -202,13 +200,7 @@ AlwaysWrites _ = ⊥
 
 -- a call is refused, by this error of a named call
 abbrev pub RefusesAs : BookView → Call → BookError → Type 0
-RefusesAs b call BookFull = Refuses b call HistoryFull
-RefusesAs b call BookClosed = Refuses b call Closed
-RefusesAs b call BookUndeclared = Refuses b call Undeclared
-RefusesAs b call BookTooManyWaits = Refuses b call TooManyWaits
-RefusesAs b call BookWrongLane = Refuses b call WrongLane
-RefusesAs b call BookNoItem = Refuses b call NoItem
-RefusesAs b call _ = ⊥
+RefusesAs b call e = MatchOption (call_error e) ⊥ (λ why. Refuses b call why)
 
 -- a call by name writes a row, or it is refused, and then nothing is changed
 abbrev pub AnswersAs : BookView → Call → Result Row BookError → BookView → Type 0
@@ -230,9 +222,10 @@ RefusesWait b q c whole target e =
 
 -- ---- who is woken, and who sleeps
 
--- whom a call wakes that is done without a row: all contexts, once the book is closed
+-- whom a call wakes that is done without a row: once the book is closed, all contexts, and all who wait until all is
+-- done
 abbrev pub woken_by_done : Call → Wake
-woken_by_done Close = every_context
+woken_by_done Close = by_closing
 woken_by_done _ = nobody
 
 -- whom a refused call wakes: a start passes its wake-up on, since it may have been woken in place of another context

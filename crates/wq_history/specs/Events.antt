@@ -9,11 +9,12 @@ use Rattle.wq_core.specs.declared.step.Step.TheVariants.{Help as HelperStep}
 use Rattle.wq_core.specs.declared.step.HelpStep.{HelpStep}
 use Rattle.wq_core.specs.declared.step.HelpStep.TheVariants.{Start as DoStart, Wait as DoWait, WaitAll as DoWaitAll}
 use Rattle.wq_core.specs.declared.step.HelpStep.TheVariants.{Over as DoOver, OverAll as DoOverAll, Finish as DoFinish}
-use Rattle.wq_core.specs.Rules.{deed_item, wait_deed, over_deed}
+use Rattle.wq_core.specs.Rules.{wait_deed, over_deed}
 use Rattle.wq_rows.specs.declared.event.Event.{Event}
 use Rattle.wq_rows.specs.declared.event.Event.TheVariants.{Queue, Cancel, Start, Wait, Over, Finish, Ask, Told, WaitAll}
 use Rattle.wq_rows.specs.declared.event.Event.TheVariants.{OverAll, AskLane, ToldLane, Help}
 use Rattle.wq_rows.specs.declared.event.Row.{Row}
+use Rattle.wq_rows.specs.Packing.{item_in}
 use Rattle.wq_history.specs.declared.asking.Subject.{Subject}
 use Rattle.wq_history.specs.declared.asking.Subject.TheVariants.{Item as OfItem, Lane as OfLane}
 
@@ -21,20 +22,15 @@ use Rattle.wq_history.specs.declared.asking.Subject.TheVariants.{Item as OfItem,
 -- finds nothing make none, nor do callers who ask or are told
 abbrev pub step_of : Event → Bool → Option Step
 step_of (Queue i) true = Some (QueueStep i)
-step_of (Queue i) false = None
 step_of (Cancel i) true = Some (CancelStep i)
-step_of (Cancel i) false = None
 step_of (Start q i) said = Some (StartStep q i)
 step_of (Wait q b) said = Some (WaitStep q b)
 step_of (Over q b) said = Some (OverStep q b)
 step_of (Finish q i) said = Some (FinishStep q i)
-step_of (Ask i) said = None
-step_of (Told i) said = None
 step_of (WaitAll q b) said = Some (WaitAllStep q b)
 step_of (OverAll q b) said = Some (OverAllStep q b)
-step_of (AskLane q) said = None
-step_of (ToldLane q) said = None
 step_of (Help q h deed) said = Some (HelperStep q h deed)
+step_of _ _ = None
 
 -- the steps that rows make, in their order
 abbrev pub steps_of : List Row → List Step
@@ -72,19 +68,9 @@ finish_event q c i = event_in q c (DoFinish i)
 
 -- what an event is about: a lane for AskLane and ToldLane, and an item for all others
 abbrev pub subject_in : Event → Subject
-subject_in (Queue i) = OfItem i
-subject_in (Cancel i) = OfItem i
-subject_in (Start q i) = OfItem i
-subject_in (Wait q b) = OfItem b
-subject_in (Over q b) = OfItem b
-subject_in (Finish q i) = OfItem i
-subject_in (Ask i) = OfItem i
-subject_in (Told i) = OfItem i
-subject_in (WaitAll q b) = OfItem b
-subject_in (OverAll q b) = OfItem b
 subject_in (AskLane q) = OfLane q
 subject_in (ToldLane q) = OfLane q
-subject_in (Help q h deed) = OfItem (deed_item deed)
+subject_in event = OfItem (item_in event)
 
 -- a caller asks about this
 abbrev pub ask_event : Subject → Event
@@ -131,16 +117,6 @@ is_ask _ = false
 
 -- a caller who asked about some item or some lane is told
 abbrev pub is_told : Event → Bool
-is_told (Queue j) = false
-is_told (Cancel j) = false
-is_told (Start q j) = false
-is_told (Wait q b) = false
-is_told (Over q b) = false
-is_told (Finish q j) = false
-is_told (Ask j) = false
 is_told (Told j) = true
-is_told (WaitAll q b) = false
-is_told (OverAll q b) = false
-is_told (AskLane q) = false
 is_told (ToldLane q) = true
-is_told (Help q h deed) = false
+is_told _ = false

@@ -1,12 +1,11 @@
 -- Judging a history: what its bytes say about a machine on which nothing has happened.
 use Rattle.std.specs.Prelude.{◌≡◌, ℕ, ◌+◌, ◌-◌, ◌<◌, ◌⊎◌, List, ◌++◌, length, take, slice_index, slice_set, Option}
-use Rattle.std.specs.Prelude.{Some, None, Bool, true, false}
+use Rattle.std.specs.Prelude.{Some, None, Bool, true}
 use Rattle.wq_core.specs.declared.step.Step.{Step}
 use Rattle.wq_core.specs.Wiring.{items}
 use Rattle.wq_core.specs.Held.{Machine, machine_after}
 use Rattle.wq_rows.specs.declared.event.Event.{Event}
-use Rattle.wq_rows.specs.declared.event.Event.TheVariants.{Queue, Cancel, Start, Wait, Over, Finish, Ask, Told, WaitAll}
-use Rattle.wq_rows.specs.declared.event.Event.TheVariants.{OverAll, AskLane, ToldLane, Help}
+use Rattle.wq_rows.specs.declared.event.Event.TheVariants.{Ask, Told, AskLane, ToldLane}
 use Rattle.wq_rows.specs.declared.event.Row.{Row}
 use Rattle.wq_rows.specs.Packing.{IsPackedRow}
 use Rattle.wq_rows.specs.Stored.{IsStored}
@@ -69,21 +68,11 @@ without_ask x asks =
 
 -- the counts of the asks that wait after an event with this `yes`
 abbrev pub counted : AskView → Event → Bool → AskView
-counted asks (Queue i) said = asks
-counted asks (Cancel i) said = asks
-counted asks (Start q i) said = asks
-counted asks (Wait q b) said = asks
-counted asks (Over q b) said = asks
-counted asks (Finish q i) said = asks
 counted asks (Ask i) true = with_ask (OfItem i) asks
-counted asks (Ask i) false = asks
-counted asks (Told i) said = without_ask (OfItem i) asks
-counted asks (WaitAll q b) said = asks
-counted asks (OverAll q b) said = asks
 counted asks (AskLane q) true = with_ask (OfLane q) asks
-counted asks (AskLane q) false = asks
+counted asks (Told i) said = without_ask (OfItem i) asks
 counted asks (ToldLane q) said = without_ask (OfLane q) asks
-counted asks (Help q h deed) said = asks
+counted asks _ _ = asks
 
 -- ---- numbers
 

@@ -3,8 +3,7 @@ use Rattle.std.specs.Prelude.{ℕ, ◌+◌, ◌-◌, List, length, Bool, true, f
 use Rattle.wq_core.specs.Wiring.{Wiring}
 use Rattle.wq_core.specs.Work.{whole_work, work_left}
 use Rattle.wq_rows.specs.declared.event.Event.{Event}
-use Rattle.wq_rows.specs.declared.event.Event.TheVariants.{Queue, Cancel, Start, Wait, Over, Finish, Ask, Told, WaitAll}
-use Rattle.wq_rows.specs.declared.event.Event.TheVariants.{OverAll, AskLane, ToldLane, Help}
+use Rattle.wq_rows.specs.declared.event.Event.TheVariants.{Queue, Cancel, Ask, AskLane}
 use Rattle.wq_rows.specs.declared.event.Row.{Row}
 use Rattle.wq_history.specs.History.{state_after, all_asks_waiting}
 
@@ -22,18 +21,9 @@ free_rows w room rows = room - (length rows + reserved w rows)
 abbrev pub rows_needed : Wiring → Event → Bool → ℕ
 rows_needed w (Queue i) true = 1 + whole_work w i
 rows_needed w (Queue i) false = 1
-rows_needed w (Cancel i) true = 0
 rows_needed w (Cancel i) false = 1
-rows_needed w (Start q i) said = 0
-rows_needed w (Wait q b) said = 0
-rows_needed w (Over q b) said = 0
-rows_needed w (Finish q i) said = 0
 rows_needed w (Ask i) true = 2
 rows_needed w (Ask i) false = 1
-rows_needed w (Told i) said = 0
-rows_needed w (WaitAll q b) said = 0
-rows_needed w (OverAll q b) said = 0
 rows_needed w (AskLane q) true = 2
 rows_needed w (AskLane q) false = 1
-rows_needed w (ToldLane q) said = 0
-rows_needed w (Help q h deed) said = 0
+rows_needed w _ _ = 0

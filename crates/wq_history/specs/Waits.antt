@@ -3,14 +3,12 @@ use Rattle.std.specs.Prelude.{◌≡◌, ℕ, ◌+◌, ◌≤◌, ◌⊎◌, not
 use Rattle.std.specs.List.{count_by}
 use Rattle.wq_core.specs.declared.entry.Entry.{Entry}
 use Rattle.wq_core.specs.declared.step.HelpStep.{HelpStep}
-use Rattle.wq_core.specs.declared.step.HelpStep.TheVariants.{Start as DoStart, Wait as DoWait, WaitAll as DoWaitAll}
-use Rattle.wq_core.specs.declared.step.HelpStep.TheVariants.{Over as DoOver, OverAll as DoOverAll, Finish as DoFinish}
+use Rattle.wq_core.specs.declared.step.HelpStep.TheVariants.{Start as DoStart, Finish as DoFinish}
 use Rattle.wq_core.specs.Wiring.{Wiring, lane_of}
 use Rattle.wq_core.specs.State.{Lane, State, lane_at, is_running, next_of, HasPending, HasUnfinished}
 use Rattle.wq_core.specs.State.{HasUnfinishedBelow, IsBusyBelow}
 use Rattle.wq_rows.specs.declared.event.Event.{Event}
-use Rattle.wq_rows.specs.declared.event.Event.TheVariants.{Queue, Cancel, Start, Wait, Over, Finish, Ask, Told, WaitAll}
-use Rattle.wq_rows.specs.declared.event.Event.TheVariants.{OverAll, AskLane, ToldLane, Help}
+use Rattle.wq_rows.specs.declared.event.Event.TheVariants.{Queue, Cancel, Start, Finish, Help}
 use Rattle.wq_history.specs.declared.sleepers.Sleepers.{Sleepers}
 use Rattle.wq_history.specs.declared.sleepers.Sleepers.TheVariants.{Contexts, ItemWaiters, LaneWaiters, Destroyers}
 use Rattle.wq_history.specs.declared.sleepers.WokenContexts.{WokenContexts}
@@ -30,14 +28,15 @@ pub data Condition : Type 0 where
   AllDone : Condition
 
 -- the condition is met in this state, if this says whether the book is closed. An entry may be started if it is pending
--- and its item isn't running. A lane has ended if the book is closed and nothing is pending on the lane. An item, a
--- lane or all is done if no entry of it is unfinished, below the mark if there is one
+-- and its item isn't running. A lane has ended if the book is closed and nothing is pending on the lane. An item or a
+-- lane is done if no entry of it is unfinished below the mark; all is done if the book is closed and nothing is
+-- unfinished
 abbrev pub IsMetIn : State → Bool → Condition → Type 0
 IsMetIn s closed (WorkOn q) = (e : Entry) × (next_of (lane_at s q) ≡ Some e)
 IsMetIn s closed (EndOf q) = (closed ≡ true) × ((lane_at s q).pending ≡ [])
 IsMetIn s closed (ItemDone i mark) = ¬ HasUnfinishedBelow s i mark
 IsMetIn s closed (LaneDone q mark) = ¬ IsBusyBelow (lane_at s q) mark
-IsMetIn s closed AllDone = ¬ HasUnfinished s
+IsMetIn s closed AllDone = (closed ≡ true) × (¬ HasUnfinished s)
 
 -- the condition is met in this book
 abbrev pub IsMet : BookView → Condition → Type 0
@@ -72,9 +71,9 @@ nobody = record { contexts = Nobody; item_waiters = None; lane_waiters = None; d
 abbrev pub one_context : ℕ → Wake
 one_context q = record { contexts = One q; item_waiters = None; lane_waiters = None; destroyers = false }
 
--- all contexts of all lanes are woken
-abbrev pub every_context : Wake
-every_context = record { contexts = Everybody; item_waiters = None; lane_waiters = None; destroyers = false }
+-- all contexts of all lanes are woken, and all who wait until all is done
+abbrev pub by_closing : Wake
+by_closing = record { contexts = Everybody; item_waiters = None; lane_waiters = None; destroyers = true }
 
 -- one context of lane q is woken, or all of them
 abbrev pub WakesContext : WokenContexts → ℕ → Type 0
@@ -161,17 +160,8 @@ WakesByDeed b q _ wake = wake ≡ nobody
 -- nobody, nor does what came to nothing
 abbrev pub WakesBy : BookView → Event → Bool → Wake → Type 0
 WakesBy b (Queue i) true wake = wake ≡ one_context (lane_of b.wiring i)
-WakesBy b (Queue i) false wake = wake ≡ nobody
 WakesBy b (Cancel i) true wake = WakesByCancel b (lane_of b.wiring i) i wake
-WakesBy b (Cancel i) false wake = wake ≡ nobody
 WakesBy b (Start q i) said wake = WakesByDeed b q (DoStart i) wake
-WakesBy b (Wait q t) said wake = WakesByDeed b q (DoWait t) wake
-WakesBy b (Over q t) said wake = WakesByDeed b q (DoOver t) wake
 WakesBy b (Finish q i) said wake = WakesByDeed b q (DoFinish i) wake
-WakesBy b (Ask i) said wake = wake ≡ nobody
-WakesBy b (Told i) said wake = wake ≡ nobody
-WakesBy b (WaitAll q t) said wake = WakesByDeed b q (DoWaitAll t) wake
-WakesBy b (OverAll q t) said wake = WakesByDeed b q (DoOverAll t) wake
-WakesBy b (AskLane q) said wake = wake ≡ nobody
-WakesBy b (ToldLane q) said wake = wake ≡ nobody
 WakesBy b (Help q h deed) said wake = WakesByDeed b q deed wake
+WakesBy b _ _ wake = wake ≡ nobody

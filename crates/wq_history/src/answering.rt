@@ -51,7 +51,7 @@ impl<A: Allocator> Book<A> {
                 Ok(Reply::Done)
             }
             Call::Drain => {
-                if self.is_idle() {
+                if self.all_done() {
                     Ok(Reply::Done)
                 } else {
                     Ok(Reply::NotYet)

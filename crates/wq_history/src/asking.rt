@@ -26,17 +26,7 @@ impl Subject {
     {
         match *event {
             Event::AskLane(q) | Event::ToldLane(q) => Subject::Lane(q),
-            Event::Queue(item)
-            | Event::Cancel(item)
-            | Event::Start(_, item)
-            | Event::Wait(_, item)
-            | Event::Over(_, item)
-            | Event::Finish(_, item)
-            | Event::Ask(item)
-            | Event::Told(item)
-            | Event::WaitAll(_, item)
-            | Event::OverAll(_, item) => Subject::Item(item),
-            Event::Help(_, _, deed) => Subject::Item(deed.item()),
+            _ => Subject::Item(event.item()),
         }
     }
 
@@ -64,18 +54,11 @@ impl Subject {
 /// An ask about an item that waits. It can't be copied, and isn't dropped by itself: it ends when the book says that
 /// the wait is over, or when its holder gives it up.
 pub struct Asked {
-    item: ItemId,
-    mark: u32,
+    pub(crate) item: ItemId,
+    pub(crate) mark: u32,
 }
 
 impl Asked {
-    /// An ask of an item with this mark.
-    pub(crate) fn new(item: ItemId, mark: u32) -> Self
-        ensures { result ≡ record { item = item; mark = mark } }
-    {
-        Asked { item, mark }
-    }
-
     /// The item that is waited for.
     pub fn item(&self) -> ItemId
         ensures { result ≡ self.now.item }
@@ -120,18 +103,11 @@ pub enum Told {
 /// An ask about a whole lane that waits. It can't be copied, and isn't dropped by itself: it ends when the book says
 /// that the wait is over, or when its holder gives it up.
 pub struct LaneAsked {
-    lane: LaneId,
-    mark: u32,
+    pub(crate) lane: LaneId,
+    pub(crate) mark: u32,
 }
 
 impl LaneAsked {
-    /// An ask of a lane with this mark.
-    pub(crate) fn new(lane: LaneId, mark: u32) -> Self
-        ensures { result ≡ record { lane = lane; mark = mark } }
-    {
-        LaneAsked { lane, mark }
-    }
-
     /// The lane that is waited for.
     pub fn lane(&self) -> LaneId
         ensures { result ≡ self.now.lane }

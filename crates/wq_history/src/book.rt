@@ -27,6 +27,7 @@ ghost use Rattle.wq_history.specs.Book.{IsWaitingBy, HelperRuns, HelperWaitsBy, 
 ghost use Rattle.wq_history.specs.Book.{IsWrongToStart, RefusesNew, RefusesItem, RefusesLane, RefusesHelp};
 ghost use Rattle.wq_history.specs.Answers.{AnswersAsk, AnswersTold, AnswersAskLane, AnswersToldLane, AnswersStart};
 ghost use Rattle.wq_history.specs.Answers.{AnswersOver};
+ghost use Rattle.wq_history.specs.Waits.{AllDone, IsMet};
 ghost use Rattle.wq_history.specs.Calls.{IsUnfinishedBelow, AlwaysWrites, Writes, AnswersAs, RefusesQueue};
 ghost use Rattle.wq_history.specs.Calls.{RefusesAskLane, RefusesWait, subject_of};
 
@@ -221,7 +222,7 @@ impl<A: Allocator> Book<A> {
             × (run_by (lane_at (state self.now) context.now.lane) context.now.number ≡ None))
             (IsWrongToStart self.now context.now.lane context.now.number) }
     {
-        self.has_context(context) && self.entry_in(context).is_none()
+        self.core.has_context(*context) && self.entry_in(context).is_none()
     }
 
     /// What a context runs, where it doesn't wait.
@@ -309,7 +310,8 @@ impl<A: Allocator> Book<A> {
     {
         let row = self.row(Call::Ask(Subject::Item(item)))?;
         if row.yes {
-            Ok(Ask::Waiting(Asked::new(item, row.number)))
+            let mark = row.number;
+            Ok(Ask::Waiting(Asked { item, mark }))
         } else {
             Ok(Ask::Idle)
         }
@@ -318,11 +320,11 @@ impl<A: Allocator> Book<A> {
     /// Tells a waiting caller whether its wait is over. The answer is `NotAsked` (65) exactly where no ask about its
     /// item waits, and otherwise `NotYet` exactly where an unfinished entry of the item has a number below the mark. In
     /// both cases nothing is changed, and the ask is given back.
-    #[tactic(auto, using(crate::proofs::Answered::told_done, crate::proofs::Answered::told_not_yet))]
+    #[tactic(auto, using(crate::proofs::Answered::told_done, crate::proofs::Answered::no_ask))]
     pub fn told(&mut self, asked: Asked) -> Told
         ensures { AnswersTold self.old self.new asked result }
     {
-        match self.answer(Call::Told(Subject::Item(asked.item()), asked.mark())) {
+        match self.answer(Call::Told(Subject::Item(asked.item), asked.mark)) {
             Ok(Reply::Wrote(_)) => {
                 asked.give_up();
                 Told::Done
@@ -347,7 +349,8 @@ impl<A: Allocator> Book<A> {
     {
         let row = self.row(Call::Ask(Subject::Lane(q)))?;
         if row.yes {
-            Ok(LaneAsk::Waiting(LaneAsked::new(q, row.number)))
+            let mark = row.number;
+            Ok(LaneAsk::Waiting(LaneAsked { lane: q, mark }))
         } else {
             Ok(LaneAsk::Idle)
         }
@@ -356,11 +359,11 @@ impl<A: Allocator> Book<A> {
     /// Tells a caller who waits for a whole lane whether its wait is over. The answer is `NotAsked` (65) exactly where
     /// no ask about its lane waits, and otherwise `NotYet` exactly where an unfinished entry of the lane has a number
     /// below the mark. In both cases nothing is changed, and the ask is given back.
-    #[tactic(auto, using(crate::proofs::Answered::told_lane_done, crate::proofs::Answered::told_lane_not_yet))]
+    #[tactic(auto, using(crate::proofs::Answered::told_lane_done, crate::proofs::Answered::no_ask))]
     pub fn told_lane(&mut self, asked: LaneAsked) -> LaneTold
         ensures { AnswersToldLane self.old self.new asked result }
     {
-        match self.answer(Call::Told(Subject::Lane(asked.lane()), asked.mark())) {
+        match self.answer(Call::Told(Subject::Lane(asked.lane), asked.mark)) {
             Ok(Reply::Wrote(_)) => {
                 asked.give_up();
                 LaneTold::Done
@@ -395,19 +398,6 @@ impl<A: Allocator> Book<A> {
         }
     }
 
-    /// Makes what a context runs begin to wait for an item, as `wait`, or for the whole lane of the item, as
-    /// `wait_all`: true where that has an unfinished entry. The errors are theirs.
-    #[tactic(auto, using(crate::proofs::Answered::wait_row))]
-    fn wait_in(&mut self, context: Context, whole: bool, target: ItemId) -> Result<bool, BookError>
-        ensures row { IfOk result (λ unfinished.
-            AppendsOne self.old self.new (wait_event whole context.lane context.number target) unfinished) }
-        ensures refused { IfErr result (λ e. RefusesWait self.old context.lane context.number whole target e
-            × (self.new ≡ self.old)) }
-    {
-        let row = self.row(Call::Wait(context, Flush { target, whole }))?;
-        Ok(row.yes)
-    }
-
     /// Lets what a context runs go on, where its wait is over, for an item or for a whole lane. It gives false where
     /// the wait isn't over; then nothing is changed.
     ///
@@ -435,24 +425,6 @@ impl<A: Allocator> Book<A> {
         }
     }
 
-    /// Finishes what a context runs.
-    ///
-    /// The error is `WrongLane` (64), exactly where there is no such lane or no such context, it runs nothing, or its
-    /// entry waits. After an error nothing is changed.
-    #[tactic(auto, using(crate::proofs::Answered::finish_done, crate::proofs::Answered::finish_refused, crate::proofs::Answered::not_awake))]
-    fn finish_in(&mut self, context: Context) -> Result<(), BookError>
-        ensures row { IfOk result (λ _. (r : Running) × LaneRuns self.old context.lane context.number r
-            × AppendsOne self.old self.new (finish_event context.lane context.number r.entry.item) true) }
-        ensures refused { IfErr result (λ e. RefusesLane (IsNotAwake self.old context.lane context.number) e
-            × (self.new ≡ self.old)) }
-    {
-        let Some(item) = self.running_in(&context) else {
-            return Err(BookError::WrongLane);
-        };
-        self.row(Call::Finish(context, item))?;
-        Ok(())
-    }
-
     /// Starts the first pending entry of a lane whose item isn't running, in its rescuer, and gives its item, which is
     /// one of this lane. Where there is none it gives nothing, and nothing is changed.
     ///
@@ -472,11 +444,17 @@ impl<A: Allocator> Book<A> {
     /// The error is the first of these that holds: `WrongLane` (64), where there is no such lane, its rescuer runs
     /// nothing, or what it runs waits; `Undeclared` (62), where what runs declares no flush of the item alone;
     /// `TooManyWaits` (63). After an error nothing is changed.
+    #[tactic(auto, using(crate::proofs::Answered::wait_row))]
     pub fn wait(&mut self, q: LaneId, target: ItemId) -> Result<bool, BookError>
         ensures row { IfOk result (λ unfinished. AppendsOne self.old self.new (Wait q target) unfinished) }
         ensures refused { IfErr result (λ e. RefusesWait self.old q 0 false target e × (self.new ≡ self.old)) }
     {
-        self.wait_in(Context { lane: q, number: 0 }, false, target)
+        let flush = Flush {
+            target,
+            whole: false,
+        };
+        let row = self.row(Call::Wait(Context { lane: q, number: 0 }, flush))?;
+        Ok(row.yes)
     }
 
     /// Makes what a lane's rescuer runs begin to wait for the whole lane of an item:
@@ -485,11 +463,17 @@ impl<A: Allocator> Book<A> {
     /// The error is the first of these that holds: `WrongLane` (64), where there is no such lane, its rescuer runs
     /// nothing, or what it runs waits; `Undeclared` (62), where what runs declares no flush of the whole lane of the
     /// item; `TooManyWaits` (63). After an error nothing is changed.
+    #[tactic(auto, using(crate::proofs::Answered::wait_row))]
     pub fn wait_all(&mut self, q: LaneId, target: ItemId) -> Result<bool, BookError>
         ensures row { IfOk result (λ unfinished. AppendsOne self.old self.new (WaitAll q target) unfinished) }
         ensures refused { IfErr result (λ e. RefusesWait self.old q 0 true target e × (self.new ≡ self.old)) }
     {
-        self.wait_in(Context { lane: q, number: 0 }, true, target)
+        let flush = Flush {
+            target,
+            whole: true,
+        };
+        let row = self.row(Call::Wait(Context { lane: q, number: 0 }, flush))?;
+        Ok(row.yes)
     }
 
     /// Lets what a lane's rescuer runs go on, where its wait is over, for an item or for a whole lane. It gives false
@@ -508,13 +492,18 @@ impl<A: Allocator> Book<A> {
     ///
     /// The error is `WrongLane` (64), exactly where there is no such lane, its rescuer runs nothing, or what it runs
     /// waits. After an error nothing is changed.
+    #[tactic(auto, using(crate::proofs::Answered::by_finish))]
     pub fn finish(&mut self, q: LaneId) -> Result<(), BookError>
         ensures row { IfOk result (λ _. (r : Running)
             × LaneRuns self.old q 0 r
             × AppendsOne self.old self.new (Finish q r.entry.item) true) }
         ensures refused { IfErr result (λ e. RefusesLane (IsNotAwake self.old q 0) e × (self.new ≡ self.old)) }
     {
-        self.finish_in(Context { lane: q, number: 0 })
+        let Some(item) = self.running(q) else {
+            return Err(BookError::WrongLane);
+        };
+        self.row(Call::Finish(Context { lane: q, number: 0 }, item))?;
+        Ok(())
     }
 
     /// Starts the first pending entry of a lane whose item isn't running, in a helper, and gives its item, which is one
@@ -540,6 +529,7 @@ impl<A: Allocator> Book<A> {
     /// The error is the first of these that holds: `WrongLane` (64), where there is no such lane, it has no such
     /// helper, the helper runs nothing, or what it runs waits; `Undeclared` (62), where what runs declares no flush of
     /// the item alone; `TooManyWaits` (63). After an error nothing is changed.
+    #[tactic(auto, using(crate::proofs::Answered::wait_row))]
     pub fn help_wait(&mut self, q: LaneId, h: u8, target: ItemId) -> Result<bool, BookError>
         ensures row { IfOk result (λ unfinished. (0 < h)
             × AppendsOne self.old self.new (wait_event false q h target) unfinished) }
@@ -549,7 +539,12 @@ impl<A: Allocator> Book<A> {
         if h == 0 {
             return Err(BookError::WrongLane);
         }
-        self.wait_in(Context { lane: q, number: h }, false, target)
+        let flush = Flush {
+            target,
+            whole: false,
+        };
+        let row = self.row(Call::Wait(Context { lane: q, number: h }, flush))?;
+        Ok(row.yes)
     }
 
     /// Makes what a helper runs begin to wait for the whole lane of an item: true
@@ -558,6 +553,7 @@ impl<A: Allocator> Book<A> {
     /// The error is the first of these that holds: `WrongLane` (64), where there is no such lane, it has no such
     /// helper, the helper runs nothing, or what it runs waits; `Undeclared` (62), where what runs declares no flush of
     /// the whole lane of the item; `TooManyWaits` (63). After an error nothing is changed.
+    #[tactic(auto, using(crate::proofs::Answered::wait_row))]
     pub fn help_wait_all(&mut self, q: LaneId, h: u8, target: ItemId) -> Result<bool, BookError>
         ensures row { IfOk result (λ unfinished. (0 < h)
             × AppendsOne self.old self.new (wait_event true q h target) unfinished) }
@@ -567,7 +563,12 @@ impl<A: Allocator> Book<A> {
         if h == 0 {
             return Err(BookError::WrongLane);
         }
-        self.wait_in(Context { lane: q, number: h }, true, target)
+        let flush = Flush {
+            target,
+            whole: true,
+        };
+        let row = self.row(Call::Wait(Context { lane: q, number: h }, flush))?;
+        Ok(row.yes)
     }
 
     /// Lets what a helper runs go on, where its wait is over, for an item or for a whole lane. It gives false where the
@@ -590,6 +591,7 @@ impl<A: Allocator> Book<A> {
     ///
     /// The error is `WrongLane` (64), exactly where there is no such lane, it has no such helper, the helper runs
     /// nothing, or what it runs waits. After an error nothing is changed.
+    #[tactic(auto, using(crate::proofs::Answered::by_finish))]
     pub fn help_finish(&mut self, q: LaneId, h: u8) -> Result<(), BookError>
         ensures row { IfOk result (λ _. (r : Running) × HelperRuns self.old q h r
             × AppendsOne self.old self.new (finish_event q h r.entry.item) true) }
@@ -599,7 +601,12 @@ impl<A: Allocator> Book<A> {
         if h == 0 {
             return Err(BookError::WrongLane);
         }
-        self.finish_in(Context { lane: q, number: h })
+        let context = Context { lane: q, number: h };
+        let Some(item) = self.running_in(&context) else {
+            return Err(BookError::WrongLane);
+        };
+        self.row(Call::Finish(context, item))?;
+        Ok(())
     }
 
     /// Closes the book: nothing is queued from now on. It writes no row, and closing twice is the same as closing once.
@@ -621,6 +628,13 @@ impl<A: Allocator> Book<A> {
         ensures { IsTrue result ↔ (¬ HasUnfinished (state self.now)) }
     {
         self.work == 0
+    }
+
+    /// Whether all is done: the book is closed, and no entry is unfinished.
+    pub fn all_done(&self) -> bool
+        ensures { IsTrue result ↔ IsMet self.now AllDone }
+    {
+        self.closed && self.is_idle()
     }
 
     /// Whether some ask is waiting. Where none is, for each item and each lane as
@@ -751,13 +765,6 @@ impl<A: Allocator> Book<A> {
         ensures { result ≡ helpers_of self.now.wiring q }
     {
         self.core.helpers_of(q)
-    }
-
-    /// Whether there is such a context: the rescuer of a lane, or one of its helpers.
-    pub fn has_context(&self, context: &Context) -> bool
-        ensures { IsTrue result ↔ HasContext self.now.wiring context.now.lane context.now.number }
-    {
-        self.core.has_context(*context)
     }
 
     /// The lane of an item, where there is such an item.

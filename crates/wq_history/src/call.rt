@@ -40,7 +40,7 @@ pub enum Call {
     Finish(Context, ItemId),
     /// Closes the book: nothing is queued from now on (`destroy_workqueue`, its beginning).
     Close,
-    /// Looks whether nothing is unfinished (`destroy_workqueue`, its end).
+    /// Looks whether the book is closed, and nothing is unfinished (`destroy_workqueue`, its end).
     Drain,
 }
 
@@ -51,8 +51,8 @@ pub enum Reply {
     Wrote(Row),
     /// These two rows were written, with none between them: the ask, and the cancellation.
     WroteTwo(Row, Row),
-    /// It is done, and there is no row for it: the book is closed, nothing is unfinished, or the context has nothing
-    /// to start and never will have.
+    /// It is done, and there is no row for it: the book is closed; a closed book has nothing unfinished; or the context
+    /// has nothing to start and never will have.
     Done,
     /// Not yet. Nothing is changed. The caller sleeps, and looks again when it is woken.
     NotYet,

@@ -143,12 +143,7 @@ fn step_of(event: &Event, yes: bool) -> Option<Step>
         Event::WaitAll(q, target) => Some(Step::WaitAll(q, target)),
         Event::OverAll(q, target) => Some(Step::OverAll(q, target)),
         Event::Help(q, helper, deed) => Some(Step::Help(q, helper, deed)),
-        Event::Queue(_)
-        | Event::Cancel(_)
-        | Event::Ask(_)
-        | Event::Told(_)
-        | Event::AskLane(_)
-        | Event::ToldLane(_) => None,
+        _ => None,
     }
 }
 

@@ -31,7 +31,7 @@ ghost use Rattle.wq_history.specs.declared.call.Reply.TheVariants.{Wrote};
 ghost use Rattle.wq_history.specs.Book.{BookView, free, IsBook, Appends};
 ghost use Rattle.wq_history.specs.Calls.{IsRowOf, Writes, IsEarly, Replies, Answers, WakesAfter, Awaits, sleepers_of};
 ghost use Rattle.wq_history.specs.Waits.{Condition, IsMet, BecomesMet, WakesBy, WakesEnough, WakesOne, sleepers_for};
-ghost use Rattle.wq_history.specs.Waits.{every_context};
+ghost use Rattle.wq_history.specs.Waits.{by_closing};
 ghost use Rattle.wq_history.specs.Sleeping.{Crew, Moves, IsCovered};
 
 /// A history is legal exactly where it is legal without its last row, and that row may follow the others.
@@ -104,7 +104,7 @@ pub fn an_event_wakes_enough()
     ensures event { (old new : BookView) (event : Event) (said : Bool) (n : ℕ) (wake : Wake) → IsBook old →
         old.wiring.helpers ≤ max_helpers → Appends old new event said n → WakesBy new event said wake →
         WakesEnough old new wake }
-    ensures closing { (old : BookView) → WakesEnough old (record old { closed = true }) every_context }
+    ensures closing { (old : BookView) → WakesEnough old (record old { closed = true }) by_closing }
 {}
 
 /// Where enough are woken, somebody is woken for each condition that becomes true.

@@ -4,7 +4,7 @@
 //! and each call takes constant time.
 
 ghost use Rattle.std.specs.Prelude.{◌≡◌};
-ghost use Rattle.wq_history.specs.Waits.{nobody, one_context, every_context};
+ghost use Rattle.wq_history.specs.Waits.{nobody, one_context, by_closing};
 
 use wq_groups::LaneId;
 use wq_items::ItemId;
@@ -18,7 +18,7 @@ pub enum Sleepers {
     ItemWaiters(ItemId),
     /// Whoever waits until entries of this lane have ended, of whichever items.
     LaneWaiters(LaneId),
-    /// Callers who wait until nothing is unfinished.
+    /// Callers who wait until all is done: the book is closed, and nothing is unfinished.
     Destroyers,
 }
 
@@ -44,7 +44,7 @@ pub struct Wake {
     pub item_waiters: Option<ItemId>,
     /// All who wait until entries of this lane have ended.
     pub lane_waiters: Option<LaneId>,
-    /// Whether all are woken who wait until nothing is unfinished.
+    /// Whether all are woken who wait until all is done.
     pub destroyers: bool,
 }
 
@@ -73,15 +73,15 @@ impl Wake {
         }
     }
 
-    /// All contexts of all lanes.
-    pub fn every_context() -> Wake
-        ensures { result ≡ every_context }
+    /// All contexts of all lanes, and all who wait until all is done: whom a closing wakes.
+    pub fn by_closing() -> Wake
+        ensures { result ≡ by_closing }
     {
         Wake {
             contexts: WokenContexts::Everybody,
             item_waiters: None,
             lane_waiters: None,
-            destroyers: false,
+            destroyers: true,
         }
     }
 }

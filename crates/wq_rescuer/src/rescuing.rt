@@ -19,7 +19,7 @@ use crate::body::{Body, BodyFault};
 use crate::work::Work;
 use std::alloc::Allocator;
 use std::sync::Wait;
-use wq_api::{CallError, Naming, Seat, WqRuntime};
+use wq_api::{CallError, Context, Naming, Seat, WqRuntime};
 use wq_groups::LaneId;
 use wq_items::ItemId;
 
@@ -70,7 +70,11 @@ fn execute<N: Naming, A: Allocator, R: Wait, B: Body>(
     ensures no_more { (i : ℕ) (answer : Result (Unit {0}) Fault) (before : List ℕ) (after : List ℕ)
         → B.may N.wiring body.new i answer before after → B.may N.wiring body.old i answer before after }
 {
-    let mut work = Work::new(runtime, seat, q, helper, item);
+    let context = Context {
+        lane: q,
+        number: helper,
+    };
+    let mut work = Work::new(runtime, seat, context, item);
     body.run(rt, item, &mut work)
 }
 
@@ -120,12 +124,20 @@ pub fn serve<N: Naming, A: Allocator, R: Wait, B: Body>(
         if seat.is_full() {
             return Err(CallError::HistoryFull);
         }
-        let Some(item) = runtime.next_in(rt, q, helper)? else {
+        let context = Context {
+            lane: q,
+            number: helper,
+        };
+        let Some(item) = runtime.next_in(rt, context)? else {
             return Ok(rescued);
         };
         let answer = execute(rt, runtime, q, helper, seat, body, item);
         seat.holds();
-        runtime.finish_in(rt, seat, q, helper, item)?;
+        let context = Context {
+            lane: q,
+            number: helper,
+        };
+        runtime.finish_in(rt, seat, context, item)?;
         rescued = rescued.and(answer);
     }
     unreachable!()

@@ -5,7 +5,7 @@
 //! (`flush_work` and `flush_workqueue` in a work function, Documentation/core-api/workqueue.rst, "Guidelines"). Apart
 //! from what it waits for, a call takes the time of the runtime's own call.
 
-ghost use Rattle.std.specs.Prelude.{◌≡◌, ◌<◌, true, false, IfOk, IfErr, OnOk};
+ghost use Rattle.std.specs.Prelude.{◌≡◌, ◌<◌, true, false, IfOk, IfErr};
 ghost use Rattle.wq_core.specs.Wiring.{items, HasContext};
 ghost use Rattle.wq_counts.specs.declared.kind.Kind.TheVariants.{Queue, Cancel};
 ghost use Rattle.wq_counts.specs.Counting.{HasCountsOf, raised};
@@ -19,7 +19,7 @@ ghost use Rattle.wq_rescuer.specs.Executing.{SameFinished, RefusesQueueByBody};
 use std::alloc::Allocator;
 use std::sync::Wait;
 use wq_api::{CallError, Context, Naming, Seat, WqRuntime};
-use wq_groups::LaneId;
+use wq_history::Flush;
 use wq_items::ItemId;
 
 /// One execution of an item, as its body sees it.
@@ -38,23 +38,18 @@ impl<'a, N: Naming, A: Allocator> Work<'a, N, A> {
     pub(crate) fn new(
         runtime: &'a WqRuntime<N, A>,
         seat: &'a mut Seat<N, A>,
-        q: LaneId,
-        helper: u8,
+        context: Context,
         item: ItemId,
     ) -> Self
         ensures same_seat { result.seat.ghost_name ≡ seat.entry.ghost_name }
         ensures counts { result.seat.now ≡ seat.old }
-        ensures lane { result.context.lane ≡ q }
-        ensures helper { result.context.number ≡ helper }
+        ensures context { result.context ≡ context }
         ensures item { result.item ≡ item }
     {
         Work {
             runtime,
             seat,
-            context: Context {
-                lane: q,
-                number: helper,
-            },
+            context,
             item,
             flushed: Ok(false),
         }
@@ -143,9 +138,11 @@ impl<'a, N: Naming, A: Allocator> Work<'a, N, A> {
         ensures item { self.new.item ≡ self.old.item }
         ensures flushed { self.new.flushed ≡ result }
     {
-        let q = self.context.lane;
-        let helper = self.context.number;
-        self.flushed = self.runtime.wait_for_in(rt, self.seat, q, helper, target);
+        let of_item = Flush {
+            target,
+            whole: false,
+        };
+        self.flushed = self.runtime.wait_in(rt, self.seat, self.context, of_item);
         self.flushed
     }
 
@@ -176,11 +173,11 @@ impl<'a, N: Naming, A: Allocator> Work<'a, N, A> {
         ensures item { self.new.item ≡ self.old.item }
         ensures flushed { self.new.flushed ≡ result }
     {
-        let q = self.context.lane;
-        let helper = self.context.number;
-        self.flushed = self
-            .runtime
-            .wait_all_for_in(rt, self.seat, q, helper, target);
+        let of_lane = Flush {
+            target,
+            whole: true,
+        };
+        self.flushed = self.runtime.wait_in(rt, self.seat, self.context, of_lane);
         self.flushed
     }
 }

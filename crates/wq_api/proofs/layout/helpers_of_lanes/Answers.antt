@@ -1,7 +1,7 @@
-use Rattle.std.proofs.Common.{◌≡◌, ℕ, List, [], ◌∷◌, ◌++◌, map, sym, ap, ◌∙◌, arith}
+use Rattle.std.proofs.Common.{ℕ, List, [], ◌∷◌, ◌++◌, map, sym, ap, ◌∙◌, arith}
 use Rattle.std.specs.List.{range_with_len}
 use Rattle.std.proofs.lemmas.List.FromFn.{map-range_with_len_more}
-use Rattle.wq_core.specs.Wiring.{helpers_of}
+use Rattle.wq_history.proofs.Words.{helpers_of}
 use Rattle.wq_api.proofs.layout.helpers_of_lanes.Goals as goal
 
 pub loop-q-preserved : goal.loop-q-preserved

@@ -1,7 +1,6 @@
-use Rattle.std.proofs.Common.{◌≡◌, ◌≤◌, vec_len}
-use Rattle.std.specs.Prelude.{map}
+use Rattle.std.proofs.Common.{◌≡◌, ◌≤◌, vec_len, map}
 use Rattle.std.specs.List.{range_with_len}
-use Rattle.wq_core.specs.Wiring.{helpers_of}
+use Rattle.wq_history.proofs.Words.{helpers_of}
 use Rattle.wq_api.proofs.layout.helpers_of_lanes.Given as goal
 
 -- those of the lanes so far, and there is room for the others

@@ -1,40 +1,41 @@
 use Rattle.std.proofs.Common.{vec_len, sym, ◌∙◌}
 use Rattle.wq_held.specs.Locked.{slots}
-use Rattle.wq_held.proofs.Closings.{none_left, IsGathered-none, IsGathered-more, few_gathered, SumsSeats-gathered, total-gathered}
+use Rattle.wq_held.proofs.Closings.{none_left, IsGathered-none, IsGathered-more, few_gathered, SumsSeats-gathered}
+use Rattle.wq_held.proofs.Closings.{total-gathered}
 use Rattle.wq_held.proofs.closing.gather.Goals as goal
 
 pub loop-seat-init : goal.loop-seat-init
 loop-seat-init g c =
-    IsGathered-none (slots g.N.Naming.wiring) g.N.Ledger.parts c.args.ledger.now.total c.args.seats.items c.args.sums.now c.args.rest.now.parts c.args.rest.now.amount (vec_len c.args.seats) c.requires.empty c.requires.parts c.requires.amount
+    let rest = c.args.rest.now in
+    IsGathered-none (slots g.N.Naming.wiring) g.N.Ledger.parts c.args.ledger.now.total c.args.seats.items
+    c.args.sums.now rest.parts rest.amount (vec_len c.args.seats) c.requires.empty c.requires.parts
+    c.requires.amount
 
 pub add-requires-clause-items : goal.add-requires-clause-items
 add-requires-clause-items g c = c.loop-seat.invariant.a_count_each ∙ sym c.seat.invariant.a_count_each
 
 pub add-requires-clause-few : goal.add-requires-clause-few
 add-requires-clause-few g c =
-    few_gathered g.N.Naming.wiring g.N.Ledger.parts c.args.ledger.now.total c.args.seats.items c.loop-seat.seats.items c.loop-seat.sums c.seat.inside.counts
-    c.loop-seat.rest.parts c.loop-seat.rest.amount (vec_len c.loop-seat.seats) c.loop-seat.ledger.total c.seat.inside.share.parts c.seat.inside.share.amount c.merge.new.self.amount
-    c.loop-seat.invariant c.seat.invariant c.merge.ensures.amount c.audit.ensures.bound c.requires.few
+    few_gathered c.loop-seat.invariant c.merge.new.self.amount c.seat.invariant c.merge.ensures.amount
+    c.audit.ensures.bound c.requires.few
 
 pub loop-seat-preserved : goal.loop-seat-preserved
 loop-seat-preserved g c =
-    IsGathered-more g.N.Naming.wiring g.N.Ledger.parts c.args.ledger.now.total c.args.seats.items c.loop-seat.seats.items c.pop.new.self.items c.loop-seat.sums c.add.new.self c.in-Some.seat c.seat.inside.counts
-    c.loop-seat.rest.parts c.loop-seat.rest.amount (vec_len c.loop-seat.seats) c.loop-seat.ledger.total
-    c.audit.new.share.parts c.audit.new.share.amount (vec_len c.pop.new.self) c.audit.new.self.total c.seat.inside.share.parts c.seat.inside.share.amount
-    c.loop-seat.invariant c.in-Some.ensures.items c.in-Some.ensures.cases c.seat.view_is c.seat.invariant
-    c.add.ensures.each c.add.ensures.total c.add.ensures.length
-    (c.audit.ensures.parts ∙ c.merge.ensures.parts) (c.audit.ensures.amount ∙ c.merge.ensures.amount) c.audit.ensures.total
+    IsGathered-more c.loop-seat.invariant c.seat.invariant c.pop.new.self.items c.add.new.self c.in-Some.seat
+    c.audit.new.share.parts c.audit.new.share.amount (vec_len c.pop.new.self) c.audit.new.self.total
+    c.in-Some.ensures.items c.in-Some.ensures.cases c.seat.view_is c.add.ensures.each c.add.ensures.total
+    c.add.ensures.length (c.audit.ensures.parts ∙ c.merge.ensures.parts)
+    (c.audit.ensures.amount ∙ c.merge.ensures.amount) c.audit.ensures.total
 
 pub returns-clause-sums : goal.returns-clause-sums
 returns-clause-sums g c =
-    SumsSeats-gathered (slots g.N.Naming.wiring) g.N.Ledger.parts c.args.ledger.now.total c.args.seats.items c.loop-seat.seats.items c.loop-seat.sums
-    c.loop-seat.rest.parts c.loop-seat.rest.amount (vec_len c.loop-seat.seats) c.loop-seat.ledger.total c.loop-seat.invariant
-    (none_left c.loop-seat.seats.items c.pop.new.self.items (vec_len c.loop-seat.seats) c.in_default.ensures.cases.0 c.in_default.ensures.items c.in_default.ensures.rest)
+    let left = c.loop-seat.seats in
+    SumsSeats-gathered c.loop-seat.invariant (none_left left.items c.pop.new.self.items (vec_len left)
+    c.in_default.ensures.cases.0 c.in_default.ensures.items c.in_default.ensures.rest)
 
 pub returns-clause-length : goal.returns-clause-length
 returns-clause-length g c = c.loop-seat.invariant.a_count_each
 
 pub returns-clause-total : goal.returns-clause-total
 returns-clause-total g c =
-    total-gathered (slots g.N.Naming.wiring) g.N.Ledger.parts c.args.ledger.now.total c.args.seats.items c.loop-seat.seats.items c.loop-seat.sums
-    c.loop-seat.rest.parts c.loop-seat.rest.amount (vec_len c.loop-seat.seats) c.loop-seat.ledger.total c.loop-seat.invariant c.in_default.ensures.cases.0 c.audit-2.ensures.whole
+    total-gathered c.loop-seat.invariant c.in_default.ensures.cases.0 c.audit-2.ensures.whole

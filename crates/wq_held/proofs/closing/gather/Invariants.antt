@@ -1,5 +1,5 @@
 use Rattle.wq_held.specs.Locked.{slots}
-use Rattle.std.specs.Prelude.{vec_len}
+use Rattle.std.proofs.Common.{vec_len}
 use Rattle.wq_held.proofs.Closings.{IsGathered}
 use Rattle.wq_held.proofs.closing.gather.Given as goal
 

@@ -1,8 +1,5 @@
-use Rattle.std.proofs.Common.{ap, subst, ◌∙◌}
-use Rattle.std.specs.Prelude.{Result, Ok}
-use Rattle.wq_history.specs.declared.call.Reply.{Reply}
-use Rattle.wq_history.specs.declared.call.Reply.TheVariants.{Wrote, WroteTwo}
-use Rattle.wq_history.specs.declared.fault.CallError.{CallError}
+use Rattle.std.proofs.Common.{ap, subst, ◌∙◌, Result, Ok}
+use Rattle.wq_held.proofs.Words.{Reply, Wrote, WroteTwo, CallError}
 use Rattle.wq_held.specs.Calls.{WasAnswered}
 use Rattle.wq_held.proofs.TakenTurns.{now-there}
 use Rattle.wq_held.proofs.turning.turn_of.Goals as goal

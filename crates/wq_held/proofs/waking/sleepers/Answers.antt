@@ -1,6 +1,6 @@
 use Rattle.std.proofs.Common.{subst}
-use Rattle.wq_history.specs.declared.call.Call.{Call}
-use Rattle.wq_history.specs.Calls.{IsEarly}
+use Rattle.wq_history.proofs.Words.{IsEarly}
+use Rattle.wq_held.proofs.Words.{Call}
 use Rattle.wq_held.proofs.TakenTurns.{awaited-there}
 use Rattle.wq_held.proofs.waking.sleepers.Goals as goal
 

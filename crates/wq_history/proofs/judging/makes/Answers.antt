@@ -1,6 +1,5 @@
-use Rattle.std.proofs.Common.{subst, sym, Bool, ◌↔◌}
-use Rattle.std.specs.Prelude.{IsTrue}
-use Rattle.wq_history.specs.History.{Makes}
+use Rattle.std.proofs.Common.{subst, sym, Bool, ◌↔◌, IsTrue}
+use Rattle.wq_history.proofs.Words.{Makes}
 use Rattle.wq_history.proofs.Judged.{peeked}
 use Rattle.wq_history.proofs.judging.makes.Goals as goal
 

@@ -1,7 +1,5 @@
-use Rattle.std.proofs.Common.{◌↔◌, sym, subst}
-use Rattle.std.specs.Prelude.{IsTrue}
-use Rattle.wq_rows.specs.declared.event.Event.{Event}
-use Rattle.wq_history.specs.History.{MayComeIn}
+use Rattle.std.proofs.Common.{◌↔◌, sym, subst, IsTrue}
+use Rattle.wq_history.proofs.Words.{Event, MayComeIn}
 use Rattle.wq_history.proofs.judging.may_come.Goals as goal
 
 pub returns-in-WaitAll : goal.returns-in-WaitAll

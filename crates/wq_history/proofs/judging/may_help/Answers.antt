@@ -1,6 +1,5 @@
 use Rattle.std.proofs.Common.{◌≡◌, ◌≤◌, false, true, arith}
-use Rattle.wq_core.specs.Wiring.{items}
-use Rattle.wq_core.specs.Rules.{deed_item}
+use Rattle.wq_history.proofs.Words.{items, deed_item}
 use Rattle.wq_history.proofs.Deeds.{not-there}
 use Rattle.wq_history.proofs.judging.may_help.Goals as goal
 

@@ -1,9 +1,6 @@
-use Rattle.std.proofs.Common.{ℕ, ◌↔◌, sym, subst}
-use Rattle.std.specs.Prelude.{IsTrue}
+use Rattle.std.proofs.Common.{ℕ, ◌↔◌, sym, subst, IsTrue}
 use Rattle.std.specs.Bool.{beq}
-use Rattle.wq_core.specs.declared.step.HelpStep.{HelpStep}
-use Rattle.wq_core.specs.State.{lane_at, IsBusy}
-use Rattle.wq_history.specs.History.{SaysBusy, Says}
+use Rattle.wq_history.proofs.Words.{HelpStep, lane_at, IsBusy, SaysBusy, Says}
 use Rattle.wq_history.proofs.Deeds.{same-word}
 use Rattle.wq_history.proofs.judging.says.Goals as goal
 

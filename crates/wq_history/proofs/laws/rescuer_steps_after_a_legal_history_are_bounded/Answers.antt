@@ -1,5 +1,5 @@
 use Rattle.wq_core.proofs.WorkLemmas.{count_by-rescuer_steps_after}
-use Rattle.wq_history.specs.Events.{steps_of}
+use Rattle.wq_history.proofs.Words.{steps_of}
 use Rattle.wq_history.proofs.LegalRows.{IsRun-legal}
 use Rattle.wq_history.proofs.laws.rescuer_steps_after_a_legal_history_are_bounded.Goals as goal
 

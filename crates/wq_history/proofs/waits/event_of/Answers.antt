@@ -1,5 +1,5 @@
 use Rattle.std.proofs.Common.{ℕ, sym, ap, ◌∙◌}
-use Rattle.wq_history.specs.Events.{event_in}
+use Rattle.wq_history.proofs.Words.{event_in}
 use Rattle.wq_history.proofs.Deeds.{helper-event}
 use Rattle.wq_history.proofs.waits.event_of.Goals as goal
 

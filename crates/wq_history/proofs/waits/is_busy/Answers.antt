@@ -1,6 +1,5 @@
-use Rattle.std.proofs.Common.{ℕ, ◌↔◌, subst}
-use Rattle.std.specs.Prelude.{IsTrue}
-use Rattle.wq_core.specs.State.{lane_at, IsBusyBelow}
+use Rattle.std.proofs.Common.{ℕ, ◌↔◌, subst, IsTrue}
+use Rattle.wq_history.proofs.Words.{lane_at, IsBusyBelow}
 use Rattle.wq_history.proofs.WaitEvents.{busy_below-next}
 use Rattle.wq_history.proofs.waits.is_busy.Goals as goal
 

@@ -1,4 +1,3 @@
-use Rattle.wq_api.specs.Taking.{IsAnswered}
 use Rattle.wq_api.proofs.runtime.WqRuntime.answer.Goals as goal
 
 pub returns-clause-took : goal.returns-clause-took

@@ -1,4 +1,3 @@
-use Rattle.wq_api.specs.Taking.{IsSeated}
 use Rattle.wq_api.proofs.runtime.WqRuntime.seat.Goals as goal
 
 pub returns-clause-took : goal.returns-clause-took

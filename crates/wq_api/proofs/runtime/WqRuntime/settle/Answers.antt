@@ -1,5 +1,4 @@
 use Rattle.std.proofs.Common.{[]}
-use Rattle.wq_api.specs.Taking.{IsAnswered}
 use Rattle.wq_api.proofs.runtime.WqRuntime.settle.Goals as goal
 
 pub returns-clause-took : goal.returns-clause-took

@@ -1,6 +1,6 @@
 use Rattle.std.proofs.Common.{◌<◌, ap, subst, inl, inr, arith}
 use Rattle.std.proofs.lemmas.Result.{err_from_is_err_and}
-use Rattle.wq_core.specs.Wiring.{Wiring, IsWiring, items}
+use Rattle.wq_history.proofs.Words.{Wiring, IsWiring, items}
 use Rattle.wq_held.specs.Locked.{slots}
 use Rattle.wq_held.proofs.RefusedMaking.{some_lanes}
 use Rattle.wq_api.proofs.runtime.WqRuntime.with_helpers.Goals as goal

@@ -1,5 +1,4 @@
-use Rattle.std.proofs.Common.{vec_len}
-use Rattle.std.specs.Prelude.{Result, Ok, Err, IfErr}
+use Rattle.std.proofs.Common.{vec_len, Result, Ok, Err, IfErr}
 use Rattle.wq_held.specs.declared.fault.CloseWhy.{CloseWhy}
 use Rattle.wq_held.specs.Locked.{Holds, RefusesClose}
 use Rattle.wq_api.proofs.turns.HeldEndsVecSeatClosedCloseWhy.end.Goals as goal

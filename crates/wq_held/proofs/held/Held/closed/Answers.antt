@@ -1,8 +1,5 @@
-use Rattle.std.proofs.Common.{◌≡◌, ◌↔◌, ℕ, List, sym, ap, subst, ◌∙◌}
-use Rattle.std.specs.Prelude.{IsTrue, sum}
-use Rattle.wq_core.specs.State.{HasUnfinished}
-use Rattle.wq_history.specs.History.{all_asks_waiting}
-use Rattle.wq_history.specs.Book.{state}
+use Rattle.std.proofs.Common.{◌≡◌, ◌↔◌, ℕ, List, sym, ap, subst, ◌∙◌, IsTrue, sum}
+use Rattle.wq_history.proofs.Words.{HasUnfinished, all_asks_waiting, state}
 use Rattle.wq_held.specs.Locked.{HeldView}
 use Rattle.wq_held.proofs.Closings.{IsClosed-held}
 use Rattle.wq_held.proofs.held.Held.closed.Goals as goal

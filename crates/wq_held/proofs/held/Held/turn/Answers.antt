@@ -1,7 +1,5 @@
 use Rattle.std.proofs.Common.{◌≡◌, ◌-◌, List, ℕ, sym, ap, subst}
-use Rattle.wq_core.specs.Wiring.{Wiring}
-use Rattle.wq_history.specs.Book.{IsBook}
-use Rattle.wq_history.specs.Calls.{Answers}
+use Rattle.wq_history.proofs.Words.{Wiring, IsBook, Answers}
 use Rattle.wq_held.specs.Locked.{HeldView, IsProtected}
 use Rattle.wq_held.specs.Calls.{AreThere}
 use Rattle.wq_held.proofs.TakenTurns.{answered-there, few-tallies, answered-protected, turn-taken, turn-wakes}

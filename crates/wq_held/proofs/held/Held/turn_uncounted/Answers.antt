@@ -1,6 +1,5 @@
 use Rattle.std.proofs.Common.{◌-◌, ℕ, List, [], sym, ap, subst}
-use Rattle.wq_history.specs.Book.{IsBook}
-use Rattle.wq_history.specs.Calls.{Answers}
+use Rattle.wq_history.proofs.Words.{IsBook, Answers}
 use Rattle.wq_held.specs.Locked.{HeldView, IsProtected}
 use Rattle.wq_held.proofs.TakenTurns.{answered-protected, answered-uncounted, turn-taken, turn-wakes}
 use Rattle.wq_held.proofs.held.Held.turn_uncounted.Goals as goal

@@ -1,4 +1,4 @@
-use Rattle.wq_history.specs.declared.asking.Subject.TheVariants.{Item as OfItem, Lane as OfLane}
+use Rattle.wq_history.proofs.Words.{OfItem, OfLane}
 use Rattle.wq_history.proofs.ask_counts.AskCounts.count.Goals as goal
 
 pub add-requires-clause-place : goal.add-requires-clause-place

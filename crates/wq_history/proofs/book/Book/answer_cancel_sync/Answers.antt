@@ -1,6 +1,5 @@
 use Rattle.std.proofs.Common.{◌≡◌, ◌<◌, true, false, arith}
-use Rattle.wq_history.specs.declared.asking.Subject.TheVariants.{Item as OfItem}
-use Rattle.wq_history.specs.Book.{free}
+use Rattle.wq_history.proofs.Words.{OfItem, free}
 use Rattle.wq_history.proofs.Upheld.{ask_takes}
 use Rattle.wq_history.proofs.CallRows.{cancel-lacks}
 use Rattle.wq_history.proofs.book.Book.answer_cancel_sync.Goals as goal

@@ -1,11 +1,6 @@
 use Rattle.std.proofs.Common.{◌≡◌, ℕ, Bool, false, true, refl, sym, ap, subst, ◌∙◌}
-use Rattle.wq_core.specs.declared.step.HelpStep.{HelpStep}
-use Rattle.wq_core.specs.Rules.{Lawful, IsHeldBack, step_in}
-use Rattle.wq_history.specs.declared.asking.Subject.{Subject}
-use Rattle.wq_history.specs.Events.{event_in, over_event}
-use Rattle.wq_history.specs.History.{Says}
-use Rattle.wq_history.specs.Book.{state}
-use Rattle.wq_history.specs.Calls.{subject_of, IsUnfinishedBelow}
+use Rattle.wq_history.proofs.Words.{HelpStep, Lawful, IsHeldBack, step_in, Subject, event_in, over_event, Says, state}
+use Rattle.wq_history.proofs.Words.{subject_of, IsUnfinishedBelow}
 use Rattle.wq_history.proofs.Deeds.{runs-context, waits-there, over_says, over_is_lawful}
 use Rattle.wq_history.proofs.LegalRows.{IsSoundState-legal}
 use Rattle.wq_history.proofs.CallRows.{held-back}

@@ -1,8 +1,5 @@
-use Rattle.std.proofs.Common.{◌≡◌, ℕ, sym, Bool, true, false}
-use Rattle.std.specs.Prelude.{None, MatchBool}
-use Rattle.wq_core.specs.Wiring.{HasContext}
-use Rattle.wq_core.specs.State.{lane_at, run_by}
-use Rattle.wq_history.specs.Book.{BookView, state, IsWrongToStart}
+use Rattle.std.proofs.Common.{◌≡◌, ℕ, sym, Bool, true, false, None, MatchBool}
+use Rattle.wq_history.proofs.Words.{HasContext, lane_at, run_by, BookView, state, IsWrongToStart}
 use Rattle.wq_history.proofs.Deeds.{start_is_lawful}
 use Rattle.wq_history.proofs.book.Book.answer_start.Goals as goal
 

@@ -1,8 +1,5 @@
 use Rattle.std.proofs.Common.{◌≡◌, ◌<◌, true, false, sym, subst, arith}
-use Rattle.wq_rows.specs.declared.event.Event.{Event}
-use Rattle.wq_history.specs.History.{asks_waiting, MayCome}
-use Rattle.wq_history.specs.Book.{state}
-use Rattle.wq_history.specs.Calls.{IsUnfinishedBelow}
+use Rattle.wq_history.proofs.Words.{Event, asks_waiting, MayCome, state, IsUnfinishedBelow}
 use Rattle.wq_history.proofs.CallRows.{told-may}
 use Rattle.wq_history.proofs.book.Book.answer_told.Goals as goal
 

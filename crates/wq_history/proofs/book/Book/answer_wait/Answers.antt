@@ -1,12 +1,7 @@
 use Rattle.std.proofs.Common.{◌<◌, length, refl, sym, ap, subst, ◌∙◌, arith}
-use Rattle.wq_core.specs.declared.step.HelpStep.{HelpStep}
+use Rattle.wq_history.proofs.Words.{HelpStep, declared_by, Lawful, step_in, event_in, Subject, Says, SaysUnfinishedOf}
+use Rattle.wq_history.proofs.Words.{BookView, state}
 use Rattle.wq_items.specs.Table.{ItemWaitsBy}
-use Rattle.wq_core.specs.Wiring.{declared_by}
-use Rattle.wq_core.specs.Rules.{Lawful, step_in}
-use Rattle.wq_history.specs.Events.{event_in}
-use Rattle.wq_history.specs.declared.asking.Subject.{Subject}
-use Rattle.wq_history.specs.History.{Says, SaysUnfinishedOf}
-use Rattle.wq_history.specs.Book.{BookView, state}
 use Rattle.wq_history.proofs.Deeds.{wait_says, wait_is_lawful}
 use Rattle.wq_history.proofs.book.Book.answer_wait.Goals as goal
 

@@ -1,4 +1,4 @@
-use Rattle.wq_history.specs.declared.asking.Subject.TheVariants.{Item as OfItem}
+use Rattle.wq_history.proofs.Words.{OfItem}
 use Rattle.wq_history.proofs.Upheld.{ask_takes}
 use Rattle.wq_history.proofs.book.Book.ask.Goals as goal
 

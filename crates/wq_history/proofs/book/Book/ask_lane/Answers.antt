@@ -1,4 +1,4 @@
-use Rattle.wq_history.specs.declared.asking.Subject.TheVariants.{Lane as OfLane}
+use Rattle.wq_history.proofs.Words.{OfLane}
 use Rattle.wq_history.proofs.Upheld.{ask_takes}
 use Rattle.wq_history.proofs.book.Book.ask_lane.Goals as goal
 

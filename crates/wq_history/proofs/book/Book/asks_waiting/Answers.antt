@@ -1,6 +1,5 @@
 use Rattle.std.proofs.Common.{ap, ◌∙◌}
-use Rattle.wq_history.specs.History.{asks_waiting}
-use Rattle.wq_history.specs.Book.{BookView}
+use Rattle.wq_history.proofs.Words.{asks_waiting, BookView}
 use Rattle.wq_history.proofs.Counting.{asks_waiting-count}
 use Rattle.wq_history.proofs.book.Book.asks_waiting.Goals as goal
 

@@ -1,8 +1,5 @@
-use Rattle.std.proofs.Common.{◌≡◌, ◌<◌, subst}
-use Rattle.std.specs.Prelude.{IfSome}
-use Rattle.wq_core.specs.declared.entry.Running.{Running}
-use Rattle.wq_core.specs.Wiring.{items, lane_of, HasContext}
-use Rattle.wq_history.specs.Book.{BookView}
+use Rattle.std.proofs.Common.{◌≡◌, ◌<◌, subst, IfSome}
+use Rattle.wq_history.proofs.Words.{Running, items, lane_of, HasContext, BookView}
 use Rattle.wq_history.proofs.Holding.{running-known}
 use Rattle.wq_history.proofs.book.Book.entry_in.Goals as goal
 

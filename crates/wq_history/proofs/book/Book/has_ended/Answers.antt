@@ -1,5 +1,5 @@
 use Rattle.std.proofs.Common.{◌≡◌, true, sym, ap, ◌∙◌}
-use Rattle.wq_history.specs.Book.{BookView}
+use Rattle.wq_history.proofs.Words.{BookView}
 use Rattle.wq_history.proofs.CallRows.{says_nothing}
 use Rattle.wq_history.proofs.book.Book.has_ended.Goals as goal
 

@@ -1,9 +1,7 @@
 use Rattle.std.proofs.Common.{◌≡◌, ap, ◌∙◌, arith, subst}
 use Rattle.std.specs.List.{count_by}
 use Rattle.std.proofs.lemmas.Bool.{ltb-true, ltb-false, lt-ltb}
-use Rattle.wq_history.specs.Events.{begins_to_wait, ends_a_wait}
-use Rattle.wq_history.specs.History.{all_asks_waiting}
-use Rattle.wq_history.specs.Book.{BookView}
+use Rattle.wq_history.proofs.Words.{begins_to_wait, ends_a_wait, all_asks_waiting, BookView}
 use Rattle.wq_history.proofs.Counting.{CountsAsks-none, all_asks_waiting-count}
 use Rattle.wq_history.proofs.book.Book.has_waiting_asks.Goals as goal
 

@@ -1,6 +1,5 @@
 use Rattle.std.proofs.Common.{true}
-use Rattle.wq_core.specs.declared.entry.Waiting.{Waiting}
-use Rattle.wq_history.specs.Book.{IsWaitingBy, HelperWaitsBy}
+use Rattle.wq_history.proofs.Words.{Waiting, IsWaitingBy, HelperWaitsBy}
 use Rattle.wq_history.proofs.Deeds.{none-weaker}
 use Rattle.wq_history.proofs.book.Book.help_waiting_all.Goals as goal
 

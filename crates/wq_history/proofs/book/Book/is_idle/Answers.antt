@@ -1,7 +1,5 @@
-use Rattle.std.proofs.Common.{◌↔◌, eqb, refl, subst}
-use Rattle.std.specs.Prelude.{IsTrue}
-use Rattle.wq_core.specs.State.{State, HasUnfinished}
-use Rattle.wq_history.specs.Book.{BookView, state}
+use Rattle.std.proofs.Common.{◌↔◌, eqb, refl, subst, IsTrue}
+use Rattle.wq_history.proofs.Words.{State, HasUnfinished, BookView, state}
 use Rattle.wq_history.proofs.Idle.{idle-answer}
 use Rattle.wq_history.proofs.book.Book.is_idle.Goals as goal
 

@@ -1,8 +1,6 @@
-use Rattle.std.proofs.Common.{◌↔◌, Bool, sym, subst}
-use Rattle.std.specs.Prelude.{IsTrue, is_some}
-use Rattle.wq_core.specs.declared.entry.Entry.{Entry}
-use Rattle.wq_core.specs.State.{State, lane_at, IsPendingOn}
-use Rattle.wq_history.specs.Book.{BookView, HasPendingOn}
+use Rattle.std.proofs.Common.{◌↔◌, Bool, sym, subst, IsTrue, is_some}
+use Rattle.wq_history.proofs.Words.{Entry, State, lane_at, BookView, HasPendingOn}
+use Rattle.wq_core.specs.State.{IsPendingOn}
 use Rattle.wq_history.proofs.Holding.{first-pending}
 use Rattle.wq_history.proofs.book.Book.is_pending_on.Goals as goal
 

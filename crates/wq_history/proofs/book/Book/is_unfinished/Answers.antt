@@ -1,8 +1,5 @@
-use Rattle.std.proofs.Common.{◌≡◌, sym, ap, subst, ◌∙◌}
-use Rattle.wq_core.specs.State.{State}
-use Rattle.wq_history.specs.declared.asking.Subject.{Subject}
-use Rattle.wq_history.specs.History.{SaysBusy, SaysUnfinishedOf}
-use Rattle.wq_history.specs.Book.{state}
+use Rattle.std.proofs.Common.{sym, ap, subst, ◌∙◌}
+use Rattle.wq_history.proofs.Words.{State, Subject, SaysBusy, SaysUnfinishedOf, state}
 use Rattle.wq_history.proofs.book.Book.is_unfinished.Goals as goal
 
 pub returns-in-Lane : goal.returns-in-Lane

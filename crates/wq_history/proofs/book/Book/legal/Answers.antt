@@ -1,5 +1,5 @@
 use Rattle.std.proofs.Common.{subst}
-use Rattle.wq_history.specs.Book.{BookView, IsBook}
+use Rattle.wq_history.proofs.Words.{BookView, IsBook}
 use Rattle.wq_history.proofs.Holding.{IsBook-held}
 use Rattle.wq_history.proofs.book.Book.legal.Goals as goal
 

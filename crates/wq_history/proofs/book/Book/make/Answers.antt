@@ -1,10 +1,5 @@
 use Rattle.std.proofs.Common.{◌≤◌, sym, subst}
-use Rattle.wq_core.specs.State.{State}
-use Rattle.wq_core.specs.Rules.{Gives}
-use Rattle.wq_rows.specs.declared.event.Row.{Row}
-use Rattle.wq_history.specs.History.{MayCome}
-use Rattle.wq_history.specs.Reserve.{rows_needed}
-use Rattle.wq_history.specs.Book.{BookView, state, free}
+use Rattle.wq_history.proofs.Words.{State, Gives, Row, MayCome, rows_needed, BookView, state, free}
 use Rattle.wq_history.proofs.Holding.{HoldsBook-read}
 use Rattle.wq_history.proofs.Written.{room_for_row, HoldsBook-made}
 use Rattle.wq_history.proofs.Deeds.{may-packable}

@@ -1,12 +1,5 @@
-use Rattle.std.proofs.Common.{◌≤◌, sym, ap, subst, ◌∙◌, arith}
-use Rattle.std.specs.Prelude.{Some}
-use Rattle.wq_core.specs.declared.step.Step.{Step}
-use Rattle.wq_core.specs.Rules.{Lawful, Gives}
-use Rattle.wq_rows.specs.declared.event.Event.{Event}
-use Rattle.wq_history.specs.Events.{step_of}
-use Rattle.wq_history.specs.History.{MayCome}
-use Rattle.wq_history.specs.Reserve.{rows_needed}
-use Rattle.wq_history.specs.Book.{state, free}
+use Rattle.std.proofs.Common.{◌≤◌, sym, ap, subst, ◌∙◌, arith, Some}
+use Rattle.wq_history.proofs.Words.{Step, Lawful, Gives, Event, step_of, MayCome, rows_needed, state, free}
 use Rattle.wq_history.proofs.Deeds.{step_of-event_in, no_rows-event_in, deed_may_come}
 use Rattle.wq_history.proofs.book.Book.make_in.Goals as goal
 

@@ -1,8 +1,6 @@
-use Rattle.std.proofs.Common.{ℕ, ◌*◌, replicate, ap, sym, ◌∙◌, subst, arith}
-use Rattle.std.specs.Prelude.{max}
-use Rattle.wq_core.specs.Wiring.{items}
+use Rattle.std.proofs.Common.{ℕ, ◌*◌, replicate, ap, sym, ◌∙◌, subst, arith, max}
+use Rattle.wq_history.proofs.Words.{items, HoldsBook}
 use Rattle.wq_rows.specs.Stored.{HistoryView}
-use Rattle.wq_history.specs.Counts.{HoldsBook}
 use Rattle.wq_history.proofs.Holding.{HoldsBook-first}
 use Rattle.wq_history.proofs.book.Book.new.Goals as goal
 

@@ -1,9 +1,5 @@
 use Rattle.std.proofs.Common.{◌≤◌, [], ◌∷◌, ◌++◌, sym, subst, arith}
-use Rattle.wq_rows.specs.declared.event.Row.{Row}
-use Rattle.wq_history.specs.History.{MayCome}
-use Rattle.wq_history.specs.Reserve.{rows_needed}
-use Rattle.wq_history.specs.Counts.{AskView, HoldsBook}
-use Rattle.wq_history.specs.Book.{BookView, free}
+use Rattle.wq_history.proofs.Words.{Row, MayCome, rows_needed, AskView, HoldsBook, BookView, free}
 use Rattle.wq_history.proofs.Judged.{few_asks, ask-counted, told-counted}
 use Rattle.wq_history.proofs.Holding.{HoldsBook-read}
 use Rattle.wq_history.proofs.Written.{room_for_row, HoldsBook-noted}

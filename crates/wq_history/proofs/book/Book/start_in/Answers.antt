@@ -1,8 +1,5 @@
 use Rattle.std.proofs.Common.{◌≡◌, subst}
-use Rattle.wq_history.specs.declared.call.Call.TheVariants.{Start}
-use Rattle.wq_history.specs.declared.call.Reply.{Reply}
-use Rattle.wq_history.specs.declared.call.Reply.TheVariants.{Wrote}
-use Rattle.wq_history.specs.Calls.{Replies}
+use Rattle.wq_history.proofs.Words.{Start, Reply, Wrote, Replies}
 use Rattle.wq_history.proofs.Upheld.{started_there}
 use Rattle.wq_history.proofs.book.Book.start_in.Goals as goal
 

@@ -1,8 +1,5 @@
 use Rattle.std.proofs.Common.{◌≡◌, true, false, sym, ap, subst, ◌∙◌}
-use Rattle.wq_core.specs.State.{State}
-use Rattle.wq_rows.specs.declared.event.Event.{Event}
-use Rattle.wq_history.specs.History.{MayCome}
-use Rattle.wq_history.specs.Book.{state}
+use Rattle.wq_history.proofs.Words.{State, Event, MayCome, state}
 use Rattle.wq_history.proofs.CallRows.{ask-may}
 use Rattle.wq_history.proofs.book.Book.write_ask.Goals as goal
 
