@@ -2,8 +2,6 @@
 use Rattle.std.specs.Prelude.{◌≡◌, ℕ, ◌+◌, ◌*◌, ◌<◌, List, replicate, Result, Ok, Err}
 use Rattle.wq_core.specs.Wiring.{Wiring}
 use Rattle.wq_counts.specs.Counting.{counts_each}
-use Rattle.wq_history.specs.declared.call.Call.{Call}
-use Rattle.wq_history.specs.declared.call.Call.TheVariants.{Start as StartCall, Close as CloseCall, Drain as DrainCall}
 use Rattle.wq_history.specs.declared.sleepers.Sleepers.{Sleepers}
 use Rattle.wq_history.specs.declared.sleepers.Sleepers.TheVariants.{Contexts, ItemWaiters, LaneWaiters, Destroyers}
 use Rattle.wq_history.specs.Book.{IsWrongToStart}
@@ -12,8 +10,6 @@ use Rattle.wq_held.specs.declared.fault.SeatError.TheVariants.{TooManySeats, Out
 use Rattle.wq_held.specs.Locked.{HeldView, Holds, slots}
 use Rattle.wq_held.specs.declared.turn.Turn.{Turn}
 use Rattle.wq_held.specs.declared.turn.Turn.TheVariants.{Answers, Sleeps}
-use Rattle.wq_api.specs.declared.turns.Uncounted.{Uncounted}
-use Rattle.wq_api.specs.declared.turns.Uncounted.TheVariants.{Start, Close, Drain}
 
 -- ---- condition variables
 
@@ -29,12 +25,6 @@ HasCondvar lanes for_items (LaneWaiters q) = q < lanes
 HasCondvar lanes for_items Destroyers = Unit {0}
 
 -- ---- turns
-
--- a call that no seat counts
-abbrev pub uncounted_call : Uncounted → Call
-uncounted_call (Start c) = StartCall c
-uncounted_call Close = CloseCall
-uncounted_call Drain = DrainCall
 
 -- a seat is wanted: one is made, with no counts, and counts as made; or 65,535 were made (70); or else memory ran out
 -- (20), but never if there is nothing to count. Then no seat is made

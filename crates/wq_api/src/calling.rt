@@ -8,18 +8,19 @@ ghost use Rattle.std.specs.Prelude.{◌↔◌, ◌≡◌, IsTrue, Result, IfErr,
 ghost use Rattle.wq_history.specs.declared.call.Call.TheVariants.{CancelSync, Start, Finish};
 ghost use Rattle.wq_history.specs.History.{IsThere};
 ghost use Rattle.wq_held.specs.Calls.{IsNamed, missing, needs_room, IsBarred, IsAdmitted, IsSettled};
-ghost use Rattle.wq_api.specs.Locking.{uncounted_call};
 ghost use Rattle.wq_api.specs.Taking.{WritesOne, IsAnswered, Took, ComesTo, GivesRow, GivesTwo, GivesYes, GivesDone};
 ghost use Rattle.wq_api.specs.Taking.{GivesItem, IsTold, IsNotTold, Flushes, CancelsSync, Waits};
 
 use crate::layout::Layout;
 use crate::runtime::WqRuntime;
-use crate::turns::Uncounted;
 use std::alloc::Allocator;
 use std::sync::Wait;
 use wq_core::Context;
-use wq_held::{CallError, Naming, Seat};
-use wq_history::{Call, Flush, Reply, Row, Subject};
+use wq_held::{CallError, Naming, Seat, Uncounted};
+use wq_history::{
+    AsCall, AskCall, Call, CancelSyncCall, FinishCall, Flush, OverCall, Reply, Row, StartCall,
+    Subject, ToldCall, WaitCall,
+};
 use wq_items::ItemId;
 
 // ---- what a caller can know
@@ -97,14 +98,15 @@ fn needs_room(call: &Call) -> bool
 impl<N: Naming, A: Allocator> WqRuntime<N, A> {
     /// Whether its caller may make a call: the error is that what it names isn't there (64, 66), or else that the seat
     /// is full (60). It doesn't take the lock.
-    fn admit(&self, seat: &Seat<N, A>, call: &Call) -> Result<(), CallError>
-        ensures admitted { OnOk result (IsAdmitted N.wiring seat.now call.now) }
-        ensures barred { IfErr result (λ e. IsBarred N.wiring seat.now call.now e) }
+    fn admit<C: AsCall<A>>(&self, seat: &Seat<N, A>, call: &C) -> Result<(), CallError>
+        ensures admitted { OnOk result (IsAdmitted N.wiring seat.now (C.meant call.now)) }
+        ensures barred { IfErr result (λ e. IsBarred N.wiring seat.now (C.meant call.now) e) }
     {
-        if !self.layout.has_named(call) {
-            return Err(missing(call));
+        let call = call.call();
+        if !self.layout.has_named(&call) {
+            return Err(missing(&call));
         }
-        if needs_room(call) && seat.is_full() {
+        if needs_room(&call) && seat.is_full() {
             return Err(CallError::HistoryFull);
         }
         Ok(())
@@ -113,25 +115,39 @@ impl<N: Naming, A: Allocator> WqRuntime<N, A> {
     // ---- one call
 
     /// Has a call answered under the lock, once it isn't too early.
-    fn answer<R: Wait>(&self, rt: &R, seat: &mut Seat<N, A>, call: Call) -> Result<Reply, CallError>
-        ensures took { Took N.wiring N.rows seat.old call result seat.new }
+    fn answer<R: Wait, C: AsCall<A>>(
+        &self,
+        rt: &R,
+        seat: &mut Seat<N, A>,
+        call: C,
+    ) -> Result<Reply, CallError>
+        ensures took { Took N.wiring N.rows seat.old (C.meant call) result seat.new }
         ensures settled { IsSettled result }
     {
         self.lock.call(rt, seat, call)
     }
 
     /// The same of a call that no seat counts.
-    pub(crate) fn settle<R: Wait>(&self, rt: &R, call: Uncounted) -> Result<Reply, CallError>
-        ensures took { IsAnswered N.wiring N.rows (uncounted_call call) result }
+    pub(crate) fn settle<R: Wait, C: Uncounted<A>>(
+        &self,
+        rt: &R,
+        call: C,
+    ) -> Result<Reply, CallError>
+        ensures took { IsAnswered N.wiring N.rows (C.meant call) result }
         ensures settled { IsSettled result }
     {
         self.lock.call(rt, &mut (), call)
     }
 
     /// Has a call that writes one row answered under the lock.
-    fn written<R: Wait>(&self, rt: &R, seat: &mut Seat<N, A>, call: Call) -> Result<Row, CallError>
-        requires { WritesOne call }
-        ensures { GivesRow (λ answer. Took N.wiring N.rows seat.old call answer seat.new) result }
+    fn written<R: Wait, C: AsCall<A>>(
+        &self,
+        rt: &R,
+        seat: &mut Seat<N, A>,
+        call: C,
+    ) -> Result<Row, CallError>
+        requires { WritesOne (C.meant call) }
+        ensures { GivesRow (λ answer. Took N.wiring N.rows seat.old (C.meant call) answer seat.new) result }
     {
         match self.answer(rt, seat, call) {
             Ok(Reply::Wrote(row)) => Ok(row),
@@ -143,25 +159,30 @@ impl<N: Naming, A: Allocator> WqRuntime<N, A> {
     }
 
     /// Makes a call that writes one row, and gives the row.
-    fn row<R: Wait>(&self, rt: &R, seat: &mut Seat<N, A>, call: &Call) -> Result<Row, CallError>
-        requires { WritesOne call.now }
-        ensures { GivesRow (λ answer. ComesTo N.wiring N.rows seat.old call.now answer seat.new) result }
+    fn row<R: Wait, C: AsCall<A>>(
+        &self,
+        rt: &R,
+        seat: &mut Seat<N, A>,
+        call: C,
+    ) -> Result<Row, CallError>
+        requires { WritesOne (C.meant call) }
+        ensures { GivesRow (λ answer. ComesTo N.wiring N.rows seat.old (C.meant call) answer seat.new) result }
     {
-        match self.admit(seat, call) {
-            Ok(()) => self.written(rt, seat, *call),
+        match self.admit(seat, &call) {
+            Ok(()) => self.written(rt, seat, call),
             Err(e) => Err(e),
         }
     }
 
     /// Makes a call that writes one row, and gives what the row says.
-    pub(crate) fn yes<R: Wait>(
+    pub(crate) fn yes<R: Wait, C: AsCall<A>>(
         &self,
         rt: &R,
         seat: &mut Seat<N, A>,
-        call: &Call,
+        call: C,
     ) -> Result<bool, CallError>
-        requires { WritesOne call.now }
-        ensures { GivesYes (λ answer. ComesTo N.wiring N.rows seat.old call.now answer seat.new) result }
+        requires { WritesOne (C.meant call) }
+        ensures { GivesYes (λ answer. ComesTo N.wiring N.rows seat.old (C.meant call) answer seat.new) result }
     {
         match self.row(rt, seat, call) {
             Ok(row) => Ok(row.yes),
@@ -177,7 +198,7 @@ impl<N: Naming, A: Allocator> WqRuntime<N, A> {
     ) -> Result<Option<ItemId>, CallError>
         ensures { GivesItem (λ answer. IsAnswered N.wiring N.rows (Start context) answer) result }
     {
-        match self.settle(rt, Uncounted::Start(context)) {
+        match self.settle(rt, StartCall { context }) {
             Ok(Reply::Wrote(row)) => Ok(Some(row.event.item())),
             Ok(Reply::WroteTwo(_, _)) => unreachable!(),
             Ok(Reply::Done) => Ok(None),
@@ -196,7 +217,7 @@ impl<N: Naming, A: Allocator> WqRuntime<N, A> {
     ) -> Result<(), CallError>
         ensures { GivesDone (λ answer. Took N.wiring N.rows seat.old (Finish context item) answer seat.new) result }
     {
-        match self.written(rt, seat, Call::Finish(context, item)) {
+        match self.written(rt, seat, FinishCall { context, item }) {
             Ok(_row) => Ok(()),
             Err(e) => Err(e),
         }
@@ -213,10 +234,11 @@ impl<N: Naming, A: Allocator> WqRuntime<N, A> {
     ) -> Result<(Row, Row), CallError>
         ensures { GivesTwo (λ answer. ComesTo N.wiring N.rows seat.old (CancelSync item) answer seat.new) result }
     {
-        if let Err(e) = self.admit(seat, &Call::CancelSync(item)) {
+        let call = CancelSyncCall { item };
+        if let Err(e) = self.admit(seat, &call) {
             return Err(e);
         }
-        match self.answer(rt, seat, Call::CancelSync(item)) {
+        match self.answer(rt, seat, call) {
             Ok(Reply::WroteTwo(asked, taken)) => Ok((asked, taken)),
             Ok(Reply::Wrote(_)) => unreachable!(),
             Ok(Reply::Done) => unreachable!(),
@@ -239,7 +261,11 @@ impl<N: Naming, A: Allocator> WqRuntime<N, A> {
         if !asked.yes {
             return Ok(());
         }
-        match self.written(rt, seat, Call::Told(*subject, asked.number)) {
+        let call = ToldCall {
+            subject: *subject,
+            mark: asked.number,
+        };
+        match self.written(rt, seat, call) {
             Ok(_row) => Ok(()),
             Err(e) => Err(e),
         }
@@ -254,7 +280,7 @@ impl<N: Naming, A: Allocator> WqRuntime<N, A> {
     ) -> Result<bool, CallError>
         ensures { Flushes N.wiring N.rows seat.old subject.now result seat.new }
     {
-        let asked = match self.row(rt, seat, &Call::Ask(*subject)) {
+        let asked = match self.row(rt, seat, AskCall { subject: *subject }) {
             Ok(asked) => asked,
             Err(e) => return Err(e),
         };
@@ -293,11 +319,19 @@ impl<N: Naming, A: Allocator> WqRuntime<N, A> {
     ) -> Result<bool, CallError>
         ensures { Waits N.wiring N.rows seat.old context.now flush.now result seat.new }
     {
-        let began = match self.row(rt, seat, &Call::Wait(*context, *flush)) {
+        let begin = WaitCall {
+            context: *context,
+            flush: *flush,
+        };
+        let began = match self.row(rt, seat, begin) {
             Ok(began) => began,
             Err(e) => return Err(e),
         };
-        match self.written(rt, seat, Call::Over(*context, *flush)) {
+        let end = OverCall {
+            context: *context,
+            flush: *flush,
+        };
+        match self.written(rt, seat, end) {
             Ok(_row) => Ok(began.yes),
             Err(e) => Err(e),
         }

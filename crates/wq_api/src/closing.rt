@@ -12,10 +12,10 @@ ghost use Rattle.wq_api.specs.Locking.{UnderLock};
 ghost use Rattle.wq_api.specs.Taking.{IsAnswered, Destroys};
 
 use crate::runtime::WqRuntime;
-use crate::turns::Uncounted;
 use std::alloc::Allocator;
 use std::sync::Wait;
 use wq_held::{CloseWhy, Closed, Naming, Seat};
+use wq_history::{CloseCall, DrainCall};
 
 /// A runtime that isn't closed, and the seats that were handed in.
 #[derive(Drop)]
@@ -34,7 +34,7 @@ impl<N: Naming, A: Allocator> WqRuntime<N, A> {
     fn refuse_queueings<R: Wait>(&self, rt: &R)
         ensures { IsAnswered N.wiring N.rows Close (Ok Done) }
     {
-        let _closed = self.settle(rt, Uncounted::Close);
+        let _closed = self.settle(rt, CloseCall);
     }
 
     /// Waits until nothing is unfinished. The book was closed before.
@@ -43,7 +43,7 @@ impl<N: Naming, A: Allocator> WqRuntime<N, A> {
         requires closed { IsAnswered N.wiring N.rows Close (Ok Done) }
         ensures { IsAnswered N.wiring N.rows Drain (Ok Done) }
     {
-        let _idle = self.settle(rt, Uncounted::Drain);
+        let _idle = self.settle(rt, DrainCall);
     }
 
     /// Refuses queueings from now on, and waits until no entry is unfinished (`destroy_workqueue`, for all workqueues).

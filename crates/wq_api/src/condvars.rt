@@ -112,6 +112,7 @@ impl<A: Allocator> Condvars<A> {
     }
 
     /// Wakes contexts.
+    #[inline(always)]
     fn wake_contexts(&self, woken: WokenContexts) {
         match woken {
             WokenContexts::Nobody => {}
@@ -134,6 +135,7 @@ impl<A: Allocator> Condvars<A> {
     }
 
     /// Wakes whoever is to be woken, once the lock was given back.
+    #[inline(always)]
     pub(crate) fn wake(&self, _after: Unlocked, wake: &Wake) {
         self.wake_contexts(wake.contexts);
         if let Some(item) = wake.item_waiters

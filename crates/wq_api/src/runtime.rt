@@ -33,7 +33,7 @@ use std::sync::Wait;
 use std::sync::ledger::Blank;
 use wq_groups::{Assignment, Groups, LaneId};
 use wq_held::{CallError, Held, Naming, NewError, Seat, SeatError, new_held};
-use wq_history::{Call, Subject};
+use wq_history::Subject;
 use wq_items::{ItemId, ItemTable};
 
 /// A runtime: the workqueues of one assignment, which any number of threads share by reference.
@@ -207,7 +207,7 @@ impl<N: Naming, A: Allocator> WqRuntime<N, A> {
         ensures refused { IfErr result (λ e. RefusesQueueWork N.wiring seat.old (lane_of N.wiring item) item e
             × (seat.new ≡ seat.old)) }
     {
-        self.yes(rt, seat, &Call::Queue(item))
+        self.yes(rt, seat, wq_history::QueueCall { item })
     }
 
     /// Removes the pending entry of an item (`cancel_work`): true where one was pending.
@@ -226,7 +226,7 @@ impl<N: Naming, A: Allocator> WqRuntime<N, A> {
             × (seat.new ≡ raised seat.old item Cancel taken)) }
         ensures refused { IfErr result (λ e. RefusesCancelWork N.wiring item e × (seat.new ≡ seat.old)) }
     {
-        self.yes(rt, seat, &Call::Cancel(item))
+        self.yes(rt, seat, wq_history::CancelCall { item })
     }
 
     /// Waits until none of an item's entries that were queued before the call is unfinished (`flush_work`): true where

@@ -26,5 +26,6 @@ pub use making::{MAX_LANES, new_held};
 pub use naming::Naming;
 pub use seat::{SEAT_ROWS, Seat};
 pub use turn::Turn;
+pub use turning::Uncounted;
 pub use wq_counts::{Counts, Kind};
 pub use wq_history::CallError;

@@ -46,6 +46,7 @@ impl<N: Naming, A: Allocator> Tallies<N, A> {
     }
 
     /// Counts a row, unless it is of a start: here, and in the seat of the caller whose call wrote it.
+    #[inline(always)]
     fn count_row(&mut self, seat: &mut Seat<N, A>, row: &Row)
         requires there { IsThere N.wiring (subject_in row.now.event) }
         requires few { sum self.old < 4294967295 }
@@ -55,13 +56,14 @@ impl<N: Naming, A: Allocator> Tallies<N, A> {
     {
         self.ledger.audit(&mut seat.share);
         let before = seat.counts.total();
-        self.counts.note(row);
-        seat.counts.note(row);
+        self.counts.note_as(&row.event, row.yes);
+        seat.counts.note_as(&row.event, row.yes);
         self.ledger
             .add(&mut seat.share, seat.counts.total() - before);
     }
 
     /// Counts the rows of an answer.
+    #[inline(always)]
     pub fn count_answer(&mut self, seat: &mut Seat<N, A>, answer: &Result<Reply, CallError>)
         requires there { AreThere N.wiring answer.now }
         requires few { sum self.old < 4294967294 }

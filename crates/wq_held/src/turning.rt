@@ -5,7 +5,7 @@
 ghost use Rattle.std.specs.Prelude.{◌≡◌, ℕ, List};
 ghost use Rattle.wq_core.specs.Wiring.{items};
 ghost use Rattle.wq_held.specs.Locked.{Holds};
-ghost use Rattle.wq_held.specs.Calls.{IsUncounted, WasAnswered, BecomesTurn, TakesTurn};
+ghost use Rattle.wq_held.specs.Calls.{WasAnswered, BecomesTurn, TakesTurn};
 ghost use Rattle.wq_held.specs.Turns.{IfSleeps, Wakes, WakesEnoughOf};
 
 use crate::held::Held;
@@ -14,9 +14,29 @@ use crate::seat::Seat;
 use crate::turn::Turn;
 use crate::waking::{by_done, by_refusal, by_row, sleepers};
 use std::alloc::Allocator;
-use wq_history::{Book, Call, CallError, Reply};
+use wq_history::{AsCall, Book, Call, CallError, CloseCall, DrainCall, Reply, StartCall};
+
+/// A call of which no seat counts anything, whatever is answered: a start, the closing, or a drain.
+pub trait Uncounted<A: Allocator>: AsCall<A> {
+    ghost use Rattle.wq_held.specs.Calls.{IsUncounted};
+
+    ghost is_uncounted: { (c : Self) → IsUncounted (Self.meant c) };
+}
+
+impl<A: Allocator> Uncounted<A> for StartCall {
+    ghost is_uncounted = { λ c. tt };
+}
+
+impl<A: Allocator> Uncounted<A> for CloseCall {
+    ghost is_uncounted = { λ c. tt };
+}
+
+impl<A: Allocator> Uncounted<A> for DrainCall {
+    ghost is_uncounted = { λ c. tt };
+}
 
 /// What a call comes to that the book answered so.
+#[inline(always)]
 fn turn_of<A: Allocator>(
     book: &Book<A>,
     call: &Call,
@@ -43,27 +63,32 @@ fn turn_of<A: Allocator>(
 impl<N: Naming, A: Allocator> Held<N, A> {
     /// Answers a call, counts the row or rows that it wrote in the caller's seat, and says who is woken; or, where it
     /// is too early, says among whom the caller sleeps, and changes nothing.
-    pub fn turn(&mut self, seat: &mut Seat<N, A>, call: Call) -> Turn<Result<Reply, CallError>>
-        ensures takes { TakesTurn self.old seat.old call result self.new seat.new }
+    pub fn turn<C: AsCall<A>>(
+        &mut self,
+        seat: &mut Seat<N, A>,
+        call: C,
+    ) -> Turn<Result<Reply, CallError>>
+        ensures takes { TakesTurn self.old seat.old (C.meant call) result self.new seat.new }
         ensures wakes { Wakes N.wiring.lanes (items N.wiring) WakesEnoughOf self.old self.new result }
         ensures sleeps { IfSleeps result (λ _. seat.new ≡ seat.old) }
         ensures holds { Holds N.wiring N.rows self.old.book }
     {
         self.holds();
-        let answer = self.book.answer(call);
+        let meant = call.call();
+        let answer = call.answer_by(&mut self.book);
         self.tallies.count_answer(seat, &answer);
-        turn_of(&self.book, &call, answer)
+        turn_of(&self.book, &meant, answer)
     }
 
-    /// The same of a call of which no seat counts anything: a start, the closing, or a drain.
-    pub fn turn_uncounted(&mut self, call: Call) -> Turn<Result<Reply, CallError>>
-        requires { IsUncounted call }
-        ensures takes { (counts : List ℕ) → TakesTurn self.old counts call result self.new counts }
+    /// The same of a call of which no seat counts anything.
+    pub fn turn_uncounted<C: Uncounted<A>>(&mut self, call: C) -> Turn<Result<Reply, CallError>>
+        ensures takes { (counts : List ℕ) → TakesTurn self.old counts (C.meant call) result self.new counts }
         ensures wakes { Wakes N.wiring.lanes (items N.wiring) WakesEnoughOf self.old self.new result }
         ensures holds { Holds N.wiring N.rows self.old.book }
     {
         self.holds();
-        let answer = self.book.answer(call);
-        turn_of(&self.book, &call, answer)
+        let meant = call.call();
+        let answer = call.answer_by(&mut self.book);
+        turn_of(&self.book, &meant, answer)
     }
 }

@@ -112,6 +112,7 @@ fn by_step<A: Allocator>(book: &Book<A>, q: LaneId, step: &HelpStep) -> Wake
 }
 
 /// Whom a row wakes that was written, of an item or a workqueue that exists.
+#[inline(always)]
 pub(crate) fn by_row<A: Allocator>(book: &Book<A>, row: &Row) -> Wake
     requires { IsThere book.now.wiring (subject_in row.now.event) }
     ensures { WakesBy book.now row.now.event row.now.yes result }

@@ -1,14 +1,15 @@
 //! What a book answers to a call, one function for each.
 //!
 //! All of it is said by one relation, `Answers` of `specs/Calls`. A call takes the time of the step that it makes, and
-//! no memory. Whoever calls under a lock calls `answer`; the named calls of `book` are made of it.
+//! no memory. The named calls of `book` are made of `answer`; whoever calls under a lock makes those of `kinds`, which
+//! are answered by the same functions.
 
 ghost use Rattle.std.specs.Prelude.{◌≡◌, ◌<◌, ◌↔◌, IsTrue, IfErr, IfSome, IfNone, OnOk};
 ghost use Rattle.wq_core.specs.declared.entry.Waiting.{Waiting};
 ghost use Rattle.wq_core.specs.Wiring.{items};
 ghost use Rattle.wq_rows.specs.declared.event.Event.TheVariants.{Cancel as CancelEvent};
 ghost use Rattle.wq_history.specs.declared.call.Call.TheVariants.{Queue, Cancel, Ask, Told, CancelSync, Start, Wait};
-ghost use Rattle.wq_history.specs.declared.call.Call.TheVariants.{Over, Finish};
+ghost use Rattle.wq_history.specs.declared.call.Call.TheVariants.{Over, Finish, Close, Drain};
 ghost use Rattle.wq_history.specs.Events.{ask_event};
 ghost use Rattle.wq_history.specs.History.{IsThere};
 ghost use Rattle.wq_history.specs.Book.{IsWaitingBy, WaitsFor};
@@ -46,22 +47,13 @@ impl<A: Allocator> Book<A> {
             Call::Wait(context, flush) => self.answer_wait(context, flush),
             Call::Over(context, flush) => self.answer_over(context, flush),
             Call::Finish(context, item) => self.answer_finish(context, item),
-            Call::Close => {
-                self.close();
-                Ok(Reply::Done)
-            }
-            Call::Drain => {
-                if self.all_done() {
-                    Ok(Reply::Done)
-                } else {
-                    Ok(Reply::NotYet)
-                }
-            }
+            Call::Close => self.answer_close(),
+            Call::Drain => self.answer_drain(),
         }
     }
 
     /// Queues an item.
-    fn answer_queue(&mut self, item: ItemId) -> Result<Reply, CallError>
+    pub(crate) fn answer_queue(&mut self, item: ItemId) -> Result<Reply, CallError>
         ensures { Answers self.old (Queue item) result self.new }
     {
         if !is_item(&self.core, item) {
@@ -85,7 +77,7 @@ impl<A: Allocator> Book<A> {
     }
 
     /// Removes the pending entry of an item.
-    fn answer_cancel(&mut self, item: ItemId) -> Result<Reply, CallError>
+    pub(crate) fn answer_cancel(&mut self, item: ItemId) -> Result<Reply, CallError>
         ensures { Answers self.old (Cancel item) result self.new }
     {
         if !is_item(&self.core, item) {
@@ -113,7 +105,7 @@ impl<A: Allocator> Book<A> {
     }
 
     /// Asks about an item or a lane.
-    fn answer_ask(&mut self, subject: Subject) -> Result<Reply, CallError>
+    pub(crate) fn answer_ask(&mut self, subject: Subject) -> Result<Reply, CallError>
         ensures { Answers self.old (Ask subject) result self.new }
     {
         self.find(&subject)?;
@@ -147,6 +139,7 @@ impl<A: Allocator> Book<A> {
     }
 
     /// Writes the row of an ask, where there are enough rows for it.
+    #[inline(always)]
     fn write_ask(&mut self, subject: &Subject) -> Option<Row>
         requires { IsThere self.old.wiring subject.now }
         ensures { IsWritten self.old (ask_event subject.now) result self.new }
@@ -165,7 +158,7 @@ impl<A: Allocator> Book<A> {
     }
 
     /// Tells a caller who asked about an item or a lane, with this mark, whether its wait is over.
-    fn answer_told(&mut self, subject: Subject, mark: u32) -> Result<Reply, CallError>
+    pub(crate) fn answer_told(&mut self, subject: Subject, mark: u32) -> Result<Reply, CallError>
         ensures { Answers self.old (Told subject mark) result self.new }
     {
         if self.asks_waiting(&subject) == 0 {
@@ -178,7 +171,7 @@ impl<A: Allocator> Book<A> {
     }
 
     /// Asks about an item, and then removes its pending entry.
-    fn answer_cancel_sync(&mut self, item: ItemId) -> Result<Reply, CallError>
+    pub(crate) fn answer_cancel_sync(&mut self, item: ItemId) -> Result<Reply, CallError>
         ensures { Answers self.old (CancelSync item) result self.new }
     {
         if !is_item(&self.core, item) {
@@ -205,7 +198,7 @@ impl<A: Allocator> Book<A> {
     }
 
     /// Starts the next entry of a lane in one of its contexts.
-    fn answer_start(&mut self, context: Context) -> Result<Reply, CallError>
+    pub(crate) fn answer_start(&mut self, context: Context) -> Result<Reply, CallError>
         ensures { Answers self.old (Start context) result self.new }
     {
         let q = context.lane;
@@ -223,7 +216,7 @@ impl<A: Allocator> Book<A> {
     }
 
     /// Makes what a context runs begin to wait.
-    fn answer_wait(&mut self, context: Context, flush: Flush) -> Result<Reply, CallError>
+    pub(crate) fn answer_wait(&mut self, context: Context, flush: Flush) -> Result<Reply, CallError>
         ensures { Answers self.old (Wait context flush) result self.new }
     {
         let whole = flush.whole;
@@ -262,7 +255,7 @@ impl<A: Allocator> Book<A> {
     }
 
     /// Lets what a context runs go on, where it waits so and that wait is over.
-    fn answer_over(&mut self, context: Context, flush: Flush) -> Result<Reply, CallError>
+    pub(crate) fn answer_over(&mut self, context: Context, flush: Flush) -> Result<Reply, CallError>
         ensures { Answers self.old (Over context flush) result self.new }
     {
         self.legal();
@@ -279,7 +272,11 @@ impl<A: Allocator> Book<A> {
     }
 
     /// Finishes what a context runs, an entry of this item.
-    fn answer_finish(&mut self, context: Context, item: ItemId) -> Result<Reply, CallError>
+    pub(crate) fn answer_finish(
+        &mut self,
+        context: Context,
+        item: ItemId,
+    ) -> Result<Reply, CallError>
         ensures { Answers self.old (Finish context item) result self.new }
     {
         let Some(running) = self.awake_in(&context) else {
@@ -290,5 +287,23 @@ impl<A: Allocator> Book<A> {
         }
         let row = self.make_in(&context, &HelpStep::Finish(item), true);
         Ok(Reply::Wrote(row))
+    }
+    /// Closes the book.
+    pub(crate) fn answer_close(&mut self) -> Result<Reply, CallError>
+        ensures { Answers self.old Close result self.new }
+    {
+        self.close();
+        Ok(Reply::Done)
+    }
+
+    /// Looks whether nothing is unfinished.
+    pub(crate) fn answer_drain(&mut self) -> Result<Reply, CallError>
+        ensures { Answers self.old Drain result self.new }
+    {
+        if self.all_done() {
+            Ok(Reply::Done)
+        } else {
+            Ok(Reply::NotYet)
+        }
     }
 }

@@ -14,6 +14,7 @@ mod book;
 mod call;
 mod fault;
 mod judging;
+mod kinds;
 pub mod laws;
 mod row_error;
 mod sleepers;
@@ -24,6 +25,10 @@ pub use book::Book;
 pub use call::{Call, Flush, Reply};
 pub use fault::{BookError, CallError};
 pub use judging::check_rows;
+pub use kinds::{
+    AsCall, AskCall, CancelCall, CancelSyncCall, CloseCall, DrainCall, FinishCall, OverCall,
+    QueueCall, StartCall, ToldCall, WaitCall,
+};
 pub use row_error::{RowError, RowFault};
 pub use sleepers::{Sleepers, Wake, WokenContexts};
 pub use wq_rows::{Event, MAX_ROWS, Row, Rows, pack, unpack};
