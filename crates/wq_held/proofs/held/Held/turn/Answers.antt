@@ -1,5 +1,6 @@
 use Rattle.std.proofs.Common.{◌≡◌, ◌-◌, List, ℕ, sym, ap, subst}
-use Rattle.wq_history.proofs.Words.{Wiring, Call, IsBook, Answers}
+use Rattle.wq_history.proofs.Words.{Wiring, IsBook, Answers}
+use Rattle.wq_held.proofs.Words.{Call}
 use Rattle.wq_held.specs.Locked.{HeldView, IsProtected}
 use Rattle.wq_held.specs.Calls.{AreThere, WasAnswered, BecomesTurn}
 use Rattle.wq_held.proofs.TakenTurns.{answered-there, few-tallies, answered-protected, turn-taken, turn-wakes}

@@ -1,5 +1,6 @@
 use Rattle.std.proofs.Common.{◌≡◌, ◌-◌, ℕ, List, [], sym, ap, subst}
-use Rattle.wq_history.proofs.Words.{Call, IsBook, Answers}
+use Rattle.wq_history.proofs.Words.{IsBook, Answers}
+use Rattle.wq_held.proofs.Words.{Call}
 use Rattle.wq_held.specs.Locked.{HeldView, IsProtected}
 use Rattle.wq_held.specs.Calls.{WasAnswered, BecomesTurn}
 use Rattle.wq_held.proofs.TakenTurns.{answered-protected, answered-uncounted, turn-taken, turn-wakes}
