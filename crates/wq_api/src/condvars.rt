@@ -88,8 +88,7 @@ impl<A: Allocator> Condvars<A> {
     /// Among those of items, the place of that for whoever waits for this item.
     fn place_of(&self, item: ItemId) -> usize
         requires { 0 < vec_len self.now.items }
-        ensures place { result ≡ item % vec_len self.now.items }
-        ensures within { result < vec_len self.now.items }
+        ensures { result ≡ item % vec_len self.now.items }
     {
         usize::from(item.get()) % self.items.len()
     }

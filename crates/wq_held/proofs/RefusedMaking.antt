@@ -7,7 +7,7 @@ use Rattle.wq_core.specs.Wiring.{with_helpers}
 use Rattle.wq_history.specs.Book.{RefusesNew}
 use Rattle.wq_held.specs.declared.fault.NewError.TheVariants.{NotSafe}
 use Rattle.wq_held.specs.Locked.{max_runtime_lanes, slots}
-use Rattle.wq_held.specs.Making.{RefusesRuntime}
+use Rattle.wq_held.specs.Making.{RefusesRuntime, MakesRuntime}
 
 -- if an item exists, its lane does
 lane_exists : (w : Wiring) (i : ℕ) → IsWiring w → i < items w → lane_of w i < w.lanes
@@ -16,6 +16,16 @@ lane_exists w i wiring there = wiring.within i 0 (omega (arith, there, wiring.on
 -- an assignment is safe whatever the number of helpers
 pub safe_with : (w v : Wiring) (helpers : ℕ) → w ≡ with_helpers v helpers → IsSafe v → IsSafe w
 safe_with w v helpers same safe = subst (λ (x : Wiring). IsSafe x) (sym same) safe
+
+-- what is asked of a runtime with this many helpers holds
+pub made : (w v : Wiring) (helpers rows : ℕ) → w ≡ with_helpers v helpers → v.lanes ≤ max_runtime_lanes
+    → rows ≤ max_rows → helpers ≤ max_helpers → IsSafe v → MakesRuntime w rows
+made w v helpers rows same few_lanes few_rows few_helpers safe = record {
+  few_lanes = subst (λ (x : Wiring). x.lanes ≤ max_runtime_lanes) (sym same) few_lanes;
+  few_rows = few_rows;
+  few_helpers = subst (λ (x : Wiring). x.helpers ≤ max_helpers) (sym same) few_helpers;
+  safe = safe_with w v helpers same safe;
+}
 
 -- the assignment isn't safe
 pub not_safe_refused : (w v : Wiring) (helpers rows : ℕ) (safe : Bool) → w ≡ with_helpers v helpers

@@ -1,23 +1,22 @@
 //! What the lock protects: the book, its tallies, and the parts of the ledger that no seat holds.
 //!
-//! Whoever calls holds the lock. Each call takes constant time and no memory, but `new` and `seat`: they take time and
-//! memory in the number of items or lanes, whichever are more, 352 and 176 bytes for each.
+//! Whoever calls holds the lock. Each call takes constant time and no memory, but `seat`: it takes time and memory in
+//! the number of items or lanes, whichever are more, 176 bytes for each.
 
-ghost use Rattle.std.specs.Prelude.{◌≡◌, ◌+◌, ◌<◌, ◌≤◌, [], sum, replicate, ◌*◌, IfOk, IfErr, OnOk, OnErr, IfSome};
+ghost use Rattle.std.specs.Prelude.{◌≡◌, ◌+◌, ◌<◌, ◌≤◌, sum, replicate, ◌*◌, IfOk, IfErr, OnOk, IfSome};
 ghost use Rattle.std.specs.Prelude.{IfNone};
-ghost use Rattle.wq_core.specs.Wiring.{items, max_helpers, helpers_of};
-ghost use Rattle.wq_core.specs.Deadlock.{IsSafe};
+ghost use Rattle.wq_core.specs.Wiring.{items, helpers_of};
 ghost use Rattle.wq_counts.specs.Counting.{counts_each, counted_rows};
-ghost use Rattle.wq_held.specs.Locked.{max_runtime_lanes, slots, IsOnLane, Holds, RefusesClose, Closes};
+ghost use Rattle.wq_held.specs.Locked.{slots, IsOnLane, Holds, RefusesClose, Closes};
 ghost use Rattle.wq_held.specs.declared.fault.SeatError.TheVariants.{TooManySeats, OutOfMemory as SeatOutOfMemory};
 
 use crate::fault::{CloseWhy, SeatError};
 use crate::naming::Naming;
 use crate::seat::Seat;
 use crate::tallies::Tallies;
-use std::alloc::{AllocError, Allocator};
+use std::alloc::Allocator;
 use std::marker::Model;
-use std::sync::ledger::{Blank, Share};
+use std::sync::ledger::Share;
 use wq_counts::Counts;
 use wq_groups::LaneId;
 use wq_history::Book;
@@ -50,56 +49,13 @@ impl<N: Naming, A: Allocator> Model for Held<N, A> {
 }
 
 /// How many slots of counts there are for a book: as many as items or lanes, whichever are more.
-fn slots_of<A: Allocator>(book: &Book<A>) -> usize
+pub(crate) fn slots_of<A: Allocator>(book: &Book<A>) -> usize
     ensures { result ≡ slots book.now.wiring }
 {
     book.items().max(book.lanes())
 }
 
-/// The counts for the tallies and those for the sums, all 0. The only error is out
-/// of memory, which can't occur where there is no slot.
-fn two_counts<A: Allocator + Copy>(
-    alloc: A,
-    slots: usize,
-) -> Result<(Counts<A>, Counts<A>), AllocError>
-    ensures counts { IfOk result (λ both. (both.0 ≡ replicate (counts_each * slots) 0)
-        × (both.1 ≡ replicate (counts_each * slots) 0)) }
-    ensures memory { OnErr result (0 < slots) }
-{
-    let tallies = Counts::new(alloc, slots)?;
-    let sums = Counts::new(alloc, slots)?;
-    Ok((tallies, sums))
-}
-
 impl<N: Naming, A: Allocator + Copy> Held<N, A> {
-    /// Starts with a book in which nothing has happened, of the runtime that this
-    /// blank ledger belongs to. No seat is made.
-    ///
-    /// The only error is out of memory (20), which can't occur where there are no items and no lanes.
-    pub fn new(alloc: A, blank: Blank, book: Book<A>) -> Result<Self, AllocError>
-        requires name { blank.name ≡ N.name }
-        requires parts { blank.parts ≡ N.parts }
-        requires all_parts { N.parts ≡ 65536 }
-        requires of_wiring { book.wiring ≡ N.wiring }
-        requires of_rows { book.room ≡ N.rows }
-        requires empty { book.rows ≡ [] }
-        requires few_lanes { N.wiring.lanes ≤ max_runtime_lanes }
-        requires few_helpers { N.wiring.helpers ≤ max_helpers }
-        requires safe { IsSafe N.wiring }
-        ensures held { IfOk result (λ h. h ≡ record { book = book; seats = 0 }) }
-        ensures memory { OnErr result (0 < slots N.wiring) }
-    {
-        let (counts, sums) = two_counts(alloc, slots_of(&book))?;
-        let (ledger, rest) = blank.open::<N>();
-        Ok(Held {
-            book,
-            tallies: Tallies { counts, ledger },
-            sums,
-            seats: 0,
-            rest,
-        })
-    }
-
     /// Makes a seat, with no counts.
     ///
     /// The error is `TooManySeats` (70) exactly where 65,535 were made. Otherwise it is out of memory (20), which can't

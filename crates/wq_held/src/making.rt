@@ -1,7 +1,7 @@
 //! What the lock of a new runtime protects.
 //!
-//! It takes time and memory for the counts of the items, for the machine, and for the wait graph of the workqueues with
-//! its ranks; and 12 bytes for each row.
+//! It takes time and memory for the counts of the items or the lanes, whichever are more, 352 bytes for each; for the
+//! machine; for the wait graph of the workqueues with its ranks; and 12 bytes for each row.
 
 ghost use Rattle.std.specs.Prelude.{◌≡◌, [], false, length, IfOk, OnOk, IfErr};
 ghost use Rattle.wq_groups.specs.Declaration.{declaration_of};
@@ -9,11 +9,13 @@ ghost use Rattle.wq_core.specs.Wiring.{wiring, with_helpers};
 ghost use Rattle.wq_held.specs.Making.{RefusesRuntime, MakesRuntime};
 
 use crate::fault::NewError;
-use crate::held::Held;
+use crate::held::{Held, slots_of};
 use crate::naming::Naming;
+use crate::tallies::Tallies;
 use std::alloc::Allocator;
 use std::sync::ledger::Blank;
 use wq_core::{Core, MAX_HELPERS};
+use wq_counts::Counts;
 use wq_deadlock::is_safe;
 use wq_groups::{Assignment, Groups};
 use wq_history::{Book, MAX_ROWS};
@@ -68,6 +70,15 @@ pub fn new_held<N: Naming, A: Allocator + Copy>(
     let Ok(book) = Book::new(alloc, core, rows) else {
         return Err(NewError::OutOfMemory);
     };
-    let held = Held::new(alloc, blank, book)?;
-    Ok(held)
+    let slots = slots_of(&book);
+    let counts = Counts::new(alloc, slots)?;
+    let sums = Counts::new(alloc, slots)?;
+    let (ledger, rest) = blank.open::<N>();
+    Ok(Held {
+        book,
+        tallies: Tallies { counts, ledger },
+        sums,
+        seats: 0,
+        rest,
+    })
 }
