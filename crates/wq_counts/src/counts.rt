@@ -10,7 +10,7 @@ ghost use Rattle.std.specs.Prelude.{if◌then◌else◌, IfOk, OnErr, true};
 ghost use Rattle.wq_counts.specs.declared.kind.Kind.TheVariants.{Queue, Cancel, Finish};
 ghost use Rattle.wq_counts.specs.Counting.{counts_each, place as place_of, lane_place as lane_place_of};
 ghost use Rattle.wq_counts.specs.Counting.{help_place as help_place_of, counted_place as counted_place_of, slot_in};
-ghost use Rattle.wq_counts.specs.Counting.{made, asked_lane, told_lane, raised_at, noted_as, noted, is_counted};
+ghost use Rattle.wq_counts.specs.Counting.{made, asked_lane, told_lane, raised_at, noted_as, is_counted};
 
 use crate::kind::{Kind, LaneKind};
 use std::alloc::{AllocError, Allocator};
@@ -18,7 +18,7 @@ use std::marker::Model;
 use wq_core::HelpStep;
 use wq_groups::LaneId;
 use wq_items::ItemId;
-use wq_rows::{Event, Row};
+use wq_rows::Event;
 
 /// How many counts a slot has: one for each kind, of an item or of a lane, and answer.
 pub const COUNTS_EACH: usize = 22;
@@ -172,17 +172,6 @@ impl<A: Allocator> Counts<A> {
         if let Some(place) = counted_place(event, yes) {
             self.raise_at(place);
         }
-    }
-
-    /// Counts another row. That of a start raises no count.
-    pub fn note(&mut self, row: &Row)
-        requires slot { counts_each * slot_in row.now.event + counts_each ≤ length self.old }
-        requires few { sum self.old < 18446744073709551615 }
-        ensures counts { self.new ≡ noted self.old row.now }
-        ensures total { sum self.new ≡ sum self.old + (if is_counted row.now.event then 1 else 0) }
-        ensures length { length self.new ≡ length self.old }
-    {
-        self.note_as(&row.event, row.yes);
     }
 
     /// Adds the counts of other rows of the same items and lanes.
