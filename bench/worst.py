@@ -178,6 +178,12 @@ def few(count):
     return [tuple(sorted(numbers.sample(range(ITEMS), 2))) for _ in range(count)]
 
 
+def one_between(count):
+    """So many items wait for one, which waits for as many. Each of the first waits for one more, for which one more item waits."""
+    one = 2 * count
+    return [flush for i in range(count) for flush in ((i, one), (i, one + 1 + i), (count + i, one + 1 + i), (one, one + 1 + count + i))]
+
+
 def near(width):
     """Each item flushes four random ones of the next so many."""
     numbers = random.Random(1)
@@ -384,6 +390,7 @@ def repairs():
                declaration(ITEMS, shuffled(in_layers(width))), in_turn_with_bare(512, 2), [])
     yield "4,000 random flushes, 2,048 workqueues", declaration(ITEMS, few(4_000)), in_turn(2_048), []
     yield "100 random flushes, 64 workqueues", declaration(ITEMS, few(100)), in_turn(64), []
+    yield "one waits for 1,023, and as many for it, one workqueue", declaration(ITEMS, one_between(1_023)), one(), []
 
 
 COLLIDING = "names that collide for the seed 0"
