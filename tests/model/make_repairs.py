@@ -125,6 +125,17 @@ def limit_repair_cases():
     chain = [b"flush %s %s" % pair for pair in zip(names[:300], names[1:300])]
     alone = lines_on([[name] for name in names])
     add("a chain of 300 on one workqueue", 300, chain, lines_on([names[:300]]))
+    # As many groups as are looked at together, and one more; the first has to stay, or all may move.
+    for count in 256, 257:
+        some = names[:count]
+        shorter = [b"flush %s %s" % pair for pair in zip(some, some[1:])]
+        add(f"a chain of {count} on one workqueue", count, shorter, lines_on([some]))
+        add(f"a chain of {count} on one workqueue, whose first item has to stay", count, shorter, lines_on([some]), *some[1:])
+    # Two items on each of 256 workqueues, of which one may move. The other one waits for who may move on the next.
+    twos = [names[place:place + 2] for place in range(0, 512, 2)]
+    around = [b"flush %s %s" % (two[1], after[0]) for two, after in zip(twos, twos[1:])]
+    back = [b"flush %s %s" % (two[0], after[1]) for two, after in zip(twos[::2], twos[1::2])]
+    add("256 workqueues of two items, of which one may move", 512, around + back, lines_on(twos), *names[0:512:2])
     long_chain = [b"flush %s %s" % pair for pair in zip(names[:600], names[1:600])]
     add("a chain of 600 on one workqueue", 600, long_chain, lines_on([names[:600]]))
     # The first item of the second workqueue waits for the first one of the first, whose last one waits for the other.
