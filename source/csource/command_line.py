@@ -1,6 +1,7 @@
 """The command line of `wqsource`."""
 
 import argparse
+import gc
 import glob
 import os
 import pathlib
@@ -12,6 +13,7 @@ from .declaration import Declaration
 from .extract import ExtractError, Extractor, default_cache
 from .progress import Progress
 from .tables import TableError
+from .token_extract import TokenExtractor
 
 DONE, LEFT, USAGE, FAULT = 0, 1, 2, 3
 
@@ -45,6 +47,12 @@ def parser() -> argparse.ArgumentParser:
         default=default_cache(),
         metavar="DIR",
         help="where facts are kept ($XDG_CACHE_HOME/wqplan/facts)",
+    )
+    shared.add_argument(
+        "--facts",
+        choices=("reader", "coccinelle"),
+        default="reader",
+        help="who reads the C: the reader of tokens, and Coccinelle where that isn't sure of a file; or Coccinelle alone",
     )
     shared.add_argument(
         "--stacked", action="store_true", help="submit_bio may run the submit_bio functions of these files"
@@ -108,7 +116,7 @@ def files_of(tree: pathlib.Path, given: list[str], declaration: Optional[Declara
     return files
 
 
-def run_audit(words: argparse.Namespace, extractor: Extractor) -> int:
+def run_audit(words: argparse.Namespace, extractor: program.ReadsFacts) -> int:
     declaration = Declaration.read(words.decl)
     files = files_of(words.tree, words.files, declaration)
     found = audit.Audit(
@@ -120,7 +128,7 @@ def run_audit(words: argparse.Namespace, extractor: Extractor) -> int:
     return DONE if found.is_done else LEFT
 
 
-def run_drift(words: argparse.Namespace, extractor: Extractor) -> int:
+def run_drift(words: argparse.Namespace, extractor: program.ReadsFacts) -> int:
     declaration = Declaration.read(words.decl)
     files = files_of(words.old, words.files, declaration)
     tables, stacked = program.Tables(), words.stacked or declaration.is_stacked
@@ -144,7 +152,7 @@ def replace(path: str, text: str) -> None:
     half.replace(path)
 
 
-def run_draft(words: argparse.Namespace, extractor: Extractor) -> int:
+def run_draft(words: argparse.Namespace, extractor: program.ReadsFacts) -> int:
     files = files_of(words.tree, words.files, None)
     found = draft.Draft(program.read(words.tree, files, extractor, program.Tables(), words.stacked), words.only)
     extractor.progress.end()
@@ -162,8 +170,12 @@ VERBS = {"audit": run_audit, "drift": run_drift, "draft": run_draft}
 
 def main() -> NoReturn:
     words = parser().parse_args()
+    # (millions of small objects, which live as long as the command; to look through them again and again costs a third)
+    gc.disable()
     # (spatch runs in the folder of the tree)
-    extractor = Extractor(words.cache.resolve(), max(1, words.jobs or 1), Progress())
+    coccinelle = Extractor(words.cache.resolve(), max(1, words.jobs or 1), Progress())
+    reader = TokenExtractor(words.cache.resolve(), coccinelle.progress, coccinelle)
+    extractor: program.ReadsFacts = coccinelle if words.facts == "coccinelle" else reader
     try:
         status = VERBS[words.verb](words, extractor)
     except (Fault, ExtractError, TableError, OSError) as fault:

@@ -54,7 +54,9 @@ def test_without_python(wqsource, tmp_path):
 def test_without_coccinelle(wqsource, tmp_path):
     env = only(tmp_path, "sh", "dirname", "readlink")
     (tmp_path / "bin" / "python3").symlink_to("/usr/bin/python3")
-    ran = wqsource("draft", "--cache", tmp_path / "cache", "--tree", RDISK, "rdisk.c", env=env)
+    words = ("draft", "--cache", tmp_path / "cache", "--tree", RDISK, "rdisk.c")
+    assert wqsource(*words, env=env).status == 0
+    ran = wqsource(*words, "--facts", "coccinelle", env=env)
     assert (
         ran.status == 3
         and ran.err == "wqsource: spatch isn't on the PATH. It is Coccinelle's: apt-get install coccinelle\n"
@@ -68,6 +70,8 @@ def test_a_spatch_that_fails(wqsource, tmp_path):
     (folder / "spatch").chmod(0o755)
     ran = wqsource(
         "draft",
+        "--facts",
+        "coccinelle",
         "--cache",
         tmp_path / "cache",
         "--tree",
@@ -81,7 +85,7 @@ def test_a_spatch_that_fails(wqsource, tmp_path):
 
 def test_facts_are_kept_by_what_is_in_the_file(wqsource, tmp_path):
     """The same text at another place is read from the cache: no spatch is needed then."""
-    words = ("draft", "--cache", tmp_path / "cache", "rdisk.c", "--tree")
+    words = ("draft", "--facts", "coccinelle", "--cache", tmp_path / "cache", "rdisk.c", "--tree")
     first = wqsource(*words, RDISK)
     assert first.status == 0
     (tmp_path / "rdisk.c").write_text((RDISK / "rdisk.c").read_text())
