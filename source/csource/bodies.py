@@ -16,6 +16,8 @@ class Bodies:
         self.sink = sink
         self.source = sink.source
         self.words = sink.words
+        # the variables of the function that are declared with a value
+        self.initialised_names: set[str] = set()
 
     def read(self, start: int, end: int) -> None:
         self.statements(start, end)
@@ -96,6 +98,7 @@ class Bodies:
                 continue
             self.sink.fact("LOC", at, self.words[at], type_name or "int")
             if equals is not None:
+                self.initialised_names.add(self.words[at])
                 self.initialised(at, type_name, equals, last)
 
     def behind_type(self, start: int, end: int) -> Optional[int]:

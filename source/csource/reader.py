@@ -1,19 +1,21 @@
 """A reader of tokens: the facts of a C file, without Coccinelle, in the form of facts.cocci.
 
 It knows no grammar: it looks for what functions, calls and assignments look like, and goes on after what it doesn't know.
-So it is a hundred times as fast, needs no preprocessor, and reads what Coccinelle can't parse. It has four kinds of lines
+So it is a hundred times as fast, needs no preprocessor, and reads what Coccinelle can't parse. It has five kinds of lines
 that Coccinelle doesn't print, of which types.py makes the types of expressions:
 
     STM struct member type     a member of a struct
     GLB variable type          a variable outside functions
     FRT function type          what a function returns
     TDF name type              a typedef
+    GRD first last holds words these lines run only if this condition of the parameters holds, or doesn't (guards.py)
 """
 
 import re
 from typing import Callable, Optional
 
 from .bodies import Bodies
+from .guards import Guards
 from .lexer import Source
 from .sink import OUTSIDE, Sink
 from .words_of_c import ATTRIBUTES, KEYWORDS, is_word, qualifies
@@ -31,6 +33,7 @@ class Reader:
         self.looks_into = looks_into
         self.sink = Sink(source)
         self.bodies = Bodies(self.sink)
+        self.guards = Guards(self.sink)
 
     def read(self) -> list[str]:
         start = at = 0
@@ -90,11 +93,15 @@ class Reader:
         sink.function = self.words[name + 2 if SYSTEM_CALL.fullmatch(self.words[name]) else name]
         close = self.source.closed_by[name + 1]
         sink.fact("DEF", name, sink.function, sink.text(name + 2, close))
+        parameters = set()
         for first, last in self.source.parts(name + 2, close):
             at = sink.last_name(first, last)
             if at is not None:
                 sink.fact("LOC", at, self.words[at], sink.type_of(first, at))
+                parameters.add(self.words[at])
+        self.bodies.initialised_names = set()
         self.bodies.read(brace + 1, end)
+        self.guards.read(brace + 1, end, parameters | self.bodies.initialised_names)
         sink.function = OUTSIDE
 
     # Structs

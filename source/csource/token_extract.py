@@ -15,10 +15,10 @@ from .token_facts import TokenFacts
 from .types import TYPE_KINDS, Types
 
 HERE = pathlib.Path(__file__).resolve().parent
-READS = ("lexer.py", "words_of_c.py", "sink.py", "reader.py", "bodies.py")
+READS = ("lexer.py", "words_of_c.py", "sink.py", "reader.py", "bodies.py", "guards.py")
 VERSION = hashlib.sha256(b"\0".join((HERE / name).read_bytes() for name in READS)).hexdigest()
 # What Coccinelle's facts of a file lack, the reader's give.
-KEPT_OF_READER = (*TYPE_KINDS, "LOC")
+KEPT_OF_READER = (*TYPE_KINDS, "LOC", "GRD")
 
 
 @dataclass

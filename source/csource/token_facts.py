@@ -1,12 +1,14 @@
 """The facts that the reader of tokens found, with the types of expressions worked out when they are asked for."""
 
+import collections
 import pathlib
 from typing import Optional
 
 from . import ctext
 from .ctext import Tokens
 from .facts import OUTSIDE, Facts, struct_name
-from .places import Place
+from .guards import Guard
+from .places import FunctionId, Place
 from .types import TYPE_KINDS, Expressions, Types
 
 NOT_TAKEN = (*TYPE_KINDS, "ODD")
@@ -20,6 +22,7 @@ class TokenFacts(Facts):
 
     def __init__(self, tree: pathlib.Path, lines: dict[str, list[str]], types: Types) -> None:
         self.expressions = Expressions(types)
+        self.guards: dict[FunctionId, list[Guard]] = collections.defaultdict(list)
         self.known: dict[tuple[str, str, str, str], Optional[str]] = {}
         super().__init__(tree, lines)
         self.take_macro_types()
@@ -31,6 +34,9 @@ class TokenFacts(Facts):
             self.expressions.declare(Place(file, int(words[1]), function), words[4], words[5])
         if kind == "LOC":
             self.locals.add((file, words[3], words[4]))
+        elif kind == "GRD":
+            guard = Guard(int(words[4]), int(words[5]), words[6] == "1", words[7].split(" "))
+            self.guards[FunctionId(file, words[3])].append(guard)
         elif kind not in NOT_TAKEN:
             super().take(file, words)
 
