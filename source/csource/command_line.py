@@ -8,7 +8,7 @@ import pathlib
 import sys
 from typing import Any, NoReturn, Optional
 
-from . import audit, audit_text, draft, draft_text, drift, drift_text, program
+from . import audit, audit_text, draft, draft_text, drift, drift_text, program, scan_command
 from .declaration import Declaration
 from .extract import ExtractError, Extractor, default_cache
 from .progress import Progress
@@ -23,6 +23,7 @@ Reads C sources beside a declaration of wqplan.
   audit   which places may wait in reach of the declared items, and are neither cited nor dismissed in the declaration
   drift   what has changed between two trees: the lines that the declaration cites, waits in reach, workqueues
   draft   a first declaration of some files, for a reader to decide
+  scan    the workqueues with a rescuer of a whole kernel, and which of them can hang
 
 It lists places that may wait, along calls that it could resolve in the files that it was given. It never says that
 these are all. Nothing here is proved. README.md beside it has the comments that it reads, and an example."""
@@ -60,7 +61,7 @@ def parser() -> argparse.ArgumentParser:
     words = argparse.ArgumentParser(
         prog="wqsource", description=ABOUT, epilog=ENDS, formatter_class=argparse.RawDescriptionHelpFormatter
     )
-    verbs = words.add_subparsers(dest="verb", required=True, metavar="audit|drift|draft")
+    verbs = words.add_subparsers(dest="verb", required=True, metavar="audit|drift|draft|scan")
     files: dict[str, Any] = dict(
         nargs="*",
         metavar="FILE",
@@ -71,6 +72,7 @@ def parser() -> argparse.ArgumentParser:
     one.add_argument("--decl", required=True, metavar="D.wq")
     one.add_argument("--tree", type=pathlib.Path, default=pathlib.Path("."), metavar="DIR")
     one.add_argument("--paths", action="store_true", help="all calls that lead to a site, and to what may end it")
+    scan_command.add_module_option(one)
     one.add_argument("files", **files)
     two = verbs.add_parser("drift", parents=[shared], epilog=ENDS, help="what has changed between two trees")
     two.add_argument("--decl", required=True, metavar="D.wq")
@@ -88,7 +90,9 @@ def parser() -> argparse.ArgumentParser:
     three.add_argument(
         "--assign", metavar="OUT", help="write the workqueues that the files make into OUT, as an assignment"
     )
+    scan_command.add_module_option(three)
     three.add_argument("files", **files)
+    scan_command.add_parser(verbs, shared, ENDS)
     return words
 
 
@@ -177,8 +181,13 @@ def main() -> NoReturn:
     reader = TokenExtractor(words.cache.resolve(), coccinelle.progress, coccinelle)
     extractor: program.ReadsFacts = coccinelle if words.facts == "coccinelle" else reader
     try:
-        status = VERBS[words.verb](words, extractor)
-    except (Fault, ExtractError, TableError, OSError) as fault:
+        if words.verb == "scan":
+            status = scan_command.run(words, reader)
+        else:
+            if getattr(words, "module", None):
+                words.files = scan_command.chosen_for(words.tree, words.module, reader).files
+            status = VERBS[words.verb](words, extractor)
+    except (Fault, ExtractError, TableError, OSError, *scan_command.FAULTS) as fault:
         extractor.progress.end()
         print(f"wqsource: {fault}", file=sys.stderr)
         status = FAULT

@@ -26,7 +26,7 @@ from .summary import Summary
 from .token_extract import TokenExtractor
 from .token_facts import TokenFacts
 from .tree_index import TreeIndex
-from .types import Types
+from .token_types import Types
 from .ways import Tables as OperationTables
 
 HANGS, NO_RESCUER = "hangs", "no rescuer"

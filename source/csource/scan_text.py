@@ -47,6 +47,12 @@ class Printer:
         self.print_depends(unsure)
         self.print_rest()
 
+    def is_told(self, only_stale: bool) -> bool:
+        """Whether there is something for a reader to do."""
+        if only_stale:
+            return any(self.survey.stale(self.rows)) or bool(self.survey.gone(self.rows))
+        return any(self.survey.of(row).word == UNREAD for row in self.sure)
+
     def note(self, text: str) -> None:
         says.note(self.to, text)
 

@@ -12,7 +12,7 @@ from .facts import Facts
 from .headers import Includes
 from .progress import Progress
 from .token_facts import TokenFacts
-from .types import TYPE_KINDS, Types
+from .token_types import TYPE_KINDS, Types
 
 HERE = pathlib.Path(__file__).resolve().parent
 READS = ("lexer.py", "words_of_c.py", "sink.py", "reader.py", "bodies.py", "guards.py")

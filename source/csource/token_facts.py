@@ -9,7 +9,7 @@ from .ctext import Tokens
 from .facts import OUTSIDE, Facts, struct_name
 from .guards import Guard
 from .places import FunctionId, Place
-from .types import TYPE_KINDS, Expressions, Types
+from .token_types import TYPE_KINDS, Expressions, Types
 
 NOT_TAKEN = (*TYPE_KINDS, "ODD")
 
