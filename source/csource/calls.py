@@ -9,7 +9,7 @@ from .ctext import Tokens
 from .facts import Facts
 from .holds import Holds
 from .places import FunctionId, Place
-from .records import Call
+from .records import Call, ExpressionCall
 from .tables import Idioms
 
 DIRECT = "call"
@@ -174,9 +174,15 @@ class CallGraph:
                 self.note_blind(call.place, f"*{call.name}", found)
         for expression, call in self.by_expression:
             found = functions_of(self.holds.values(call.place, expression.callee))
+            if not found and self.is_cast(expression):
+                continue
             added += sum(self.add(call.place, function, call.arguments, f"*{call.name}", call) for function in found)
             self.note_blind(call.place, call.name, found)
         return added
+
+    def is_cast(self, call: ExpressionCall) -> bool:
+        """(name)(x), where the name is that of no variable of the function: Coccinelle takes such a cast for a call."""
+        return len(call.callee) == 1 and not self.facts.is_local(call.place, call.callee[0])
 
     def note_blind(self, place: Place, name: str, found: list[FunctionId]) -> None:
         """Notes a pointer whose functions aren't known; a later round may find them."""

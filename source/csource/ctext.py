@@ -89,6 +89,14 @@ def bare(words: Tokens) -> Tokens:
     return words
 
 
+def pointee(words: Tokens) -> Tokens:
+    """Without `*` and `&` before it, and brackets and casts: of a function, the same function."""
+    words = bare(words)
+    while words and words[0] in ("*", "&"):
+        words = bare(words[1:])
+    return words
+
+
 def alternatives(words: Tokens) -> list[Tokens]:
     """What an expression may be: each `a ? b : c` in it is taken as `b` and as `c`."""
     if "?" not in words:

@@ -305,3 +305,6 @@ def print_assignment(draft: Draft, to: TextIO) -> None:
         print(f"{'? ' if shared or has_rescuer is None else ''}{word} {number} {' '.join(item.name for item in items)}  # {said}", file=to)
     if nowhere:
         print(f"? wq ? {' '.join(item.name for item in nowhere)}  # their workqueue isn't known", file=to)
+    empty = [workqueue for workqueue in program.workqueues.made if workqueue not in on]
+    if empty:
+        says.note(to, f"Workqueues without an item of these: {', '.join(map(program.workqueues.text, empty))}")

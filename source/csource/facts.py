@@ -156,12 +156,13 @@ class Facts:
             self.globals.add(assignment.left[0])
 
     def take_expression_call(self, place: Place, callee: Tokens, arguments: list[Tokens]) -> None:
-        """`(*base->member)(..)` is a call by a member: that is another fact."""
-        words = ctext.bare(callee)
-        while words[:1] == ["*"]:
-            words = ctext.bare(words[1:])
-        if len(words) < 2 or words[-2] not in ("->", "."):
-            self.expression_calls.append(ExpressionCall(place, callee, arguments))
+        """`(*base->member)(..)` is a call by a member: that is another fact. `(c ? f : g)(..)` calls f, or g."""
+        ways = [ctext.pointee(way) for way in ctext.alternatives(ctext.bare(callee))]
+        for words in ways:
+            if len(words) == 1 and len(ways) > 1:
+                self.calls.append(Call(place, words[0], arguments))
+            elif len(words) < 2 or words[-2] not in ("->", "."):
+                self.expression_calls.append(ExpressionCall(place, words, arguments))
 
     def take_initialisers(self, file: str) -> None:
         """What the text puts into members; what it puts into an array is as if it were assigned."""

@@ -86,21 +86,24 @@ class Items:
                 self.work_of.append((work, function))
                 self.set_in[call.place.id].append((work, function))
 
+    def workqueues_of(self, call: Call) -> set[str]:
+        """The workqueues that a call that queues names: none where they aren't known."""
+        if call.name.startswith("schedule_"):
+            return {"system_wq"}
+        if "kblockd" in call.name:
+            return self.kblockd()
+        values = [value for words in call.arguments for value in self.holds.values(call.place, words)]
+        return {value.made_at for value in values if isinstance(value, Workqueue)}
+
     def queue_item(self, call: Call) -> None:
-        workqueues: set[str] = set()
+        workqueues = self.workqueues_of(call)
         works: set[Address] = set()
         named = ""
         for words in call.arguments:
-            values = self.holds.values(call.place, words)
-            workqueues |= {value.made_at for value in values if isinstance(value, Workqueue)}
             hits = {address for address in self.addresses(call.place, words) if self.items_of({address})}
             works |= hits
             if not hits and not named and words and ctext.is_name(words[0]) and words[0] not in NO_WORKQUEUE:
                 named = ctext.joined(words)
-        if call.name.startswith("schedule_"):
-            workqueues, named = {"system_wq"}, "system_wq"
-        if "kblockd" in call.name:
-            workqueues = self.kblockd()
         functions = self.queued_by(call.place.id, works)
         if functions:
             for function in sorted(functions):

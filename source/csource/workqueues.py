@@ -25,6 +25,7 @@ IN_SOFTIRQS = "WQ_BH: softirqs execute its items"
 SYSTEM_IN_SOFTIRQS = ("system_bh_wq", "system_bh_highpri_wq")
 # Made by block/blk-core.c, with WQ_MEM_RECLAIM; kblockd_schedule_work and its like name it.
 KBLOCKD = "kblockd"
+MOST_MACROS = 3
 CONSTANT = re.compile(r"_*WQ_\w+|\d\w*|[|()]")
 
 # alloc_workqueue of Linux 6.1 makes an unbound workqueue of one at a time an ordered one; that of 6.12 doesn't.
@@ -69,6 +70,11 @@ class Workqueues:
             return workqueue
         return self.given_name(made.call) or made.to or workqueue
 
+    def text(self, workqueue: str) -> str:
+        """Its name, and where it is made."""
+        made = self.made.get(workqueue)
+        return f"{self.name(workqueue)} ({made.call.place})" if made else workqueue
+
     def given_name(self, call: Call) -> str:
         """The first text among the arguments: `"dm-" DM_MSG_PREFIX` in one, if the file has the macro. '' if it hasn't."""
         words = next((words for words in call.arguments if any(word[0] == '"' for word in words)), [])
@@ -76,8 +82,8 @@ class Workqueues:
         return "".join(parts) if all(parts) else ""
 
     def macro_text(self, file: str, name: str) -> str:
-        found = re.search(rf'^[ \t]*#[ \t]*define[ \t]+{re.escape(name)}[ \t]+"([^"]*)"', self.facts.texts[file], re.M)
-        return found[1] if found else ""
+        macro = self.macro(file, name)
+        return macro[1][0][1:-1] if macro and len(macro[1]) == 1 and macro[1][0][0] == '"' else ""
 
     def flags(self, workqueue: str) -> str:
         """What its flags mean here."""
@@ -88,11 +94,11 @@ class Workqueues:
         call = self.made[workqueue].call
         if "worker" in call.name:
             return "a kthread_worker: ordered, a thread of its own"
-        text = self.text(call)
+        text = self.call_text(call)
         found = [self.order(call, text), self.rescuer(call), "WQ_UNBOUND" if "WQ_UNBOUND" in text else ""]
         return ", ".join(filter(None, found))
 
-    def text(self, call: Call) -> str:
+    def call_text(self, call: Call) -> str:
         """The call, and what the function assigns to variables that it is given: flags may be kept there."""
         return " ".join([call.text] + [ctext.joined(words) for words in self.assigned(call)])
 
@@ -114,8 +120,7 @@ class Workqueues:
         words = ctext.bare(call.arguments[named + 1]) if named + 1 < len(call.arguments) else []
         if len(words) == 1 and self.facts.is_local(call.place, words[0]):
             return self.ways_of_variable(call, words[0])
-        macro = self.macro_words(call.place.file, words[0]) if len(words) == 1 else []
-        return [macro or words] if words else []
+        return [self.expanded(call.place.file, words)] if words else []
 
     def ways_of_variable(self, call: Call, name: str) -> list[Tokens]:
         """All that is assigned to it. `flags |= ..` adds flags: what has the flag before keeps it."""
@@ -124,10 +129,33 @@ class Workqueues:
         is_kept = changes <= {"|"} and all("WQ_MEM_RECLAIM" in words for words in found)
         return found if found and (not changes or is_kept) else [*found, [name]]
 
-    def macro_words(self, file: str, name: str) -> Tokens:
-        """What `#define NAME WQ_A | WQ_B` stands for."""
-        found = re.search(rf"^[ \t]*#[ \t]*define[ \t]+{re.escape(name)}[ \t]+([^\n]*)$", self.facts.texts[file], re.M)
-        return ctext.bare(ctext.tokens(ctext.blanked(found[1]))) if found else []
+    def expanded(self, file: str, words: Tokens, most: int = MOST_MACROS) -> Tokens:
+        """With macros of the file and of its headers in place: X, and X(flags)."""
+        found: Tokens = []
+        at = 0
+        while at < len(words):
+            macro = self.macro(file, words[at]) if most and not CONSTANT.fullmatch(words[at]) else None
+            if macro is None:
+                found.append(words[at])
+            else:
+                parameters, body = macro
+                end = ctext.closing(words, at + 1) if parameters and words[at + 1 : at + 2] == ["("] else at
+                given = dict(zip(parameters, ctext.arguments(words[at + 2 : end])))
+                inner = [word for name in body for word in given.get(name, [name])]
+                found += self.expanded(file, inner, most - 1)
+                at = end
+            at += 1
+        return found
+
+    def macro(self, file: str, name: str) -> Optional[tuple[Tokens, Tokens]]:
+        """The parameters and the body of a macro."""
+        define = re.compile(rf"^[ \t]*#[ \t]*define[ \t]+{re.escape(name)}\b(?:\(([^)]*)\))?((?:[^\n]*\\\n)*[^\n]*)", re.M)
+        for text in (self.facts.texts[file], *self.facts.structs.texts.values()):
+            found = define.search(text)
+            if found:
+                body = ctext.blanked(found[2].replace("\\\n", " "), with_strings=True)
+                return [word.strip() for word in (found[1] or "").split(",") if word.strip()], ctext.tokens(body)
+        return None
 
     def has_rescuer(self, workqueue: str) -> Optional[bool]:
         """Whether something guarantees that its items run; None if the files don't say."""
