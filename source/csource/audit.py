@@ -5,9 +5,10 @@ from dataclasses import dataclass, field
 from .backstop import missed_calls
 from .calls import Edge
 from .cited import Cited
-from .declaration import Declaration, Dismissal
+from .declaration import Declaration, DismissedItem, Dismissal
 from .places import FunctionId
 from .program import Program
+from .records import Call
 from .reach import Reached, path_to, reached_from
 from .sites import Key, Site, key_of
 
@@ -64,11 +65,36 @@ class Audit:
         self.wrong = list(self.cited.wrong())
         self.ambiguous = [found for found in self.cited.located if len(found.files) > 1]
         self.stale = [dismissal for dismissal in self.declaration.dismissals if dismissal not in self.used]
-        self.stale_items = [
-            item
-            for item in self.declaration.dismissed_items
-            if not any(function.name == item.function for function in self.program.items.items)
-        ]
+        self.stale_items = [item for item in self.declaration.dismissed_items if not self.dismisses_something(item)]
+
+    def dismisses_something(self, item: DismissedItem) -> bool:
+        """Whether a `# no item:` line names a work function, or a function with a call that isn't known."""
+        calls = [*self.program.items.unknown_items, *self.program.items.unknown_queueings]
+        return any(function.name == item.function for function in self.program.items.items) or any(
+            call.place.function == item.function for call in calls
+        )
+
+    def undecided(self, calls: list[Call]) -> list[Call]:
+        """Calls that set or queue an item which isn't known, in functions that no `# no item:` line names."""
+        return [call for call in calls if not self.cited.dismissed_item(call.place.id)]
+
+    @property
+    def unknown_items(self) -> list[Call]:
+        return self.undecided(self.program.items.unknown_items)
+
+    @property
+    def unknown_queueings(self) -> list[Call]:
+        """Those to a workqueue that may be a declared item's."""
+        return [call for call in self.undecided(self.program.items.unknown_queueings) if not self.is_elsewhere(call)]
+
+    def unknown_elsewhere(self) -> list[str]:
+        """The places of those to other workqueues."""
+        return [str(call.place) for call in self.program.items.unknown_queueings if self.is_elsewhere(call)]
+
+    def is_elsewhere(self, call: Call) -> bool:
+        """Whether a call queues to workqueues that are known to be no declared item's."""
+        named = self.program.items.workqueues_of(call)
+        return bool(named) and not named & self.workqueues
 
     @property
     def is_done(self) -> bool:
@@ -82,6 +108,8 @@ class Audit:
             or self.ambiguous
             or self.stale
             or self.stale_items
+            or self.unknown_items
+            or self.unknown_queueings
             or self.declaration.malformed
             or waiting
         )
@@ -168,6 +196,36 @@ class Audit:
         return sorted(
             {self.program.workqueues.name(workqueue) for workqueue in made if workqueue not in self.workqueues}
         )
+
+    def empty_workqueues(self) -> list[str]:
+        """The workqueues of the files to which no item is known to be queued."""
+        used = {workqueue for item in self.program.items.items.values() for workqueue in item.workqueues}
+        return [self.program.workqueues.text(made) for made in self.program.workqueues.made if made not in used]
+
+    def unknown_flags(self) -> list[str]:
+        """The workqueues of declared items of which it isn't known whether they have a rescuer."""
+        workqueues = self.program.workqueues
+        return [workqueues.text(made) for made in sorted(self.workqueues) if workqueues.has_rescuer(made) is None]
+
+    def never_queued(self) -> list[str]:
+        """Declared items that the files queue nowhere, as far as they say it."""
+        return [
+            name
+            for name, functions in self.cited.items.items()
+            if functions and not any(self.program.item(function).queueings for function in functions)
+        ]
+
+    def on_unknown_workqueues(self) -> list[str]:
+        """Declared items that are queued to workqueues of which the files don't say which they are."""
+        return [
+            name
+            for name, functions in self.cited.items.items()
+            if any(
+                not queueing.workqueues
+                for function in functions
+                for queueing in self.program.item(function).queueings
+            )
+        ]
 
     def name(self, function: FunctionId) -> str:
         """An item as the declaration calls it; one that isn't declared by its function."""

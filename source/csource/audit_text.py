@@ -35,6 +35,7 @@ class Printer:
         for missed in audit.missed:
             self.say(f"not parsed: {missed.place}: {missed.text}  [found by its name alone]")
             print(f"  # no wait: {missed.key}: ", file=self.to)
+        self.print_unknown()
         for neighbour in audit.neighbours:
             self.print_neighbour(neighbour)
         self.print_for_others()
@@ -114,6 +115,16 @@ class Printer:
 
     # Items and workqueues
 
+    def print_unknown(self) -> None:
+        """Items that are lost, since it isn't known what is set or queued."""
+        for calls, why in (
+            (self.audit.unknown_items, "its function isn't in these files"),
+            (self.audit.unknown_queueings, "what is queued isn't known"),
+        ):
+            for call in calls:
+                self.say(f"item not known: {call.place}: {call.text}: {why}")
+                print(f"  # no item: {call.place.file} {call.place.function}: ", file=self.to)
+
     def print_neighbour(self, neighbour: Neighbour) -> None:
         names = ", ".join(map(self.program.workqueues.name, sorted(neighbour.workqueues)))
         sites = says.counted(neighbour.sites, "site") if neighbour.sites else "no site"
@@ -136,8 +147,16 @@ class Printer:
                     f"{item.name} ({', '.join(map(workqueues.name, sorted(item.workqueues))) or '?'})" for item in items
                 )
             )
-        if audit.unused_workqueues():
-            self.say("workqueues without a declared item: " + ", ".join(audit.unused_workqueues()))
+        for what, names in (
+            ("workqueues without a declared item", audit.unused_workqueues()),
+            ("workqueues without any item that is known", audit.empty_workqueues()),
+            ("workqueues of which it isn't known whether they have a rescuer", audit.unknown_flags()),
+            ("what is queued to other workqueues isn't known", audit.unknown_elsewhere()),
+            ("items that these files queue nowhere", audit.never_queued()),
+            ("items on workqueues that aren't known", audit.on_unknown_workqueues()),
+        ):
+            if names:
+                self.say(f"{what}: {', '.join(names)}")
 
     # What was not looked into
 

@@ -132,15 +132,25 @@ class Bodies:
         if self.words[value] == "{":
             if type_name:
                 self.initialisers(type_name, value + 1, self.source.closed_by[value])
+            self.elements(name, value + 1, self.source.closed_by[value])
         else:
             self.sink.fact("ASG", value, self.words[name], self.sink.text(value, end))
         if self.sink.function == OUTSIDE:
             self.expressions(value, end)
 
+    def elements(self, name: int, start: int, end: int) -> None:
+        """f, [2] = g: the elements of an array, as if they were assigned."""
+        if self.words[name + 1] not in ("[", ")"):
+            return
+        for first, last in self.source.parts(start, end):
+            value = self.source.after(first) + 1 if self.words[first] == "[" else first
+            if value < last <= value + 2 and is_word(self.words[last - 1]):
+                self.sink.fact("ASG", value, self.words[name], self.sink.text(value, last))
+
     def initialisers(self, struct: str, start: int, end: int) -> None:
         """.m = f, [2] = {..}, {..}"""
         words = self.words
-        for first, last in self.source.parts(start, end):
+        for number, (first, last) in enumerate(self.source.parts(start, end)):
             value = first
             if words[first] == "[":
                 value = self.source.after(first)
@@ -149,6 +159,9 @@ class Bodies:
                 self.initialisers(struct, value + 1, self.source.closed_by[value])
             elif words[first] == "." and last - first > 3 and words[first + 2] == "=":
                 self.initialiser(struct, first + 1, first + 3, last)
+            elif first + 1 <= last <= first + 2 and is_word(words[last - 1]) and words[last - 1] not in KEYWORDS:
+                # by its place: NAME, &NAME
+                self.sink.fact("INI", first, struct, f"#{number}", self.sink.text(first, last))
 
     def initialiser(self, struct: str, member: int, value: int, end: int) -> None:
         words = self.words
@@ -163,9 +176,7 @@ class Bodies:
                 self.initialisers(inner, behind + 1, self.source.closed_by[behind])
                 return
             value = behind
-        value += value < end and words[value] == "&"
-        if end - value == 1 and is_word(words[value]):
-            self.sink.fact("INI", member, struct, words[member], words[value])
+        self.sink.fact("INI", member, struct, words[member], self.sink.text(value, end))
 
     # Expressions
 
@@ -187,9 +198,9 @@ class Bodies:
         if before == ")":
             self.call_of_pointer(at, start)
         elif before == "]":
-            name = self.source.opened_by.get(at - 1, start) - 1
-            if name - 2 >= start and is_word(words[name]) and words[name - 1] in ("->", "."):
-                self.call_of_member(name, at, start)
+            callee = self.primary(at - 1, start)
+            if callee is not None:
+                sink.fact("ECALL", at, sink.text(callee, at), sink.text(at + 1, end))
         elif is_word(before):
             if at - 3 >= start and words[at - 2] in ("->", "."):
                 self.call_of_member(at - 1, at, start)
@@ -207,16 +218,16 @@ class Bodies:
             sink.fact("PCALL", member, sink.text(base, member - 1), self.words[member], sink.text(at + 1, end))
 
     def call_of_pointer(self, at: int, start: int) -> None:
-        """(* BASE -> MEMBER)(..), (* VARIABLE)(..)"""
+        """(* BASE -> MEMBER)(..), (* VARIABLE)(..), (c ? f : g)(..). A cast has neither mark."""
         words, sink = self.words, self.sink
         opens = self.source.opened_by.get(at - 1)
-        if opens is None or opens < start or words[opens + 1] != "*":
+        if opens is None or opens < start or words[opens + 1] != "*" and "?" not in words[opens:at]:
             return
         text = sink.text(at + 1, self.source.closed_by[at])
         if at - opens > 5 and words[at - 3] in ("->", ".") and is_word(words[at - 2]):
             sink.fact("PCALL", at - 2, sink.text(opens + 2, at - 3), words[at - 2], text)
-        elif at - opens == 4 and is_word(words[opens + 2]) and not self.is_behind_type(opens):
-            sink.fact("CALL", opens + 2, words[opens + 2], text)
+        elif not self.is_behind_type(opens):
+            sink.fact("ECALL", opens + 1, sink.text(opens, at), text)
 
     def is_behind_type(self, at: int) -> bool:
         before = self.words[at - 1]

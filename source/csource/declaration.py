@@ -14,6 +14,8 @@ STACKED = "stacked:"
 # FILE FUNCTION CALL(ARGUMENT): WHY. The argument may hold brackets and colons; after the last bracket comes the colon.
 DISMISSAL = re.compile(r"\s*(\S+\.[chS])\s+(\w+)\s+(\w+)\((.*?)\)\s*:\s+(\S.*)")
 DISMISSED_ITEM = re.compile(r"\s*(\S+\.[chS])\s+(\w+)\s*:\s+(\S.*)")
+# These words and no colon behind them, where what follows is that of the form.
+WITHOUT_COLON = re.compile(r"(no wait|not through|no item|files)\s+(?:\*|\S+\.[chS])(?:\s|$)")
 # A flush line that a draft offers, and that nobody has decided.
 SUGGESTED = re.compile(r"#flush(?:wq)? ")
 
@@ -92,6 +94,7 @@ class Declaration:
     dismissals: list[Dismissal] = field(default_factory=list)
     dismissed_items: list[DismissedItem] = field(default_factory=list)
     malformed: list[int] = field(default_factory=list)
+    without_colon: list[tuple[int, str]] = field(default_factory=list)
     files: list[str] = field(default_factory=list)
     is_stacked: bool = False
 
@@ -135,6 +138,9 @@ class Declaration:
             match = DISMISSED_ITEM.fullmatch(text[len(NO_ITEM) :])
             if match:
                 self.dismissed_items.append(DismissedItem(number, match[1], match[2], match[3]))
+        elif without := WITHOUT_COLON.match(text):
+            self.without_colon.append((number, without[1]))
+            return True
         else:
             return False
         if match:

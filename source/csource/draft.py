@@ -118,15 +118,15 @@ class Draft:
     def uncalled(self) -> list[Uncalled]:
         """Items of other files may call them: these files don't say."""
         program, found = self.program, {}
-        for place, struct, member, value in program.facts.initialisers:
-            for function in program.facts.resolve(place.file, value):
+        for one in program.facts.initialisers:
+            for function in program.facts.resolve(one.place.file, one.name):
                 if function in program.reached_by or function in found:
                     continue
                 reached = reached_from(program.graph, function, program.may_sleep)
                 sites = program.sites_of(reached)
                 if sites:
                     nearest = min(sites, key=lambda site: len(path_to(reached, site.id)))
-                    found[function] = Uncalled(function, f"{struct or '?'}.{member}", nearest, len(sites) - 1)
+                    found[function] = Uncalled(function, f"{one.struct}.{one.member}", nearest, len(sites) - 1)
         return list(found.values())
 
     def short(self, file: str) -> str:

@@ -131,7 +131,9 @@ class Printer:
         """To which workqueue it is queued, and where."""
         places: dict[tuple[str, bool], list[Place]] = collections.defaultdict(list)
         for queueing in item.queueings:
-            names = "/".join(sorted(map(self.workqueue, queueing.workqueues))) or f"? ({queueing.named})"
+            names = "/".join(sorted(map(self.workqueue, queueing.workqueues))) or (
+                f"? ({queueing.named})" if queueing.named else "?"
+            )
             places[names, queueing.is_one_of_several].append(queueing.place)
         for (name, is_one_of_several), at in places.items():
             yield f"queued to {name} at {', '.join(dict.fromkeys(map(self.place, at)))}" + (
@@ -298,7 +300,11 @@ def print_assignment(draft: Draft, to: TextIO) -> None:
                 ],
             )
         )
-        word = "norescuer" if program.workqueues.lacks_rescuer(workqueue) else "wq"
-        print(f"{'? ' if shared else ''}{word} {number} {' '.join(item.name for item in items)}  # {said}", file=to)
+        has_rescuer = program.workqueues.has_rescuer(workqueue)
+        word = "norescuer" if has_rescuer is False else "wq"
+        print(f"{'? ' if shared or has_rescuer is None else ''}{word} {number} {' '.join(item.name for item in items)}  # {said}", file=to)
     if nowhere:
         print(f"? wq ? {' '.join(item.name for item in nowhere)}  # their workqueue isn't known", file=to)
+    empty = [workqueue for workqueue in program.workqueues.made if workqueue not in on]
+    if empty:
+        says.note(to, f"Workqueues without an item of these: {', '.join(map(program.workqueues.text, empty))}")

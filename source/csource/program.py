@@ -89,7 +89,7 @@ class Program:
             return found
         for waker in self.sites.ended_at(site):
             function = waker.place.id
-            for item in self.reached_by.get(function, ()):
+            for item in sorted(self.reached_by.get(function, ())):
                 ended = Ended(waker, path_to(self.reached[item], function))
                 if item not in found.items or ended.order < found.items[item].order:
                     found.items[item] = ended

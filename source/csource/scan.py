@@ -180,9 +180,11 @@ class UnitScan:
         self.makers = {maker.at: maker for maker in unit.makers}
         self.lines = Lines(self.program, OperationTables.of(self.program, scan.module_of))
         self.waits = self.with_constants(self.lines.waits)
+        self.has_rescuer = functools.cache(self.find_rescuer)
         self.question = Question(self.program, self.waits, {at for at in self.program.workqueues.made if self.has_rescuer(at)})
 
-    def has_rescuer(self, at: str) -> bool:
+    def find_rescuer(self, at: str) -> bool:
+        """Whether a workqueue has one: by the text of the call, or else as the facts say it."""
         maker = self.makers.get(at)
         if maker is None:
             return not self.program.workqueues.lacks_rescuer(at)

@@ -6,12 +6,41 @@ from typing import Optional
 
 from . import ctext
 from .ctext import Tokens
-from .facts import OUTSIDE, Facts, struct_name
+from .facts import OUTSIDE, Facts, parameter_names, struct_name
 from .guards import Guard
 from .places import FunctionId, Place
+from .records import Assignment, Call, Initialiser, PointerCall, Return
+from .structs import Structs
 from .token_types import TYPE_KINDS, Expressions, Types
+from .types import Types as TypesOfText
 
 NOT_TAKEN = (*TYPE_KINDS, "ODD")
+# A value that stands in an initialiser without a member: the number of its place.
+BY_PLACE = "#"
+
+
+def split(text: str) -> Tokens:
+    """The tokens of a text of the reader, which puts blanks between them."""
+    return text.split(" ") if '"' not in text and "'" not in text else ctext.tokens(text)
+
+
+class NoStructs(Structs):
+    """The reader has taken the definitions apart already."""
+
+    def __init__(self, texts: dict[str, str]) -> None:
+        self.texts = texts
+        self.returned: dict[str, str] = {}
+
+
+class MacroTypes(TypesOfText):
+    """What Facts notes while it takes facts: of that only what macros return is wanted here."""
+
+    def __init__(self, structs: Structs, returns: dict[str, str]) -> None:
+        super().__init__(structs)
+        self.macros = returns
+
+    def declare(self, file: str, function: str, name: str, struct: str) -> None:
+        """LOC and GLB lines say it."""
 
 
 class TokenFacts(Facts):
@@ -25,41 +54,58 @@ class TokenFacts(Facts):
         self.guards: dict[FunctionId, list[Guard]] = collections.defaultdict(list)
         self.known: dict[tuple[str, str, str, str], Optional[str]] = {}
         super().__init__(tree, lines)
-        self.take_macro_types()
+
+    def find_types(self) -> tuple[Structs, TypesOfText]:
+        structs = NoStructs(self.texts)
+        return structs, MacroTypes(structs, self.expressions.types.returns)
 
     def take(self, file: str, words: list[str]) -> None:
-        kind = words[0]
-        if kind == "LOC" or kind == "GLB":
-            function = "" if words[3] == OUTSIDE else words[3]
-            self.expressions.declare(Place(file, int(words[1]), function), words[4], words[5])
-        if kind == "LOC":
-            self.locals.add((file, words[3], words[4]))
+        kind, line, _, function, *rest = words
+        place = Place(file, int(line), "" if function == OUTSIDE else function)
+        if kind == "CALL":
+            self.calls.append(Call(place, rest[0], ctext.arguments(split(rest[1]))))
+        elif kind == "PCALL":
+            self.pointer_calls.append(PointerCall(place, split(rest[0]), rest[1], ctext.arguments(split(rest[2]))))
+        elif kind == "ASG":
+            self.take_assignment(Assignment(place, split(rest[0]), split(rest[1])))
+        elif kind == "RET":
+            self.returns.append(Return(place, split(rest[0])))
+        elif kind == "DEF":
+            self.define(place, rest[0], parameter_names(rest[1]))
+            self.add_span(FunctionId(file, rest[0]), place.line, self.end_of(place))
+        elif kind == "LOC":
+            self.expressions.declare(place, rest[0], rest[1])
+            self.locals.add((file, function, rest[0]))
+        elif kind == "INI":
+            self.take_initialiser(place, struct_name(rest[0]), rest[1], split(rest[2]))
         elif kind == "GRD":
-            guard = Guard(int(words[4]), int(words[5]), words[6] == "1", words[7].split(" "))
-            self.guards[FunctionId(file, words[3])].append(guard)
+            guard = Guard(int(rest[0]), int(rest[1]), rest[2] == "1", split(rest[3]))
+            self.guards[place.id].append(guard)
+        elif kind == "GLB":
+            self.expressions.declare(place, rest[0], rest[1])
+            self.globals.add(rest[0])
         elif kind not in NOT_TAKEN:
             super().take(file, words)
+
+    def take_initialiser(self, place: Place, struct: str, member: str, value: Tokens) -> None:
+        """A member by name, or by its place among those of the struct."""
+        if member.startswith(BY_PLACE):
+            names = self.expressions.types.members_of(struct)
+            at = int(member[1:])
+            if at >= len(names):
+                return
+            member = names[at]
+        self.initialisers.append(Initialiser(place, struct, member, value))
+
+    def take_initialisers(self, file: str) -> None:
+        """INI lines have them."""
 
     def take_initialised(self) -> None:
         """The reader's LOC lines have every local variable, so none has to be guessed."""
 
-    def take_macro_types(self) -> None:
-        """#define to_x(p) container_of(p, struct x, m)"""
-        for call in self.calls_named.get("container_of", ()):
-            if len(call.arguments) == 3 and call.place.function:
-                self.expressions.types.returns.setdefault(call.place.function, struct_name(ctext.joined(call.arguments[1])))
-
     def struct_of(self, place: Place, base: Tokens, member: str) -> Optional[str]:
-        """The struct of the member in `base->member`: as the definitions say; or what Coccinelle found; or the only
-        struct with such a member."""
+        """The struct of the member in `base->member`: as the definitions say, or else Coccinelle. No guess."""
         key = (place.file, place.function, ctext.joined(base), member)
         if key not in self.known:
-            self.known[key] = self.find_struct(place, base, member, key)
+            self.known[key] = self.expressions.struct_of(place, base) or self.said.get(key)
         return self.known[key]
-
-    def find_struct(self, place: Place, base: Tokens, member: str, key: tuple[str, str, str, str]) -> Optional[str]:
-        found = self.expressions.struct_of(place, base) or self.types.get(key)
-        if found:
-            return found
-        having = self.expressions.types.structs_with(member)
-        return next(iter(having)) if len(having) == 1 else None

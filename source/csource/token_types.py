@@ -66,6 +66,11 @@ class Types:
         found = self.members.get(struct, {}).get(name)
         return self.above.member(struct, name) if found is None and self.above else found
 
+    def members_of(self, struct: str) -> list[str]:
+        """The names of its members, in the order of the definition."""
+        found = self.members.get(struct)
+        return list(found) if found is not None else self.above.members_of(struct) if self.above else []
+
     def structs_with(self, member: str) -> set[str]:
         """The structs that have a member of this name."""
         found = self.having.get(member, set())

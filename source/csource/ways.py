@@ -22,10 +22,10 @@ class Tables:
     @staticmethod
     def of(program: Program, module_of: Callable[[str], str]) -> "Tables":
         found = Tables(module_of)
-        for place, struct, member, value in program.facts.initialisers:
-            for function in program.facts.resolve(place.file, value):
-                found.modules[struct, member].add(module_of(place.file))
-                found.structs[function, member].add(struct)
+        for one in program.facts.initialisers:
+            for function in program.facts.resolve(one.place.file, one.name):
+                found.modules[one.struct, one.member].add(module_of(one.place.file))
+                found.structs[function, one.member].add(one.struct)
         return found
 
     def belong_together(self, item: FunctionId, edge: Edge, called: FunctionId) -> bool:
