@@ -5,7 +5,7 @@ from dataclasses import dataclass
 from typing import Iterator
 
 from . import ctext
-from .backstop import blanked
+from .ctext import blanked
 
 CALL = re.compile(
     r"\b((?:devm_)?alloc_(?:ordered_)?workqueue|create_(?:singlethread_|freezable_)?workqueue|\w+_alloc_(?:ordered_)?workqueue)"

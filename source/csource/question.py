@@ -9,7 +9,6 @@ import tempfile
 from dataclasses import dataclass, field
 from typing import Iterable, NamedTuple
 
-from .items import is_system
 from .lines import Wait
 from .places import FunctionId
 from .program import Program
@@ -131,10 +130,9 @@ class Question:
 
     def lacks_rescuer(self, workqueue: str) -> bool:
         """Whether nothing guarantees that an item of a workqueue runs. Of one that isn't known that isn't said."""
-        made = self.program.workqueues.made.get(workqueue)
         if workqueue in self.with_rescuer or workqueue.startswith(ON_NONE) or workqueue == "kblockd":
             return False
-        return is_system(workqueue) if made is None else self.program.workqueues.lacks_rescuer(workqueue)
+        return self.program.workqueues.has_rescuer(workqueue) is False
 
     def assignment(self) -> str:
         lines = []

@@ -85,7 +85,10 @@ class Reader:
 
     def define(self, start: int, name: int, brace: int, end: int) -> None:
         sink = self.sink
-        returned = sink.type_of(start, name)
+        begins = name
+        while begins > start and (is_word(self.words[begins - 1]) or self.words[begins - 1] == "*"):
+            begins -= 1
+        returned = sink.type_of(begins, name)
         if returned:
             sink.fact("FRT", name, self.words[name], returned)
         if not self.looks_into:

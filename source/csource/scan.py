@@ -4,6 +4,7 @@ import concurrent.futures
 import functools
 import gc
 import hashlib
+import multiprocessing
 import pathlib
 import resource
 import time
@@ -18,7 +19,7 @@ from .kbuild import Module
 from .layers import Layers
 from .lexer import without_comments
 from .lines import BY_POINTER, CONSTANT, Lines, Wait
-from .makers import Maker, makers_of
+from .makers import VARIABLE, Maker, makers_of
 from .places import FunctionId
 from .program import Program, Tables
 from .question import Flush, Question
@@ -117,6 +118,7 @@ class TreeScan:
             maker for file in index.makers for maker in makers_of(file, (tree / file).read_text(errors="replace"))
         ]
 
+    @functools.cache
     def units(self) -> list[Unit]:
         """The modules that make a workqueue with a rescuer."""
         found: dict[str, Unit] = {}
@@ -152,7 +154,7 @@ class TreeScan:
         types = Types(self.include_types)
         for found in lines.values():
             types.take_lines(found)
-        return TokenFacts(self.tree, lines, types)
+        return TokenFacts(self.tree, lines, types, ())
 
     def scan(self, unit: Unit) -> UnitResult:
         began = time.process_time()
@@ -186,9 +188,9 @@ class UnitScan:
     def find_rescuer(self, at: str) -> bool:
         """Whether a workqueue has one: by the text of the call, or else as the facts say it."""
         maker = self.makers.get(at)
-        if maker is None:
-            return not self.program.workqueues.lacks_rescuer(at)
-        return maker.kind != "variable" or "MEM_RECLAIM" in self.program.workqueues.flags(at)
+        if maker is None or maker.kind == VARIABLE:
+            return self.program.workqueues.has_rescuer(at) is not False
+        return True
 
     def with_constants(self, waits: list[Wait]) -> list[Wait]:
         """The waits; one that the constants among the arguments exclude isn't sure, and has another way if there is
@@ -288,27 +290,20 @@ def tokens_hash(facts: Facts, functions: Iterable[FunctionId]) -> str:
 _scan: Optional[TreeScan] = None
 
 
-def begin(tree: pathlib.Path, extractor: TokenExtractor, index: TreeIndex, users: dict[str, list[str]]) -> None:
-    """What each process does first."""
-    global _scan
-    gc.disable()
-    _scan = TreeScan(tree, extractor, index)
-    _scan.users = users
-
-
 def scan_one(name: str) -> UnitResult:
+    """In a process that was forked: the tree's scan is there."""
     assert _scan is not None
-    unit = next(unit for unit in _scan.units() if unit.module.name == name)
-    return _scan.scan(unit)
+    return _scan.scan(next(unit for unit in _scan.units() if unit.module.name == name))
 
 
 def scan_all(scan: TreeScan, units: list[Unit], jobs: int) -> Iterator[UnitResult]:
     """The results of modules, as they come."""
-    if jobs == 1:
-        for unit in units:
-            yield scan.scan(unit)
+    global _scan
+    if jobs == 1 or len(units) == 1:
+        yield from map(scan.scan, units)
         return
-    given = (scan.tree, scan.extractor, scan.index, scan.users)
-    with concurrent.futures.ProcessPoolExecutor(jobs, initializer=begin, initargs=given) as pool:
+    # (what all need is read before the processes are made)
+    _scan, _, _ = scan, scan.users, scan.include_types
+    with concurrent.futures.ProcessPoolExecutor(jobs, multiprocessing.get_context("fork")) as pool:
         for future in concurrent.futures.as_completed([pool.submit(scan_one, unit.module.name) for unit in units]):
             yield future.result()

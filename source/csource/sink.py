@@ -49,7 +49,7 @@ class Sink:
         at, found = start, None
         while at < end and self.words[at] not in ("=", ":"):
             word = self.words[at]
-            if word == "(" and at + 1 < end and self.words[at + 1] == "*" and found != at - 1:
+            if word == "(" and at + 1 < end and self.words[at + 1] == "*":
                 return self.declared_name(at, end)
             if is_word(word) and not qualifies(word):
                 found = at

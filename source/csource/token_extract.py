@@ -45,7 +45,8 @@ class TokenExtractor:
             self.progress.say(f"reading C: {done} of {len(files)} files")
             lines[file] = self.lines_of(tree, file)
         self.ask_coccinelle(tree, lines)
-        return TokenFacts(tree, lines, self.types(tree, lines))
+        headers = Includes(tree).all_of(lines)
+        return TokenFacts(tree, lines, self.types(tree, lines, headers), headers)
 
     def ask_coccinelle(self, tree: pathlib.Path, lines: dict[str, list[str]]) -> None:
         """Takes Coccinelle's facts of files of which the reader isn't sure."""
@@ -57,10 +58,9 @@ class TokenExtractor:
             own = [line for line in lines[file] if line.startswith(KEPT_OF_READER)]
             lines[file] = theirs + own
 
-    def types(self, tree: pathlib.Path, lines: dict[str, list[str]]) -> Types:
+    def types(self, tree: pathlib.Path, lines: dict[str, list[str]], headers: list[str]) -> Types:
         """The types that the files define; above them those of all headers that they include."""
         above = Types()
-        headers = Includes(tree).all_of(lines)
         for done, file in enumerate(headers):
             if file not in lines:
                 self.progress.say(f"reading types: {done} of {len(headers)} files")

@@ -2,7 +2,7 @@
 
 import collections
 import pathlib
-from typing import Optional
+from typing import Iterable, Iterator, Optional
 
 from . import ctext
 from .ctext import Tokens
@@ -24,8 +24,23 @@ def split(text: str) -> Tokens:
     return text.split(" ") if '"' not in text and "'" not in text else ctext.tokens(text)
 
 
+class HeaderTexts(dict[str, str]):
+    """The texts of the files, and behind them those of headers, which are read when they are asked for."""
+
+    def __init__(self, tree: pathlib.Path, texts: dict[str, str], headers: Iterable[str]) -> None:
+        super().__init__(texts)
+        self.tree = tree
+        self.headers = headers
+
+    def values(self) -> Iterator[str]:  # type: ignore[override]
+        yield from super().values()
+        for header in self.headers:
+            if header not in self:
+                yield (self.tree / header).read_text(errors="replace")
+
+
 class NoStructs(Structs):
-    """The reader has taken the definitions apart already."""
+    """The reader has taken the definitions apart already: this has the texts alone."""
 
     def __init__(self, texts: dict[str, str]) -> None:
         self.texts = texts
@@ -46,17 +61,20 @@ class MacroTypes(TypesOfText):
 class TokenFacts(Facts):
     """As Facts. The lines of a file may be the reader's, or Coccinelle's; the types are always the reader's.
 
-    `types` has those of the files and, above them, those of the headers that they include.
+    `types` has those of the files and, above them, those of the headers that they include; `headers` names these.
     """
 
-    def __init__(self, tree: pathlib.Path, lines: dict[str, list[str]], types: Types) -> None:
+    def __init__(
+        self, tree: pathlib.Path, lines: dict[str, list[str]], types: Types, headers: Iterable[str]
+    ) -> None:
+        self.headers = headers
         self.expressions = Expressions(types)
         self.guards: dict[FunctionId, list[Guard]] = collections.defaultdict(list)
         self.known: dict[tuple[str, str, str, str], Optional[str]] = {}
         super().__init__(tree, lines)
 
     def find_types(self) -> tuple[Structs, TypesOfText]:
-        structs = NoStructs(self.texts)
+        structs = NoStructs(HeaderTexts(self.tree, self.texts, self.headers))
         return structs, MacroTypes(structs, self.expressions.types.returns)
 
     def take(self, file: str, words: list[str]) -> None:

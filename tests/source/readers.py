@@ -7,6 +7,7 @@ runs it so. Its output is a table, and after it some facts of each kind that onl
 """
 
 import collections
+import os
 import pathlib
 import sys
 from dataclasses import dataclass, field
@@ -16,10 +17,14 @@ ROOT = HERE.parent.parent
 sys.path.insert(0, str(ROOT / "source"))
 
 from csource import ctext, reader  # noqa: E402
+from csource.declaration import Declaration  # noqa: E402
+from csource.extract import Extractor, default_cache  # noqa: E402
 from csource.facts import OUTSIDE, struct_name  # noqa: E402
+from csource.lexer import DIRECTIVE  # noqa: E402
 from csource.places import Place  # noqa: E402
+from csource.progress import Progress  # noqa: E402
 
-KINDS = ("DEF", "CALL", "PCALL", "ASG", "INI", "RET")
+KINDS = ("DEF", "CALL", "PCALL", "ECALL", "ASG", "RET")
 SHOWN = 8
 
 
@@ -38,8 +43,8 @@ def key_of(words):
         return int(line), rest[0]
     if kind == "PCALL":
         return int(line), rest[1]
-    if kind == "INI":
-        return int(line), rest[1], rest[2]
+    if kind == "ECALL":
+        return int(line), normal(rest[0])
     return (int(line),)
 
 
@@ -73,6 +78,38 @@ class Compared:
         both = len(self.both[kind])
         return both / max(1, both + len(self.coccinelle[kind]))
 
+    def table(self):
+        """How many facts of each kind both have, Coccinelle alone, the reader alone."""
+        rows = [f"{'':6} {'both':>8} {'Coccinelle':>11} {'reader':>7}"]
+        for kind in KINDS:
+            counts = len(self.both[kind]), len(self.coccinelle[kind]), len(self.reader[kind])
+            rows.append(f"{kind:6} {counts[0]:8} {counts[1]:11} {counts[2]:7}  {100 * self.share(kind):.1f} %")
+        return "\n".join(rows)
+
+    def only_coccinelle(self, kind):
+        return sorted(self.coccinelle[kind], key=str)[:SHOWN]
+
+
+def compare(tree, files, cache, jobs=1):
+    """Both sets of facts of some files. Coccinelle's come from the cache if they are there."""
+    extractor = Extractor(cache, jobs, Progress())
+    found = Compared()
+    for file, lines in extractor.facts(tree, list(files)).items():
+        text = (tree / file).read_text(errors="replace")
+        found.add(file, without_macros(lines, text), reader.facts_of(text))
+    return found
+
+
+def without_macros(lines, text):
+    """The facts that aren't in the text of a macro: those wqsource reads by itself (csource/macros.py)."""
+    inside = {
+        number
+        for match in DIRECTIVE.finditer(text)
+        for first in [text.count("\n", 0, match.start()) + 1]
+        for number in range(first, first + match[0].count("\n") + 1)
+    }
+    return [line for line in lines if int(line.split("\t")[1]) not in inside]
+
 
 def structs_beside(file, lines, facts):
     """(both, other, reader_unknown): the struct of each member that Coccinelle has a type of."""
@@ -87,3 +124,24 @@ def structs_beside(file, lines, facts):
         key = (file, int(words[1]), normal(words[4]), words[5], known, struct)
         (unknown if struct is None else same if struct == known else other).add(key)
     return same, other, unknown
+
+
+def files_of_examples(tree):
+    from csource.command_line import expanded
+
+    names = [name for path in (ROOT / "examples").glob("*.wq") for name in Declaration.read(str(path)).files]
+    return sorted(set(expanded(tree, names)))
+
+
+def main(arguments):
+    tree = pathlib.Path(arguments[0])
+    compared = compare(tree, arguments[1:] or files_of_examples(tree), default_cache(), os.cpu_count())
+    print(compared.table())
+    for kind in KINDS:
+        for name, found in (("Coccinelle", compared.coccinelle[kind]), ("reader", compared.reader[kind])):
+            for fact in sorted(found, key=str)[:SHOWN]:
+                print(f"only {name}: {kind} {fact}")
+
+
+if __name__ == "__main__":
+    main(sys.argv[1:])
