@@ -5,6 +5,7 @@ from dataclasses import dataclass, field
 from .backstop import missed_calls
 from .calls import Edge
 from .cited import Cited
+from .fits import Fits
 from .declaration import Declaration, DismissedItem, Dismissal
 from .places import FunctionId
 from .program import Program
@@ -65,6 +66,9 @@ class Audit:
         self.wrong = list(self.cited.wrong())
         self.ambiguous = [found for found in self.cited.located if len(found.files) > 1]
         self.stale = [dismissal for dismissal in self.declaration.dismissals if dismissal not in self.used]
+        fits = Fits(self.cited, self.program, {found.site: set(found.ways) for found in self.sites})
+        self.misfits, self.misplaced = fits.misfits(), fits.misplaced()
+        self.contradictions = fits.contradictions()
         self.stale_items = [item for item in self.declaration.dismissed_items if not self.dismisses_something(item)]
 
     def dismisses_something(self, item: DismissedItem) -> bool:
@@ -108,6 +112,8 @@ class Audit:
             or self.ambiguous
             or self.stale
             or self.stale_items
+            or self.misplaced
+            or any(one.is_fault for one in self.contradictions)
             or self.unknown_items
             or self.unknown_queueings
             or self.declaration.malformed

@@ -65,8 +65,10 @@ class Printer:
             )
         for dismissal in audit.stale:
             self.say(f"{path}:{dismissal.number}: dismisses {dismissal.key}, which isn't in reach")
+        for misfit in [*audit.misplaced, *(one for one in audit.contradictions if one.is_fault)]:
+            self.say(f"{path}:{misfit.number}: {misfit.what}")
         for stale in audit.stale_items:
-            self.say(f"{path}:{stale.number}: dismisses {stale.function}, which is no work function of the files")
+            self.say(f"{path}:{stale.number}: dismisses {stale.function}, which is no work function of the files, and sets and queues none that isn't known")
 
     # Sites
 
@@ -112,6 +114,8 @@ class Printer:
         for found, names in self.audit.for_others:
             self.say(f"cited for other items: {found.site}")
             self.print_ways(found, names)
+        for misfit in [*self.audit.misfits, *(one for one in self.audit.contradictions if not one.is_fault)]:
+            self.say(f"look at {self.audit.declaration.path}:{misfit.number}: {misfit.what}")
 
     # Items and workqueues
 

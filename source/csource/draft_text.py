@@ -32,7 +32,7 @@ def some(names: Iterable[str]) -> str:
 
 def word_of(site: Site) -> str:
     """The kind of a site as the comment of a declared wait says it."""
-    return "done" if site.kind in ("pool", "other") else site.kind
+    return "done" if site.kind in ("pool", "poll", "other") else site.kind
 
 
 def kernel_version(tree: pathlib.Path) -> str:

@@ -9,6 +9,7 @@ from typing import Optional
 from . import ctext
 from .ctext import Tokens
 from .initialisers import initialised
+from .loops import is_in_loop
 from .macros import macros_of
 from .places import FunctionId, Place
 from .records import Assignment, Call, Definition, ExpressionCall, Initialiser, PointerCall, Return
@@ -180,6 +181,13 @@ class Facts:
                     self.locals.add((file, place.function, one.member))
                 else:
                     self.globals.add(one.member)
+
+    def is_in_loop(self, place: Place) -> bool:
+        """Whether a place is in a loop of its function."""
+        return any(
+            is_in_loop("\n".join(self.lines[place.file][first - 1 : last]), first, place.line)
+            for first, last in self.spans.get(place.id, ())
+        )
 
     def text_of(self, function: FunctionId) -> str:
         """The text of a function."""

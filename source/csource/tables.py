@@ -5,6 +5,8 @@ import re
 from dataclasses import dataclass
 from typing import Iterator
 
+from . import ctext
+
 FOLDER = pathlib.Path(__file__).resolve().parent.parent
 SYSTEM_WORKQUEUE = re.compile(r"system_\w*wq$")
 # Later kernels have other names for these two.
@@ -52,6 +54,7 @@ KINDS = (
     "prepare",
     "enter",
     "sleep",
+    "poll",
     "wake",
     "pool",
     "give",
@@ -90,8 +93,11 @@ class Waits:
         return self.known[call]
 
     def is_nowait(self, arguments: list[list[str]]) -> bool:
-        """Whether an argument says that the call doesn't sleep."""
-        return any(word in self.nowait for words in arguments for word in words)
+        """Whether an argument says that the call doesn't sleep: each of its branches does, and takes no flag away."""
+        return any(
+            all(self.nowait.intersection(way) and "~" not in way for way in ctext.alternatives(words))
+            for words in arguments
+        )
 
 
 class Idioms:

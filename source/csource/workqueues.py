@@ -70,6 +70,12 @@ class Workqueues:
             return workqueue
         return self.given_name(made.call) or made.to or workqueue
 
+    def names(self, workqueue: str) -> set[str]:
+        """What a comment may call it: its name, or the variable that holds it."""
+        made = self.made.get(workqueue)
+        variable = re.split(r"\W+", made.to)[-1] if made else ""
+        return {name for name in (self.name(workqueue), variable) if name}
+
     def text(self, workqueue: str) -> str:
         """Its name, and where it is made."""
         made = self.made.get(workqueue)

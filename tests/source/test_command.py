@@ -136,6 +136,9 @@ def test_tables(tmp_path):
     assert (waits.kind("my_wait_long").name, waits.kind("my_wait").argument) == ("done", 1)
     assert waits.kind("my_other").name == "never" and waits.kind("x_my_other").name == "other"
     assert waits.is_nowait([["a", "|", "NOW"]]) and not waits.is_nowait([["a"]])
+    assert waits.is_nowait(["x ? NOW : NOW".split()])
+    for words in ("x ? NOW : LATER", "( x ? NOW : LATER ) | b", "a & ~ NOW", "x ? y ? NOW : b : NOW"):
+        assert not waits.is_nowait([words.split()]), words
     for line in ("sleeps my_wait", "done/x my_wait"):
         table.write_text("never a\n" + line + "\n")
         with pytest.raises(TableError, match=r"waits.txt:2: "):
@@ -167,9 +170,10 @@ def test_kinds_of_the_kernels_calls():
         "invalidate_inode_pages2 truncate_pagecache iput schedule_on_each_cpu work_on_cpu vfs_fsync synchronize_srcu "
         "blk_mq_alloc_request dm_io blkdev_issue_flush kernel_sendmsg sb_start_write del_gendisk "
         "balance_dirty_pages_ratelimited generic_write_sync device_del bdi_unregister blkdev_zone_mgmt "
-        "blk_zone_issue_zeroout",
+        "blk_zone_issue_zeroout async_synchronize_full",
         "enter": "__add_wait_queue __add_wait_queue_entry_tail",
-        "never": "cancel_work cancel_delayed_work msleep synchronize_rcu rcu_barrier mutex_trylock mutex_unlock "
+        "poll": "msleep msleep_interruptible ssleep usleep_range fsleep schedule_hrtimeout_range",
+        "never": "cancel_work cancel_delayed_work synchronize_rcu rcu_barrier mutex_trylock mutex_unlock "
         "bt_wait_ptr is_flush_rq poll_wait",
         "wake": "wake_up wake_up_process complete complete_all",
         "queue": "queue_work mod_delayed_work schedule_work queue_delayed_work kthread_queue_work "
