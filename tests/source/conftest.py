@@ -78,3 +78,14 @@ def wqsource():
         return Ran(ran.returncode, ran.stdout.decode(), ran.stderr.decode())
 
     return start
+
+
+@pytest.fixture(scope="session")
+def wqplan(tmp_path_factory):
+    """The program that is asked about circles: $WQPLAN if one is built; else the model, which is another program."""
+    if not os.environ.get("WQPLAN"):
+        path = tmp_path_factory.mktemp("bin") / "wqplan"
+        path.write_text(f'#!/bin/sh\nexec {sys.executable} {ROOT}/tests/model/circles.py "$@"\n')
+        path.chmod(0o755)
+        os.environ["WQPLAN"] = str(path)
+    return os.environ["WQPLAN"]
