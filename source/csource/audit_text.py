@@ -2,7 +2,7 @@
 
 from typing import Iterable, TextIO
 
-from . import says
+from . import layers, says
 from .audit import Audit, Found, Neighbour
 from .locks import locks_text
 from .notfollowed import not_followed
@@ -75,6 +75,8 @@ class Printer:
     def print_left(self, found: Found) -> None:
         self.say(f"left: {found.site}  [{found.site.kind}]")
         self.print_ways(found, list(found.ways))
+        for text in layers.known().elsewhere(found.site.key.call, self.program.facts.files):
+            self.say(text, "  ")
         for text in self.ended_by(found.site):
             self.say(text, "  ")
         print(f"  # no wait: {found.site.key}: ", file=self.to)

@@ -5,7 +5,7 @@ import pathlib
 import re
 from typing import Iterable, TextIO
 
-from . import says
+from . import layers, says
 from .calls import DIRECT, Edge
 from .draft import Draft, Line, Open
 from .items import Item
@@ -205,6 +205,8 @@ class Printer:
         items = sorted(one.ways, key=lambda function: len(one.ways[function]))
         first = f"{self.name(items[0])}{self.way(one.ways[items[0]])}"
         self.comment(f"in reach of {first}" + (f"; and of {self.names(items[1:])}" if items[1:] else ""))
+        for text in layers.known().elsewhere(site.key.call, self.program.facts.files):
+            self.comment(text)
         if site.workqueues:
             self.comment(f"flushes {', '.join(map(self.program.workqueues.name, sorted(site.workqueues)))}")
         for function in one.targets:

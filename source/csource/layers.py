@@ -1,9 +1,10 @@
 """layers.txt: which files belong to a driver beside its own, by what the driver has."""
 
+import functools
 import pathlib
 import re
 from dataclasses import dataclass
-from typing import Iterator
+from typing import Iterable, Iterator
 
 from .tables import FOLDER, TableError, pattern, rows
 
@@ -16,6 +17,12 @@ class Row:
 
     names: re.Pattern[str]
     files: tuple[str, ...]
+
+
+@functools.cache
+def known() -> "Layers":
+    """Those of layers.txt, read once."""
+    return Layers()
 
 
 class Layers:
@@ -42,6 +49,12 @@ class Layers:
     def is_apart(self, file: str) -> bool:
         """Whether what this file exports is no part of a driver."""
         return file.startswith(self.apart)
+
+    def elsewhere(self, call: str, given: Iterable[str]) -> Iterator[str]:
+        """Where a call that may wait goes on, if the given files don't have that."""
+        files = [file for file in self.files("call", call) if file not in set(given)]
+        if files:
+            yield f"what it does is in {' and '.join(files)}: give that, too"
 
     def beside(self, name: str) -> str:
         """A call that isn't followed, with the file that has it, if a row says so."""
