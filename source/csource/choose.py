@@ -15,6 +15,9 @@ from .tree_index import TreeIndex, grep
 # A module with more files than this isn't taken whole because another one calls it.
 MOST_FILES = 60
 
+# Of some variables, the C files that name each.
+Users = Callable[[list[str]], dict[str, list[str]]]
+
 
 @dataclass
 class Chosen:
@@ -44,11 +47,11 @@ class Chooser:
         self.includes = Includes(tree)
         self.with_items = set(index.with_items)
 
-    def choose(self, module: Module, workqueues: "dict[str, list[str]] | None" = None) -> Chosen:
-        """The files of a module. `workqueues`: who names those that it exports, if that is known already."""
+    def choose(self, module: Module, users_of: "Users | None" = None) -> Chosen:
+        """The files of a module. `users_of` says who names workqueues; without it the tree is searched."""
         found = Chosen(module)
         found.add(module.files, "its own")
-        self.add_users(found, workqueues)
+        self.add_users(found, users_of or self.users_of)
         self.add_plugged_in(found)
         own = [file for file in found.files if file.endswith(".c")]
         self.add_below(found, own)
@@ -64,15 +67,12 @@ class Chooser:
 
     # Each reason
 
-    def add_users(self, found: Chosen, workqueues: "dict[str, list[str]] | None") -> None:
+    def add_users(self, found: Chosen, users_of: Users) -> None:
         """Modules that name a workqueue which this one exports."""
         exported = self.exported_workqueues(found.module)
-        if not exported:
-            return
-        if workqueues is None:
-            workqueues = self.users_of(exported)
+        users = users_of(exported) if exported else {}
         for name in exported:
-            for file in workqueues.get(name, ()):
+            for file in users.get(name, ()):
                 found.add(self.whole(file), f"names {name}")
 
     def exported_workqueues(self, module: Module) -> list[str]:

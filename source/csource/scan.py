@@ -143,7 +143,7 @@ class TreeScan:
         return found
 
     def chosen(self, unit: Unit) -> Chosen:
-        found = self.chooser.choose(unit.module, self.users)
+        found = self.chooser.choose(unit.module, lambda _: self.users)
         if len(found.files) > MOST_FILES:
             found = Chosen(unit.module)
             found.add(self.chooser.includes.all_beside(unit.module.files), "its own")
@@ -223,9 +223,10 @@ class UnitScan:
         ways = [edge.place.function for edge in wait.path[1:]] + ([wait.site.key.function] if wait.path else [])
         teardown = ranks.is_teardown(ways)
         same = item.workqueue == target.workqueue
-        at = self.program.workqueues.made[item.workqueue].call.place.file if item.workqueue in self.program.workqueues.made else ""
+        made = self.program.workqueues.made.get(item.workqueue)
+        at = made.call.place.file if made else ""
         return Row(
-            module=self.unit.module.name,
+            module=self.module_of(at) if made else self.unit.module.name,
             workqueue=self.label(item.workqueue),
             item=flush.item,
             word=flush.word,

@@ -19,6 +19,14 @@ def counts_of_makers(makers: list[Maker], units: int) -> str:
     )
 
 
+def best_of(rows: Iterable[Row]) -> list[Row]:
+    """Each wait once, though several modules have it among their files; the best first."""
+    best: dict[tuple[str, ...], Row] = {}
+    for row in sorted(rows, key=lambda row: (-row.score, row.identity, row.site)):
+        best.setdefault(row.identity, row)
+    return list(best.values())
+
+
 class Printer:
     """The results of a scan, beside a survey."""
 
@@ -26,8 +34,7 @@ class Printer:
         self.to = to
         self.survey = survey
         self.results = sorted(results, key=lambda result: result.module)
-        rows = [row for result in self.results for row in result.rows]
-        self.rows = sorted(rows, key=lambda row: (-row.score, row.identity))
+        self.rows = best_of(row for result in self.results for row in result.rows)
         self.sure = [row for row in self.rows if row.is_sure]
         self.unsure = [row for row in self.rows if not row.is_sure]
 
