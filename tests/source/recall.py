@@ -18,9 +18,6 @@ ROOT = HERE.parent.parent
 sys.path.insert(0, str(ROOT / "source"))
 
 from csource import extract, progress, scan, token_extract, tree_index  # noqa: E402
-from csource.lines import Lines  # noqa: E402
-from csource.program import Program  # noqa: E402
-from csource.ways import Tables  # noqa: E402
 
 MODULES = {
     "bcache": "drivers/md/bcache/bcache",
@@ -64,9 +61,9 @@ def declared_waits(example):
     return functions, sorted(pairs)
 
 
-def waits_of(program, tables):
+def waits_of(program, lines):
     """(item, target) -> whether it is sure; of a flushwq all items of the workqueue are targets."""
-    lines, found = Lines(program, tables), {}
+    found = {}
     for wait in lines.waits + lines.cancels:
         targets = [wait.target] if wait.target else program.items.items_on({wait.workqueue})
         for target in targets:
@@ -75,14 +72,18 @@ def waits_of(program, tables):
     return found
 
 
-def count(example, scanned):
-    module = scanned.chooser.kbuild.named(MODULES[example])
-    files = scanned.chosen(scan.Unit(module)).files
-    program = Program(scanned.facts(files), scanned.tables)
-    found = waits_of(program, Tables.of(program, scanned.module_of))
+def scan_module(scanned, name):
+    """The scan of one module of the tree."""
+    return scan.UnitScan(scanned, next(unit for unit in scanned.units() if unit.module.name == name))
+
+
+def count(example, found_in):
+    """What the scan of its module has of an example's waits."""
+    program = found_in.program
+    found = waits_of(program, found_in.lines)
     names = {function.name for function in program.items.items}
     functions, pairs = declared_waits(example)
-    counted = Counted(files=len(files))
+    counted = Counted(files=len(found_in.files))
     for word, item, target in pairs:
         known = [found[one, other] for one in functions[item] for other in functions[target] if (one, other) in found]
         is_there = functions[item] & names and functions[target] & names
@@ -90,7 +91,6 @@ def count(example, scanned):
         counted.counts[kind] += 1
         if not known:
             counted.missed.append(f"{word} {item} {target}")
-    gc.collect()
     return counted
 
 
@@ -119,7 +119,8 @@ def main(arguments):
     scanned = tree_scan(pathlib.Path(arguments[0]), extract.default_cache())
     counted = {}
     for example in arguments[1:] or MODULES:
-        counted[example] = count(example, scanned)
+        counted[example] = count(example, scan_module(scanned, MODULES[example]))
+        gc.collect()
         print(row(example, counted[example].files, counted[example].counts), counted[example].missed[:6], flush=True)
     print(table(counted))
 
