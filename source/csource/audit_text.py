@@ -4,6 +4,7 @@ from typing import Iterable, TextIO
 
 from . import layers, says
 from .audit import Audit, Found, Neighbour
+from .draft import MANY
 from .locks import locks_text
 from .notfollowed import not_followed
 from .places import FunctionId
@@ -12,6 +13,11 @@ from .reach import path_text
 from .sites import Site
 
 MOST_OTHERS = 8
+
+
+def many_text(sites: Iterable[Site]) -> str:
+    """The line that dismisses sites of some calls together."""
+    return f"# no wait: * * {' '.join(dict.fromkeys(f'{site.key.call}(*)' for site in sites))}: "
 
 
 class Printer:
@@ -30,8 +36,12 @@ class Printer:
         audit = self.audit
         says.head(self.to, f"{audit.declaration.path} beside {self.program.facts.tree}", len(self.program.facts.files))
         self.print_faults()
+        disks = self.of_disks()
         for found in audit.left:
-            self.print_left(found)
+            if found not in disks:
+                self.print_left(found)
+        if disks:
+            self.print_disks(disks)
         for missed in audit.missed:
             self.say(f"not parsed: {missed.place}: {missed.text}  [found by its name alone]")
             print(f"  # no wait: {missed.key}: ", file=self.to)
@@ -40,6 +50,7 @@ class Printer:
             self.print_neighbour(neighbour)
         self.print_for_others()
         self.print_elsewhere()
+        self.print_network()
         self.print_not_followed()
         self.print_locks()
         self.print_counts()
@@ -60,11 +71,13 @@ class Printer:
             )
         for number in audit.declaration.malformed:
             self.say(
-                f"{path}:{number}: the forms are `# no wait: FILE FUNCTION CALL(ARGUMENT): WHY` and "
-                "`# no item: FILE FUNCTION: WHY`"
+                f"{path}:{number}: the forms are `# no wait: FILE FUNCTION CALL(ARGUMENT): WHY`, "
+                "`# not through: FILE FUNCTION: WHY` and `# no item: FILE FUNCTION: WHY`"
             )
         for dismissal in audit.stale:
             self.say(f"{path}:{dismissal.number}: dismisses {dismissal.key}, which isn't in reach")
+        for closed in audit.stale_closed:
+            self.say(f"{path}:{closed.number}: {closed.function} isn't called in reach, or isn't in the files")
         for misfit in [*audit.misplaced, *(one for one in audit.contradictions if one.is_fault)]:
             self.say(f"{path}:{misfit.number}: {misfit.what}")
         for stale in audit.stale_items:
@@ -81,6 +94,24 @@ class Printer:
             self.say(text, "  ")
         print(f"  # no wait: {found.site.key}: ", file=self.to)
 
+    def of_disks(self) -> list[Found]:
+        """The sites of plain I/O that are left, if they are many."""
+        waits = self.program.tables.waits
+        found = [found for found in self.audit.left if waits.is_plain_io(found.site.key.call)]
+        return found if len(found) >= MANY else []
+
+    def print_disks(self, disks: list[Found]) -> None:
+        """One question: does an interrupt end them?"""
+        self.say(f"left: {len(disks)} sites of plain I/O, which an interrupt ends if no disk below is a stacked one")
+        for found in disks:
+            self.say(f"{found.site}, in reach of {', '.join(found.ways)}", "  ", "      ")
+        self.say(many_text(found.site for found in disks), "  ", "      ")
+
+    def print_network(self) -> None:
+        if self.audit.of_network:
+            places = ", ".join(str(found.site) for found in self.audit.of_network)
+            self.say(f"softirqs of the network end these, as a rule: {places}")
+
     def print_ways(self, found: Found, names: list[str]) -> None:
         """How items reach a site: the shortest way, and with --paths that of each item."""
         names = sorted(names, key=lambda name: len(found.ways[name]))
@@ -96,6 +127,9 @@ class Printer:
             yield f"flushes {', '.join(map(program.workqueues.name, sorted(site.workqueues)))}, which has " + (
                 ", ".join(sorted(map(name, site.targets))) or "no item of these files"
             )
+        elif site.kind == "cancel" and site.targets:
+            for target in sorted(site.targets):
+                yield f"waits while {name(target)} runs, {self.while_it_runs(target)}"
         elif site.targets:
             yield f"waits for {', '.join(sorted(map(name, site.targets)))}"
         ends = program.ends(site)
@@ -106,6 +140,13 @@ class Printer:
             yield "may be ended by code that no item reaches, from " + ", ".join(sorted(ends.others)[:MOST_OTHERS]) + (
                 " .." if len(ends.others) > MOST_OTHERS else ""
             )
+
+    def while_it_runs(self, target: FunctionId) -> str:
+        """What an item waits for that is cancelled: so does who cancels it."""
+        waited = self.audit.waited_for(target)
+        if waited is None:
+            return "which may wait itself: declare it, or write a flush for what it waits for"
+        return f"and so for what that waits for: {', '.join(sorted(waited)) or 'nothing'}"
 
     def ender(self, function: FunctionId, ended: Ended) -> str:
         way = f", by {path_text(ended.path)}" if self.paths and ended.path else ""
@@ -184,10 +225,15 @@ class Printer:
 
     def print_counts(self) -> None:
         audit = self.audit
+        for number, text, sites in audit.many():
+            self.say(f"{audit.declaration.path}:{number}: takes out {says.counted(sites, 'site')}: {text}")
+        if audit.cited.threads:
+            self.say(f"threads: {', '.join(audit.cited.threads)}")
+        settled = f"{says.counted(len(audit.settled), 'cancel')} for nothing more, " if audit.settled else ""
         waiting = [neighbour for neighbour in audit.neighbours if neighbour.sites]
         says.note(
             self.to,
             f"{says.counted(len(audit.declaration.items), 'item')}. {says.counted(len(audit.sites), 'site')} in "
-            f"reach: {len(audit.cited_sites)} cited, {len(audit.dismissed)} dismissed, {len(audit.left)} left. "
+            f"reach: {len(audit.cited_sites)} cited, {len(audit.dismissed)} dismissed, {settled}{len(audit.left)} left. "
             f"{says.counted(len(waiting), 'item')} that may wait, not declared, on their workqueues.",
         )

@@ -87,6 +87,8 @@ class Printer:
         self.print_open()
         self.print_unknown()
         self.print_beside()
+        self.print_cancels()
+        self.print_network()
         self.print_uncalled()
         says.note(
             self.to,
@@ -190,19 +192,44 @@ class Printer:
         calls = (self.place(edge.place) + ("" if edge.how == DIRECT else f" by {edge.how}") for edge in reversed(path))
         return f", from {', '.join(calls)}" if path else ""
 
+    def print_disks(self) -> None:
+        """One question for all plain I/O: does an interrupt end it?"""
+        disks = self.draft.of_disks
+        if not disks:
+            return
+        self.write()
+        self.decide(f"io {len(disks)} sites of plain I/O, which an interrupt ends if no disk below is a stacked one")
+        for one in disks:
+            items = sorted(one.ways, key=lambda function: (len(one.ways[function]), function))
+            # (a place would cite it, and so decide it)
+            text = f"{one.site.key.call}({one.site.key.argument}) in {one.site.key.function}, for {self.names(items)}"
+            self.comment(text)
+        calls = dict.fromkeys(f"{one.site.key.call}(*)" for one in disks)
+        self.write(f"## no wait: * * {' '.join(calls)}: ")
+
+    def print_network(self) -> None:
+        """What softirqs of the network end is no question."""
+        if self.draft.of_network:
+            says.note(self.to, "Softirqs of the network end these, as a rule:")
+        for one in self.draft.of_network.values():
+            self.comment(f"{one.site.key.call}({one.site.key.argument}) in {one.site.key.function}")
+
     def print_open(self) -> None:
         order = {True: 0, False: 1}
+        disks = self.draft.of_disks
         for one in sorted(
             self.draft.open.values(), key=lambda one: (order[bool(one.targets)], one.site.key.file, one.site.lines)
         ):
-            self.write()
-            self.print_one(one)
+            if one not in disks:
+                self.write()
+                self.print_one(one)
+        self.print_disks()
 
     def print_one(self, one: Open) -> None:
         """A site to decide: who reaches it, what may end it, and the lines that it may become."""
         site = one.site
         self.decide(f"{site.kind} {self.site_place(site)}: {site.key.call}({site.key.argument})")
-        items = sorted(one.ways, key=lambda function: len(one.ways[function]))
+        items = sorted(one.ways, key=lambda function: (len(one.ways[function]), function))
         first = f"{self.name(items[0])}{self.way(one.ways[items[0]])}"
         self.comment(f"in reach of {first}" + (f"; and of {self.names(items[1:])}" if items[1:] else ""))
         for text in layers.known().elsewhere(site.key.call, self.program.facts.files):
@@ -255,6 +282,18 @@ class Printer:
             says.note(
                 self.to, "Not followed, for no function of the files is known to stand there: " + " ".join(pointers)
             )
+
+    def print_cancels(self) -> None:
+        """Cancels have no lines of their own."""
+        if self.draft.cancels:
+            says.note(
+                self.to,
+                "These wait only while the item runs that they cancel. So what that waits for stands above, and nothing if "
+                "it waits for nothing:",
+            )
+        for site in self.draft.cancels.values():
+            # (a place would cite it, and so decide it)
+            self.comment(f"{site.key.call}({site.key.argument}) in {site.key.function}: {self.names(sorted(site.targets))}")
 
     def print_uncalled(self) -> None:
         """Functions whose callers are in other files."""
