@@ -282,7 +282,9 @@ class Bodies:
                 opens = self.source.opened_by.get(at)
                 if opens is None or opens < start:
                     return None
-                is_call = word == ")" and opens > start and is_word(words[opens - 1]) and words[opens - 1] not in KEYWORDS
+                is_call = (
+                    word == ")" and opens > start and is_word(words[opens - 1]) and words[opens - 1] not in KEYWORDS
+                )
                 if word == ")" and not is_call:
                     if opens - 2 >= start and words[opens - 1] in ("->", "."):
                         at = opens - 2

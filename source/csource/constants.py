@@ -32,7 +32,7 @@ class Here:
 
 
 def is_true(words: Tokens, here: Here, steps: int = 0) -> Optional[bool]:
-    """The value of a condition; None where it isn't known. Names of constants stand for nothing else than themselves."""
+    """The value of a condition; None where it isn't known. A name of a constant stands for itself alone."""
     words, known = ctext.bare(words), here.constants
     if steps > MOST_STEPS:
         return None

@@ -1,4 +1,4 @@
-"""Which lines of a function run only if its parameters have some value: `if (!on_wq) {..}`, `if (flags & A) return;`."""
+"""Lines of a function that run only if its parameters have some value: `if (!on_wq) {..}`, `if (flags & A) return;`."""
 
 from typing import NamedTuple
 
@@ -86,7 +86,9 @@ class Guards:
         if first >= last or len(condition) > MOST_WORDS or not self.tests(condition, parameters):
             return
         lines = self.source.lines
-        self.sink.fact("GRD", first, str(lines[first]), str(lines[last - 1]), str(int(holds)), self.sink.text(start, end))
+        self.sink.fact(
+            "GRD", first, str(lines[first]), str(lines[last - 1]), str(int(holds)), self.sink.text(start, end)
+        )
 
     @staticmethod
     def tests(condition: Tokens, parameters: set[str]) -> bool:

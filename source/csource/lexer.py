@@ -1,4 +1,4 @@
-"""A C file as tokens: without comments and directives, each with its line, and each bracket with the one that closes it."""
+"""A C file as tokens: without comments and directives, each with its line, each bracket with the one that closes it."""
 
 import re
 from dataclasses import dataclass, field

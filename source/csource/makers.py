@@ -8,7 +8,8 @@ from . import ctext
 from .ctext import blanked
 
 CALL = re.compile(
-    r"\b((?:devm_)?alloc_(?:ordered_)?workqueue|create_(?:singlethread_|freezable_)?workqueue|\w+_alloc_(?:ordered_)?workqueue)"
+    r"\b((?:devm_)?alloc_(?:ordered_)?workqueue|create_(?:singlethread_|freezable_)?workqueue"
+    r"|\w+_alloc_(?:ordered_)?workqueue)"
     r"\s*(\()"
 )
 LEGACY = re.compile(r"create_\w*workqueue")

@@ -99,9 +99,7 @@ class Question:
         if wait.target is None:
             on_it = self.on[wait.workqueue][:1]
             return [Flush(item, "flushwq", target) for item in self.copies[wait.item] for target in on_it]
-        return [
-            Flush(item, "flush", target) for item in self.copies[wait.item] for target in self.copies[wait.target]
-        ]
+        return [Flush(item, "flush", target) for item in self.copies[wait.item] for target in self.copies[wait.target]]
 
     def is_sure(self, flush: Flush) -> bool:
         """Whether a wait of this line is sure, and its target on one workqueue alone."""
@@ -159,7 +157,11 @@ class Question:
                 with open(path, "w") as to:
                     to.write(text)
             said = subprocess.run(
-                [find_wqplan(), "circles", *paths], stdin=subprocess.DEVNULL, capture_output=True, text=True, timeout=SECONDS
+                [find_wqplan(), "circles", *paths],
+                stdin=subprocess.DEVNULL,
+                capture_output=True,
+                text=True,
+                timeout=SECONDS,
             )
         if said.returncode not in (0, 1):
             raise NoWqplan(f"wqplan circles: {(said.stderr or said.stdout).strip().splitlines()[:1]}")
@@ -177,5 +179,9 @@ class Question:
             elif words[:1] == ["norescuer"]:
                 into = found.no_rescuer
             elif words[:1] == ["arc"]:
-                into |= {word_of[words[1], words[2], word] for word in ("flush", "flushwq") if (words[1], words[2], word) in word_of}
+                into |= {
+                    word_of[words[1], words[2], word]
+                    for word in ("flush", "flushwq")
+                    if (words[1], words[2], word) in word_of
+                }
         return found

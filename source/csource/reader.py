@@ -1,8 +1,8 @@
 """A reader of tokens: the facts of a C file, without Coccinelle, in the form of facts.cocci.
 
-It knows no grammar: it looks for what functions, calls and assignments look like, and goes on after what it doesn't know.
-So it is a hundred times as fast, needs no preprocessor, and reads what Coccinelle can't parse. It has five kinds of lines
-that Coccinelle doesn't print, of which types.py makes the types of expressions:
+It knows no grammar: it looks for what functions, calls and assignments look like, and goes on after what it doesn't
+know. So it is a hundred times as fast, needs no preprocessor, and reads what Coccinelle can't parse. It has five kinds
+of lines that Coccinelle doesn't print. Of four token_types.py makes the types of expressions:
 
     STM struct member type     a member of a struct
     GLB variable type          a variable outside functions
@@ -153,7 +153,9 @@ class Reader:
         if "enum" not in self.words[max(first, brace - 3) : brace]:
             tag = self.tag(first, brace)
             names = [
-                at for a, b in self.source.parts(close + 1, semicolon) if (at := self.sink.declared_name(a, b)) is not None
+                at
+                for a, b in self.source.parts(close + 1, semicolon)
+                if (at := self.sink.declared_name(a, b)) is not None
             ]
             inner = tag or (f"{struct}.{self.words[names[0]]}" if names else struct)
             self.members(inner, brace + 1, close)
@@ -239,7 +241,7 @@ Reads = Callable[[str], list[str]]
 
 
 def facts_of(text: str) -> list[str]:
-    """The lines of facts of a file. `ODD` lines come first: of brackets that don't fit, so that facts may be missing."""
+    """The lines of facts of a file. First come `ODD` lines: brackets that don't fit, so that facts may be missing."""
     source = Source.of(text)
     odd = [f"ODD\t{line}\t0\t{OUTSIDE}" for line in sorted(set(source.odd))]
     return odd + Reader(source).read()

@@ -183,7 +183,9 @@ class UnitScan:
         self.lines = Lines(self.program, OperationTables.of(self.program, scan.module_of))
         self.waits = self.with_constants(self.lines.waits)
         self.has_rescuer = functools.cache(self.find_rescuer)
-        self.question = Question(self.program, self.waits, {at for at in self.program.workqueues.made if self.has_rescuer(at)})
+        self.question = Question(
+            self.program, self.waits, {at for at in self.program.workqueues.made if self.has_rescuer(at)}
+        )
 
     def find_rescuer(self, at: str) -> bool:
         """Whether a workqueue has one: by the text of the call, or else as the facts say it."""
@@ -218,7 +220,9 @@ class UnitScan:
 
     def row(self, flush: Flush, how: str, is_sure: bool) -> Row:
         waits = self.question.waits[flush]
-        wait = min(waits, key=lambda wait: (not wait.is_sure, BY_POINTER in wait.doubts, len(wait.path), str(wait.site)))
+        wait = min(
+            waits, key=lambda wait: (not wait.is_sure, BY_POINTER in wait.doubts, len(wait.path), str(wait.site))
+        )
         item, target = self.question.named[flush.item], self.question.named[flush.target]
         ways = [edge.place.function for edge in wait.path[1:]] + ([wait.site.key.function] if wait.path else [])
         teardown = ranks.is_teardown(ways)

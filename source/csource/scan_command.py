@@ -26,20 +26,35 @@ class ScanFault(Exception):
 
 
 def add_parser(verbs: Any, shared: argparse.ArgumentParser, ends: str) -> None:
-    words = verbs.add_parser("scan", parents=[shared], epilog=ends, help="the workqueues of a whole kernel, and which can hang")
+    words = verbs.add_parser(
+        "scan", parents=[shared], epilog=ends, help="the workqueues of a whole kernel, and which can hang"
+    )
     words.add_argument("tree", type=pathlib.Path, metavar="TREE", help="a kernel's source")
-    words.add_argument("--module", action="append", default=[], metavar="NAME", help="only this one: FOLDER/NAME, or a folder")
-    words.add_argument("--verdicts", type=pathlib.Path, metavar="FILE", help="what was read before: it isn't told again")
-    words.add_argument("--write", action="store_true", help="add to FILE what is unread, and change no verdict")
-    words.add_argument("--stale", action="store_true", help="only verdicts whose source has changed, and those of waits that are gone")
     words.add_argument(
-        "--unsure", nargs="?", const="flush", default="", choices=("flush", "all"), help="the unsure lines as well; all: those of completions, too"
+        "--module", action="append", default=[], metavar="NAME", help="only this one: FOLDER/NAME, or a folder"
+    )
+    words.add_argument(
+        "--verdicts", type=pathlib.Path, metavar="FILE", help="what was read before: it isn't told again"
+    )
+    words.add_argument("--write", action="store_true", help="add to FILE what is unread, and change no verdict")
+    words.add_argument(
+        "--stale", action="store_true", help="only verdicts whose source has changed, and those of waits that are gone"
+    )
+    words.add_argument(
+        "--unsure",
+        nargs="?",
+        const="flush",
+        default="",
+        choices=("flush", "all"),
+        help="the unsure lines as well; all: those of completions, too",
     )
 
 
 def add_module_option(words: argparse.ArgumentParser) -> None:
     words.add_argument(
-        "--module", metavar="NAME", help="the files of a module, as drivers/md/dm-thin-pool, and those that belong to it"
+        "--module",
+        metavar="NAME",
+        help="the files of a module, as drivers/md/dm-thin-pool, and those that belong to it",
     )
 
 
@@ -72,7 +87,9 @@ def scanned(scan: TreeScan, units: list[Unit], words: argparse.Namespace) -> lis
     results = []
     for result in scan_all(scan, units, max(1, words.jobs or 1)):
         results.append(result)
-        scan.extractor.progress.say(f"scanning: {len(results)} of {says.counted(len(units), 'module')}, {result.module}")
+        scan.extractor.progress.say(
+            f"scanning: {len(results)} of {says.counted(len(units), 'module')}, {result.module}"
+        )
     scan.extractor.progress.end()
     return results
 

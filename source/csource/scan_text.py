@@ -75,10 +75,10 @@ class Printer:
         words = collections.Counter(self.survey.of(row).word for row in self.sure)
         stale = len(list(self.survey.stale(self.rows)))
         if self.survey.verdicts:
+            gone = len(self.survey.gone(self.rows))
             self.note(
                 f"read: {words[REAL]} real, {words[CANNOT]} can't happen, {words[ASIDE]} not on the reclaim path; "
-                f"{says.counted(stale, 'verdict')} no longer of their source (--stale), {len(self.survey.gone(self.rows))} "
-                "of waits that are gone"
+                f"{says.counted(stale, 'verdict')} no longer of their source (--stale), {gone} of waits that are gone"
             )
 
     def print_stale(self) -> None:

@@ -4,8 +4,8 @@
     wait MODULE WORKQUEUE ITEM WORD TARGET | FILE FUNCTION CALL(ARGUMENT)
         VERDICT HASH: WHY
 
-VERDICT is `real`, `can't happen`, `not on the reclaim path`, or `unread`, which has no WHY. HASH is that of the functions on
-its way when the verdict was given: if they are others now, the verdict is stale.
+VERDICT is `real`, `can't happen`, `not on the reclaim path`, or `unread`, which has no WHY. HASH is that of the
+functions on its way when the verdict was given: if they are others now, the verdict is stale.
 """
 
 import pathlib

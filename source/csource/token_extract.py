@@ -50,7 +50,9 @@ class TokenExtractor:
 
     def ask_coccinelle(self, tree: pathlib.Path, lines: dict[str, list[str]]) -> None:
         """Takes Coccinelle's facts of files of which the reader isn't sure."""
-        odd = {file: found[0].split("\t")[1] for file, found in lines.items() if found[:1] and found[0].startswith("ODD")}
+        odd = {
+            file: found[0].split("\t")[1] for file, found in lines.items() if found[:1] and found[0].startswith("ODD")
+        }
         for file, line in odd.items():
             self.unsure.append(Unsure(file, f"line {line}: a bracket without the other one"))
             self.progress.tell(f"{file}: {self.unsure[-1].why}. Coccinelle reads this file")

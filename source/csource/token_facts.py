@@ -64,9 +64,7 @@ class TokenFacts(Facts):
     `types` has those of the files and, above them, those of the headers that they include; `headers` names these.
     """
 
-    def __init__(
-        self, tree: pathlib.Path, lines: dict[str, list[str]], types: Types, headers: Iterable[str]
-    ) -> None:
+    def __init__(self, tree: pathlib.Path, lines: dict[str, list[str]], types: Types, headers: Iterable[str]) -> None:
         self.headers = headers
         self.expressions = Expressions(types)
         self.guards: dict[FunctionId, list[Guard]] = collections.defaultdict(list)

@@ -2,7 +2,7 @@
 
     python3 tests/source/readers.py TREE [FILE ..]
 
-Without files: those of all examples, which takes Coccinelle ten minutes of one processor. `bash tests/source/before_release.sh`
+Without files: those of all examples, which takes Coccinelle ten minutes of one processor. before_release.sh beside it
 runs it so. Its output is a table, and after it some facts of each kind that only one has.
 """
 

@@ -2,8 +2,8 @@
 
     python3 tests/source/recall.py TREE [EXAMPLE ..]
 
-TREE is that of Linux 6.1.192, whole. Of each example the module that makes its workqueues is scanned. A wait is a pair of
-functions, the item's and the target's, as the `item` lines name them.
+TREE is that of Linux 6.1.192, whole. Of each example the module that makes its workqueues is scanned. A wait is a pair
+of functions, the item's and the target's, as the `item` lines name them.
 """
 
 import collections

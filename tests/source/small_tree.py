@@ -1,4 +1,4 @@
-"""A made-up kernel's tree: modules each of which is one situation. What a scan has to say of them is written down by hand."""
+"""A made-up kernel's tree: each module is one situation. What a scan has to say of them is written down by hand."""
 
 HEAD = """#include <linux/workqueue.h>
 
@@ -38,11 +38,7 @@ def work(name, letter, body):
 def module(name, a, b="x->wq = x->wq;", before="", flags="WQ_MEM_RECLAIM"):
     """A file with two items on one workqueue."""
     return (
-        HEAD.format(name=name)
-        + before
-        + work(name, "b", b)
-        + work(name, "a", a)
-        + TAIL.format(name=name, flags=flags)
+        HEAD.format(name=name) + before + work(name, "b", b) + work(name, "a", a) + TAIL.format(name=name, flags=flags)
     )
 
 

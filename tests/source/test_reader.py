@@ -15,8 +15,8 @@ from csource.places import Place
 LINUX = pathlib.Path(os.environ.get("LINUX_6_1") or "/none")
 # Some files of the examples, for the gate: before a release `before_release.sh` takes all.
 BESIDE_COCCINELLE = ("drivers/md/dm-snap.c", "drivers/nvme/host/auth.c", "fs/xfs/xfs_icache.c")
-# On all files of the examples Coccinelle has 12 facts of 117,000 that the reader hasn't: a `SYSCALL_DEFINE0`, `__alignof__`, macros
-# in the middle of a file, strings that are written in parts.
+# On all files of the examples Coccinelle has 12 facts of 117,000 that the reader hasn't: a `SYSCALL_DEFINE0`,
+# `__alignof__`, macros in the middle of a file, strings that are written in parts.
 LEAST_SHARE = {"DEF": 0.995, "CALL": 0.995, "PCALL": 0.995, "ASG": 0.995, "RET": 0.995}
 
 

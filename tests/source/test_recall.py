@@ -1,4 +1,4 @@
-"""A scan of modules of Linux 6.1 beside what is known: the waits that the examples declare by hand, and hangs that were read.
+"""A scan of modules of Linux 6.1 beside what is known: the waits that the examples declare, and hangs that were read.
 
 `python3 tests/source/recall.py TREE` prints the same of all at once.
 """

@@ -1,4 +1,4 @@
-"""`scan` on a made-up tree, whose modules are one situation each (small_tree.py): what hangs is written down by hand."""
+"""`scan` on a made-up tree, whose modules are one situation each (small_tree.py). What hangs is said there by hand."""
 
 import os
 import re
@@ -95,7 +95,9 @@ def test_what_is_printed(scanned):
     assert heads == ["unread, for sure (4)", "unread, for want of a rescuer (1)"]
     assert "drivers/block/own  own  own_a -> all of it  flushwq drivers/block/own.c:" in ran.out
     assert "drivers/block/bare  bare  bare_a -> bare_c on slow  flush drivers/block/bare.c:" in ran.out
-    assert "# depends: 3 flush and flushwq lines in 3 modules (--unsure), 0 others in 0 modules (--unsure=all)" in ran.out
+    assert (
+        "# depends: 3 flush and flushwq lines in 3 modules (--unsure), 0 others in 0 modules (--unsure=all)" in ran.out
+    )
     assert "not sure" not in ran.out and "not sure: a call by a pointer" in scanned("--unsure").out
 
 
@@ -111,7 +113,9 @@ def test_verdicts(scanned, tmp_path, tree):
     verdicts = tmp_path / "linux.txt"
     assert scanned("--verdicts", verdicts, "--write").status == 1
     text = verdicts.read_text()
-    assert len(re.findall(r"^wait ", text, re.M)) == 8 and len(re.findall(r"^    unread [0-9a-f]{12}$", text, re.M)) == 8
+    assert (
+        len(re.findall(r"^wait ", text, re.M)) == 8 and len(re.findall(r"^    unread [0-9a-f]{12}$", text, re.M)) == 8
+    )
     assert "wait own own own_a flushwq * | drivers/block/own.c own_a flush_workqueue(x->wq)\n" in text
     verdicts.write_text("# read by hand\n" + re.sub(r"unread ([0-9a-f]+)", r"can't happen \1: a test", text))
     ran = scanned("--verdicts", verdicts)
