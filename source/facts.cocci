@@ -4,9 +4,12 @@
 //
 // A line has these fields, with a TAB between them: kind, line, column, function, and what a rule hands to `fact`.
 // csource/facts.py reads them. What Coccinelle can't parse it leaves out without a word: csource/backstop.py finds it.
+// Initialisers and structs are read from the text: csource/initialisers.py, csource/structs.py.
 @initialize:python@
 @@
-import os
+import os, re
+# (what ends with a bracket is neither a name nor a member; `(*e->m)(..)` is a call by a member)
+other_call = re.compile(r"[\])]$")
 out = open(os.environ["WQFACTS"], "w")
 def one_line(x): return " ".join(str(x).split())
 def fact(kind, p, *words):
@@ -55,6 +58,18 @@ e << pcall.e; m << pcall.m; es << pcall.es; p << pcall.p;
 @@
 fact("PCALL", p, e, m, es)
 
+// a call by any other expression: tab[0](es), x->tab[0](es), (*f)(es), (c ? f : g)(es), f(1)(es)
+@ecall@
+expression e;
+expression list es;
+position p;
+@@
+e@p(es)
+@script:python@
+e << ecall.e; es << ecall.es; p << ecall.p;
+@@
+if other_call.search(one_line(e)): fact("ECALL", p, e, es)
+
 // l = r
 @asg@
 expression l, r;
@@ -75,9 +90,10 @@ position p;
 @@
 T x@p = r;
 @script:python@
-x << decl.x; r << decl.r; p << decl.p;
+x << decl.x; r << decl.r; T << decl.T; p << decl.p;
 @@
 fact("ASG", p, x, r)
+fact("LOC", p, x, T)
 
 // a variable
 @loc@
@@ -90,18 +106,6 @@ T x@p;
 x << loc.x; T << loc.T; p << loc.p;
 @@
 fact("LOC", p, x, T)
-
-// struct s x = { .m = f }
-@ini@
-identifier s, x, m;
-identifier f;
-position p;
-@@
-struct s x = { ..., .m@p = f, ... };
-@script:python@
-s << ini.s; m << ini.m; f << ini.f; p << ini.p;
-@@
-fact("INI", p, s, m, f)
 
 // the type of what stands before `->` and before `.`
 @arrow@

@@ -1,13 +1,16 @@
 """`audit`: what is in reach of the declared items, and what of it the declaration neither cites nor dismisses."""
 
 from dataclasses import dataclass, field
+from typing import Optional
 
 from .backstop import missed_calls
 from .calls import Edge
 from .cited import Cited
-from .declaration import Declaration, Dismissal
+from .fits import Fits
+from .declaration import Declaration, DismissedItem, Dismissal
 from .places import FunctionId
 from .program import Program
+from .records import Call
 from .reach import Reached, path_to, reached_from
 from .sites import Key, Site, key_of
 
@@ -37,6 +40,7 @@ class Audit:
         self.program = program
         self.cited = Cited(declaration, program)
         self.used: set[Dismissal] = set()
+        self.closed = self.cited.closed()
         self.reach = {item.name: self.reached(item.name) for item in declaration.items}
         self.reached_functions = {function for reached in self.reach.values() for function in reached}
         self.note_dismissed_calls()
@@ -50,7 +54,10 @@ class Audit:
         self.cited_sites = [found for found in self.sites if self.cited.is_cited(found.site)]
         others = [found for found in self.sites if not self.cited.is_cited(found.site)]
         self.dismissed = [found for found in others if self.dismisses(found.site.key)]
-        self.left = [found for found in others if not self.cited.dismissal_of(found.site.key)]
+        open_sites = [found for found in others if not self.cited.dismissal_of(found.site.key)]
+        self.settled = [found for found in open_sites if self.is_settled(found)]
+        self.of_network = [found for found in open_sites if self.program.tables.waits.is_network(found.site.key.call)]
+        self.left = [found for found in open_sites if found not in self.settled and found not in self.of_network]
         self.missed = [
             missed
             for missed in missed_calls(self.program.facts, self.program.tables.waits)
@@ -58,17 +65,79 @@ class Audit:
         ]
         self.for_others = [(found, names) for found in self.cited_sites if (names := self.undecided_items(found))]
 
+    def is_settled(self, found: Found) -> bool:
+        """Whether a cancel needs no line: it waits while an item runs, and so for what that waits for, and for no more.
+
+        So it is if that waits for nothing, or the items that come here have lines for all of it.
+        """
+        site = found.site
+        return (
+            site.kind == "cancel"
+            and bool(site.targets)
+            and all(self.has_lines_for(name, target) for target in site.targets for name in found.ways)
+        )
+
+    def has_lines_for(self, name: str, target: FunctionId) -> bool:
+        """Whether an item that cancels another one has a line for all that this waits for. None helps if it is itself."""
+        waited = self.waited_for(target)
+        is_itself = target in self.cited.items[name]
+        return not is_itself and waited is not None and waited <= self.cited.targets(name)
+
+    def waited_for(self, function: FunctionId) -> Optional[set[str]]:
+        """What an item waits for by its lines; None if it isn't declared, and reaches sites that no line dismisses."""
+        names = [name for name, functions in self.cited.items.items() if function in functions]
+        if names:
+            return {target for name in names for target in self.cited.targets(name)}
+        sites = self.program.sites_of(reached_from(self.program.graph, function, self.follows, self.closed))
+        return None if any(not self.dismisses(site.key) for site in sites) else set()
+
     def take_faults(self) -> None:
         """What doesn't fit in the declaration itself."""
-        self.lost = [item for item in self.declaration.items if not self.cited.items[item.name]]
+        self.lost = [
+            item
+            for item in self.declaration.items
+            if not self.cited.items[item.name] and item.name not in self.cited.threads
+        ]
         self.wrong = list(self.cited.wrong())
         self.ambiguous = [found for found in self.cited.located if len(found.files) > 1]
-        self.stale = [dismissal for dismissal in self.declaration.dismissals if dismissal not in self.used]
-        self.stale_items = [
-            item
-            for item in self.declaration.dismissed_items
-            if not any(function.name == item.function for function in self.program.items.items)
-        ]
+        used = {dismissal.number for dismissal in self.used}
+        self.stale = [dismissal for dismissal in self.declaration.dismissals if dismissal.number not in used]
+        called = {callee for function in self.reached_functions for callee in self.program.graph.edges.get(function, ())}
+        open_numbers = {one.number for function, one in self.closed.items() if function in called}
+        self.stale_closed = [one for one in self.declaration.closed if one.number not in open_numbers]
+        fits = Fits(self.cited, self.program, {found.site: set(found.ways) for found in self.sites})
+        self.misfits, self.misplaced = fits.misfits(), fits.misplaced()
+        self.contradictions = fits.contradictions()
+        self.stale_items = [item for item in self.declaration.dismissed_items if not self.dismisses_something(item)]
+
+    def dismisses_something(self, item: DismissedItem) -> bool:
+        """Whether a `# no item:` line names a work function, or a function with a call that isn't known."""
+        calls = [*self.program.items.unknown_items, *self.program.items.unknown_queueings]
+        return any(function.name == item.function for function in self.program.items.items) or any(
+            call.place.function == item.function for call in calls
+        )
+
+    def undecided(self, calls: list[Call]) -> list[Call]:
+        """Calls that set or queue an item which isn't known, in functions that no `# no item:` line names."""
+        return [call for call in calls if not self.cited.dismissed_item(call.place.id)]
+
+    @property
+    def unknown_items(self) -> list[Call]:
+        return self.undecided(self.program.items.unknown_items)
+
+    @property
+    def unknown_queueings(self) -> list[Call]:
+        """Those to a workqueue that may be a declared item's."""
+        return [call for call in self.undecided(self.program.items.unknown_queueings) if not self.is_elsewhere(call)]
+
+    def unknown_elsewhere(self) -> list[str]:
+        """The places of those to other workqueues."""
+        return [str(call.place) for call in self.program.items.unknown_queueings if self.is_elsewhere(call)]
+
+    def is_elsewhere(self, call: Call) -> bool:
+        """Whether a call queues to workqueues that are known to be no declared item's."""
+        named = self.program.items.workqueues_of(call)
+        return bool(named) and not named & self.workqueues
 
     @property
     def is_done(self) -> bool:
@@ -82,6 +151,11 @@ class Audit:
             or self.ambiguous
             or self.stale
             or self.stale_items
+            or self.stale_closed
+            or self.misplaced
+            or any(one.is_fault for one in self.contradictions)
+            or self.unknown_items
+            or self.unknown_queueings
             or self.declaration.malformed
             or waiting
         )
@@ -91,8 +165,8 @@ class Audit:
     def reached(self, name: str) -> Reached:
         """What the functions of a declared item reach, along calls that no line dismisses."""
         reached: Reached = {}
-        for function in self.cited.items[name]:
-            for found, step in reached_from(self.program.graph, function, self.follows).items():
+        for function in self.cited.starts(name):
+            for found, step in reached_from(self.program.graph, function, self.follows, self.closed).items():
                 reached.setdefault(found, step)
         return reached
 
@@ -112,6 +186,30 @@ class Audit:
         if dismissal is not None:
             self.used.add(dismissal)
         return dismissal is not None
+
+    def many(self) -> list[tuple[int, str, int]]:
+        """Of each line that may dismiss many: its number, itself, and how many sites it takes out."""
+        lines: dict[int, str] = {}
+        for dismissal in self.declaration.dismissals:
+            if dismissal.is_of_many:
+                lines[dismissal.number] = self.declaration.lines[dismissal.number - 1].strip()
+        numbers = [
+            dismissal.number for found in self.dismissed if (dismissal := self.cited.dismissal_of(found.site.key))
+        ]
+        found = [(number, text, numbers.count(number)) for number, text in lines.items()]
+        for closed in self.declaration.closed:
+            functions = [function for function, one in self.closed.items() if one is closed]
+            found.append((closed.number, str(closed), len(self.only_through(functions))))
+        return sorted(found)
+
+    def only_through(self, functions: list[FunctionId]) -> set[Key]:
+        """The sites that are in reach of these functions, and of the items no more."""
+        there = {
+            site.key
+            for function in functions
+            for site in self.program.sites_of(reached_from(self.program.graph, function, self.follows))
+        }
+        return there - {found.site.key for found in self.sites}
 
     def find(self) -> list[Found]:
         """Each site once, in the order of the source."""
@@ -168,6 +266,36 @@ class Audit:
         return sorted(
             {self.program.workqueues.name(workqueue) for workqueue in made if workqueue not in self.workqueues}
         )
+
+    def empty_workqueues(self) -> list[str]:
+        """The workqueues of the files to which no item is known to be queued."""
+        used = {workqueue for item in self.program.items.items.values() for workqueue in item.workqueues}
+        return [self.program.workqueues.text(made) for made in self.program.workqueues.made if made not in used]
+
+    def unknown_flags(self) -> list[str]:
+        """The workqueues of declared items of which it isn't known whether they have a rescuer."""
+        workqueues = self.program.workqueues
+        return [workqueues.text(made) for made in sorted(self.workqueues) if workqueues.has_rescuer(made) is None]
+
+    def never_queued(self) -> list[str]:
+        """Declared items that the files queue nowhere, as far as they say it."""
+        return [
+            name
+            for name, functions in self.cited.items.items()
+            if functions and not any(self.program.item(function).queueings for function in functions)
+        ]
+
+    def on_unknown_workqueues(self) -> list[str]:
+        """Declared items that are queued to workqueues of which the files don't say which they are."""
+        return [
+            name
+            for name, functions in self.cited.items.items()
+            if any(
+                not queueing.workqueues
+                for function in functions
+                for queueing in self.program.item(function).queueings
+            )
+        ]
 
     def name(self, function: FunctionId) -> str:
         """An item as the declaration calls it; one that isn't declared by its function."""

@@ -9,7 +9,6 @@ from .places import Place
 from .sites import Key
 from .tables import Waits
 
-NOT_CODE = re.compile(r'/\*.*?\*/|//[^\n]*|"(?:\\.|[^"\\\n])*"|^[ \t]*#(?:[^\n]*\\\n)*[^\n]*', re.S | re.M)
 CALLED = re.compile(r"\b([A-Za-z_]\w*)\s*(\()")
 BEGINS_FUNCTION = re.compile(r"^(?!else|if|for|while|switch|return|do\b)[A-Za-z_][^;={}]*?\b(\w+)\s*\(", re.M)
 LOOKED_FOR = ("item", "queue", "workqueue", "flush", "cancel", "flushwq", "event", "done", "prepare", "enter", "pool")
@@ -28,11 +27,6 @@ class Missed(NamedTuple):
         return Key(self.place.file, self.place.function, self.call, self.argument)
 
 
-def blanked(text: str) -> str:
-    """The text with comments, strings and directives taken out; lines stay where they are."""
-    return NOT_CODE.sub(lambda match: re.sub(r"[^\n]", " ", match[0]), text)
-
-
 def common_name(call: str) -> str:
     """The facts have one name for all that declare a work item."""
     return "DECLARE_WORK" if call.startswith("DECLARE_") else call
@@ -42,7 +36,7 @@ def missed_calls(facts: Facts, waits: Waits) -> Iterator[Missed]:
     """Calls of the names that matter most, on lines where no fact has such a call."""
     known = {(call.place.file, call.place.line, common_name(call.name)) for call in facts.calls}
     for file in facts.files:
-        text = blanked(facts.texts[file])
+        text = ctext.blanked(facts.texts[file])
         for match in CALLED.finditer(text):
             if waits.kind(match[1]).name in LOOKED_FOR and is_call(text, match):
                 line = text.count("\n", 0, match.start()) + 1

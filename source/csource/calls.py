@@ -1,14 +1,15 @@
 """Which function calls which: by name, by a pointer, by what it is handed to."""
 
 import collections
-from typing import Iterable, Iterator, NamedTuple
+from typing import Iterator, NamedTuple
 
-from .cells import UNKNOWN, Address, Function, Kept, Member, Value, Variable, may_be_same
+from . import ctext
+from .cells import UNKNOWN, Address, Kept, Member, Variable, functions_of, may_be_same
 from .ctext import Tokens
 from .facts import Facts
 from .holds import Holds
 from .places import FunctionId, Place
-from .records import Call
+from .records import Call, ExpressionCall
 from .tables import Idioms
 
 DIRECT = "call"
@@ -19,16 +20,12 @@ MOST_ROUNDS = 8
 class Edge(NamedTuple):
     """A call: where, how, and of which name.
 
-    `how` is DIRECT, `->member`, `*variable`, or `~name` of the call that a function is handed to.
+    `how` is DIRECT, `->member`, `*variable` or another expression, or `~name` of the call that a function is handed to.
     """
 
     place: Place
     how: str
     call: Call
-
-
-def functions_of(values: Iterable[Value]) -> list[FunctionId]:
-    return [value.id for value in values if isinstance(value, Function)]
 
 
 class CallGraph:
@@ -40,6 +37,9 @@ class CallGraph:
         self.idioms = idioms
         self.stacked = stacked
         self.by_pointer = [(call, Call(call.place, call.member, call.arguments)) for call in facts.pointer_calls]
+        self.by_expression = [
+            (call, Call(call.place, ctext.joined(call.callee), call.arguments)) for call in facts.expression_calls
+        ]
         # of each caller, the functions that it calls, and all the calls by which it does
         self.edges: dict[FunctionId, dict[FunctionId, list[Edge]]] = collections.defaultdict(dict)
         # calls by a pointer whose functions aren't in the files
@@ -55,10 +55,19 @@ class CallGraph:
             self.holds.settle()
             if not added:
                 break
+        self.sort()
         self.callers: dict[FunctionId, set[FunctionId]] = collections.defaultdict(set)
         for caller, called in self.edges.items():
-            for function in called:
+            # (what stands outside functions calls nothing when code runs)
+            for function in called if caller.name else ():
                 self.callers[function].add(caller)
+
+    def sort(self) -> None:
+        """Calls by name first, in the order of the source: what is found must not depend on the order of sets."""
+        for caller, called in self.edges.items():
+            for edges in called.values():
+                edges.sort(key=lambda edge: (edge.how != DIRECT, edge.place, edge.how, edge.call.name))
+            self.edges[caller] = dict(sorted(called.items(), key=lambda pair: (pair[1][0].place, pair[0])))
 
     def add(self, place: Place, function: FunctionId, arguments: list[Tokens], how: str, call: Call) -> int:
         """Notes a call, and what its parameters may hold. Answers 1 where it is new."""
@@ -140,9 +149,9 @@ class CallGraph:
                 for member in wanted:
                     if cell in (member, Member(UNKNOWN, member.name)):
                         self.assigned[member].append((place, base, right))
-        for place, struct, name, value in self.facts.initialisers:
-            if Member(struct, name) in wanted:
-                self.initialised[Member(struct, name)].update(self.facts.resolve(place.file, value))
+        for one in self.facts.initialisers:
+            if Member(one.struct, one.member) in wanted:
+                self.initialised[Member(one.struct, one.member)].update(self.facts.resolve(one.place.file, one.name))
 
     def is_outside(self, call: Call) -> bool:
         """Whether a call is of no function of the files, and of no variable."""
@@ -163,7 +172,17 @@ class CallGraph:
                     self.add(call.place, function, call.arguments, f"*{call.name}", call) for function in found
                 )
                 self.note_blind(call.place, f"*{call.name}", found)
+        for expression, call in self.by_expression:
+            found = functions_of(self.holds.values(call.place, expression.callee))
+            if not found and self.is_cast(expression):
+                continue
+            added += sum(self.add(call.place, function, call.arguments, f"*{call.name}", call) for function in found)
+            self.note_blind(call.place, call.name, found)
         return added
+
+    def is_cast(self, call: ExpressionCall) -> bool:
+        """(name)(x), where the name is that of no variable of the function: Coccinelle takes such a cast for a call."""
+        return len(call.callee) == 1 and not self.facts.is_local(call.place, call.callee[0])
 
     def note_blind(self, place: Place, name: str, found: list[FunctionId]) -> None:
         """Notes a pointer whose functions aren't known; a later round may find them."""

@@ -1,7 +1,7 @@
 """What a variable may hold, and where it is held."""
 
 from dataclasses import dataclass
-from typing import Union
+from typing import Iterable, Union
 
 from .places import FunctionId
 
@@ -81,12 +81,17 @@ class Function:
 
 @dataclass(frozen=True, slots=True)
 class Workqueue:
-    """What a call that makes a workqueue returns: FILE:LINE of the call; or the name of a system workqueue."""
+    """What a call that makes a workqueue returns: Facts.call_id of it; or the name of a system workqueue."""
 
     made_at: str
 
 
 Value = Union[Address, Function, Workqueue]
+
+
+def functions_of(values: Iterable[Value]) -> list[FunctionId]:
+    """The functions among values, always in the same order."""
+    return sorted(value.id for value in values if isinstance(value, Function))
 
 
 def may_be_same(one: Address, other: Address) -> bool:

@@ -1,10 +1,11 @@
 """Which places of the given files a declaration means."""
 
+import fnmatch
 import re
 from dataclasses import dataclass
 from typing import Iterator, Optional
 
-from .declaration import Citation, Declaration, DeclaredItem, DismissedItem, Dismissal
+from .declaration import Citation, Closed, Declaration, DeclaredItem, DismissedItem, Dismissal
 from .facts import Facts
 from .places import FunctionId
 from .program import Program
@@ -12,6 +13,11 @@ from .sites import Key, Site
 
 
 FLUSHES = (["flush"], ["flushwq"])
+
+
+def fits(pattern: str, name: str) -> bool:
+    """Whether a name is this one, where `*` stands for any letters."""
+    return pattern == name or "*" in pattern and fnmatch.fnmatchcase(name, pattern.replace("[", "[[]"))
 
 
 class Functions:
@@ -60,6 +66,7 @@ class Cited:
             for line in range(found.citation.line, found.citation.last + 1)
         }
         self.items = self.find_items()
+        self.threads = self.find_threads()
 
     def given(self, name: str) -> list[str]:
         """The given files that a name may mean: it is the end of their path."""
@@ -89,6 +96,19 @@ class Cited:
             )
         return found
 
+    def find_threads(self) -> dict[str, list[FunctionId]]:
+        """The items that are threads, each with its function, if its comment names one of the files."""
+        named = self.program.facts.named
+        return {
+            item.name: list(named.get(item.thread, ()))
+            for item in self.declaration.items
+            if item.thread is not None and not self.items[item.name]
+        }
+
+    def starts(self, name: str) -> list[FunctionId]:
+        """The functions of an item, or of the thread that it is."""
+        return self.items[name] or self.threads.get(name, [])
+
     def work_functions(self, item: DeclaredItem) -> list[FunctionId]:
         """The first word of the line that is a work function, the name of the item before all others."""
         words = [item.base, *re.findall(r"[A-Za-z_]\w+", item.comment)]
@@ -101,7 +121,22 @@ class Cited:
 
     def matches(self, key: Key, site_key: Key) -> bool:
         """Whether a decision, whose file may be the end of a path, is of this site."""
-        return key[1:] == site_key[1:] and (site_key.file == key.file or site_key.file.endswith("/" + key.file))
+        return (
+            (key.argument in ("*", site_key.argument))
+            and fits(key.call, site_key.call)
+            and fits(key.function, site_key.function)
+            and (fits(key.file, site_key.file) or fits("*/" + key.file, site_key.file))
+        )
+
+    def closed(self) -> dict[FunctionId, Closed]:
+        """The functions that `# not through:` lines name."""
+        return {
+            function: closed
+            for closed in self.declaration.closed
+            for function in self.program.facts.definitions
+            if fits(closed.function, function.name)
+            and (fits(closed.file, function.file) or fits("*/" + closed.file, function.file))
+        }
 
     def is_cited(self, site: Site) -> bool:
         """Whether a comment names one of its lines."""

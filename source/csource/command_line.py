@@ -1,17 +1,21 @@
 """The command line of `wqsource`."""
 
 import argparse
+import gc
 import glob
+import io
 import os
 import pathlib
+import re
 import sys
 from typing import Any, NoReturn, Optional
 
-from . import audit, audit_text, draft, draft_text, drift, drift_text, program
+from . import audit, audit_text, draft, draft_text, drift, drift_text, outputs, program, scan_command
 from .declaration import Declaration
 from .extract import ExtractError, Extractor, default_cache
 from .progress import Progress
 from .tables import TableError
+from .token_extract import TokenExtractor
 
 DONE, LEFT, USAGE, FAULT = 0, 1, 2, 3
 
@@ -21,13 +25,14 @@ Reads C sources beside a declaration of wqplan.
   audit   which places may wait in reach of the declared items, and are neither cited nor dismissed in the declaration
   drift   what has changed between two trees: the lines that the declaration cites, waits in reach, workqueues
   draft   a first declaration of some files, for a reader to decide
+  scan    the workqueues with a rescuer of a whole kernel, and which of them can hang
 
 It lists places that may wait, along calls that it could resolve in the files that it was given. It never says that
 these are all. Nothing here is proved. README.md beside it has the comments that it reads, and an example."""
 
 ENDS = """\
 Status: 0 nothing is left to decide or to look at, 1 something is, 2 the command line is wrong, 3 a fault: a file that
-can't be read, or Coccinelle is missing."""
+can't be read or mustn't be written, a name that means no file, a declaration without items, or Coccinelle is missing."""
 
 
 class Fault(Exception):
@@ -47,22 +52,32 @@ def parser() -> argparse.ArgumentParser:
         help="where facts are kept ($XDG_CACHE_HOME/wqplan/facts)",
     )
     shared.add_argument(
+        "--facts",
+        choices=("reader", "coccinelle"),
+        default="reader",
+        help="who reads the C: the reader of tokens, and Coccinelle where that isn't sure of a file; or Coccinelle alone",
+    )
+    shared.add_argument(
         "--stacked", action="store_true", help="submit_bio may run the submit_bio functions of these files"
     )
     words = argparse.ArgumentParser(
         prog="wqsource", description=ABOUT, epilog=ENDS, formatter_class=argparse.RawDescriptionHelpFormatter
     )
-    verbs = words.add_subparsers(dest="verb", required=True, metavar="audit|drift|draft")
+    verbs = words.add_subparsers(dest="verb", required=True, metavar="audit|drift|draft|scan")
     files: dict[str, Any] = dict(
         nargs="*",
         metavar="FILE",
         help="C files and headers, from the top of the tree; `*` stands for any letters. "
         "Without any: those of the `# files:` lines of the declaration",
     )
+    drafted: dict[str, Any] = dict(
+        nargs="*", metavar="FILE", help="C files and headers, from the top of the tree; `*` stands for any letters"
+    )
     one = verbs.add_parser("audit", parents=[shared], epilog=ENDS, help="sites that the declaration doesn't decide")
     one.add_argument("--decl", required=True, metavar="D.wq")
     one.add_argument("--tree", type=pathlib.Path, default=pathlib.Path("."), metavar="DIR")
     one.add_argument("--paths", action="store_true", help="all calls that lead to a site, and to what may end it")
+    scan_command.add_module_option(one)
     one.add_argument("files", **files)
     two = verbs.add_parser("drift", parents=[shared], epilog=ENDS, help="what has changed between two trees")
     two.add_argument("--decl", required=True, metavar="D.wq")
@@ -75,41 +90,76 @@ def parser() -> argparse.ArgumentParser:
     three = verbs.add_parser("draft", parents=[shared], epilog=ENDS, help="a first declaration of some files")
     three.add_argument("--tree", type=pathlib.Path, default=pathlib.Path("."), metavar="DIR")
     three.add_argument(
-        "--only", nargs="+", default=[], metavar="FUNCTION", help="these work functions, and what they wait for"
+        "--only",
+        nargs="+",
+        default=[],
+        metavar="FUNCTION",
+        help="these work functions, and what they wait for; write `--` before the files",
     )
     three.add_argument(
         "--assign", metavar="OUT", help="write the workqueues that the files make into OUT, as an assignment"
     )
-    three.add_argument("files", **files)
+    three.add_argument("--force", action="store_true", help="overwrite OUT though it is no former draft")
+    scan_command.add_module_option(three)
+    three.add_argument("files", **drafted)
+    scan_command.add_parser(verbs, shared, ENDS)
     return words
 
 
 def expanded(tree: pathlib.Path, names: list[str]) -> list[str]:
     """The files that the names mean. A name with `*` may mean several."""
-    found: list[str] = []
-    for name in names:
-        if "*" in name:
-            found += sorted(glob.glob(name, root_dir=tree, recursive=True))
-        else:
-            found.append(name)
-    return list(dict.fromkeys(found))
+    return list(dict.fromkeys(file for name in names for file in meant(tree, name)))
+
+
+def meant(tree: pathlib.Path, name: str) -> list[str]:
+    return sorted(glob.glob(name, root_dir=tree, recursive=True)) if "*" in name else [name]
+
+
+def wrong_name(tree: pathlib.Path, name: str) -> Optional[str]:
+    """What is wrong with a name of files; None if nothing is."""
+    files = meant(tree, name)
+    if not files:
+        return f"{name}: matches no file in {tree}"
+    for file in files:
+        path = tree / file
+        if path.is_dir():
+            return f"{path}: a folder: write '{file.rstrip('/')}/*.c'"
+        if not path.is_file():
+            return f"{path}: no such file"
+        if re.search(r"\s", file):
+            return f"{path}: a `# files:` line can't name a file with a blank in its name"
+        if path.suffix not in outputs.SOURCES:
+            return f"{path}: no C file: its name ends with none of {' '.join(outputs.SOURCES)}"
+    return None
 
 
 def files_of(tree: pathlib.Path, given: list[str], declaration: Optional[Declaration]) -> list[str]:
     """The files to read. Each is there."""
     if not tree.is_dir():
         raise Fault(f"{tree}: no such folder")
-    files = expanded(tree, given or (declaration.files if declaration else []))
-    if not files:
+    names = given or (declaration.files if declaration else [])
+    if not names:
         raise Fault("no file is given" + (", and the declaration has no `# files:` line" if declaration else ""))
-    missing = [file for file in files if not (tree / file).is_file()]
-    if missing:
-        raise Fault(f"{tree / missing[0]}: no such file")
-    return files
+    for name in names:
+        wrong = wrong_name(tree, name)
+        if wrong:
+            raise Fault(wrong)
+    return expanded(tree, names)
 
 
-def run_audit(words: argparse.Namespace, extractor: Extractor) -> int:
-    declaration = Declaration.read(words.decl)
+def declared(path: str) -> Declaration:
+    """The declaration, if it is one."""
+    found = Declaration.read(path)
+    if not found.items:
+        raise Fault(f"{path}: it declares no item: is this the right file?")
+    if found.without_colon:
+        number, word = found.without_colon[0]
+        raise Fault(f"{path}:{number}: `# {word}` without its colon: write `# {word}: ..`")
+    return found
+
+
+def run_audit(words: argparse.Namespace, extractor: program.ReadsFacts) -> int:
+    declaration = declared(words.decl)
     files = files_of(words.tree, words.files, declaration)
     found = audit.Audit(
         declaration,
@@ -120,8 +170,8 @@ def run_audit(words: argparse.Namespace, extractor: Extractor) -> int:
     return DONE if found.is_done else LEFT
 
 
-def run_drift(words: argparse.Namespace, extractor: Extractor) -> int:
-    declaration = Declaration.read(words.decl)
+def run_drift(words: argparse.Namespace, extractor: program.ReadsFacts) -> int:
+    declaration = declared(words.decl)
     files = files_of(words.old, words.files, declaration)
     tables, stacked = program.Tables(), words.stacked or declaration.is_stacked
     old = program.read(words.old, files, extractor, tables, stacked)
@@ -133,27 +183,30 @@ def run_drift(words: argparse.Namespace, extractor: Extractor) -> int:
     drift_text.Printer(found, sys.stdout).print()
     text = found.rewritten() if words.write else None
     if text is not None:
-        replace(words.decl, text)
+        outputs.replace(pathlib.Path(words.decl), text)
     return DONE if found.is_silent(after_writing=words.write) else LEFT
 
 
-def replace(path: str, text: str) -> None:
-    """Writes beside the file, and then moves it there."""
-    half = pathlib.Path(f"{path}.new")
-    half.write_bytes(text.encode("utf-8", "surrogateescape"))
-    half.replace(path)
-
-
-def run_draft(words: argparse.Namespace, extractor: Extractor) -> int:
+def run_draft(words: argparse.Namespace, extractor: program.ReadsFacts) -> int:
+    if not words.files:
+        for name in words.only:
+            if pathlib.PurePath(name).suffix in outputs.SOURCES:
+                raise Fault(f"{name} was taken for a function: write `--` before the files")
     files = files_of(words.tree, words.files, None)
+    out = pathlib.Path(words.assign) if words.assign else None
+    if out:
+        why = outputs.refusal(out, [words.tree / file for file in files], words.force)
+        if why:
+            raise Fault(why)
     found = draft.Draft(program.read(words.tree, files, extractor, program.Tables(), words.stacked), words.only)
     extractor.progress.end()
     if found.missing:
         raise Fault(f"{found.missing[0]} is no work function of these files")
     draft_text.Printer(found, sys.stdout).print()
-    if words.assign:
-        with open(words.assign, "w") as to:
-            draft_text.print_assignment(found, to)
+    if out:
+        text = io.StringIO()
+        draft_text.print_assignment(found, text)
+        outputs.replace(out, text.getvalue())
     return DONE
 
 
@@ -162,11 +215,20 @@ VERBS = {"audit": run_audit, "drift": run_drift, "draft": run_draft}
 
 def main() -> NoReturn:
     words = parser().parse_args()
+    # (millions of small objects, which live as long as the command; to look through them again and again costs a third)
+    gc.disable()
     # (spatch runs in the folder of the tree)
-    extractor = Extractor(words.cache.resolve(), max(1, words.jobs or 1), Progress())
+    coccinelle = Extractor(words.cache.resolve(), max(1, words.jobs or 1), Progress())
+    reader = TokenExtractor(words.cache.resolve(), coccinelle.progress, coccinelle)
+    extractor: program.ReadsFacts = coccinelle if words.facts == "coccinelle" else reader
     try:
-        status = VERBS[words.verb](words, extractor)
-    except (Fault, ExtractError, TableError, OSError) as fault:
+        if words.verb == "scan":
+            status = scan_command.run(words, reader)
+        else:
+            if getattr(words, "module", None):
+                words.files = scan_command.chosen_for(words.tree, words.module, reader).files
+            status = VERBS[words.verb](words, extractor)
+    except (Fault, ExtractError, TableError, OSError, *scan_command.FAULTS) as fault:
         extractor.progress.end()
         print(f"wqsource: {fault}", file=sys.stderr)
         status = FAULT

@@ -4,12 +4,22 @@ import re
 
 TOKEN = re.compile(r'"(?:\\.|[^"\\])*"|\'(?:\\.|[^\'\\])*\'|->|[A-Za-z_]\w*|\d\w*|\S')
 NAME = re.compile(r"[A-Za-z_]\w*$")
+NOT_CODE = re.compile(r'/\*.*?\*/|//[^\n]*|"(?:\\.|[^"\\\n])*"|^[ \t]*#(?:[^\n]*\\\n)*[^\n]*', re.S | re.M)
 
 Tokens = list[str]
 
 
 def tokens(text: str) -> Tokens:
     return TOKEN.findall(text)
+
+
+def blanked(text: str, with_strings: bool = False) -> str:
+    """The text with comments, directives and strings, but for those that are wanted, taken out. Lines stay where they are."""
+
+    def blank(match: "re.Match[str]") -> str:
+        return match[0] if with_strings and match[0][0] == '"' else re.sub(r"[^\n]", " ", match[0])
+
+    return NOT_CODE.sub(blank, text)
 
 
 def is_name(token: str) -> bool:
@@ -77,6 +87,42 @@ def bare(words: Tokens) -> Tokens:
         else:
             break
     return words
+
+
+def pointee(words: Tokens) -> Tokens:
+    """Without `*` and `&` before it, and brackets and casts: of a function, the same function."""
+    words = bare(words)
+    while words and words[0] in ("*", "&"):
+        words = bare(words[1:])
+    return words
+
+
+def alternatives(words: Tokens) -> list[Tokens]:
+    """What an expression may be: each `a ? b : c` in it is taken as `b` and as `c`."""
+    if "?" not in words:
+        return [words]
+    asks = words.index("?")
+    start = end = asks
+    depth = 0
+    while start > 0 and (depth or words[start - 1] not in ("(", "[", "{", ",", "=")):
+        start -= 1
+        depth -= depth_change(words[start])
+    depth = nested = 0
+    colon = 0
+    while end + 1 < len(words):
+        end += 1
+        depth += depth_change(words[end])
+        if depth < 0 or depth == 0 and words[end] in (",", ";"):
+            break
+        nested += {"?": 1, ":": -1}.get(words[end], 0) if depth == 0 else 0
+        if nested < 0 and not colon:
+            colon = end
+    else:
+        end += 1
+    if not colon:
+        return [words]
+    branches = words[asks + 1 : colon] or words[start:asks], words[colon + 1 : end]
+    return [way for branch in branches for way in alternatives([*words[:start], *branch, *words[end:]])]
 
 
 def is_call(words: Tokens) -> bool:

@@ -9,11 +9,19 @@ from .sites import Key
 
 NO_WAIT = "no wait:"
 NO_ITEM = "no item:"
+NOT_THROUGH = "not through:"
 FILES = "files:"
 STACKED = "stacked:"
 # FILE FUNCTION CALL(ARGUMENT): WHY. The argument may hold brackets and colons; after the last bracket comes the colon.
 DISMISSAL = re.compile(r"\s*(\S+\.[chS])\s+(\w+)\s+(\w+)\((.*?)\)\s*:\s+(\S.*)")
+# The same of many: `*` for any letters in FILE, FUNCTION and CALL, or as the whole ARGUMENT; and several calls.
+CALLS = r"[\w*]+\([^()]*\)"
+DISMISSAL_OF_MANY = re.compile(rf"\s*(\*|[\w./+*-]+)\s+([\w*]+)\s+({CALLS}(?:[\s,]+{CALLS})*)\s*:\s+(\S.*)")
+CLOSED = re.compile(r"\s*(\*|\S+\.[chS])\s+([\w*]+)\s*:\s+(\S.*)")
+THREAD = re.compile(r"\s*(?:a\s+)?thread\b[\s,:]*(\w*)")
 DISMISSED_ITEM = re.compile(r"\s*(\S+\.[chS])\s+(\w+)\s*:\s+(\S.*)")
+# These words and no colon behind them, where what follows is that of the form.
+WITHOUT_COLON = re.compile(r"(no wait|not through|no item|files)\s+(?:\*|\S+\.[chS])(?:\s|$)")
 # A flush line that a draft offers, and that nobody has decided.
 SUGGESTED = re.compile(r"#flush(?:wq)? ")
 
@@ -53,6 +61,24 @@ class Dismissal:
     def __str__(self) -> str:
         return f"# {NO_WAIT} {self.key}: {self.why}"
 
+    @property
+    def is_of_many(self) -> bool:
+        """Whether it may dismiss more than the calls of one name in one function."""
+        return self.key.argument == "*" or any("*" in part for part in self.key[:3])
+
+
+@dataclass(frozen=True)
+class Closed:
+    """`# not through: FILE FUNCTION: WHY`: what this function does isn't looked into."""
+
+    number: int
+    file: str
+    function: str
+    why: str
+
+    def __str__(self) -> str:
+        return f"# {NOT_THROUGH} {self.file} {self.function}: {self.why}"
+
 
 @dataclass(frozen=True)
 class DismissedItem:
@@ -80,6 +106,12 @@ class DeclaredItem:
         """The name before the dot: submit.lower and submit.upper are the same code."""
         return self.name.split(".")[0]
 
+    @property
+    def thread(self) -> Optional[str]:
+        """If it is a thread, the word behind that: maybe its function. None if it isn't."""
+        match = THREAD.match(self.comment)
+        return match[1] if match else None
+
 
 @dataclass
 class Declaration:
@@ -91,7 +123,9 @@ class Declaration:
     citations: list[Citation] = field(default_factory=list)
     dismissals: list[Dismissal] = field(default_factory=list)
     dismissed_items: list[DismissedItem] = field(default_factory=list)
+    closed: list[Closed] = field(default_factory=list)
     malformed: list[int] = field(default_factory=list)
+    without_colon: list[tuple[int, str]] = field(default_factory=list)
     files: list[str] = field(default_factory=list)
     is_stacked: bool = False
 
@@ -128,13 +162,18 @@ class Declaration:
             self.is_stacked = True
             return True
         if text.startswith(NO_WAIT):
-            match = DISMISSAL.fullmatch(text[len(NO_WAIT) :])
+            match = self.take_dismissal(number, text[len(NO_WAIT) :])
+        elif text.startswith(NOT_THROUGH):
+            match = CLOSED.fullmatch(text[len(NOT_THROUGH) :])
             if match:
-                self.dismissals.append(Dismissal(number, Key(match[1], match[2], match[3], match[4]), match[5]))
+                self.closed.append(Closed(number, match[1], match[2], match[3]))
         elif text.startswith(NO_ITEM):
             match = DISMISSED_ITEM.fullmatch(text[len(NO_ITEM) :])
             if match:
                 self.dismissed_items.append(DismissedItem(number, match[1], match[2], match[3]))
+        elif without := WITHOUT_COLON.match(text):
+            self.without_colon.append((number, without[1]))
+            return True
         else:
             return False
         if match:
@@ -143,6 +182,24 @@ class Declaration:
         else:
             self.malformed.append(number)
         return True
+
+    def take_dismissal(self, number: int, text: str) -> Optional[re.Match[str]]:
+        """One call of one function, or many. What is dismissed exactly comes before what a `*` dismisses."""
+        one = DISMISSAL.fullmatch(text)
+        many = DISMISSAL_OF_MANY.fullmatch(text)
+        found = [Dismissal(number, Key(many[1], many[2], *call), many[4]) for call in calls_of(many[3])] if many else []
+        if len(found) > 1 or any(dismissal.is_of_many for dismissal in found):
+            self.dismissals += found
+            return many
+        if one:
+            exact = Dismissal(number, Key(one[1], one[2], one[3], one[4]), one[5])
+            self.dismissals.insert(sum(not other.is_of_many for other in self.dismissals), exact)
+        return one
+
+
+def calls_of(text: str) -> list[tuple[str, str]]:
+    """The name and the argument of each CALL(ARGUMENT)."""
+    return re.findall(r"([\w*]+)\(([^()]*)\)", text)
 
 
 def next_citation(comment: str, at: int, has_file: bool, is_behind_one: bool) -> Optional[re.Match[str]]:

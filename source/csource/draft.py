@@ -2,13 +2,15 @@
 
 import re
 from dataclasses import dataclass, field
+from typing import Iterator
 
 from .backstop import Missed, missed_calls
 from .calls import DIRECT, Edge
 from .items import Item
-from .places import FunctionId
+from .places import FunctionId, Place
 from .program import Ends, Program
 from .reach import path_to, reached_from
+from .records import Call
 from .sites import TARGETED, Key, Site
 
 
@@ -49,8 +51,14 @@ class Uncalled:
     more: int
 
 
+# So many sites of plain I/O are one question.
+MANY = 4
+# How an edge leads from the cancel of an item to its function: who cancels waits while that runs.
+CANCEL = "cancel"
+
+
 def is_direct(path: list[Edge]) -> bool:
-    return all(edge.how == DIRECT for edge in path)
+    return all(edge.how in (DIRECT, CANCEL) for edge in path)
 
 
 class Draft:
@@ -62,6 +70,8 @@ class Draft:
         self.missing = [name for name in only if not any(function.name == name for function in self.items)]
         self.lines: list[Line] = []
         self.open: dict[Key, Open] = {}
+        self.of_network: dict[Key, Open] = {}
+        self.cancels: dict[Key, Site] = {}
         for function in self.items:
             self.take(function)
         self.added = self.close()
@@ -69,14 +79,32 @@ class Draft:
 
     def take(self, function: FunctionId) -> None:
         """The sites in reach of an item: each becomes a line, or stays open."""
-        reached = self.program.sleeps[function]
-        for site in sorted(self.program.sites_of(reached), key=lambda site: (site.key.file, site.lines)):
-            path = path_to(reached, site.id)
+        for site, path in self.waits_of(function, {function}):
             line = self.line(function, site, path) if is_direct(path) else None
             if line is not None:
                 self.lines.append(line)
             else:
-                self.open.setdefault(site.key, Open(site, self.program.ends(site))).ways[function] = path
+                is_network = self.program.tables.waits.is_network(site.key.call)
+                to = self.of_network if is_network else self.open
+                one = to.setdefault(site.key, Open(site, self.program.ends(site)))
+                one.ways.setdefault(function, path)
+
+    def waits_of(self, function: FunctionId, seen: set[FunctionId]) -> Iterator[tuple[Site, list[Edge]]]:
+        """The sites in reach of an item, each with the way there. A cancel of an item stands for the sites of that."""
+        reached = self.program.sleeps[function]
+        for site in sorted(self.program.sites_of(reached), key=lambda site: (site.key.file, site.lines)):
+            path = path_to(reached, site.id)
+            if site.kind != "cancel" or not site.targets or function in site.targets:
+                yield site, path
+                continue
+            self.cancels[site.key] = site
+            how = CANCEL if len(site.targets) == 1 else f"~{site.key.call}"
+            place = Place(site.key.file, site.lines[0], site.key.function)
+            edge = Edge(place, how, Call(place, site.key.call, []))
+            for target in sorted(site.targets - seen):
+                seen.add(target)
+                for inner, way in self.waits_of(target, seen):
+                    yield inner, [*path, edge, *way]
 
     def line(self, function: FunctionId, site: Site, path: list[Edge]) -> "Line | None":
         """The line for a site, if its target is known. An item that waits for itself is left to the reader."""
@@ -98,6 +126,12 @@ class Draft:
             return []
         return [function for function, ended in ends.items.items() if is_direct(ended.path)]
 
+    @property
+    def of_disks(self) -> list[Open]:
+        """The sites of plain I/O, if they are many: one question then."""
+        found = [one for one in self.open.values() if self.program.tables.waits.is_plain_io(one.site.key.call)]
+        return found if len(found) >= MANY else []
+
     def close(self) -> list[FunctionId]:
         """The items that the lines name and that weren't asked for."""
         named = {function for line in self.lines for function in (line.target, *line.also)}
@@ -118,15 +152,15 @@ class Draft:
     def uncalled(self) -> list[Uncalled]:
         """Items of other files may call them: these files don't say."""
         program, found = self.program, {}
-        for place, struct, member, value in program.facts.initialisers:
-            for function in program.facts.resolve(place.file, value):
+        for one in program.facts.initialisers:
+            for function in program.facts.resolve(one.place.file, one.name):
                 if function in program.reached_by or function in found:
                     continue
                 reached = reached_from(program.graph, function, program.may_sleep)
                 sites = program.sites_of(reached)
                 if sites:
                     nearest = min(sites, key=lambda site: len(path_to(reached, site.id)))
-                    found[function] = Uncalled(function, f"{struct or '?'}.{member}", nearest, len(sites) - 1)
+                    found[function] = Uncalled(function, f"{one.struct}.{one.member}", nearest, len(sites) - 1)
         return list(found.values())
 
     def short(self, file: str) -> str:

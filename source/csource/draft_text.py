@@ -5,7 +5,7 @@ import pathlib
 import re
 from typing import Iterable, TextIO
 
-from . import says
+from . import layers, says
 from .calls import DIRECT, Edge
 from .draft import Draft, Line, Open
 from .items import Item
@@ -32,7 +32,7 @@ def some(names: Iterable[str]) -> str:
 
 def word_of(site: Site) -> str:
     """The kind of a site as the comment of a declared wait says it."""
-    return "done" if site.kind in ("pool", "other") else site.kind
+    return "done" if site.kind in ("pool", "poll", "other") else site.kind
 
 
 def kernel_version(tree: pathlib.Path) -> str:
@@ -87,6 +87,8 @@ class Printer:
         self.print_open()
         self.print_unknown()
         self.print_beside()
+        self.print_cancels()
+        self.print_network()
         self.print_uncalled()
         says.note(
             self.to,
@@ -131,7 +133,9 @@ class Printer:
         """To which workqueue it is queued, and where."""
         places: dict[tuple[str, bool], list[Place]] = collections.defaultdict(list)
         for queueing in item.queueings:
-            names = "/".join(sorted(map(self.workqueue, queueing.workqueues))) or f"? ({queueing.named})"
+            names = "/".join(sorted(map(self.workqueue, queueing.workqueues))) or (
+                f"? ({queueing.named})" if queueing.named else "?"
+            )
             places[names, queueing.is_one_of_several].append(queueing.place)
         for (name, is_one_of_several), at in places.items():
             yield f"queued to {name} at {', '.join(dict.fromkeys(map(self.place, at)))}" + (
@@ -188,21 +192,48 @@ class Printer:
         calls = (self.place(edge.place) + ("" if edge.how == DIRECT else f" by {edge.how}") for edge in reversed(path))
         return f", from {', '.join(calls)}" if path else ""
 
+    def print_disks(self) -> None:
+        """One question for all plain I/O: does an interrupt end it?"""
+        disks = self.draft.of_disks
+        if not disks:
+            return
+        self.write()
+        self.decide(f"io {len(disks)} sites of plain I/O, which an interrupt ends if no disk below is a stacked one")
+        for one in disks:
+            items = sorted(one.ways, key=lambda function: (len(one.ways[function]), function))
+            # (a place would cite it, and so decide it)
+            text = f"{one.site.key.call}({one.site.key.argument}) in {one.site.key.function}, for {self.names(items)}"
+            self.comment(text)
+        calls = dict.fromkeys(f"{one.site.key.call}(*)" for one in disks)
+        self.write(f"## no wait: * * {' '.join(calls)}: ")
+
+    def print_network(self) -> None:
+        """What softirqs of the network end is no question."""
+        if self.draft.of_network:
+            says.note(self.to, "Softirqs of the network end these, as a rule:")
+        for one in self.draft.of_network.values():
+            self.comment(f"{one.site.key.call}({one.site.key.argument}) in {one.site.key.function}")
+
     def print_open(self) -> None:
         order = {True: 0, False: 1}
+        disks = self.draft.of_disks
         for one in sorted(
             self.draft.open.values(), key=lambda one: (order[bool(one.targets)], one.site.key.file, one.site.lines)
         ):
-            self.write()
-            self.print_one(one)
+            if one not in disks:
+                self.write()
+                self.print_one(one)
+        self.print_disks()
 
     def print_one(self, one: Open) -> None:
         """A site to decide: who reaches it, what may end it, and the lines that it may become."""
         site = one.site
         self.decide(f"{site.kind} {self.site_place(site)}: {site.key.call}({site.key.argument})")
-        items = sorted(one.ways, key=lambda function: len(one.ways[function]))
+        items = sorted(one.ways, key=lambda function: (len(one.ways[function]), function))
         first = f"{self.name(items[0])}{self.way(one.ways[items[0]])}"
         self.comment(f"in reach of {first}" + (f"; and of {self.names(items[1:])}" if items[1:] else ""))
+        for text in layers.known().elsewhere(site.key.call, self.program.facts.files):
+            self.comment(text)
         if site.workqueues:
             self.comment(f"flushes {', '.join(map(self.program.workqueues.name, sorted(site.workqueues)))}")
         for function in one.targets:
@@ -252,6 +283,18 @@ class Printer:
                 self.to, "Not followed, for no function of the files is known to stand there: " + " ".join(pointers)
             )
 
+    def print_cancels(self) -> None:
+        """Cancels have no lines of their own."""
+        if self.draft.cancels:
+            says.note(
+                self.to,
+                "These wait only while the item runs that they cancel. So what that waits for stands above, and nothing if "
+                "it waits for nothing:",
+            )
+        for site in self.draft.cancels.values():
+            # (a place would cite it, and so decide it)
+            self.comment(f"{site.key.call}({site.key.argument}) in {site.key.function}: {self.names(sorted(site.targets))}")
+
     def print_uncalled(self) -> None:
         """Functions whose callers are in other files."""
         uncalled = self.draft.uncalled()
@@ -298,7 +341,11 @@ def print_assignment(draft: Draft, to: TextIO) -> None:
                 ],
             )
         )
-        word = "norescuer" if program.workqueues.lacks_rescuer(workqueue) else "wq"
-        print(f"{'? ' if shared else ''}{word} {number} {' '.join(item.name for item in items)}  # {said}", file=to)
+        has_rescuer = program.workqueues.has_rescuer(workqueue)
+        word = "norescuer" if has_rescuer is False else "wq"
+        print(f"{'? ' if shared or has_rescuer is None else ''}{word} {number} {' '.join(item.name for item in items)}  # {said}", file=to)
     if nowhere:
         print(f"? wq ? {' '.join(item.name for item in nowhere)}  # their workqueue isn't known", file=to)
+    empty = [workqueue for workqueue in program.workqueues.made if workqueue not in on]
+    if empty:
+        says.note(to, f"Workqueues without an item of these: {', '.join(map(program.workqueues.text, empty))}")

@@ -5,7 +5,7 @@ import re
 from dataclasses import dataclass, field
 from typing import NamedTuple, Optional
 
-from .backstop import blanked
+from . import ctext
 from .cited import Cited
 from .declaration import Citation, Declaration, Dismissal
 from .moved import MOVED, SAME, Mapping
@@ -109,7 +109,7 @@ class Drift:
         """Where the new tree names the functions of an item that it has lost: then these couldn't be parsed."""
         names = "|".join({function.name for function in self.cited.items[item]})
         for file, text in self.new.facts.texts.items():
-            found = re.search(rf"\b(?:{names})\b", blanked(text))
+            found = re.search(rf"\b(?:{names})\b", ctext.blanked(text))
             if found:
                 return f"{file}:{text.count(chr(10), 0, found.start()) + 1}"
         return ""

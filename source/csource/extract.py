@@ -9,6 +9,7 @@ import subprocess
 import tempfile
 from dataclasses import dataclass
 
+from .facts import Facts
 from .progress import Progress
 from .tables import FOLDER
 
@@ -33,6 +34,9 @@ class Extractor:
     cache: pathlib.Path
     jobs: int
     progress: Progress
+
+    def read(self, tree: pathlib.Path, files: list[str]) -> Facts:
+        return Facts(tree, self.facts(tree, files))
 
     def facts(self, tree: pathlib.Path, files: list[str]) -> dict[str, list[str]]:
         """The lines of facts of each file."""

@@ -8,9 +8,13 @@ from typing import Optional
 
 from . import ctext
 from .ctext import Tokens
+from .initialisers import initialised
+from .loops import is_in_loop
 from .macros import macros_of
 from .places import FunctionId, Place
-from .records import Assignment, Call, Definition, Initialiser, PointerCall, Return
+from .records import Assignment, Call, Definition, ExpressionCall, Initialiser, PointerCall, Return
+from .structs import Structs, declared, struct_in
+from .types import ENTRY, Types
 
 OUTSIDE = "something_else"
 UNKNOWN_TYPES = ("", "void", "unknown")
@@ -36,9 +40,10 @@ def parameter_names(text: str) -> list[str]:
 class Facts:
     """The facts of some files of a tree."""
 
+    # TYPE a, *b[2]; or TYPE a = .., outside functions
     GLOBAL = re.compile(
-        r"^(?:extern |static |const |struct |unsigned |volatile )*[A-Za-z_]\w*[ \t*]+(\w+)(?:\[[^\]]*\])?"
-        r"\s*(?:__\w+\s*)?[;=]",
+        r"^(?:extern |static |const |struct |unsigned |volatile )*[A-Za-z_]\w*[ \t*]+"
+        r"(\w+(?:\[[^\]]*\])?(?:\s*,[\s*]*\w+(?:\[[^\]]*\])?)*)\s*(?:__\w+\s*)?[;=]",
         re.M,
     )
 
@@ -48,24 +53,29 @@ class Facts:
         self.texts = {file: (tree / file).read_text(errors="replace") for file in self.files}
         self.lines = {file: text.removesuffix("\n").split("\n") for file, text in self.texts.items()}
         self.together = self.included()
+        self.structs, self.types = self.find_types()
         self.definitions: dict[FunctionId, Definition] = {}
         # from the line of the name to the first `}` that begins a line; a macro to its last line
         self.spans: dict[FunctionId, list[tuple[int, int]]] = collections.defaultdict(list)
+        self.spans_in: dict[str, list[tuple[int, int, str]]] = collections.defaultdict(list)
         self.named: dict[str, list[FunctionId]] = collections.defaultdict(list)
         self.calls: list[Call] = []
         self.pointer_calls: list[PointerCall] = []
         self.assignments: list[Assignment] = []
         self.initialisers: list[Initialiser] = []
         self.returns: list[Return] = []
-        self.types: dict[tuple[str, str, str, str], str] = {}
-        self.structs: dict[str, set[str]] = collections.defaultdict(set)
+        self.expression_calls: list[ExpressionCall] = []
+        # what Coccinelle says itself of the struct of a member: (file, function, base, member)
+        self.said: dict[tuple[str, str, str, str], str] = {}
         self.locals: set[tuple[str, str, str]] = set()
+        self.globals: set[str] = set()
         for file in self.files:
             facts = [line.split("\t") for line in dict.fromkeys(lines[file])]
             for words in sorted(facts, key=lambda words: (int(words[1]), int(words[2]))):
                 self.take(file, words)
         for file in self.files:
             self.take_macros(file)
+            self.take_initialisers(file)
         self.take_initialised()
         self.calls_in: dict[FunctionId, list[Call]] = collections.defaultdict(list)
         self.calls_named: dict[str, list[Call]] = collections.defaultdict(list)
@@ -73,29 +83,42 @@ class Facts:
             self.calls_in[call.place.id].append(call)
             self.calls_named[call.name].append(call)
 
+    def find_types(self) -> tuple[Structs, Types]:
+        """The structs that the files and their headers define, and of which of them an expression is."""
+        structs = Structs(self.tree, self.texts)
+        return structs, Types(structs)
+
     def take(self, file: str, words: list[str]) -> None:
         """One line of facts."""
         kind, line, _, function, *rest = words + [""]
         place = Place(file, int(line), "" if function == OUTSIDE else function)
         if kind == "DEF":
             self.define(place, rest[0], parameter_names(rest[1]))
-            self.spans[FunctionId(file, rest[0])].append((place.line, self.end_of(place)))
+            for words in ctext.arguments(ctext.tokens(rest[1])):
+                struct, names = declared(words)
+                for name in names:
+                    self.types.declare(file, rest[0], name, struct)
+            self.add_span(FunctionId(file, rest[0]), place.line, self.end_of(place))
         elif kind == "CALL":
             self.calls.append(Call(place, rest[0], ctext.arguments(ctext.tokens(rest[1]))))
         elif kind == "PCALL":
             self.pointer_calls.append(
                 PointerCall(place, ctext.tokens(rest[0]), rest[1], ctext.arguments(ctext.tokens(rest[2])))
             )
+        elif kind == "ECALL":
+            self.take_expression_call(place, ctext.tokens(rest[0]), ctext.arguments(ctext.tokens(rest[1])))
         elif kind == "ASG":
-            self.assignments.append(Assignment(place, ctext.tokens(rest[0]), ctext.tokens(rest[1])))
+            self.take_assignment(Assignment(place, ctext.tokens(rest[0]), ctext.tokens(rest[1])))
         elif kind == "LOC" and function != rest[0]:
-            self.locals.add((file, function, rest[0]))
-        elif kind == "INI":
-            self.initialisers.append(Initialiser(place, struct_name(rest[0]), rest[1], rest[2]))
+            self.take_variable(place, rest[0], ctext.tokens(rest[1]))
         elif kind == "RET":
             self.returns.append(Return(place, ctext.tokens(rest[0])))
         elif kind == "TYP":
             self.take_type(place, rest[0], rest[1], struct_name(rest[2]))
+
+    def add_span(self, function: FunctionId, first: int, last: int) -> None:
+        self.spans[function].append((first, last))
+        self.spans_in[function.file].append((first, last, function.name))
 
     def end_of(self, place: Place) -> int:
         """The line that ends a function."""
@@ -122,8 +145,59 @@ class Facts:
 
     def take_type(self, place: Place, base: str, member: str, struct: str) -> None:
         if struct not in UNKNOWN_TYPES:
-            self.types[place.file, place.function, ctext.joined(ctext.tokens(base)), member] = struct
-            self.structs[member].add(struct)
+            self.said[place.file, place.function, ctext.joined(ctext.tokens(base)), member] = struct
+
+    def take_variable(self, place: Place, name: str, words: Tokens) -> None:
+        if place.function:
+            self.locals.add((place.file, place.function, name))
+        else:
+            self.globals.add(name)
+        self.types.declare(place.file, place.function, name, struct_in(words))
+
+    def take_assignment(self, assignment: Assignment) -> None:
+        """Outside functions it is a global variable that is initialised."""
+        self.assignments.append(assignment)
+        if not assignment.place.function and len(assignment.left) == 1:
+            self.globals.add(assignment.left[0])
+
+    def take_expression_call(self, place: Place, callee: Tokens, arguments: list[Tokens]) -> None:
+        """`(*base->member)(..)` is a call by a member: that is another fact. `(c ? f : g)(..)` calls f, or g."""
+        ways = [ctext.pointee(way) for way in ctext.alternatives(ctext.bare(callee))]
+        for words in ways:
+            if len(words) == 1 and len(ways) > 1:
+                self.calls.append(Call(place, words[0], arguments))
+            elif len(words) < 2 or words[-2] not in ("->", "."):
+                self.expression_calls.append(ExpressionCall(place, words, arguments))
+
+    def take_initialisers(self, file: str) -> None:
+        """What the text puts into members; what it puts into an array is as if it were assigned."""
+        for one in initialised(self.texts[file], self.structs):
+            place = Place(file, one.line, self.function_at(file, one.line))
+            if one.struct:
+                self.initialisers.append(Initialiser(place, one.struct, one.member, one.value))
+            else:
+                self.assignments.append(Assignment(place, [one.member], one.value))
+                if place.function:
+                    self.locals.add((file, place.function, one.member))
+                else:
+                    self.globals.add(one.member)
+
+    def is_in_loop(self, place: Place) -> bool:
+        """Whether a place is in a loop of its function."""
+        return any(
+            is_in_loop("\n".join(self.lines[place.file][first - 1 : last]), first, place.line)
+            for first, last in self.spans.get(place.id, ())
+        )
+
+    def text_of(self, function: FunctionId) -> str:
+        """The text of a function."""
+        lines = self.lines[function.file]
+        return "\n".join(line for first, last in self.spans.get(function, ()) for line in lines[first - 1 : last])
+
+    def function_at(self, file: str, line: int) -> str:
+        """The function that a line is in, or ''."""
+        inside = [span for span in self.spans_in[file] if span[0] <= line <= span[1]]
+        return max(inside)[2] if inside else ""
 
     def take_macros(self, file: str) -> None:
         """Coccinelle doesn't look into macros."""
@@ -133,12 +207,20 @@ class Facts:
                 continue
             place = Place(file, macro.line, macro.name)
             self.define(place, macro.name, macro.parameters)
-            self.spans[function].append((macro.line, macro.last))
-            self.calls += [Call(place, name, arguments) for name, arguments in macro.calls]
+            self.add_span(function, macro.line, macro.last)
+            for name, arguments in macro.calls:
+                self.calls.append(Call(place, name, arguments))
+                if name in ENTRY and len(arguments) > 1:
+                    self.types.macros.setdefault(macro.name, struct_in(arguments[1]))
 
     def take_initialised(self) -> None:
         """Facts have an initialised variable as an assignment: what is no global variable is a local one."""
-        known = {match for text in self.texts.values() for match in self.GLOBAL.findall(text)}
+        known = self.globals | {
+            name
+            for text in self.texts.values()
+            for names in self.GLOBAL.findall(text)
+            for name in re.findall(r"[A-Za-z_]\w*", re.sub(r"\[[^\]]*\]", "", names))
+        }
         for place, left, _ in self.assignments:
             if len(left) == 1 and left[0] not in known and place.id in self.definitions:
                 self.locals.add((place.file, place.function, left[0]))
@@ -148,11 +230,22 @@ class Facts:
         return (place.file, place.function, name) in self.locals
 
     def struct_of(self, place: Place, base: Tokens, member: str) -> Optional[str]:
-        """The struct of the member in `base->member`: what Coccinelle found, or the only one with such a member."""
-        found = self.types.get((place.file, place.function, ctext.joined(base), member))
-        if found is None and len(self.structs.get(member, ())) == 1:
-            return next(iter(self.structs[member]))
-        return found
+        """The struct of the member in `base->member`: what Coccinelle says, or what the definitions do. No guess."""
+        return self.said.get((place.file, place.function, ctext.joined(base), member)) or self.types.of(place, base)
+
+    def call_of(self, place: Place, words: Tokens) -> Call:
+        """The call that an expression is. It may stand some lines below the place of what it is assigned to."""
+        name, arguments = words[0], ctext.arguments(words[2:-1])
+        same = [call for call in self.calls_in[place.id] if call.name == name and call.arguments == arguments]
+        return min(
+            same, key=lambda call: (call.place.line < place.line, abs(call.place.line - place.line)), default=None
+        ) or Call(place, name, arguments)
+
+    def call_id(self, call: Call) -> str:
+        """FILE:LINE of a call; the second of its name on one line has a number, too."""
+        same = [other for other in self.calls_in[call.place.id] if other[:2] == call[:2]]
+        at = next((index for index, other in enumerate(same) if other.arguments == call.arguments), 0)
+        return f"{call.place.file}:{call.place.line}" + (f".{at + 1}" if at else "")
 
     def resolve(self, file: str, name: str) -> list[FunctionId]:
         """The functions that this name may stand for in a file: its own, or else those that other files show."""

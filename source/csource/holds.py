@@ -15,6 +15,10 @@ from .places import FunctionId, Place
 from .tables import OLD_NAMES, SYSTEM_WORKQUEUE, Waits
 
 
+# These hold a work_struct `work`: to flush or queue it is to flush or queue the item.
+WRAPPED = ("delayed_work", "rcu_work", "kthread_delayed_work")
+
+
 class Holds:
     """The values of each cell."""
 
@@ -34,8 +38,8 @@ class Holds:
             cell = self.cell(place, left)
             if cell is not None:
                 self.flow(cell, place, right)
-        for place, struct, member, name in facts.initialisers:
-            self.flow(self.noted(Member(struct, member)), place, [name])
+        for place, struct, member, value in facts.initialisers:
+            self.flow(self.noted(Member(struct, member)), place, value)
         for place, value in facts.returns:
             if place.id in facts.definitions:
                 self.flow(Result(place.function), place, value)
@@ -52,6 +56,8 @@ class Holds:
         if not words or words[0] == "&":
             return None
         cuts = ctext.outer(words, ("->", "."))
+        if cuts and words[cuts[-1] :] == [".", "work"] and self.is_wrapped(place, words[:-2]):
+            return self.cell(place, words[:-2])
         if cuts:
             return (
                 self.member(place, words[: cuts[-1]], words[-1])
@@ -67,6 +73,10 @@ class Holds:
             if len(words) > 2 and ctext.is_name(words[0]) and words[1] == "(" and words[-1] == ")"
             else None
         )
+
+    def is_wrapped(self, place: Place, base: Tokens) -> bool:
+        """Whether this is a delayed_work or its like: its work_struct is the same item."""
+        return self.facts.struct_of(place, base, "work") in WRAPPED
 
     def member(self, place: Place, base: Tokens, name: str) -> Member:
         return self.noted(Member(self.facts.struct_of(place, base, name) or UNKNOWN, name))
@@ -107,16 +117,27 @@ class Holds:
         """The values that an expression names itself."""
         if words[0] == "&":
             functions = self.functions(place, words[1:])
-            cell = None if functions else self.cell(place, words[1:])
-            return functions or ({Address(cell)} if cell is not None else set())
+            return functions or {Address(cell) for cell in self.pointed_at(place, words[1:])}
         functions = self.functions(place, words)
         if functions:
             return functions
         if len(words) == 1 and SYSTEM_WORKQUEUE.match(words[0]) and not self.facts.is_local(place, words[0]):
             return {Workqueue(OLD_NAMES.get(words[0], words[0]))}
-        if ctext.is_call(words) and self.waits.kind(words[0]).name == "workqueue":
-            return {Workqueue(f"{place.file}:{place.line}")}
+        if ctext.is_call(words) and self.makes_workqueue(place, words[0]):
+            return {Workqueue(self.facts.call_id(self.facts.call_of(place, words)))}
         return None
+
+    def makes_workqueue(self, place: Place, call: str) -> bool:
+        """Whether the kernel's own function makes it: what a function of the files returns is looked into."""
+        return self.waits.kind(call).name == "workqueue" and not self.facts.resolve(place.file, call)
+
+    def pointed_at(self, place: Place, words: Tokens) -> list[Cell]:
+        """What stands behind `&`. `x.work` may be that of a delayed_work x, if the struct of x isn't known."""
+        words = ctext.bare(words)
+        found = [self.cell(place, words)]
+        if words[-2:] == [".", "work"] and self.facts.struct_of(place, words[:-2], "work") is None:
+            found.append(self.cell(place, words[:-2]))
+        return [cell for cell in found if cell is not None]
 
     def functions(self, place: Place, words: Tokens) -> set[Value]:
         """The functions that a single name stands for."""

@@ -5,7 +5,7 @@ from dataclasses import dataclass, field
 from typing import NamedTuple, Optional
 
 from . import ctext
-from .cells import Address, Function, Global, Workqueue, may_be_same
+from .cells import Address, Global, Workqueue, functions_of, may_be_same
 from .ctext import Tokens
 from .facts import Facts
 from .holds import Holds
@@ -65,7 +65,7 @@ class Items:
         works: set[Address] = set()
         for words in call.arguments:
             values = self.holds.values(call.place, words)
-            here = [value.id for value in values if isinstance(value, Function) and value.id in self.facts.definitions]
+            here = [function for function in functions_of(values) if function in self.facts.definitions]
             if here:
                 functions = functions or here
             elif not works:
@@ -82,28 +82,31 @@ class Items:
             item = self.items.setdefault(function, Item(function))
             item.set_at.append(call.place)
             item.works |= works
-            for work in works:
+            for work in sorted(works, key=repr):
                 self.work_of.append((work, function))
                 self.set_in[call.place.id].append((work, function))
 
+    def workqueues_of(self, call: Call) -> set[str]:
+        """The workqueues that a call that queues names: none where they aren't known."""
+        if call.name.startswith("schedule_"):
+            return {"system_wq"}
+        if "kblockd" in call.name:
+            return self.kblockd()
+        values = [value for words in call.arguments for value in self.holds.values(call.place, words)]
+        return {value.made_at for value in values if isinstance(value, Workqueue)}
+
     def queue_item(self, call: Call) -> None:
-        workqueues: set[str] = set()
+        workqueues = self.workqueues_of(call)
         works: set[Address] = set()
         named = ""
         for words in call.arguments:
-            values = self.holds.values(call.place, words)
-            workqueues |= {value.made_at for value in values if isinstance(value, Workqueue)}
             hits = {address for address in self.addresses(call.place, words) if self.items_of({address})}
             works |= hits
             if not hits and not named and words and ctext.is_name(words[0]) and words[0] not in NO_WORKQUEUE:
                 named = ctext.joined(words)
-        if call.name.startswith("schedule_"):
-            workqueues, named = {"system_wq"}, "system_wq"
-        if "kblockd" in call.name:
-            workqueues = self.kblockd()
         functions = self.queued_by(call.place.id, works)
         if functions:
-            for function in functions:
+            for function in sorted(functions):
                 self.items[function].queueings.append(
                     Queueing(call.place, frozenset(workqueues), named, len(functions) > 1)
                 )
@@ -151,5 +154,5 @@ class Items:
 
 
 def is_system(workqueue: str) -> bool:
-    """Whether it is one of the kernel's own, none of which has a rescuer."""
+    """Whether it is one of the kernel's own, none of which has a rescuer. (Some need none.)"""
     return SYSTEM_WORKQUEUE.match(workqueue) is not None

@@ -2,6 +2,7 @@
 
 from typing import Iterable
 
+from . import layers
 from .places import FunctionId
 from .program import Program
 
@@ -21,4 +22,5 @@ def not_followed(program: Program, functions: Iterable[FunctionId]) -> tuple[lis
                 and not (program.tables.harmless.has(call.name))
             ):
                 names.add(call.name)
-    return sorted(names), sorted(pointers)
+    beside = layers.known().beside
+    return [beside(name) for name in sorted(names)], [beside(name) for name in sorted(pointers)]

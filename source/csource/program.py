@@ -3,13 +3,14 @@
 import collections
 import pathlib
 from dataclasses import dataclass, field
+from typing import Protocol
 
 from .calls import CallGraph, Edge
-from .extract import Extractor
 from .facts import Facts
 from .holds import Holds
 from .items import Item, Items
 from .places import FunctionId
+from .progress import Progress
 from .reach import Reached, path_to, reached_from, roots_of
 from .sites import SIGNALLED, Key, Site, Sites, Waker, key_of
 from .tables import Harmless, Idioms, Waits
@@ -88,7 +89,7 @@ class Program:
             return found
         for waker in self.sites.ended_at(site):
             function = waker.place.id
-            for item in self.reached_by.get(function, ()):
+            for item in sorted(self.reached_by.get(function, ())):
                 ended = Ended(waker, path_to(self.reached[item], function))
                 if item not in found.items or ended.order < found.items[item].order:
                     found.items[item] = ended
@@ -104,8 +105,16 @@ class Program:
         return site.targets or set(self.ends(site).items)
 
 
-def read(tree: pathlib.Path, files: list[str], extractor: Extractor, tables: Tables, stacked: bool = False) -> Program:
+class ReadsFacts(Protocol):
+    """Who finds the facts of C files: Coccinelle, or the reader of tokens."""
+
+    progress: Progress
+
+    def read(self, tree: pathlib.Path, files: list[str]) -> Facts: ...
+
+
+def read(tree: pathlib.Path, files: list[str], extractor: ReadsFacts, tables: Tables, stacked: bool = False) -> Program:
     """Reads files of a tree."""
-    lines = extractor.facts(tree, files)
+    facts = extractor.read(tree, files)
     extractor.progress.say(f"putting together {len(files)} files of {tree}")
-    return Program(Facts(tree, lines), tables, stacked)
+    return Program(facts, tables, stacked)

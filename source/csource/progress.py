@@ -31,6 +31,11 @@ class Progress:
             self.to.write(line + "\n")
         self.to.flush()
 
+    def tell(self, text: str) -> None:
+        """What a reader has to know: a line that stays."""
+        self.end()
+        print(f"wqsource: {text}", file=self.to, flush=True)
+
     def end(self) -> None:
         """Takes the line away."""
         if self.drawn:

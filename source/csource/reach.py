@@ -1,7 +1,7 @@
 """What a work function reaches, and by which calls."""
 
 import collections
-from typing import Callable, NamedTuple, Optional
+from typing import Callable, Container, NamedTuple, Optional
 
 from .calls import DIRECT, CallGraph, Edge
 from .places import FunctionId
@@ -22,14 +22,20 @@ def everywhere(_: Edge) -> bool:
     return True
 
 
-def reached_from(graph: CallGraph, start: FunctionId, follows: Follows = everywhere) -> Reached:
-    """The functions that `start` reaches along the calls that `follows` admits, shortest ways first."""
+def reached_from(
+    graph: CallGraph, start: FunctionId, follows: Follows = everywhere, closed: Container[FunctionId] = ()
+) -> Reached:
+    """The functions that `start` reaches along the calls that `follows` admits, shortest ways first.
+
+    Those that are closed aren't reached.
+    """
     reached: Reached = {start: None}
     waiting = collections.deque([start])
     while waiting:
         caller = waiting.popleft()
         for function, edges in graph.edges.get(caller, {}).items():
-            edge = next(filter(follows, edges), None) if function not in reached else None
+            is_new = function not in reached and function not in closed
+            edge = next(filter(follows, edges), None) if is_new else None
             if edge is not None:
                 reached[function] = Step(caller, edge)
                 waiting.append(function)

@@ -29,6 +29,14 @@ class PointerCall(NamedTuple):
     arguments: list[Tokens]
 
 
+class ExpressionCall(NamedTuple):
+    """callee(arguments), where the callee is neither a name nor a member: tab[0](x), (*f)(x), (c ? f : g)(x)"""
+
+    place: Place
+    callee: Tokens
+    arguments: list[Tokens]
+
+
 class Assignment(NamedTuple):
     """left = right"""
 
@@ -43,7 +51,14 @@ class Initialiser(NamedTuple):
     place: Place
     struct: str
     member: str
-    value: str
+    value: Tokens
+
+    @property
+    def name(self) -> str:
+        """The function or variable that it names, with or without `&`; '' where it is something else."""
+        words = ctext.bare(self.value)
+        words = words[1:] if words[:1] == ["&"] else words
+        return words[0] if len(words) == 1 and ctext.is_name(words[0]) else ""
 
 
 class Return(NamedTuple):

@@ -35,7 +35,7 @@ class Key(NamedTuple):
         return f"{self.file} {self.function} {self.call}({self.argument})"
 
 
-@dataclass
+@dataclass(eq=False)
 class Site:
     """A call that may sleep, with all its places in one function: who decides one of these decides them all.
 
@@ -106,7 +106,7 @@ class Sites:
         for call in facts.calls:
             kind = waits.kind(call.name)
             words = kind.object_of(call.arguments)
-            if kind.name == "sleep":
+            if kind.name in ("sleep", "poll"):
                 sleeps.append(call)
             elif kind.name == "enter":
                 enters.append(call)
@@ -164,8 +164,21 @@ class Sites:
         """schedule(): the end of a wait that was prepared in this function, or else a wait for something unnamed."""
         for site in self.prepared.get(call.place.id, ()):
             site.lines.append(call.place.line)
-        if call.place.id not in self.prepared and call.place.id not in self.hands_on:
+        if call.place.id in self.prepared or call.place.id in self.hands_on:
+            return
+        if self.waits.kind(call.name).name == "poll":
+            self.take_poll(call)
+        else:
             self.add(call, "other", [])
+
+    def take_poll(self, call: Call) -> None:
+        """msleep() ends by itself; a loop of it doesn't, nor one of calls of a function that sleeps so."""
+        if self.facts.is_in_loop(call.place):
+            self.add(call, "poll", [])
+            return
+        for caller in self.facts.calls_of(call.place.id) if call.place.id in self.facts.definitions else ():
+            if self.facts.is_in_loop(caller.place):
+                self.add(caller, "poll", [])
 
     def add(self, call: Call, kind: str, words: Tokens) -> None:
         """Notes a site, or one more line of it."""
@@ -178,7 +191,7 @@ class Sites:
             site.targets |= self.items.items_on(site.workqueues)
         elif kind in TARGETED:
             site.targets |= self.named(call, kind, words)
-        elif kind != "other":
+        elif kind not in ("other", "poll"):
             site.objects |= (self.holds.itself if kind == "event" else self.holds.objects)(call.place, words)
         if kind == "prepare":
             self.prepared[call.place.id].append(site)

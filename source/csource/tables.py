@@ -5,6 +5,8 @@ import re
 from dataclasses import dataclass
 from typing import Iterator
 
+from . import ctext
+
 FOLDER = pathlib.Path(__file__).resolve().parent.parent
 SYSTEM_WORKQUEUE = re.compile(r"system_\w*wq$")
 # Later kernels have other names for these two.
@@ -52,6 +54,7 @@ KINDS = (
     "prepare",
     "enter",
     "sleep",
+    "poll",
     "wake",
     "pool",
     "give",
@@ -60,6 +63,8 @@ KINDS = (
     "other",
 )
 NOWAIT = "nowait"
+# Names of sites that are asked together, or not at all.
+GROUPS = ("io", "network")
 NONE = Kind("none")
 
 
@@ -69,18 +74,22 @@ class Waits:
     def __init__(self, path: pathlib.Path = FOLDER / "waits.txt") -> None:
         self.rows: list[tuple[Kind, re.Pattern[str]]] = []
         self.nowait: set[str] = set()
+        groups: dict[str, list[str]] = {word: [] for word in GROUPS}
         self.known: dict[str, Kind] = {}
         for number, (word, *names) in rows(path):
             if word == NOWAIT:
                 self.nowait.update(names)
+            elif word in GROUPS:
+                groups[word] += names
             else:
                 self.rows.append((self.kind_of(path, number, word), pattern(names)))
+        self.io, self.network = (pattern(groups[word]) for word in GROUPS)
 
     @staticmethod
     def kind_of(path: pathlib.Path, number: int, word: str) -> Kind:
         name, _, argument = word.partition("/")
         if name not in KINDS or not re.fullmatch(r"[1-9]|last|", argument):
-            raise TableError(f"{path}:{number}: `{word}` isn't a kind; the kinds are {' '.join(KINDS)} {NOWAIT}")
+            raise TableError(f"{path}:{number}: `{word}` isn't a kind; the kinds are {' '.join((*KINDS, NOWAIT, *GROUPS))}")
         return Kind(name, -1 if argument == "last" else int(argument or 1) - 1)
 
     def kind(self, call: str) -> Kind:
@@ -89,9 +98,20 @@ class Waits:
             self.known[call] = next((kind for kind, names in self.rows if names.fullmatch(call)), NONE)
         return self.known[call]
 
+    def is_plain_io(self, call: str) -> bool:
+        """Whether it is I/O that an interrupt ends, if the disk isn't a stacked one."""
+        return self.io.fullmatch(call) is not None
+
+    def is_network(self, call: str) -> bool:
+        """Whether softirqs of the network end it, as a rule."""
+        return self.network.fullmatch(call) is not None
+
     def is_nowait(self, arguments: list[list[str]]) -> bool:
-        """Whether an argument says that the call doesn't sleep."""
-        return any(word in self.nowait for words in arguments for word in words)
+        """Whether an argument says that the call doesn't sleep: each of its branches does, and takes no flag away."""
+        return any(
+            all(self.nowait.intersection(way) and "~" not in way for way in ctext.alternatives(words))
+            for words in arguments
+        )
 
 
 class Idioms:

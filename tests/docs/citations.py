@@ -25,6 +25,8 @@ SOURCES = re.compile(r"# Sources: Linux (\d[\w.]*)((?:, [\w/.-]+)*)")
 PLACE = re.compile(r"(?<![\w./-])([\w./-]+\.[ch]):(\d+) ([A-Za-z_]\w*)")
 # What only a place may have: a file's name with a colon, or a number that may be a line's.
 LEFT_OVER = re.compile(r"[\w./-]+\.[chS]:\S*|(?<![\w.])\d{3,}(?![\w.])")
+# What is dismissed stands before its reason: its argument may be a number.
+DISMISSED = re.compile(r"^ no wait: \S+ \w+ \w+\([^()]*\):")
 KINDS = {"flush": ("flush", "done", "cancel"), "flushwq": ("flushwq",)}
 QUEUED = re.compile(r"queued to \w[\w-]* at ")
 WORKQUEUES = ("wq", "norescuer")
@@ -62,7 +64,7 @@ class Places:
         self.found += places
         if places and self.is_kernels and words.startswith(WORKQUEUES):
             self.made.append((places[0], words.split()[0]))
-        for left in LEFT_OVER.findall(PLACE.sub("", comment)):
+        for left in LEFT_OVER.findall(DISMISSED.sub("", PLACE.sub("", comment))):
             self.wrong.append(f"{where}: `{left}` isn't FILE:LINE FUNCTION")
         wanted = self.wanted((words.split() or [""])[0], comment.strip())
         if wanted:
@@ -168,6 +170,8 @@ FORMS = [
     (HEAD + "flush a a  # flushwq a.c:2 f\n", "doesn't begin with flush or done or cancel"),
     (HEAD + "flushwq a a  # flush a.c:2 f\n", "doesn't begin with flushwq"),
     (HEAD + "flush a a  # done f at a.c:2 f\n", "and a place"),
+    (HEAD + "# no wait: a.c f usleep_range(1000): why\n", ""),
+    (HEAD + "# no wait: a.c f usleep_range(1000): 1500 times\n", "`1500` isn't FILE:LINE FUNCTION"),
     (HEAD + "# a.c:12\n", "`a.c:12` isn't FILE:LINE FUNCTION"),
     (HEAD + "# a.c:12-15 f\n", "`a.c:12-15` isn't FILE:LINE FUNCTION"),
     (HEAD + "# a.c:12, 15 f\n", "`a.c:12,` isn't FILE:LINE FUNCTION"),

@@ -13,7 +13,7 @@ ROOT = HERE.parent.parent
 sys.path[:0] = [str(ROOT / "source"), str(ROOT / "tests" / "lib")]
 
 import programs  # noqa: E402
-from csource import draft, extract, program, progress  # noqa: E402
+from csource import draft, extract, program, progress, token_extract  # noqa: E402
 
 C_FILES = HERE / "c"
 
@@ -35,7 +35,9 @@ def cache():
 def read(cache):
     """read(tree, files): the program model of some files."""
     jobs = int(os.environ.get("WQSOURCE_JOBS") or os.cpu_count() or 1)
-    extractor = extract.Extractor(cache, jobs, progress.Progress())
+    coccinelle = extract.Extractor(cache, jobs, progress.Progress())
+    reader = token_extract.TokenExtractor(cache, coccinelle.progress, coccinelle)
+    extractor = coccinelle if os.environ.get("WQSOURCE_FACTS") == "coccinelle" else reader
     tables = program.Tables()
     return lambda tree, files, stacked=False: program.read(pathlib.Path(tree), files, extractor, tables, stacked)
 
@@ -76,3 +78,14 @@ def wqsource():
         return Ran(ran.returncode, ran.stdout.decode(), ran.stderr.decode())
 
     return start
+
+
+@pytest.fixture(scope="session")
+def wqplan(tmp_path_factory):
+    """The program that is asked about circles: $WQPLAN if one is built; else the model, which is another program."""
+    if not os.environ.get("WQPLAN"):
+        path = tmp_path_factory.mktemp("bin") / "wqplan"
+        path.write_text(f'#!/bin/sh\nexec {sys.executable} {ROOT}/tests/model/circles.py "$@"\n')
+        path.chmod(0o755)
+        os.environ["WQPLAN"] = str(path)
+    return os.environ["WQPLAN"]

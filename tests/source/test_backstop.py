@@ -30,6 +30,7 @@ def test_left_until_dismissed(wqsource, tmp_path):
     assert ran.status == 1 and ran.out.count("not parsed: ") == 2
     declaration.write_text(
         "item sw_end\n"
+        "# no item: swallowed.c sw_init: their functions couldn't be parsed\n"
         "# no wait: swallowed.c sw_first wait_for_completion(&s->done): a test\n"
         "# no wait: swallowed.c sw_second cancel_work_sync(&s->end_work): a test\n"
     )

@@ -54,7 +54,9 @@ def test_without_python(wqsource, tmp_path):
 def test_without_coccinelle(wqsource, tmp_path):
     env = only(tmp_path, "sh", "dirname", "readlink")
     (tmp_path / "bin" / "python3").symlink_to("/usr/bin/python3")
-    ran = wqsource("draft", "--cache", tmp_path / "cache", "--tree", RDISK, "rdisk.c", env=env)
+    words = ("draft", "--cache", tmp_path / "cache", "--tree", RDISK, "rdisk.c")
+    assert wqsource(*words, env=env).status == 0
+    ran = wqsource(*words, "--facts", "coccinelle", env=env)
     assert (
         ran.status == 3
         and ran.err == "wqsource: spatch isn't on the PATH. It is Coccinelle's: apt-get install coccinelle\n"
@@ -68,6 +70,8 @@ def test_a_spatch_that_fails(wqsource, tmp_path):
     (folder / "spatch").chmod(0o755)
     ran = wqsource(
         "draft",
+        "--facts",
+        "coccinelle",
         "--cache",
         tmp_path / "cache",
         "--tree",
@@ -81,7 +85,7 @@ def test_a_spatch_that_fails(wqsource, tmp_path):
 
 def test_facts_are_kept_by_what_is_in_the_file(wqsource, tmp_path):
     """The same text at another place is read from the cache: no spatch is needed then."""
-    words = ("draft", "--cache", tmp_path / "cache", "rdisk.c", "--tree")
+    words = ("draft", "--facts", "coccinelle", "--cache", tmp_path / "cache", "rdisk.c", "--tree")
     first = wqsource(*words, RDISK)
     assert first.status == 0
     (tmp_path / "rdisk.c").write_text((RDISK / "rdisk.c").read_text())
@@ -132,6 +136,9 @@ def test_tables(tmp_path):
     assert (waits.kind("my_wait_long").name, waits.kind("my_wait").argument) == ("done", 1)
     assert waits.kind("my_other").name == "never" and waits.kind("x_my_other").name == "other"
     assert waits.is_nowait([["a", "|", "NOW"]]) and not waits.is_nowait([["a"]])
+    assert waits.is_nowait(["x ? NOW : NOW".split()])
+    for words in ("x ? NOW : LATER", "( x ? NOW : LATER ) | b", "a & ~ NOW", "x ? y ? NOW : b : NOW"):
+        assert not waits.is_nowait([words.split()]), words
     for line in ("sleeps my_wait", "done/x my_wait"):
         table.write_text("never a\n" + line + "\n")
         with pytest.raises(TableError, match=r"waits.txt:2: "):
@@ -163,9 +170,10 @@ def test_kinds_of_the_kernels_calls():
         "invalidate_inode_pages2 truncate_pagecache iput schedule_on_each_cpu work_on_cpu vfs_fsync synchronize_srcu "
         "blk_mq_alloc_request dm_io blkdev_issue_flush kernel_sendmsg sb_start_write del_gendisk "
         "balance_dirty_pages_ratelimited generic_write_sync device_del bdi_unregister blkdev_zone_mgmt "
-        "blk_zone_issue_zeroout",
+        "blk_zone_issue_zeroout async_synchronize_full",
         "enter": "__add_wait_queue __add_wait_queue_entry_tail",
-        "never": "cancel_work cancel_delayed_work msleep synchronize_rcu rcu_barrier mutex_trylock mutex_unlock "
+        "poll": "msleep msleep_interruptible ssleep usleep_range fsleep schedule_hrtimeout_range",
+        "never": "cancel_work cancel_delayed_work synchronize_rcu rcu_barrier mutex_trylock mutex_unlock "
         "bt_wait_ptr is_flush_rq poll_wait",
         "wake": "wake_up wake_up_process complete complete_all",
         "queue": "queue_work mod_delayed_work schedule_work queue_delayed_work kthread_queue_work "

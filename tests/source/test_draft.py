@@ -52,7 +52,7 @@ def test_item_and_flush_lines(wqsource, kernel):
         "#   queued by code that no item reaches, from ti_start",
         "",
     ]
-    assert "flush ti_second ti_first  # cancel two_inits.c:10 ti_second: cancel_work_sync" in lines
+    assert "flush ti_second ti_first  # flush two_inits.c:10 ti_second: flush_work" in lines
 
 
 def test_without_a_makefile_there_is_no_version(wqsource):

@@ -249,8 +249,8 @@ def test_a_dismissal_whose_call_is_gone_is_told(trees, wqsource, tmp_path):
 
 
 def test_a_line_in_no_function_that_was_parsed(tmp_path, read):
-    """A macro makes the head of the function in the new tree: the line is there, and its function isn't known."""
-    for name, head in (("old", "static void hd_work(struct work_struct *ws)"), ("new", "static HD_CALLBACK(hd_work)")):
+    """A macro makes the function in the new tree: the line is there, and its function isn't known."""
+    for name, head in (("old", "static void hd_work(struct work_struct *ws)"), ("new", "HD_CALLBACK(hd_work)[]=")):
         (tmp_path / name).mkdir()
         (tmp_path / name / "h.c").write_text(
             head + "\n{\n\twait_for_completion(&hd.answer_of_the_disk);\n}\n\n"

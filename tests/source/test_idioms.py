@@ -27,7 +27,7 @@ def test_declared_work(drafted):
 def test_percpu_ref(drafted):
     found = drafted("percpu_ref.c")
     assert found.flushes == set()
-    assert found.open == {("percpu_ref.c:6", "cancel_work_sync(&p->io_work)"): ({"pr_stop_work"}, {"pr_io_work"})}
+    assert found.open == {("percpu_ref.c:6", "flush_work(&p->io_work)"): ({"pr_stop_work"}, {"pr_io_work"})}
 
 
 def test_kref(drafted):

@@ -3,7 +3,7 @@ static void pr_release(struct percpu_ref *ref)
 {
 	struct pr *p = container_of(ref, struct pr, ref);
 
-	cancel_work_sync(&p->io_work);
+	flush_work(&p->io_work);
 }
 
 static void pr_io_work(struct work_struct *work)

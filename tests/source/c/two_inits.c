@@ -7,7 +7,7 @@ static void ti_second(struct work_struct *work)
 {
 	struct ti *t = container_of(work, struct ti, second_work);
 
-	cancel_work_sync(&t->first_work);
+	flush_work(&t->first_work);
 }
 
 static void ti_set(struct work_struct *work, work_func_t fn)

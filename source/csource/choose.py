@@ -1,0 +1,127 @@
+"""The files that belong to a module: its own, and those that its waits and its callers are in."""
+
+import glob
+import pathlib
+import re
+from dataclasses import dataclass, field
+from typing import Callable, Iterable, Iterator
+
+from .headers import Includes
+from .kbuild import Kbuild, Module
+from .layers import Layers
+from .summary import Summary, has_table_of
+from .tree_index import TreeIndex, grep
+
+# A module with more files than this isn't taken whole because another one calls it.
+MOST_FILES = 60
+
+# Of some variables, the C files that name each.
+Users = Callable[[list[str]], dict[str, list[str]]]
+
+
+@dataclass
+class Chosen:
+    """The files of a module, each with why it is there."""
+
+    module: Module
+    why: dict[str, str] = field(default_factory=dict)
+
+    @property
+    def files(self) -> list[str]:
+        return list(self.why)
+
+    def add(self, files: Iterable[str], why: str) -> None:
+        for file in files:
+            self.why.setdefault(file, why)
+
+
+class Chooser:
+    """Chooses files of a tree. `summary` says what a file calls, defines and has tables of."""
+
+    def __init__(self, tree: pathlib.Path, index: TreeIndex, layers: Layers, summary: Callable[[str], Summary]) -> None:
+        self.tree = tree
+        self.index = index
+        self.layers = layers
+        self.summary = summary
+        self.kbuild = Kbuild(tree)
+        self.includes = Includes(tree)
+        self.with_items = set(index.with_items)
+
+    def choose(self, module: Module, users_of: "Users | None" = None) -> Chosen:
+        """The files of a module. `users_of` says who names workqueues; without it the tree is searched."""
+        found = Chosen(module)
+        found.add(module.files, "its own")
+        self.add_users(found, users_of or self.users_of)
+        self.add_plugged_in(found)
+        own = [file for file in found.files if file.endswith(".c")]
+        self.add_below(found, own)
+        self.add_layers(found, own)
+        found.add(self.includes.all_beside(found.files), "header")
+        return found
+
+    def whole(self, file: str) -> Iterable[str]:
+        """The module of a file; the file alone, where that is no driver, or large."""
+        module = self.kbuild.module_of(file)
+        is_folder = (self.tree / module.name).is_dir()
+        return (file,) if is_folder or len(module.files) > MOST_FILES else module.files
+
+    # Each reason
+
+    def add_users(self, found: Chosen, users_of: Users) -> None:
+        """Modules that name a workqueue which this one exports."""
+        exported = self.exported_workqueues(found.module)
+        users = users_of(exported) if exported else {}
+        for name in exported:
+            for file in users.get(name, ()):
+                found.add(self.whole(file), f"names {name}")
+
+    def exported_workqueues(self, module: Module) -> list[str]:
+        """Variables of a module that hold a workqueue and are exported."""
+        own = {name for file in module.files if file in self.index.makers for name in self.summary(file).workqueues}
+        return sorted(name for name in own if self.index.exports.get(name) in module.files)
+
+    def users_of(self, names: list[str]) -> dict[str, list[str]]:
+        """The C files that name one of these variables."""
+        users: dict[str, list[str]] = {name: [] for name in names}
+        if names:
+            word = re.compile(r"\b(%s)\b" % "|".join(names))
+            for line in grep(self.tree, "-HwF", *[part for name in names for part in ("-e", name)]):
+                file, _, text = line.partition(":")
+                for name in word.findall(text):
+                    if file.endswith(".c") and file not in users[name]:
+                        users[name].append(file)
+        return users
+
+    def add_plugged_in(self, found: Chosen) -> None:
+        """Modules of the same folder that hand this one a table of a struct which its own headers define."""
+        headers = [file for file in self.includes.all_beside(found.module.files) if file.endswith(".h")]
+        structs = {struct for file in headers for struct in self.summary(file).structs_of_functions}
+        folders = {file.rpartition("/")[0] for file in found.module.files}
+        for path in (path for folder in sorted(folders) for path in sorted((self.tree / folder).glob("*.c"))):
+            file = str(path.relative_to(self.tree))
+            struct = has_table_of(path.read_text(errors="replace"), structs) if file not in found.why else ""
+            if struct:
+                found.add(self.whole(file), f"has a table of {struct}")
+
+    def add_below(self, found: Chosen, own: list[str]) -> None:
+        """Modules with work items that export a function which these files call."""
+        defined = {name for file in own for name in self.summary(file).defines}
+        called = {name for file in own for name in self.summary(file).calls} - defined
+        for name in sorted(called):
+            file = self.index.exports.get(name)
+            if file is None or file in found.why or self.layers.is_apart(file):
+                continue
+            whole = self.whole(file)
+            if any(part in self.with_items for part in whole):
+                found.add(whole, f"has {name}")
+
+    def add_layers(self, found: Chosen, own: list[str]) -> None:
+        """What layers.txt says of the tables that the files have, and of the functions that they call."""
+        for file in own:
+            for struct in sorted(self.summary(file).tables):
+                found.add(self.there(self.layers.files("table", struct)), f"calls what {struct} holds")
+
+    def there(self, names: Iterable[str]) -> Iterator[str]:
+        """The files that the names mean, as far as the tree has them."""
+        for name in names:
+            yield from sorted(glob.glob(name, root_dir=self.tree))

@@ -1,0 +1,68 @@
+"""The headers that files include, and the types that these define."""
+
+import pathlib
+import posixpath
+import re
+from typing import Iterable, Iterator
+
+INCLUDE = re.compile(r'^[ \t]*#[ \t]*include[ \t]+([<"])([^>"]+)[>"]', re.M)
+# Where a header of the kernel may be, from the top of the tree. (Which architecture it is doesn't matter here.)
+FOLDERS = ("include", "include/uapi", "arch/x86/include")
+
+
+class Includes:
+    """Which files of a tree include which."""
+
+    def __init__(self, tree: pathlib.Path) -> None:
+        self.tree = tree
+        self.there: dict[str, bool] = {}
+        self.named: dict[str, list[tuple[str, str]]] = {}
+
+    def is_there(self, file: str) -> bool:
+        if file not in self.there:
+            self.there[file] = (self.tree / file).is_file()
+        return self.there[file]
+
+    def names_in(self, file: str) -> list[tuple[str, str]]:
+        """Each name that a file includes, with the mark before it: `<` or `"`."""
+        if file not in self.named:
+            self.named[file] = INCLUDE.findall((self.tree / file).read_text(errors="replace"))
+        return self.named[file]
+
+    def of(self, file: str) -> Iterator[str]:
+        """The files that one includes, as far as the tree has them."""
+        for _, name in self.names_in(file):
+            for folder in (posixpath.dirname(file), *FOLDERS):
+                found = posixpath.normpath(posixpath.join(folder, name))
+                if self.is_there(found):
+                    yield found
+                    break
+
+    def beside(self, file: str) -> Iterator[str]:
+        """The files that one includes by `"NAME"`, from its own folder."""
+        for mark, name in self.names_in(file):
+            found = posixpath.normpath(posixpath.join(posixpath.dirname(file), name))
+            if mark == '"' and self.is_there(found):
+                yield found
+
+    def all_of(self, files: Iterable[str]) -> list[str]:
+        """The files, and what they include, and what that includes, the nearest first."""
+        found = dict.fromkeys(files)
+        waiting = list(found)
+        for file in waiting:
+            for other in self.of(file):
+                if other not in found:
+                    found[other] = None
+                    waiting.append(other)
+        return list(found)
+
+    def all_beside(self, files: Iterable[str]) -> list[str]:
+        """As all_of, along `"NAME"` alone: the files, and headers of their own."""
+        found = dict.fromkeys(files)
+        waiting = list(found)
+        for file in waiting:
+            for other in self.beside(file):
+                if other not in found and other.endswith((".h", ".c")):
+                    found[other] = None
+                    waiting.append(other)
+        return list(found)

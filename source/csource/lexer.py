@@ -1,0 +1,129 @@
+"""A C file as tokens: without comments and directives, each with its line, each bracket with the one that closes it."""
+
+import re
+from dataclasses import dataclass, field
+
+from .ctext import Tokens
+
+COMMENT = re.compile(r'/\*.*?\*/|//(?:[^\n\\]|\\.)*|("(?:\\.|[^"\\\n])*"|\'(?:\\.|[^\'\\\n])*\')', re.S)
+DIRECTIVE = re.compile(r"^[ \t]*#[ \t]*(\w*)((?:[^\n]*\\\n)*[^\n]*)", re.M)
+# (a string may go on in the next line, behind a backslash; so may what is no string)
+TOKEN = re.compile(
+    r'"(?:\\.|\\\n|[^"\\\n])*"|\\\n|\'(?:\\.|[^\'\\\n])*\'|->|\.\.\.|<<=|>>=|[-+*/%&|^!=<>]=|&&|\|\||<<|>>|\+\+|--'
+    r"|[A-Za-z_]\w*|\d[\w.]*|\n|[^\s]"
+)
+CLOSES = {"(": ")", "[": "]", "{": "}"}
+OPENS = {")": "(", "]": "[", "}": "{"}
+ALWAYS_FALSE = ("0",)
+
+
+def without_comments(text: str) -> str:
+    """Each comment becomes a blank; lines stay where they are."""
+    return COMMENT.sub(lambda match: match[1] or "\n" * match[0].count("\n") or " ", text)
+
+
+@dataclass
+class Branch:
+    """An `#if` that is open: where its present branch begins, and what of it is kept."""
+
+    start: int
+    is_kept: bool
+    was_kept: bool
+    is_only_first: bool = False
+
+
+def is_balanced(text: str) -> bool:
+    return all(text.count(opens) == text.count(closes) for opens, closes in CLOSES.items())
+
+
+def without_directives(text: str) -> str:
+    """Directives become blank lines. All branches of an `#if` are kept that are balanced in their brackets, as they
+    are to Coccinelle; after one that isn't, none. `#if 0` isn't kept."""
+    kept: list[str] = []
+    open_ifs: list[Branch] = []
+    at = 0
+    for match in DIRECTIVE.finditer(text):
+        piece = text[at : match.start()]
+        kept.append(piece if all(branch.is_kept for branch in open_ifs) else "\n" * piece.count("\n"))
+        kept.append("\n" * match[0].count("\n"))
+        at = match.end()
+        word = match[1]
+        if word in ("if", "ifdef", "ifndef"):
+            holds = not (word == "if" and match[2].strip() in ALWAYS_FALSE)
+            open_ifs.append(Branch(at, holds, holds))
+        elif word in ("elif", "else", "elifdef", "elifndef") and open_ifs:
+            branch = open_ifs[-1]
+            branch.is_only_first |= branch.is_kept and not is_balanced(text[branch.start : match.start()])
+            branch.is_kept = not (branch.was_kept and branch.is_only_first)
+            branch.was_kept |= branch.is_kept
+            branch.start = at
+        elif word == "endif" and open_ifs:
+            open_ifs.pop()
+    kept.append(text[at:])
+    return "".join(kept)
+
+
+@dataclass
+class Source:
+    """The tokens of a file. `closed_by` has for each bracket that opens the index of the one that closes it."""
+
+    words: Tokens = field(default_factory=list)
+    lines: list[int] = field(default_factory=list)
+    closed_by: dict[int, int] = field(default_factory=dict)
+    opened_by: dict[int, int] = field(default_factory=dict)
+    # lines with a bracket that closes nothing, or that isn't closed
+    odd: list[int] = field(default_factory=list)
+
+    @staticmethod
+    def of(text: str) -> "Source":
+        found = Source()
+        add_word, add_line = found.words.append, found.lines.append
+        line = 1
+        for word in TOKEN.findall(without_directives(without_comments(text))):
+            if word == "\n" or word == "\\\n":
+                line += 1
+            else:
+                add_word(word)
+                add_line(line)
+                line += "\n" in word and word.count("\n")
+        found.match_brackets()
+        return found
+
+    def match_brackets(self) -> None:
+        """Where each bracket closes. A brace closes what stands open within its own."""
+        waiting: list[int] = []
+        for index, word in enumerate(self.words):
+            if word in CLOSES:
+                waiting.append(index)
+            elif word in OPENS:
+                opens = OPENS[word]
+                if word == "}":
+                    while waiting and self.words[waiting[-1]] != "{":
+                        self.close(waiting.pop(), index, is_odd=True)
+                if waiting and self.words[waiting[-1]] == opens:
+                    self.close(waiting.pop(), index, is_odd=False)
+                else:
+                    self.odd.append(self.lines[index])
+        for index in waiting:
+            self.close(index, len(self.words) - 1, is_odd=True)
+
+    def close(self, opens: int, closes: int, is_odd: bool) -> None:
+        self.closed_by[opens] = closes
+        if is_odd:
+            self.odd.append(self.lines[opens])
+        else:
+            self.opened_by[closes] = opens
+
+    def after(self, index: int) -> int:
+        """The index behind a token, or behind all of what a bracket holds."""
+        return self.closed_by.get(index, index) + 1
+
+    def parts(self, start: int, end: int) -> "list[tuple[int, int]]":
+        """The ranges between commas outside brackets."""
+        found, first, index = [], start, start
+        while index < end:
+            if self.words[index] == ",":
+                found.append((first, index))
+                first = index + 1
+            index = self.after(index)
+        return found + [(first, end)] if first < end else found

@@ -1,0 +1,96 @@
+"""Facts by the reader of tokens; of files of which it isn't sure, by Coccinelle."""
+
+import hashlib
+import os
+import pathlib
+import tempfile
+from dataclasses import dataclass, field
+
+from . import reader
+from .extract import Extractor
+from .facts import Facts
+from .headers import Includes
+from .progress import Progress
+from .token_facts import TokenFacts
+from .token_types import TYPE_KINDS, Types
+
+HERE = pathlib.Path(__file__).resolve().parent
+READS = ("lexer.py", "words_of_c.py", "sink.py", "reader.py", "bodies.py", "guards.py")
+VERSION = hashlib.sha256(b"\0".join((HERE / name).read_bytes() for name in READS)).hexdigest()
+# What Coccinelle's facts of a file lack, the reader's give.
+KEPT_OF_READER = (*TYPE_KINDS, "LOC", "GRD")
+
+
+@dataclass
+class Unsure:
+    """A file of which the reader isn't sure, and why."""
+
+    file: str
+    why: str
+
+
+@dataclass
+class TokenExtractor:
+    """Reads the files of a tree, and the types of the headers that they include."""
+
+    cache: pathlib.Path
+    progress: Progress
+    coccinelle: Extractor
+    unsure: list[Unsure] = field(default_factory=list)
+
+    def read(self, tree: pathlib.Path, files: list[str]) -> Facts:
+        """The facts of some files."""
+        lines = {}
+        for done, file in enumerate(files):
+            self.progress.say(f"reading C: {done} of {len(files)} files")
+            lines[file] = self.lines_of(tree, file)
+        self.ask_coccinelle(tree, lines)
+        headers = Includes(tree).all_of(lines)
+        return TokenFacts(tree, lines, self.types(tree, lines, headers), headers)
+
+    def ask_coccinelle(self, tree: pathlib.Path, lines: dict[str, list[str]]) -> None:
+        """Takes Coccinelle's facts of files of which the reader isn't sure."""
+        odd = {
+            file: found[0].split("\t")[1] for file, found in lines.items() if found[:1] and found[0].startswith("ODD")
+        }
+        for file, line in odd.items():
+            self.unsure.append(Unsure(file, f"line {line}: a bracket without the other one"))
+            self.progress.tell(f"{file}: {self.unsure[-1].why}. Coccinelle reads this file")
+        for file, theirs in self.coccinelle.facts(tree, list(odd)).items():
+            own = [line for line in lines[file] if line.startswith(KEPT_OF_READER)]
+            lines[file] = theirs + own
+
+    def types(self, tree: pathlib.Path, lines: dict[str, list[str]], headers: list[str]) -> Types:
+        """The types that the files define; above them those of all headers that they include."""
+        above = Types()
+        for done, file in enumerate(headers):
+            if file not in lines:
+                self.progress.say(f"reading types: {done} of {len(headers)} files")
+                above.take_lines(self.types_of(tree, file))
+        own = Types(above)
+        for found in lines.values():
+            own.take_lines(found)
+        return own
+
+    def lines_of(self, tree: pathlib.Path, file: str) -> list[str]:
+        return self.kept(tree / file, "facts", reader.facts_of)
+
+    def types_of(self, tree: pathlib.Path, file: str) -> list[str]:
+        """The types that a header defines."""
+        return self.kept(tree / file, "types", reader.types_of)
+
+    def kept(self, source: pathlib.Path, what: str, make: "reader.Reads") -> list[str]:
+        """What was made of a file, from the cache if it is there. The name says of what it is."""
+        data = source.read_bytes()
+        name = hashlib.sha256(b"\0".join((VERSION.encode(), what.encode(), data))).hexdigest()
+        at = self.cache / name[:2] / name[2:]
+        try:
+            return at.read_text().splitlines()
+        except FileNotFoundError:
+            pass
+        lines = make(data.decode(errors="replace"))
+        at.parent.mkdir(parents=True, exist_ok=True)
+        with tempfile.NamedTemporaryFile("w", dir=at.parent, delete=False) as half:
+            half.write("\n".join(lines))
+        os.replace(half.name, at)
+        return lines

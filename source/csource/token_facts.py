@@ -1,0 +1,127 @@
+"""The facts that the reader of tokens found, with the types of expressions worked out when they are asked for."""
+
+import collections
+import pathlib
+from typing import Iterable, Iterator, Optional
+
+from . import ctext
+from .ctext import Tokens
+from .facts import OUTSIDE, Facts, parameter_names, struct_name
+from .guards import Guard
+from .places import FunctionId, Place
+from .records import Assignment, Call, Initialiser, PointerCall, Return
+from .structs import Structs
+from .token_types import TYPE_KINDS, Expressions, Types
+from .types import Types as TypesOfText
+
+NOT_TAKEN = (*TYPE_KINDS, "ODD")
+# A value that stands in an initialiser without a member: the number of its place.
+BY_PLACE = "#"
+
+
+def split(text: str) -> Tokens:
+    """The tokens of a text of the reader, which puts blanks between them."""
+    return text.split(" ") if '"' not in text and "'" not in text else ctext.tokens(text)
+
+
+class HeaderTexts(dict[str, str]):
+    """The texts of the files, and behind them those of headers, which are read when they are asked for."""
+
+    def __init__(self, tree: pathlib.Path, texts: dict[str, str], headers: Iterable[str]) -> None:
+        super().__init__(texts)
+        self.tree = tree
+        self.headers = headers
+
+    def values(self) -> Iterator[str]:  # type: ignore[override]
+        yield from super().values()
+        for header in self.headers:
+            if header not in self:
+                yield (self.tree / header).read_text(errors="replace")
+
+
+class NoStructs(Structs):
+    """The reader has taken the definitions apart already: this has the texts alone."""
+
+    def __init__(self, texts: dict[str, str]) -> None:
+        self.texts = texts
+        self.returned: dict[str, str] = {}
+
+
+class MacroTypes(TypesOfText):
+    """What Facts notes while it takes facts: of that only what macros return is wanted here."""
+
+    def __init__(self, structs: Structs, returns: dict[str, str]) -> None:
+        super().__init__(structs)
+        self.macros = returns
+
+    def declare(self, file: str, function: str, name: str, struct: str) -> None:
+        """LOC and GLB lines say it."""
+
+
+class TokenFacts(Facts):
+    """As Facts. The lines of a file may be the reader's, or Coccinelle's; the types are always the reader's.
+
+    `types` has those of the files and, above them, those of the headers that they include; `headers` names these.
+    """
+
+    def __init__(self, tree: pathlib.Path, lines: dict[str, list[str]], types: Types, headers: Iterable[str]) -> None:
+        self.headers = headers
+        self.expressions = Expressions(types)
+        self.guards: dict[FunctionId, list[Guard]] = collections.defaultdict(list)
+        self.known: dict[tuple[str, str, str, str], Optional[str]] = {}
+        super().__init__(tree, lines)
+
+    def find_types(self) -> tuple[Structs, TypesOfText]:
+        structs = NoStructs(HeaderTexts(self.tree, self.texts, self.headers))
+        return structs, MacroTypes(structs, self.expressions.types.returns)
+
+    def take(self, file: str, words: list[str]) -> None:
+        kind, line, _, function, *rest = words
+        place = Place(file, int(line), "" if function == OUTSIDE else function)
+        if kind == "CALL":
+            self.calls.append(Call(place, rest[0], ctext.arguments(split(rest[1]))))
+        elif kind == "PCALL":
+            self.pointer_calls.append(PointerCall(place, split(rest[0]), rest[1], ctext.arguments(split(rest[2]))))
+        elif kind == "ASG":
+            self.take_assignment(Assignment(place, split(rest[0]), split(rest[1])))
+        elif kind == "RET":
+            self.returns.append(Return(place, split(rest[0])))
+        elif kind == "DEF":
+            self.define(place, rest[0], parameter_names(rest[1]))
+            self.add_span(FunctionId(file, rest[0]), place.line, self.end_of(place))
+        elif kind == "LOC":
+            self.expressions.declare(place, rest[0], rest[1])
+            self.locals.add((file, function, rest[0]))
+        elif kind == "INI":
+            self.take_initialiser(place, struct_name(rest[0]), rest[1], split(rest[2]))
+        elif kind == "GRD":
+            guard = Guard(int(rest[0]), int(rest[1]), rest[2] == "1", split(rest[3]))
+            self.guards[place.id].append(guard)
+        elif kind == "GLB":
+            self.expressions.declare(place, rest[0], rest[1])
+            self.globals.add(rest[0])
+        elif kind not in NOT_TAKEN:
+            super().take(file, words)
+
+    def take_initialiser(self, place: Place, struct: str, member: str, value: Tokens) -> None:
+        """A member by name, or by its place among those of the struct."""
+        if member.startswith(BY_PLACE):
+            names = self.expressions.types.members_of(struct)
+            at = int(member[1:])
+            if at >= len(names):
+                return
+            member = names[at]
+        self.initialisers.append(Initialiser(place, struct, member, value))
+
+    def take_initialisers(self, file: str) -> None:
+        """INI lines have them."""
+
+    def take_initialised(self) -> None:
+        """The reader's LOC lines have every local variable, so none has to be guessed."""
+
+    def struct_of(self, place: Place, base: Tokens, member: str) -> Optional[str]:
+        """The struct of the member in `base->member`: as the definitions say, or else Coccinelle. No guess."""
+        key = (place.file, place.function, ctext.joined(base), member)
+        if key not in self.known:
+            self.known[key] = self.expressions.struct_of(place, base) or self.said.get(key)
+        return self.known[key]

@@ -1,0 +1,70 @@
+"""Where a kernel's tree exports functions, makes workqueues and has work items: by one `grep`, which is kept."""
+
+import hashlib
+import json
+import os
+import pathlib
+import re
+import subprocess
+from dataclasses import dataclass, field
+
+NOT_BUILT = ("Documentation", "tools", "samples", "scripts", "usr", "LICENSES", "debian")
+EXPORTED = re.compile(r"EXPORT(?:_\w+)?_SYMBOL\w*\(\s*(\w+)")
+MAKES = re.compile(r"(?:alloc|create)_(?:[a-z]+_)*workqueue\s*\(")
+ITEM = re.compile(r"(?:INIT|DECLARE)_(?:DELAYED_|DEFERRABLE_|RCU_)?WORK")
+# (short, for `grep` then is several times as fast)
+LOOKED_FOR = r"_SYMBOL|workqueue ?\(|_WORK\("
+
+
+def top_folders(tree: pathlib.Path) -> list[str]:
+    """The folders of a tree that are built."""
+    return sorted(path.name for path in tree.iterdir() if path.is_dir() and path.name not in NOT_BUILT)
+
+
+def grep(tree: pathlib.Path, *words: str) -> list[str]:
+    """The lines that `grep -r` prints of the C files of a tree, in the order of their files."""
+    command = ["grep", "-r", "--include=*.[ch]", *words, *top_folders(tree)]
+    found = subprocess.run(
+        command, cwd=tree, stdout=subprocess.PIPE, stderr=subprocess.DEVNULL, env={**os.environ, "LC_ALL": "C"}
+    )
+    return sorted(found.stdout.decode(errors="replace").splitlines())
+
+
+@dataclass
+class TreeIndex:
+    """What there is in which file."""
+
+    exports: dict[str, str] = field(default_factory=dict)
+    makers: list[str] = field(default_factory=list)
+    with_items: list[str] = field(default_factory=list)
+
+    @staticmethod
+    def of(tree: pathlib.Path) -> "TreeIndex":
+        found = TreeIndex()
+        makers, with_items = {}, {}
+        for line in grep(tree, "-HE", LOOKED_FOR):
+            file, _, text = line.partition(":")
+            if match := EXPORTED.search(text):
+                found.exports.setdefault(match[1], file)
+            if MAKES.search(text):
+                makers[file] = None
+            if ITEM.search(text):
+                with_items[file] = None
+        found.makers, found.with_items = list(makers), list(with_items)
+        return found
+
+    @staticmethod
+    def kept(tree: pathlib.Path, cache: pathlib.Path) -> "TreeIndex":
+        """From the cache, by where the tree is and which version it has."""
+        makefile = tree / "Makefile"
+        version = makefile.read_bytes() if makefile.is_file() else b""
+        name = hashlib.sha256(str(tree.resolve()).encode() + version + LOOKED_FOR.encode()).hexdigest()
+        at = cache / f"tree-{name[:32]}"
+        if at.is_file():
+            return TreeIndex(**json.loads(at.read_text()))
+        found = TreeIndex.of(tree)
+        cache.mkdir(parents=True, exist_ok=True)
+        half = at.with_suffix(f".{os.getpid()}")
+        half.write_text(json.dumps(found.__dict__))
+        half.replace(at)
+        return found

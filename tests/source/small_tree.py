@@ -1,0 +1,223 @@
+"""A made-up kernel's tree: each module is one situation. What a scan has to say of them is written down by hand."""
+
+HEAD = """#include <linux/workqueue.h>
+
+struct {name} {{
+	struct workqueue_struct *wq;
+	struct work_struct a_work, b_work, c_work;
+	const struct {name}_ops *ops;
+}};
+"""
+
+TAIL = """
+int {name}_init(struct {name} *x)
+{{
+	x->wq = alloc_workqueue("{name}", {flags}, 0);
+	INIT_WORK(&x->a_work, {name}_a);
+	INIT_WORK(&x->b_work, {name}_b);
+	queue_work(x->wq, &x->a_work);
+	queue_work(x->wq, &x->b_work);
+	return 0;
+}}
+"""
+
+WORK = """
+static void {name}_{letter}(struct work_struct *work)
+{{
+	struct {name} *x = container_of(work, struct {name}, {letter}_work);
+
+	{body}
+}}
+"""
+
+
+def work(name, letter, body):
+    return WORK.format(name=name, letter=letter, body=body)
+
+
+def module(name, a, b="x->wq = x->wq;", before="", flags="WQ_MEM_RECLAIM"):
+    """A file with two items on one workqueue."""
+    return (
+        HEAD.format(name=name) + before + work(name, "b", b) + work(name, "a", a) + TAIL.format(name=name, flags=flags)
+    )
+
+
+DOWN = """
+static void NAME_down(struct NAME *x, int on_wq)
+{
+	if (!on_wq)
+		flush_workqueue(x->wq);
+}
+"""
+OPS = """
+struct ptr_ops {
+	void (*stop)(struct ptr *x);
+};
+
+static void ptr_stop(struct ptr *x)
+{
+	flush_work(&x->b_work);
+}
+
+static const struct ptr_ops ptr_ops = { .stop = ptr_stop };
+"""
+# A workqueue without a rescuer, and an item on it that another one waits for.
+BARE = """
+static struct workqueue_struct *bare_slow;
+
+static void bare_c(struct work_struct *work)
+{
+}
+
+void bare_queue(struct bare *x)
+{
+	bare_slow = alloc_workqueue("slow", 0, 0);
+	INIT_WORK(&x->c_work, bare_c);
+	queue_work(bare_slow, &x->c_work);
+}
+"""
+# Who cancels b waits while that runs, and so for c.
+THROUGH = """
+static void through_c(struct work_struct *work)
+{
+}
+
+void through_queue(struct through *x)
+{
+	INIT_WORK(&x->c_work, through_c);
+	queue_work(x->wq, &x->c_work);
+}
+"""
+
+CORE_H = """
+struct ctrl;
+
+struct ctrl_ops {
+	void (*free)(struct ctrl *ctrl);
+};
+
+struct ctrl {
+	const struct ctrl_ops *ops;
+	struct work_struct tcp_work, rdma_work, rdma_reset_work;
+};
+
+extern struct workqueue_struct *ctrl_wq;
+void ctrl_put(struct ctrl *ctrl);
+"""
+CORE = """#include "core.h"
+
+struct workqueue_struct *ctrl_wq;
+EXPORT_SYMBOL_GPL(ctrl_wq);
+
+void ctrl_put(struct ctrl *ctrl)
+{
+	ctrl->ops->free(ctrl);
+}
+EXPORT_SYMBOL_GPL(ctrl_put);
+
+int ctrl_init(void)
+{
+	ctrl_wq = alloc_workqueue("ctrl-wq", WQ_MEM_RECLAIM, 0);
+	return 0;
+}
+"""
+TCP = """#include "core.h"
+
+static void tcp_work(struct work_struct *work)
+{
+	struct ctrl *ctrl = container_of(work, struct ctrl, tcp_work);
+
+	ctrl_put(ctrl);
+}
+
+static void tcp_free(struct ctrl *ctrl)
+{
+}
+
+static const struct ctrl_ops tcp_ops = { .free = tcp_free };
+
+void tcp_init(struct ctrl *ctrl)
+{
+	ctrl->ops = &tcp_ops;
+	INIT_WORK(&ctrl->tcp_work, tcp_work);
+	queue_work(ctrl_wq, &ctrl->tcp_work);
+}
+"""
+RDMA = """#include "core.h"
+
+static void rdma_reset(struct work_struct *work)
+{
+}
+
+static void rdma_work(struct work_struct *work)
+{
+	struct ctrl *ctrl = container_of(work, struct ctrl, rdma_work);
+
+	ctrl_put(ctrl);
+}
+
+static void rdma_free(struct ctrl *ctrl)
+{
+	flush_work(&ctrl->rdma_reset_work);
+}
+
+static const struct ctrl_ops rdma_ops = { .free = rdma_free };
+
+void rdma_init(struct ctrl *ctrl)
+{
+	ctrl->ops = &rdma_ops;
+	INIT_WORK(&ctrl->rdma_work, rdma_work);
+	INIT_WORK(&ctrl->rdma_reset_work, rdma_reset);
+	queue_work(ctrl_wq, &ctrl->rdma_work);
+	queue_work(ctrl_wq, &ctrl->rdma_reset_work);
+}
+"""
+
+FILES = {
+    "Makefile": "VERSION = 6\nPATCHLEVEL = 1\nSUBLEVEL = 0\n",
+    "include/linux/workqueue.h": "struct work_struct { int data; };\n",
+    "drivers/block/Makefile": "obj-m += own.o arg.o zero.o ptr.o bare.o cancel.o through.o plain.o\n",
+    # flushes its own workqueue
+    "drivers/block/own.c": module("own", "flush_workqueue(x->wq);"),
+    # a constant among the arguments excludes the flush, or doesn't
+    "drivers/block/arg.c": module("arg", "arg_down(x, 1);", before=DOWN.replace("NAME", "arg")),
+    "drivers/block/zero.c": module("zero", "zero_down(x, 0);", before=DOWN.replace("NAME", "zero")),
+    # by a pointer
+    "drivers/block/ptr.c": module("ptr", "x->ops->stop(x);", before=OPS),
+    "drivers/block/bare.c": module("bare", "flush_work(&x->c_work);", before=BARE),
+    # what is cancelled waits for nothing; and for another one
+    "drivers/block/cancel.c": module("cancel", "cancel_work_sync(&x->b_work);"),
+    "drivers/block/through.c": module(
+        "through", "cancel_work_sync(&x->b_work);", "flush_work(&x->c_work);", before=THROUGH
+    ),
+    # no rescuer: no module of a scan
+    "drivers/block/plain.c": module("plain", "flush_workqueue(x->wq);", flags="0"),
+    "drivers/nvme/Makefile": "obj-m += core.o tcp.o rdma.o\ncore-y := main.o \\\n\t$(addprefix lib/, more.o)\n",
+    "drivers/nvme/core.h": CORE_H,
+    "drivers/nvme/main.c": CORE,
+    "drivers/nvme/lib/more.c": "void more(void)\n{\n}\n",
+    "drivers/nvme/tcp.c": TCP,
+    "drivers/nvme/rdma.c": RDMA,
+}
+
+# (module, item, target, how it hangs) of the sure lines, and of the unsure ones with why they aren't sure
+SURE = {
+    ("drivers/block/own", "own_a", "*", "hangs"),
+    ("drivers/block/zero", "zero_a", "*", "hangs"),
+    ("drivers/block/bare", "bare_a", "bare_c", "no rescuer"),
+    ("drivers/block/through", "through_a", "through_c", "hangs"),
+    ("drivers/block/through", "through_b", "through_c", "hangs"),
+}
+UNSURE = {
+    ("drivers/block/arg", "arg_a", "*", ("the arguments exclude it",)),
+    ("drivers/block/ptr", "ptr_a", "ptr_b", ("a call by a pointer",)),
+    ("drivers/nvme/core", "rdma_work", "rdma_reset", ("a call by a pointer",)),
+}
+
+
+def make(folder):
+    """Writes it."""
+    for name, text in FILES.items():
+        (folder / name).parent.mkdir(parents=True, exist_ok=True)
+        (folder / name).write_text(text)
+    return folder
