@@ -61,7 +61,7 @@ source   source       source/main.sh
 runtime  book         runtime/book/main.py TEST_RUNTIME
 runtime  runtime      runtime/main.py TEST_RUNTIME | runtime/wakes.py TEST_RUNTIME | runtime/loads.py TEST_RUNTIME \
                       | runtime/interleavings.py
-kernel   kernel       kernel/main.py WQPLAN
+kernel   kernel       kernel/offline.py WQPLAN | kernel/main.py WQPLAN | kernel/broken.py WQPLAN | kernel/ending.py WQPLAN
 kernel   drivers      kernel/drivers.py
 docs     guide        docs/guide.sh WQPLAN EXAMPLE_RDISK
 runtime  book_model   model/book_properties.py | model/drive_books.py TEST_RUNTIME
