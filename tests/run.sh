@@ -41,7 +41,7 @@ lib      time_limit   lib/time_limit.sh
 docs     definitions  docs/definitions.py | docs/headline_lines.py
 docs     pages        docs/pages.py | docs/made.py --check
 docs     widths       docs/widths.py
-docs     manual       docs/manual.py
+docs     manual       docs/manual.py | docs/tools.py
 docs     completion   docs/completion.py
 docs     citations    docs/citations.py
 cli      install      cli/install.sh
