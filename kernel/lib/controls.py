@@ -1,4 +1,4 @@
-"""The judge's own cases, which go before those of a declaration: two items, for each kind of workqueue and of wait in
+"""The judge's own cases, which come behind those of a declaration: two items, for each kind of workqueue and of wait in
 use. What must come of them is known by hand. So a guest in which nothing would hang, or all would, isn't believed.
 """
 
