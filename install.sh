@@ -1,6 +1,6 @@
 #!/usr/bin/env bash
-# Proves and builds wqplan, and installs it with its manual pages and its
-# completion for bash; or makes a Debian package of it.
+# Proves and builds wqplan, and installs it with its manual pages, its
+# completion for bash and the tools beside it; or makes a Debian package of it.
 #
 #     bash install.sh [PREFIX]
 #     bash install.sh --uninstall [PREFIX]
@@ -9,12 +9,21 @@
 # PREFIX is ~/.local unless you name one. These files are installed:
 #
 #     PREFIX/bin/wqplan
+#     PREFIX/bin/wqsource
+#     PREFIX/bin/wqjudge
 #     PREFIX/share/man/man1/wqplan.1
+#     PREFIX/share/man/man1/wqsource.1
+#     PREFIX/share/man/man1/wqjudge.1
 #     PREFIX/share/man/man5/wqplan.5
 #     PREFIX/share/bash-completion/completions/wqplan
+#     PREFIX/share/bash-completion/completions/wqsource
+#     PREFIX/share/bash-completion/completions/wqjudge
 #     PREFIX/share/wqplan/installed
 #
-# The last one is a list of the other files and of the folders that were made.
+# and in PREFIX/share/wqplan the folders source and kernel of the repository, to
+# which bin/wqsource and bin/wqjudge lead, with what kernel uses of tests and
+# docs. PREFIX/share/wqplan/installed is a list of the others and of the folders
+# that were made.
 # Nothing is installed unless all that is built was proved. That is done in a
 # folder of its own, ~/.cache/wqplan or $XDG_CACHE_HOME/wqplan, on all processors.
 # From a fresh clone it takes about an hour. What was proved stays in that folder
@@ -108,7 +117,7 @@ cleanup() {
         kill -- "-${running[$crate]}" 2>/dev/null || true
     done
     wait 2>/dev/null || true
-    rm -f -- "$newlist" "$log" "${staged[@]}"
+    rm -rf -- "$newlist" "$log" "${staged[@]}"
     for ((i = ${#made[@]} - 1; i >= 0; i--)); do
         rmdir -- "${made[i]}" 2>/dev/null || true
     done
@@ -121,17 +130,30 @@ cache=${XDG_CACHE_HOME:-${HOME:+$HOME/.cache}}
 build=$(realpath -m -- "${cache:-${TMPDIR:-/tmp}}/wqplan")
 libraries=$build/libraries
 
-# What is installed: the file, its place as seen from PREFIX, and its mode. The list comes first, so that --uninstall finds what
-# there is however this ends.
-sources=("$newlist" "$build/crates/wqplan/out/wqplan" man/wqplan.1 man/wqplan.5 man/wqplan.bash)
-places=(share/wqplan/installed bin/wqplan share/man/man1/wqplan.1 share/man/man5/wqplan.5 share/bash-completion/completions/wqplan)
-modes=(644 755 644 644 644)
+# Before anything is built: what can be known of what comes after.
+[ -z "$deb" ] || bash package/deb.sh --look "$target"
+command -v rt >/dev/null || fail 'rt, the toolchain of Rattle, is not on the PATH'
+
+# What is installed: the file, its place as seen from PREFIX, and its mode, or `link`. The list comes first, so that --uninstall
+# finds what there is however this ends.
+sources=("$newlist" "$build/crates/wqplan/out/wqplan")
+places=(share/wqplan/installed bin/wqplan)
+modes=(644 755)
+others=$(bash package/files.sh) || fail 'what is to be installed is not there'
+while IFS=$'\t' read -r mode file place; do
+    modes+=("$mode")
+    sources+=("$file")
+    places+=("$place")
+done <<<"$others"
 
 # may_install: can a file be made in each folder, or in the nearest one above it that is there?
 may_install() {
-    local place folder nearest trial
+    local place folder nearest trial last=
     for place in "${places[@]}"; do
-        folder=$(dirname -- "$prefix/$place")
+        [ ! -d "$prefix/$place" ] || [ -L "$prefix/$place" ] || fail "can't install: $prefix/$place is a folder"
+        folder=$prefix/${place%/*}
+        [ "$folder" != "$last" ] || continue
+        last=$folder
         nearest=$folder
         while [ ! -e "$nearest" ] && [ ! -L "$nearest" ]; do
             nearest=$(dirname -- "$nearest")
@@ -139,17 +161,10 @@ may_install() {
         [ -d "$nearest" ] || fail "can't install to $folder: $nearest isn't a folder"
         trial=$(mktemp -d "$nearest/.wqplan.XXXXXX" 2>/dev/null) || fail "can't install to $folder: $nearest can't be written"
         rmdir -- "$trial"
-        [ ! -d "$prefix/$place" ] || fail "can't install: $prefix/$place is a folder"
     done
 }
 
-# Before anything is built: what can be known of what comes after.
-if [ -n "$deb" ]; then
-    bash package/deb.sh --look "$target"
-else
-    may_install
-fi
-command -v rt >/dev/null || fail 'rt, the toolchain of Rattle, is not on the PATH'
+[ -n "$deb" ] || may_install
 # The page that `rt doc` names is in the toolchain's folder.
 { page=$(rt doc) && version=$(rt version); } 2>"$log" || fail "rt doesn't say where the toolchain is: $(tail -n 1 "$log")"
 kit=$(dirname -- "$page")
@@ -329,7 +344,7 @@ make() {
 }
 
 for place in "${places[@]}"; do
-    folder=$(dirname -- "$prefix/$place")
+    folder=$prefix/${place%/*}
     make "$folder" || fail "can't make $folder; nothing is installed"
 done
 
@@ -342,18 +357,27 @@ done
     done
 } | LC_ALL=C sort -u >"$newlist" || fail "can't make the list $list; nothing is installed"
 
-# All of them stand beside their places before the first one is renamed.
+# All of them stand beside their places, in a folder for each folder, before the first one is renamed.
+declare -A stages=()
 for i in "${!places[@]}"; do
     place=$prefix/${places[i]}
-    new=$(mktemp "$(dirname -- "$place")/.wqplan.XXXXXX" 2>/dev/null) || fail "can't write $place; nothing is installed"
-    staged+=("$new")
-    { cp -- "${sources[i]}" "$new" && chmod "${modes[i]}" "$new"; } 2>/dev/null || fail "can't write $place; nothing is installed"
+    folder=${place%/*}
+    if [ -z "${stages[$folder]-}" ]; then
+        stages[$folder]=$(mktemp -d "$folder/.wqplan.XXXXXX" 2>/dev/null) || fail "can't write $place; nothing is installed"
+        staged+=("${stages[$folder]}")
+    fi
+    new=${stages[$folder]}/${place##*/}
+    case ${modes[i]} in
+        link) ln -s -- "${sources[i]}" "$new" ;;
+        *) install -m "${modes[i]}" -- "${sources[i]}" "$new" ;;
+    esac 2>/dev/null || fail "can't write $place; nothing is installed"
 done
 made=()
-for i in "${!places[@]}"; do
-    mv -fT -- "${staged[i]}" "$prefix/${places[i]}"
-    echo "installed $prefix/${places[i]}"
+for stage in "${staged[@]}"; do
+    mv -f -t "${stage%/*}" -- "$stage"/*
+    rmdir -- "$stage"
 done
+printf 'installed %s\n' "${places[@]/#/$prefix/}"
 case :$PATH: in
     *":$prefix/bin:"*) ;;
     *) echo "install: $prefix/bin isn't on the PATH" ;;

@@ -5,8 +5,8 @@
 #     bash package/deb.sh --look FOLDER     says whether it could, and makes nothing
 #
 # `bash install.sh --deb` calls it with the program that it has proved and built. The package has this program without
-# its symbols, its manual pages, its completion for bash, and in /usr/share/doc/wqplan README.md, CHANGELOG.md, the
-# pages of docs/ and all of examples/. Its version is what the program says, its date that of this version in
+# its symbols, what package/files.sh lists (the tools beside it, manual pages, completion for bash), and in
+# /usr/share/doc/wqplan README.md, CHANGELOG.md, the pages of docs/ and all of examples/. Its version is what the program says, its date that of this version in
 # CHANGELOG.md, and which C library it needs is found by dpkg-shlibdeps. The same program and pages, packed by the same
 # tools, give the same bytes.
 #
@@ -75,11 +75,17 @@ document() {
 
 place "$program" usr/bin/wqplan 755
 strip --remove-section=.comment -- "$root/usr/bin/wqplan" 2>/dev/null || fail "$program can't be stripped"
-for section in 1 5; do
-    place "man/wqplan.$section" "usr/share/man/man$section/wqplan.$section"
-    gzip -9n -- "$root/usr/share/man/man$section/wqplan.$section"
-done
-place man/wqplan.bash usr/share/bash-completion/completions/wqplan
+others=$(bash package/files.sh) || fail 'what belongs into it is not there'
+while IFS=$'\t' read -r mode file where; do
+    case $mode,$where in
+        link,*) mkdir -p -- "$root/usr/$(dirname -- "$where")" && ln -s -- "$file" "$root/usr/$where" ;;
+        *,share/man/*)
+            place "$file" "usr/$where"
+            gzip -9n -- "$root/usr/$where"
+            ;;
+        *) place "$file" "usr/$where" "$mode" ;;
+    esac
+done <<<"$others"
 place package/copyright usr/share/doc/wqplan/copyright
 document README.md CHANGELOG.md docs/*.md docs/pictures/* examples/*.* examples/*/*
 

@@ -41,7 +41,7 @@ lib      time_limit   lib/time_limit.sh
 docs     definitions  docs/definitions.py | docs/headline_lines.py
 docs     pages        docs/pages.py | docs/made.py --check
 docs     widths       docs/widths.py
-docs     manual       docs/manual.py
+docs     manual       docs/manual.py | docs/tools.py
 docs     completion   docs/completion.py
 docs     citations    docs/citations.py
 cli      install      cli/install.sh
@@ -61,7 +61,7 @@ source   source       source/main.sh
 runtime  book         runtime/book/main.py TEST_RUNTIME
 runtime  runtime      runtime/main.py TEST_RUNTIME | runtime/wakes.py TEST_RUNTIME | runtime/loads.py TEST_RUNTIME \
                       | runtime/interleavings.py
-kernel   kernel       kernel/main.py WQPLAN
+kernel   kernel       kernel/offline.py WQPLAN | kernel/main.py WQPLAN | kernel/broken.py WQPLAN | kernel/ending.py WQPLAN
 kernel   drivers      kernel/drivers.py
 docs     guide        docs/guide.sh WQPLAN EXAMPLE_RDISK
 runtime  book_model   model/book_properties.py | model/drive_books.py TEST_RUNTIME

@@ -60,6 +60,7 @@ tell() {
         how="go on"
         [ "$times" = "$1" ] && ! ended $one && how=HANG
         echo "flushes, process $one: $how"
+        [ "$how" = HANG ] && failed "process $one hangs"
         shift
     done
 }

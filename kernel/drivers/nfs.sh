@@ -54,7 +54,12 @@ fsync=$!
 
 # tell WHAT PID: whether this process is over.
 tell() {
-    if ended "$2"; then echo "$1: returned"; else echo "$1: HANGS"; fi
+    if ended "$2"; then
+        echo "$1: returned"
+    else
+        echo "$1: HANGS"
+        failed "$1 hangs"
+    fi
 }
 
 wait_for 2

@@ -4,23 +4,38 @@
 
 import collections
 import dataclasses
+import re
 
 import guest
 import model
 
-# How a workqueue is made, by the letter of its kind: its arguments of the module's command `wq` behind KIND, and in
-# words.
+# How a workqueue is made, by the letter of its kind: in words, its KIND of the module's command `wq`, and max_active,
+# if that isn't the default.
 KINDS = {
-    "p": ("per CPU", "p"),
-    "u": ("WQ_UNBOUND", "u"),
-    "o": ("ordered", "o"),
-    "1": ("per CPU, max_active 1", "p"),
+    "p": ("per CPU", "p", None),
+    "u": ("WQ_UNBOUND", "u", None),
+    "o": ("ordered", "o", None),
+    "1": ("per CPU, max_active 1", "p", 1),
+    "v": ("WQ_UNBOUND, max_active 1", "u", 1),
+    "h": ("per CPU, WQ_HIGHPRI", "h", None),
+    "g": ("WQ_UNBOUND, WQ_HIGHPRI", "g", None),
 }
+# These execute one item at a time.
+ONE_AT_A_TIME = "o1v"
 
-WORDS = {"w": "wait", "W": "waitwq"}
+# By the directive of a wait what an item does in a free case. A wait that a comment calls `done` ends once the item has
+# done its work, as one for a completion, and not by flush_work.
+DEEDS = {b"flush": "flush", b"flushwq": "flushwq"}
+DONE = "await"
+# The letters of waits in events (module/cases.c, print_events), by such a deed.
+LETTERS = {"flush": "w", "flushwq": "W", DONE: "m"}
+# All letters of waits.
+WAITING = "wWmdkz"
+# The commands that have it made in a driven case.
+STEPS = {"flush": "wait", "flushwq": "waitwq", DONE: DONE}
 
-# MAX_ITEMS and MAX_ACTS of module/wqjudge.h.
-MOST_ITEMS, MOST_WAITS = 256, 64
+# MAX_QUEUES, MAX_ITEMS and MAX_ACTS of module/wqjudge.h; of a case fewer than MAX_EVENTS are kept.
+MOST_WORKQUEUES, MOST_ITEMS, MOST_WAITS, MOST_EVENTS = 256, 256, 64, 4095
 
 
 @dataclasses.dataclass
@@ -30,23 +45,43 @@ class Setting:
     declaration: object
     assignment: object
     kinds: list  # by workqueue, its letter
+    done: frozenset = frozenset()  # the places of the flushes that comments call `done`
 
     def commands(self):
-        for workqueue, kind in enumerate(self.kinds):
+        for workqueue, letter in enumerate(self.kinds):
+            _, kind, max_active = KINDS[letter]
             rescuer = 0 if workqueue in self.assignment.bare else 1
-            yield f"wq {KINDS[kind][1]} {rescuer}{' 1' if kind == '1' else ''}"
+            yield f"wq {kind} {rescuer}{f' {max_active}' if max_active else ''}"
         for item in self.declaration.items:
             yield f"item {self.assignment.workqueue_of[item]}"
+
+    def waits(self):
+        """By item its declared waits in their order: of each the deed, and the target."""
+        found = {item: [] for item in self.declaration.items}
+        for place, (item, target) in enumerate(self.declaration.flushes):
+            deed = DONE if place in self.done else DEEDS[self.declaration.directive_of[place]]
+            found[item].append((deed, target))
+        return found
+
+    def deed(self, word, item, target):
+        """What an item does by the step `wait` or `waitwq`. Which line is meant a step doesn't say: it is a `done` wait
+        if each line of these two is.
+        """
+        if word == b"waitwq":
+            return "flushwq"
+        deeds = {deed for deed, other in self.waits()[item] if other == target and deed != "flushwq"}
+        return DONE if deeds == {DONE} else "flush"
 
     def too_large(self):
         """What the module has no room for, in words, or nothing."""
         items = self.declaration.items
         if len(items) > MOST_ITEMS:
             return f"{len(items)} items; at most {MOST_ITEMS} can be judged"
-        waits = collections.Counter(item for item, _ in self.declaration.flushes)
-        for item, count in waits.most_common(1):
-            if count > MOST_WAITS:
-                return f"{item.decode()} has {count} waits; at most {MOST_WAITS} of an item can be judged"
+        if len(self.kinds) > MOST_WORKQUEUES:
+            return f"{len(self.kinds)} workqueues; at most {MOST_WORKQUEUES} can be judged"
+        for item, waits in sorted(self.waits().items(), key=lambda pair: -len(pair[1]))[:1]:
+            if len(waits) > MOST_WAITS:
+                return f"{item.decode()} has {len(waits)} waits; at most {MOST_WAITS} of an item can be judged"
         return ""
 
     def number_of(self, item):
@@ -69,7 +104,7 @@ class Setting:
         declaration says.
         """
         state = machine(self.declaration, self.assignment, helpers)
-        state.ordered |= {workqueue for workqueue, kind in enumerate(self.kinds) if kind in "o1"}
+        state.ordered |= {workqueue for workqueue, kind in enumerate(self.kinds) if kind in ONE_AT_A_TIME}
         return state
 
 
@@ -81,6 +116,14 @@ class Case:
         self.must = must  # "end" or "hang", where wqplan says so of the items on workqueues with a rescuer
         self.weather = None
         self.outcome = None  # a guest.Outcome, once a guest has run it in this weather
+        self.first_queue = None  # the module's number of its first workqueue in this guest
+
+    def too_large(self):
+        """What the module has no room for, in words, or nothing."""
+        events = self.most_events()
+        if events > MOST_EVENTS and not self.setting.too_large():
+            return f"{self.name}: up to {events} events (of a wait or a step two); at most {MOST_EVENTS} can be judged"
+        return self.setting.too_large()
 
     def who_ran(self):
         """Who executed its items: of each execution R, N or ?."""
@@ -93,25 +136,45 @@ class Case:
     def judge(self, machine=model.State):
         if self.outcome is None or "end" not in self.outcome.states:
             return "the guest printed no result"
+        for said in self.outcome.kernel_says:
+            if guest.BROKEN.match(said):
+                return f"the kernel itself says: {said}"
         if set(self.who_ran()) - {"R"} and self.weather == "short":
             return "an item was executed by somebody else than its workqueue's rescuer"
         try:
             why = self.compare(machine)
         except NotLawful as step:
             return f"step {step} isn't lawful by the model"
+        why = why or self.unbalanced() or self.unlike_events()
         ends = "end" if self.ended() else "hang"
         if not why and self.must not in (None, ends):
             found = self.shown(self.outcome.states["end"][1])
             return f"wqplan says that it must {self.must}; kernel and model have {found}"
         return why
 
+    def unbalanced(self):
+        """What doesn't go together among the events of an item and where it is in the end, or nothing."""
+        counts = collections.Counter((letter, item) for letter, item, _, _ in self.outcome.events)
+        where = self.outcome.states["end"][1]
+        for number, item in enumerate(self.setting.declaration.items):
+            of_item = {letter: count for (letter, by), count in counts.items() if by == number}
+            why = unbalanced(collections.Counter(of_item), where.get(number, ""))
+            if why:
+                return f"{item.decode()}: {why}"
+        return ""
+
+    def unlike_events(self):
+        """What is otherwise about its events than it must be, or nothing."""
+        return ""
+
     def differs(self, word, expected):
         """Whether the state that the module printed at this word isn't this one."""
         done, where = self.outcome.states[word]
-        found = where
+        # A wait that is `done` is one as by flush_work in the model.
+        found = {number: at.replace(LETTERS[DONE], LETTERS["flush"]) for number, at in where.items()}
         if self.weather == "free":
             # A worker that is free may execute what has no rescuer, or may not.
-            found, expected = self.setting.promised(where), self.setting.promised(expected)
+            found, expected = self.setting.promised(found), self.setting.promised(expected)
         if found == expected and done == (not where):
             return ""
         return f"the model has {self.shown(expected)}; the kernel {self.shown(where)}"
@@ -136,6 +199,58 @@ class Case:
                     line += ", but doesn't sleep" if "~" in wait else ""
                 yield line
 
+    # What the kernel says of it
+
+    def queue_names(self):
+        """By the name of a workqueue in the guest, which one it is. (module/cases.c, make_queue)"""
+        numbers = range(len(self.setting.kinds))
+        return {f"q{self.first_queue + number:x}": self.setting.workqueue(number) for number in numbers}
+
+    def threads(self):
+        """Patterns of the names of its rescuers' threads, of both series, while they execute an item: then the name
+        goes on with that of the workqueue.
+        """
+        return [pattern.format(name) for name in self.queue_names() for pattern in ("{}+*", "kworker/R-{}+*")]
+
+    def stacks(self):
+        """The stacks of its rescuers that execute an item, each with its workqueue in words."""
+        for thread, stack in self.outcome.stacks.items():
+            name = thread.removeprefix("kworker/R-").partition("+")[0]
+            yield self.queue_names().get(name, thread), stack
+
+    def in_words(self, text):
+        """A line of the kernel, with workqueues as the assignment has them."""
+        names = self.queue_names()
+        return re.sub(r"\bq[0-9a-f]+\b", lambda match: names.get(match[0], match[0]), text)
+
+    def busy_lines(self):
+        """Of the kernel's list of busy workqueues the lines about its own."""
+        names, is_own = self.queue_names(), False
+        for line in self.outcome.busy:
+            head = re.match(r"workqueue (q[0-9a-f]+):", line)
+            if head or not line.startswith(" "):
+                is_own = bool(head) and head[1] in names
+            if is_own:
+                yield self.in_words(line).removeprefix("workqueue ") if head else line
+
+
+def unbalanced(counts, at):
+    """What doesn't go together between where an item is in the end and how many of its events there are, by letter. Of
+    each queueing that was accepted, and not cancelled, its start and its finish must be there, unless it is pending or
+    runs; and of each wait its end, unless it still waits.
+    """
+    accepted = counts["q"] - counts["c"]
+    started = accepted - ("p" in at)
+    finished = started - ("r" in at)
+    if (counts["s"], counts["f"]) != (started, finished):
+        return (
+            f"of {accepted} accepted queueings {counts['s']} started and {counts['f']} finished; by where it is in the "
+            f"end {started} and {finished} did"
+        )
+    waits = sum(counts[letter] for letter in WAITING)
+    over = waits - bool(set(at) & set(WAITING))
+    return f"of {waits} waits {counts['o']} ended; by where it is in the end {over} did" if counts["o"] != over else ""
+
 
 class NotLawful(Exception):
     """A step isn't lawful by the machine that a case is judged by."""
@@ -153,9 +268,9 @@ class FreeCase(Case):
     def setup(self):
         yield "free"
         yield from self.setting.commands()
-        declaration = self.setting.declaration
-        for (item, target), directive in zip(declaration.flushes, declaration.directive_of):
-            yield f"does {self.setting.number_of(item)} {directive.decode()} {self.setting.number_of(target)}"
+        for item, waits in self.setting.waits().items():
+            for deed, target in waits:
+                yield f"does {self.setting.number_of(item)} {deed} {self.setting.number_of(target)}"
 
     def commands(self):
         words = [
@@ -167,7 +282,8 @@ class FreeCase(Case):
 
     def expected(self, machine=model.State):
         """Where the items are in the end."""
-        state = self.setting.start(machine, HELPERS[self.weather])
+        # With enough memory each workqueue has as many helpers as anybody needs.
+        state = self.setting.start(machine, len(self.setting.declaration.items) if self.weather == "plenty" else 0)
         for item in self.order:
             state.make((b"queue", None, item))
         able = [at for at in state.workqueues if self.weather == "plenty" or at not in state.bare]
@@ -182,6 +298,39 @@ class FreeCase(Case):
             return ""
         return self.differs("end", expected)
 
+    def unlike_events(self):
+        """Each item is queued in its turn, and makes its declared waits in their order, up to where it is."""
+        numbers = [self.setting.number_of(item) for item in self.order]
+        queued = [(letter, number) for letter, number, _, _ in self.outcome.events if letter in "qQ"]
+        if queued != [("q", number) for number in numbers]:
+            return f"it wasn't the items in their order that were queued: {queued}"
+        where = self.outcome.states["end"][1]
+        for item, waits in self.setting.waits().items():
+            number = self.setting.number_of(item)
+            found = [event[::2] for event in self.outcome.events if event[1] == number and event[0] not in "qQ"]
+            if not self.may_have_happened(found, waits, where.get(number, "")):
+                return f"{item.decode()} doesn't make its declared waits in their order: {found}"
+        return ""
+
+    def may_have_happened(self, found, waits, at):
+        """Whether these are the events, without `q`, of an item with these waits that is here in the end."""
+        if at == "p":
+            return not found
+        events = [("s", None)]
+        for deed, target in waits:
+            number = self.setting.number_of(target)
+            events += [(LETTERS[deed], number), ("o", number)]
+        events.append(("f", None))
+        if at:
+            events = events[: len(found)]
+            wait = at.removeprefix("r").rstrip("~")
+            return found == events and (not wait or found[-1:] == [(wait[0], int(wait[1:]))])
+        return found == events
+
+    def most_events(self):
+        """So many events at most: of each item three, and of each wait two."""
+        return 3 * len(self.order) + 2 * len(self.setting.declaration.flushes)
+
 
 class DrivenCase(Case):
     """The steps of a run are made one by one."""
@@ -194,23 +343,27 @@ class DrivenCase(Case):
         yield "driven"
         yield from self.setting.commands()
 
-    def commands(self):
+    def doers(self):
+        """The steps, each with the item that makes it, or to which it happens."""
         on = {}
         for word, workqueue, name in self.steps:
-            item = name
             if word == b"start":
                 on[workqueue] = name
-            elif workqueue is not None:
-                item = on[workqueue]
-            words = [
-                word.decode().removesuffix("wq") if word == b"overwq" else word.decode(),
-                str(self.setting.number_of(item)),
-            ]
+            yield (word, workqueue, name), (name if workqueue is None else on[workqueue])
+
+    def commands(self):
+        for (word, _, name), item in self.doers():
+            words = ["over" if word == b"overwq" else word.decode(), str(self.setting.number_of(item))]
             if word in (b"wait", b"waitwq"):
-                words.append(str(self.setting.number_of(name)))
+                deed = self.setting.deed(word, item, name)
+                words = [STEPS[deed], words[1], str(self.setting.number_of(name))]
             yield " ".join(words)
         yield "state run"
         yield "end"
+
+    def most_events(self):
+        """So many events at most: each step has its own and a mark."""
+        return 2 * len(self.steps) + 3 * len(self.setting.declaration.items)
 
     def states(self, machine=model.State):
         """The state before the first step, and after each one."""
@@ -242,7 +395,7 @@ class DrivenCase(Case):
         items = self.setting.declaration.items
         for letter, number, _, _ in self.outcome.events:
             if letter == "!":
-                return f"step {number} ({self.step(number)}) doesn't happen in the kernel"
+                return f"step {number} ({self.step(number)}) doesn't happen in the kernel{self.nobody_ends(number)}"
             if letter == "|":
                 made = number
             # It is noted between the marks of two steps: it belongs to the state that the first left, or the second.
@@ -250,6 +403,55 @@ class DrivenCase(Case):
                 name = items[number].decode()
                 return f"after step {made} the wait of {name} is over in the kernel, and may not be by the model"
         return ""
+
+    def nobody_ends(self, number):
+        """If this step is the end of a wait for what nobody has queued, in words that it isn't over for this reason."""
+        (word, _, target), item = list(self.doers())[number - 1]
+        queued = any(step[0] == b"queue" and step[2] == target for step in self.steps[:number])
+        if word != b"over" or queued or self.setting.deed(b"wait", item, target) != DONE:
+            return ""
+        name = target.decode()
+        return f": nobody has queued {name}, and {item.decode()} waits until it has done its work (docs/WAITS.md)"
+
+    def unlike_events(self):
+        """Each step leaves its event in front of its mark, and no other. The end of a wait may have come before."""
+        segments = self.segments()
+        if len(segments) != len(self.steps) + 1:
+            return f"of {len(self.steps)} steps {len(segments) - 1} happened in the kernel"
+        over = collections.Counter()
+        for number, ((word, _, name), item) in enumerate(self.doers(), 1):
+            doer, made = self.setting.number_of(item), []
+            for letter, by, target, _ in segments[number - 1]:
+                if letter == "o":
+                    over[by, target] += 1
+                else:
+                    made.append((letter, by, target))
+            if word in (b"over", b"overwq"):
+                ending = doer, self.setting.number_of(name)
+                over[ending] -= 1
+                is_there = not made and over[ending] >= 0
+            else:
+                is_there = made == [self.event_of(word, doer, item, name)]
+            if not is_there:
+                return f"step {number} ({self.step(number)}) left other events than its own: {segments[number - 1]}"
+        rest = {letter for letter, *_ in segments[-1]} - {"s", "o"}
+        return f"after the last step there are other events: {segments[-1]}" if rest else ""
+
+    def segments(self):
+        """The events before the mark of each step, and those after the last one."""
+        found = [[]]
+        for event in self.outcome.events:
+            if event[0] == "|" and event[1] == len(found):
+                found.append([])
+            else:
+                found[-1].append(event)
+        return found
+
+    def event_of(self, word, doer, item, name):
+        """The event that this step leaves."""
+        if word in (b"wait", b"waitwq"):
+            return LETTERS[self.setting.deed(word, item, name)], doer, self.setting.number_of(name)
+        return {b"queue": "q", b"cancel": "c", b"start": "s", b"finish": "f"}[word], doer, None
 
     def step(self, number):
         word, workqueue, name = self.steps[number - 1]
@@ -268,10 +470,6 @@ WEATHERS = {
 }
 
 
-# How many helpers each workqueue has that isn't ordered: with enough memory as many as anybody needs.
-HELPERS = {"short": 0, "free": 0, "plenty": 8}
-
-
 # What kernel.threads-max is lifted to again.
 MANY_THREADS = 5000
 
@@ -282,8 +480,8 @@ def weather_commands(weather):
     return ["threads-max 1", "short" if weather == "short" else "free 2"]
 
 
-def commands_of(cases, weather):
-    """The commands for a guest."""
+def commands_of(cases, weather, listed=()):
+    """The commands for a guest. If one of those that are to be listed hangs, the kernel is asked for more about it."""
     lines = []
     for number, case in enumerate(cases):
         how, *setup = case.setup()
@@ -291,15 +489,42 @@ def commands_of(cases, weather):
     lines += ["blockers", *weather_commands(weather)]
     for number, case in enumerate(cases):
         lines += [f"at {number}", *case.commands()]
+        if case in listed:
+            lines.append(" ".join(["listed", *case.threads()]))
     return "".join(line + "\n" for line in lines)
 
 
-def run(kernel, cases, cpus=1, weather="short"):
+class Watch:
+    """Says how far a guest is."""
+
+    def __init__(self, progress, kernel, cases):
+        self.progress, self.kernel, self.cases = progress, kernel, cases
+        self.what = f"booting Linux {kernel.version}"
+
+    def __call__(self, line):
+        ours = guest.OURS.fullmatch(line)
+        if ours:
+            word, *rest = ours[2].split()
+            if word == "ready":
+                self.what = "making workqueues"
+            elif word == "place":
+                self.what = "making the state"
+            elif word == "at":
+                self.what = f"case {int(rest[0]) + 1} of {len(self.cases)}: {self.cases[int(rest[0])].name}"
+        self.progress.say(self.what)
+
+
+def run(kernel, cases, cpus=1, weather="short", listed=(), progress=None):
     """Has guests run the cases, which keep their outcomes. The consoles are handed back."""
     consoles = []
     for first in range(0, len(cases), MOST_CASES):
         part = cases[first : first + MOST_CASES]
-        outcomes, console = guest.run(kernel, commands_of(part, weather), cpus)
+        queues = 0
+        for case in part:
+            case.first_queue = queues
+            queues += len(case.setting.kinds)
+        watch = Watch(progress, kernel, part) if progress else lambda line: None
+        outcomes, console = guest.run(kernel, commands_of(part, weather, listed), cpus, watch)
         consoles.append(console)
         for number, case in enumerate(part):
             case.weather, case.outcome = weather, outcomes.get(number)

@@ -9,11 +9,10 @@ a guest so, and it has the host's clock; what counts as hung is told in looks of
 
 import os
 import re
-import subprocess
 import sys
-import tempfile
 
 import packages
+import processes
 
 # The guest's clock goes on by 2 to the power of this many nanoseconds with each instruction.
 ICOUNT_SHIFT = 5
@@ -24,6 +23,11 @@ BOOT = (
     "console=ttyS0 panic=-1 loglevel=5 rdinit=/init nokaslr mitigations=off workqueue.watchdog_thresh=0 "
     "printk.devkmsg=on random.trust_cpu=on"
 )
+
+
+# With two CPUs and the host's clock a busy host makes the timer look as if it didn't work: `IO-APIC + timer doesn't
+# work!` ends the boot (arch/x86/kernel/apic/io_apic.c, check_timer).
+WITH_TWO = " no_timer_check"
 
 
 class Fault(Exception):
@@ -56,7 +60,7 @@ def files_of(kernel, others, modules=()):
     modules = [*modules, kernel.module()]
     files = {name: (FOLDER, b"") for name in ("bin", "dev", "proc", "sys")}
     files["bin/busybox"] = PROGRAM, packages.busybox().read_bytes()
-    files["init"] = PROGRAM, (packages.HERE / "init").read_bytes()
+    files["init"] = PROGRAM, b"#!/bin/busybox sh\n" + (packages.HERE / "init").read_bytes()
     files["modules"] = TEXT, "".join(f"{module.name}\n" for module in modules).encode()
     files |= {module.name: (TEXT, module.read_bytes()) for module in modules}
     return files | {name: (TEXT, data) for name, data in others.items()}
@@ -65,98 +69,137 @@ def files_of(kernel, others, modules=()):
 # The guest ----------------------------------------------------------------------------------------
 
 
-def console_of(kernel, files, cpus=1):
-    """All that a guest with these files writes to its console."""
+def machine_words(kernel, initrd, cpus):
+    """QEMU's arguments."""
+    clock = ["-icount", f"shift={ICOUNT_SHIFT},sleep=off", "-rtc", "clock=vm"] if cpus == 1 else []
+    words = ["-accel", "tcg,thread=single", *clock, "-seed", "1"]
+    words += ["-machine", "pc", "-cpu", "max", "-smp", str(cpus), "-m", MEMORY]
+    words += ["-nodefaults", "-no-user-config", "-display", "none", "-no-reboot", "-serial", "stdio"]
+    words += ["-kernel", str(kernel.image), "-initrd", initrd]
+    return [*words, "-append", BOOT + (WITH_TWO if cpus > 1 else "")]
+
+
+def decoded(printed):
+    return printed.decode("latin-1").replace("\r", "")
+
+
+def console_of(kernel, files, cpus=1, watch=lambda line: None):
+    """All that a guest with these files writes to its console. `watch` is called with each line as it comes."""
     words, environment = packages.qemu()
-    with tempfile.TemporaryDirectory(prefix="wqjudge.") as folder:
-        initrd = os.path.join(folder, "initrd")
-        with open(initrd, "wb") as file:
-            file.write(archive(files))
-        clock = ["-icount", f"shift={ICOUNT_SHIFT},sleep=off", "-rtc", "clock=vm"] if cpus == 1 else []
-        words = [
-            *words,
-            "-accel",
-            "tcg,thread=single",
-            *clock,
-            "-seed",
-            "1",
-            "-machine",
-            "pc",
-            "-cpu",
-            "max",
-            "-smp",
-            str(cpus),
-            "-m",
-            MEMORY,
-            "-nodefaults",
-            "-no-user-config",
-            "-display",
-            "none",
-            "-no-reboot",
-            "-serial",
-            "stdio",
-            "-kernel",
-            str(kernel.image),
-            "-initrd",
-            initrd,
-            "-append",
-            BOOT,
-        ]
+    with processes.in_memory(archive(files)) as (initrd, number):
+        words = [*words, *machine_words(kernel, initrd, cpus)]
+        environment = {**os.environ, **environment}
         try:
-            ended = subprocess.run(
-                words,
-                stdin=subprocess.DEVNULL,
-                stdout=subprocess.PIPE,
-                stderr=subprocess.STDOUT,
-                timeout=SECONDS,
-                env={**os.environ, **environment},
+            printed = processes.printed_by(
+                words, SECONDS, lambda line: watch(decoded(line)), env=environment, pass_fds=[number]
             )
         except OSError as error:
             raise packages.Missing(f"{words[0]}: {error.strerror}") from error
-        except subprocess.TimeoutExpired as late:
-            raise Fault(
-                f"the guest took more than {SECONDS} s:\n{(late.stdout or b'').decode('latin-1')[-3000:]}"
-            ) from late
-    return ended.stdout.decode("latin-1").replace("\r", "")
+        except processes.Late as late:
+            raise Fault(f"the guest took more than {SECONDS} s:\n{decoded(late.printed)[-3000:]}") from late
+    return decoded(printed)
 
 
 class Outcome:
-    """What the module printed of a case."""
+    """What a guest printed of a case."""
 
     def __init__(self):
         self.states = {}  # by its word, whether all was done, and where each unfinished item is: pr, and the wait
         self.events = []  # each as the letter, the item, the argument or None, who runs it
+        self.kernel_says = []  # lines that the kernel printed meanwhile, and that tell of something wrong
+        self.busy = []  # if it hung, and was asked: the kernel's own list of busy workqueues
+        self.stacks = {}  # the same: of threads, by their names, the lines of their stacks
 
 
+OURS = re.compile(r"(?:\[[ .0-9]+\] )?wqjudge: (\d+) (.*)")
 EVENT = re.compile(r"([a-zA-Z|!])(\d+)(?:\.(\d+))?([RN?])?")
+# What a kernel says of something that is wrong. Of a warning the words come first, and then the line with its place.
+TELLING = re.compile(
+    r"(?:\[[ .0-9]+\] )?((?:WARNING: |BUG: |kernel BUG at|Oops|general protection fault|Kernel panic|"
+    r"rcu: INFO: .*stall|INFO: task|watchdog: |workqueue: |irq \d+: nobody cared|Out of memory|invalid opcode).*)"
+)
+# These are no mere warnings.
+BROKEN = re.compile(r"BUG: |kernel BUG at|Oops|general protection fault|Kernel panic|rcu: INFO|invalid opcode")
+
+
+class Reader:
+    """Reads a console."""
+
+    def __init__(self):
+        self.outcomes, self.others = {}, []
+        self.number = 0  # of our last line
+        self.at = None  # the case that is carried out
+        self.is_listing = False
+        self.parts, self.thread = {}, None
+
+    def outcome(self, number):
+        return self.outcomes.setdefault(int(number), Outcome())
+
+    def read(self, console):
+        for line in console.split("\n"):
+            ours = OURS.fullmatch(line)
+            if ours:
+                self.take_number(int(ours[1]))
+                self.take(ours[2])
+            else:
+                self.take_other(line)
+        return self
+
+    def take_number(self, number):
+        if number != self.number + 1:
+            raise Fault(f"of the console the lines {self.number + 1} to {number - 1} of the module are lost")
+        self.number = number
+
+    def take(self, text):
+        """A line of the module."""
+        word, *rest = text.split()
+        self.thread = None
+        if word == "at":
+            self.at = self.outcome(rest[0])
+        elif word == "part":
+            self.parts.setdefault((rest[0], rest[1]), []).extend(rest[2:])
+        elif word == "state":
+            items = [item.split(":") for item in self.parts.pop((rest[0], rest[1]), []) + rest[3:]]
+            where = {int(number): at for number, at in items}
+            self.outcome(rest[0]).states[rest[1]] = rest[2] == "done", where
+        elif word == "events":
+            self.outcome(rest[0]).events += map(self.event, rest[1:])
+        elif word == "busy" and self.at:
+            self.is_listing = True
+            self.at.busy.append(text.removeprefix("busy "))
+        elif word == "listed":
+            self.is_listing = False
+        else:
+            self.others.append(text)
+
+    def event(self, text):
+        match = EVENT.fullmatch(text)
+        if not match:
+            raise Fault(f"of the console a line of the module is damaged: {text}")
+        letter, item, argument, by = match.groups()
+        return letter, int(item), int(argument) if argument else None, by
+
+    def take_other(self, line):
+        """A line of the kernel, or of the shell: `== THREAD`, and its stack below."""
+        if self.is_listing and line.startswith("== "):
+            self.thread = self.at.stacks.setdefault(line.removeprefix("== "), [])
+        elif self.thread is not None and line.startswith("    "):
+            self.thread.append(re.sub(r"^\[<.*?>\] ", "", line.strip()))
+        elif self.at and (telling := TELLING.fullmatch(line)):
+            self.at.kernel_says.append(telling[1])
 
 
 def read_outcomes(console):
-    """The outcomes by the number of their case, and the module's other lines."""
-    outcomes, parts, others = {}, {}, []
-    for line in re.findall(r"^(?:\[[ .0-9]+\] )?wqjudge: (.*)$", console, re.MULTILINE):
-        word, *rest = line.split()
-        if word not in ("part", "state", "events"):
-            others.append(line)
-            continue
-        outcome = outcomes.setdefault(int(rest[0]), Outcome())
-        if word == "part":
-            parts.setdefault((rest[0], rest[1]), []).extend(rest[2:])
-        elif word == "state":
-            items = [item.split(":") for item in parts.pop((rest[0], rest[1]), []) + rest[3:]]
-            outcome.states[rest[1]] = rest[2] == "done", {int(number): where for number, where in items}
-        else:
-            for event in rest[1:]:
-                letter, item, argument, by = EVENT.fullmatch(event).groups()
-                outcome.events.append((letter, int(item), int(argument) if argument else None, by))
-    return outcomes, others
+    """The outcomes by the number of their case, and the module's other lines. Raises Fault where a line is lost."""
+    read = Reader().read(console)
+    return read.outcomes, read.others
 
 
-def run(kernel, commands, cpus=1):
+def run(kernel, commands, cpus=1, watch=lambda line: None):
     """The outcomes of a guest with these commands, and its console. Raises Fault where it didn't carry out all of
     them.
     """
-    console = console_of(kernel, files_of(kernel, {"commands": f"{commands}bye\n".encode()}), cpus)
+    console = console_of(kernel, files_of(kernel, {"commands": f"{commands}bye\n".encode()}), cpus, watch)
     outcomes, others = read_outcomes(console)
     faults = [line for line in others if line.startswith("error")]
     if faults or others[-1:] != ["bye"]:
@@ -164,13 +207,16 @@ def run(kernel, commands, cpus=1):
     return outcomes, console
 
 
-def kernel_of(series):
-    """The kernel of a series: the newest in which the module makes the right shortage. That is tried once for each."""
+def kernel_of(series, say=lambda text: None):
+    """The kernel of a series: the newest in which the module makes the right shortage. That is tried once for each.
+    `say` is told meanwhile what is done.
+    """
     for kernel in packages.kernels(series):
         tried = kernel.module().parent / "makes_the_shortage"
         try:
             if not tried.exists():
-                run(kernel, "blockers\nthreads-max 1\nshort\n")
+                what = f"trying whether Linux {kernel.version} comes into the right state"
+                run(kernel, "blockers\nthreads-max 1\nshort\n", watch=lambda line, what=what: say(what))
                 tried.touch()
             return kernel
         except Fault as fault:

@@ -5,6 +5,8 @@ The cache is ~/.cache/wqplan-kernel, or wqplan-kernel in $XDG_CACHE_HOME. Packag
 the folder that $WQJUDGE_DEBS names, which apt then isn't asked for.
 """
 
+import contextlib
+import fcntl
 import functools
 import hashlib
 import lzma
@@ -12,9 +14,10 @@ import os
 import pathlib
 import re
 import shutil
-import subprocess
 import sys
 import tempfile
+
+import processes
 
 HERE = pathlib.Path(__file__).resolve().parent
 MODULE = HERE.parent / "module"
@@ -41,20 +44,15 @@ def cache():
 def output_of(words, **given):
     """What a program prints. Raises Missing where there is no such program, or it fails."""
     try:
-        ended = subprocess.run(
-            words,
-            stdin=subprocess.DEVNULL,
-            stdout=subprocess.PIPE,
-            stderr=subprocess.PIPE,
-            text=True,
-            timeout=SECONDS,
-            **given,
-        )
+        ended = processes.run(words, SECONDS, **given)
     except OSError as error:
         raise Missing(f"{words[0]}: {error.strerror} (is it installed, and on the PATH?)") from error
+    except processes.Late as late:
+        raise Missing(f"`{' '.join(map(str, words))}` took more than {SECONDS} s") from late
     if ended.returncode != 0:
-        raise Missing(f"`{' '.join(map(str, words))}` failed:\n{(ended.stdout + ended.stderr).strip()}")
-    return ended.stdout
+        said = (ended.stdout + ended.stderr).decode(errors="replace").strip()
+        raise Missing(f"`{' '.join(map(str, words))}` failed:\n{said}")
+    return ended.stdout.decode(errors="replace")
 
 
 # Packages -----------------------------------------------------------------------------------------
@@ -124,14 +122,53 @@ def unpack(package, root, *only):
     )
 
 
+@contextlib.contextmanager
+def locked(path):
+    """Holds a file or a folder that is there, until this is left, or the process is no more. Raises BlockingIOError if
+    another process does.
+    """
+    held = os.open(path, os.O_RDONLY)
+    try:
+        fcntl.flock(held, fcntl.LOCK_EX | fcntl.LOCK_NB)
+        yield
+    finally:
+        os.close(held)
+
+
+def sweep():
+    """Removes what a judge that was killed has left in the cache. Who still lives holds what is its own."""
+    for left in cache().glob("making.*"):
+        with contextlib.suppress(OSError), locked(left):
+            shutil.rmtree(left, ignore_errors=True)
+
+
+@contextlib.contextmanager
+def making():
+    """A folder of the cache for what is under way. Nothing of it is left."""
+    while True:
+        folder = pathlib.Path(tempfile.mkdtemp(prefix="making.", dir=cache()))
+        with contextlib.ExitStack() as until_left:
+            until_left.callback(shutil.rmtree, folder, ignore_errors=True)
+            try:
+                until_left.enter_context(locked(folder))
+            except OSError:  # another one has just taken it for left, and removes it
+                continue
+            if folder.exists():
+                yield folder
+                return
+
+
 def made(place, make):
-    """A folder of the cache, made by `make` where it isn't there. A half-made one is never taken for it."""
+    """A folder of the cache, made by `make` where it isn't there. It is given the folder to fill, and one for what it
+    downloads. A half-made one is never taken for it.
+    """
     if not place.exists():
         place.parent.mkdir(parents=True, exist_ok=True)
-        with tempfile.TemporaryDirectory(prefix="making.", dir=cache()) as folder:
-            under_way = pathlib.Path(folder) / "it"
+        with making() as folder:
+            under_way, downloads = folder / "it", folder / "downloads"
             under_way.mkdir()
-            make(under_way)
+            downloads.mkdir()
+            make(under_way, downloads)
             try:
                 under_way.rename(place)
             except OSError:  # another judge was faster
@@ -175,12 +212,16 @@ class Kernel:
         sources = [path for path in sources if not path.name.endswith(".mod.c")]
         said = hashlib.sha256(b"".join(path.name.encode() + path.read_bytes() for path in sources)).hexdigest()[:16]
 
-        def build(place):
+        def build(place, _):
             for source in sources:
                 shutil.copy(source, place)
-            output_of(["make", "-C", place, f"HEADERS={self.headers()}", *self.compiler()])
+            self.build(place)
 
         return made(self.place / f"module-{said}", build) / "wqjudge.ko"
+
+    def build(self, folder):
+        """Builds the module of a folder, by the Makefile there."""
+        output_of(["make", "-C", folder, f"HEADERS={self.headers()}", *self.compiler()])
 
     def compiler(self):
         """What to say to make where the compiler that Debian built the kernel with isn't there."""
@@ -188,17 +229,15 @@ class Kernel:
         return [] if named and shutil.which(named[1]) else ["CC=gcc"]
 
 
-def fetch_kernel(release, place):
+def fetch_kernel(release, place, downloads):
     """Downloads a kernel and its headers, and unpacks them."""
-    with tempfile.TemporaryDirectory() as folder:
-        folder = pathlib.Path(folder)
-        headers = f"linux-headers-{release}"
-        common = re.sub(r"-cloud-amd64$", "-common", headers)
-        image, *others = fetch([image_package(release), headers, common], folder)
-        unpack(image, place, "./boot/vmlinuz-*")
-        for package in others:
-            unpack(package, place)
-        unpack(*fetch([kbuild_package(release, place)], folder), place)
+    headers = f"linux-headers-{release}"
+    common = re.sub(r"-cloud-amd64$", "-common", headers)
+    image, *others = fetch([image_package(release), headers, common], downloads)
+    unpack(image, place, "./boot/vmlinuz-*")
+    for package in others:
+        unpack(package, place)
+    unpack(*fetch([kbuild_package(release, place)], downloads), place)
     # The makefiles of Debian's headers name each other by the places where they are installed.
     for makefile in place.glob("usr/src/linux-headers-*/Makefile"):
         text = makefile.read_text()
@@ -213,9 +252,8 @@ def modules(kernel, names, patch=None):
     aren't there yet. With a patch, those that come from a folder which it changes are built anew.
     """
 
-    def make(place):
-        with tempfile.TemporaryDirectory() as folder:
-            unpack(*fetch([image_package(kernel.release)], pathlib.Path(folder)), place, "./lib/modules/*")
+    def make(place, downloads):
+        unpack(*fetch([image_package(kernel.release)], downloads), place, "./lib/modules/*")
 
     root = made(cache() / f"modules-{kernel.release}", make)
     files = {plain_name(path): path for path in root.rglob("*.ko*")}
@@ -266,22 +304,21 @@ def source_of(kernel, folder):
     """A folder of the sources of a kernel, from Debian's linux-source-SERIES."""
     tree = f"linux-source-{kernel.series}"
 
-    def make(place):
-        with tempfile.TemporaryDirectory(dir=cache()) as downloaded:
-            package = fetch([tree], pathlib.Path(downloaded))[0]
-            output_of(
-                [
-                    "bash",
-                    "-c",
-                    'set -o pipefail; dpkg-deb --fsys-tarfile "$1" | tar -xO "./usr/src/$2.tar.xz" |'
-                    ' tar -xJ -C "$3" --strip-components=1 "$2/Makefile" "$2/$4"',
-                    "bash",
-                    package,
-                    tree,
-                    place,
-                    folder,
-                ]
-            )
+    def make(place, downloads):
+        package = fetch([tree], downloads)[0]
+        output_of(
+            [
+                "bash",
+                "-c",
+                'set -o pipefail; dpkg-deb --fsys-tarfile "$1" | tar -xO "./usr/src/$2.tar.xz" |'
+                ' tar -xJ -C "$3" --strip-components=1 "$2/Makefile" "$2/$4"',
+                "bash",
+                package,
+                tree,
+                place,
+                folder,
+            ]
+        )
 
     root = made(cache() / f"source-{kernel.release}-{folder.replace('/', '-')}", make)
     version = ".".join(re.findall(r"^(?:VERSION|PATCHLEVEL|SUBLEVEL) = (\d+)$", (root / "Makefile").read_text(), re.M))
@@ -304,7 +341,7 @@ def patched(kernel, patch, files):
             raise Missing(f"{patch}: none of the modules is in {folder}")
         said = hashlib.sha256(patch.read_bytes() + " ".join(sorted(here)).encode()).hexdigest()[:16]
 
-        def build(place, folder=folder, here=here):
+        def build(place, _, folder=folder, here=here):
             at = place / "tree" / folder
             shutil.copytree(source_of(kernel, folder), at)
             output_of(["patch", "-p1", "-d", place / "tree", "-i", patch.resolve()])
@@ -337,6 +374,7 @@ def kernels(series):
     """
     if series not in SERIES:
         raise Missing(f"the series {series} isn't known: the module is for {' and '.join(SERIES)}")
+    sweep()
     pattern = re.compile(rf"{re.escape(series)}\..*-cloud-amd64")
     cached = sorted(
         (path.name for path in cache().iterdir() if pattern.fullmatch(path.name)), key=order_of, reverse=True
@@ -357,9 +395,8 @@ def kernels(series):
 def busybox():
     """A shell that needs no library."""
 
-    def make(place):
-        with tempfile.TemporaryDirectory() as folder:
-            unpack(*fetch(["busybox-static"], pathlib.Path(folder)), place)
+    def make(place, downloads):
+        unpack(*fetch(["busybox-static"], downloads), place)
 
     root = made(cache() / "busybox", make)
     return next(path for path in (root / "bin" / "busybox", root / "usr" / "bin" / "busybox") if path.exists())
@@ -381,7 +418,7 @@ def qemu():
     if found:
         return [found], {}
 
-    def make(place):
+    def make(place, downloads):
         if named_folder():
             packages = sorted(named_folder().glob("*.deb"))
             if not any(path.name.startswith("qemu-system-x86_") for path in packages):
@@ -392,9 +429,8 @@ def qemu():
                 if not path.name.startswith("linux-"):
                     unpack(path, place)
             return
-        with tempfile.TemporaryDirectory() as folder:
-            for package in fetch(needed_by("qemu-system-x86"), pathlib.Path(folder)):
-                unpack(package, place)
+        for package in fetch(needed_by("qemu-system-x86"), downloads):
+            unpack(package, place)
 
     root = made(cache() / "qemu", make)
     libraries = ":".join(str(root / folder) for folder in ("usr/lib/x86_64-linux-gnu", "lib/x86_64-linux-gnu"))

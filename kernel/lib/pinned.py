@@ -83,7 +83,7 @@ class PinnedCase(cases.Case):
                 if word == "start":
                     on[rest[0]] = rest[1]
                 rest = rest[1:]
-            elif word in ("wait", "waitwq", "over", "overwq", "drain", "cancelsync"):
+            elif word in ("wait", "waitwq", "await", "over", "overwq", "drain", "cancelsync"):
                 rest = [on[rest[0]], *rest[1:]] if not word.startswith("over") else [on[rest[0]]]
                 word = "over" if word == "overwq" else word
             if word == "plenty":

@@ -1,13 +1,14 @@
 """wqplan, and the cases that its answers make."""
 
+import contextlib
 import os
 import pathlib
-import subprocess
-import tempfile
 
 import cases
+import comments
 import model
 import packages
+import processes
 
 ROOT = pathlib.Path(__file__).resolve().parents[2]
 SECONDS = 600
@@ -45,22 +46,18 @@ def wqplan():
 
 def ask(command, *texts):
     """The answer of a command to texts: bytes, or the paths of files. Raises Refusal where there is none."""
-    with tempfile.TemporaryDirectory(prefix="wqjudge.") as folder:
-        words = []
-        for number, text in enumerate(texts):
-            if isinstance(text, bytes):
-                path = os.path.join(folder, str(number))
-                with open(path, "wb") as file:
-                    file.write(text)
-                text = path
-            words.append(text)
-        ended = subprocess.run(
-            [wqplan(), command, *words],
-            stdin=subprocess.DEVNULL,
-            stdout=subprocess.PIPE,
-            stderr=subprocess.PIPE,
-            timeout=SECONDS,
-        )
+    with contextlib.ExitStack() as files:
+        held = {
+            place: files.enter_context(processes.in_memory(text))
+            for place, text in enumerate(texts)
+            if isinstance(text, bytes)
+        }
+        words = [held[place][0] if place in held else text for place, text in enumerate(texts)]
+        numbers = [number for _, number in held.values()]
+        try:
+            ended = processes.run([wqplan(), command, *words], SECONDS, pass_fds=numbers)
+        except processes.Late as late:
+            raise packages.Missing(f"wqplan {command} took more than {SECONDS} s") from late
     if ended.returncode not in (0, 1):
         raise Refusal(ended.stdout.decode("latin-1"), ended.stderr.decode("latin-1"), ended.returncode)
     return ended.stdout
@@ -86,9 +83,16 @@ class Asked:
         self.is_safe = answer == b"safe\n"
         self.steps = [] if self.is_safe else model.read_run(answer, self.declaration)
         # The workqueue of a group of several items is ordered.
-        ordered = {self.assignment.workqueue_of[group[0]] for group in self.declaration.groups if len(group) > 1}
-        kinds = ["o" if workqueue in ordered else choose.choice(letters) for workqueue in range(self.assignment.count)]
-        self.setting = cases.Setting(self.declaration, self.assignment, kinds)
+        self.ordered = {self.assignment.workqueue_of[group[0]] for group in self.declaration.groups if len(group) > 1}
+        workqueues = range(self.assignment.count)
+        kinds = ["o" if workqueue in self.ordered else choose.choice(letters) for workqueue in workqueues]
+        done = comments.done_flushes(self.texts[0])
+        self.setting = cases.Setting(self.declaration, self.assignment, kinds, done)
+
+    def make_as(self, kinds):
+        """Has its workqueues made as these letters say, but for the ordered ones."""
+        pairs = enumerate(kinds)
+        self.setting.kinds = ["o" if workqueue in self.ordered else letter for workqueue, letter in pairs]
 
     def free_case(self, name, order, cpus):
         """On several CPUs an item of a safe assignment is queued on any, and of an unsafe one on the first."""

@@ -33,6 +33,12 @@ struct queue *make_queue(char kind, bool rescuer, int max_active)
 	case 'u':
 		q->wq = alloc_workqueue("%s", flags | WQ_UNBOUND, max_active, name);
 		break;
+	case 'h':
+		q->wq = alloc_workqueue("%s", flags | WQ_HIGHPRI, max_active, name);
+		break;
+	case 'g':
+		q->wq = alloc_workqueue("%s", flags | WQ_UNBOUND | WQ_HIGHPRI, max_active, name);
+		break;
 	case 'o':
 		q->wq = alloc_ordered_workqueue("%s", flags, name);
 		break;
@@ -87,7 +93,7 @@ static void print_events(struct judged_case *c)
 	int i, n = 0;
 
 	if (c->nevents == MAX_EVENTS)
-		pr_err("error: case %d has more events than are kept\n", c->number);
+		say("error: case %d has more events than are kept\n", c->number);
 	for (i = 0; i < c->nevents; i++) {
 		const struct event *e = &c->events[i];
 
@@ -97,7 +103,7 @@ static void print_events(struct judged_case *c)
 		if (e->by)
 			n += scnprintf(line + n, sizeof(line) - n, "%c", e->by);
 		if (n > 700 || i == c->nevents - 1) {
-			pr_err("events %d%s\n", c->number, line);
+			say("events %d%s\n", c->number, line);
 			n = 0;
 		}
 	}
@@ -142,10 +148,20 @@ static void poll(struct item *it, struct item *target)
 	}
 }
 
+/*
+ * What a driver waits for by a completion, a bit or an element of a pool: that the item does its work, whoever queues
+ * it, and be it later. It has then finished as often as it had been queued when the wait began, and once at least.
+ */
+static int awaited(struct item *target)
+{
+	return max(READ_ONCE(target->accepted), 1);
+}
+
 static void wait_by(struct item *it, struct act act)
 {
 	struct judged_case *c = it->c;
 	struct item *target = c->items[act.arg];
+	int times = awaited(target);
 
 	it->act = act;
 	note(c, letter_of(act.deed), it->number, act.arg, 0);
@@ -167,7 +183,7 @@ static void wait_by(struct item *it, struct act act)
 		poll(it, target);
 		break;
 	default:
-		wait_event(c->news, READ_ONCE(target->finished) || READ_ONCE(c->over));
+		wait_event(c->news, READ_ONCE(target->finished) >= times);
 	}
 	/* It is noted first: so the driver's mark of the step that sees it comes behind the note. */
 	note(c, 'o', it->number, act.arg, 0);
@@ -321,6 +337,8 @@ void queue_item(struct item *it, int cpu)
 		queue_work_on(cpu, it->q->wq, &it->gate);
 	}
 	accepted = queue_work_on(cpu, it->q->wq, &it->work);
+	if (accepted)
+		it->accepted++;
 	note(it->c, accepted ? 'q' : 'Q', it->number, -1, 0);
 }
 
@@ -330,6 +348,8 @@ void cancel_item(struct item *it)
 
 	preempt_disable();	/* on one CPU nothing comes between the act and its note */
 	was_pending = cancel_work(&it->work);
+	if (was_pending)
+		it->accepted--;
 	note(it->c, was_pending ? 'c' : 'C', it->number, -1, 0);
 	preempt_enable();
 }
@@ -392,6 +412,8 @@ static bool step_cancel(struct item *it)
 	struct judged_case *c = it->c;
 	bool was_pending = cancel_work(&it->work);
 
+	if (was_pending)
+		it->accepted--;
 	note(c, was_pending ? 'c' : 'C', it->number, -1, 0);
 	if (!cancel_work(&it->gate)) {
 		WRITE_ONCE(it->gate_open, true);
@@ -448,6 +470,8 @@ int drive(struct judged_case *c, const char *step, int item, int target)
 		happened = step_wait(it, FLUSH, target);
 	else if (!strcmp(step, "waitwq"))
 		happened = step_wait(it, FLUSHWQ, target);
+	else if (!strcmp(step, "await"))
+		happened = step_wait(it, AWAIT, target);
 	else if (!strcmp(step, "drain"))
 		happened = step_wait(it, DRAINWQ, target);
 	else if (!strcmp(step, "cancelsync"))
@@ -472,12 +496,26 @@ static bool all_done(struct judged_case *c)
 	return true;
 }
 
+/*
+ * Between the moment in which a worker takes an item off the list and the first line of its function the item looks as
+ * if it were finished: it is neither pending nor has it started. So it is looked at once more.
+ */
+static bool still_all_done(struct judged_case *c)
+{
+	int seen = READ_ONCE(c->happened);
+
+	if (!all_done(c))
+		return false;
+	msleep(LOOK_MS);
+	return all_done(c) && READ_ONCE(c->happened) == seen;
+}
+
 /* Waits until all is done, or until nothing has happened in so many looks. The answer is whether all is done. */
 static bool settle(struct judged_case *c)
 {
 	int left = looks, seen = READ_ONCE(c->happened);
 
-	while (!all_done(c)) {
+	while (!still_all_done(c)) {
 		if (READ_ONCE(c->happened) != seen) {
 			seen = READ_ONCE(c->happened);
 			left = looks;
@@ -490,18 +528,18 @@ static bool settle(struct judged_case *c)
 }
 
 /*
- * Settles, and prints `state CASE WORD done|hung`, and for each item that isn't finished its number, a p if it is
- * pending, and an r if it runs, with the letter and the target of its wait while it waits, and a ~ if it doesn't
- * sleep in it: 0:p 3:rw1
+ * Settles. Unless WORD is NULL it prints `state CASE WORD done|hung`, and for each item that isn't finished its number,
+ * a p if it is pending, and an r if it runs, with the letter and the target of its wait while it waits, and a ~ if it
+ * doesn't sleep in it: 0:p 3:rw1. The answer is whether all is done.
  */
-void print_state(struct judged_case *c, const char *word)
+bool print_state(struct judged_case *c, const char *word)
 {
 	static char line[800];
 	bool done = settle(c);
 	int i, n = 0;
 
 	if (!word)
-		return;
+		return done;
 	for (i = 0; i < c->nitems; i++) {
 		struct item *it = c->items[i];
 
@@ -514,22 +552,29 @@ void print_state(struct judged_case *c, const char *word)
 			n += scnprintf(line + n, sizeof(line) - n, "%c%d%s", letter_of(it->act.deed), it->act.arg,
 				       sleeps(it->task) ? "" : "~");
 		if (n > 700) {
-			pr_err("part %d %s%s\n", c->number, word, line);
+			say("part %d %s%s\n", c->number, word, line);
 			n = 0;
 		}
 	}
 	line[n] = 0;
-	pr_err("state %d %s %s%s\n", c->number, word, done ? "done" : "hung", line);
+	say("state %d %s %s%s\n", c->number, word, done ? "done" : "hung", line);
+	return done;
 }
 
-/* Ends a case. What hangs in it stays as it is, with its workqueues: they can't be destroyed. */
-void end_case(struct judged_case *c)
+/*
+ * Ends a case. What hangs in it stays as it is, with its workqueues: they can't be destroyed. The answer is whether all
+ * is done.
+ */
+bool end_case(struct judged_case *c)
 {
+	bool done;
+
 	WRITE_ONCE(c->all_open, true);
 	wake_up_all(&c->news);
-	print_state(c, "end");
+	done = print_state(c, "end");
 	print_events(c);
 	/* A driven work function that runs because it was told nothing doesn't hang: now it returns. */
 	WRITE_ONCE(c->over, true);
 	wake_up_all(&c->news);
+	return done;
 }

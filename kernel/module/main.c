@@ -4,13 +4,15 @@
  * what becomes of each item: so a kernel says whether they hang.
  *
  * Each write to /proc/wqjudge is a command, and it returns when the command is done. What comes of it is printed to
- * the console, in lines that begin with "wqjudge:". Items, workqueues and cases are numbered from 0.
+ * the console, in lines that begin with "wqjudge:" and their number. Items, workqueues and cases are numbered from 0.
+ * Whoever reads the file gets `hung` or `done`: how the current case stood when its state was printed last.
  *
  * First all cases are made, since a rescuer can't be created later:
  *
  *   case N free|driven		the next case. The commands up to the next one describe it
- *   wq KIND RESCUER [MAX]	its next workqueue. KIND p: per CPU, u: WQ_UNBOUND, o: alloc_ordered_workqueue().
- *				RESCUER 1: with WQ_MEM_RECLAIM, 0: without. MAX is max_active
+ *   wq KIND RESCUER [MAX]	its next workqueue. KIND p: per CPU, u: WQ_UNBOUND, o: alloc_ordered_workqueue(), h and
+ *				g: as p and u, with WQ_HIGHPRI. RESCUER 1: with WQ_MEM_RECLAIM, 0: without. MAX is
+ *				max_active
  *   item Q			its next item, which is queued to its workqueue Q alone
  *   does I DEED ARG		what item I does by itself, in a case that is free: see `deeds` below
  *   blockers			makes the items that will keep workers busy
@@ -24,16 +26,19 @@
  *
  * Then each case is carried out:
  *
- *   at N			case N is the one that is meant below
+ *   at N			case N is the one that is meant below. This is printed
  *   queueall I[@CPU]..		queues these items. None does anything before the last one is queued
  *   cancelnow I		cancel_work(), by this process
  *   queue I, cancel I, start I, wait I T, waitwq I T, over I, finish I
  *				steps of a driven case, as docs/FORMAT.md has them. Each is waited for
+ *   await I T			the same, of a wait for a completion: it is over once item T has done its work
  *   drain I T, cancelsync I T	item I, which is driven and runs, calls drain_workqueue() or cancel_work_sync()
  *   settle			waits until all is done, or nothing has happened in 75 looks, 20 ms apart
  *   sleep MS
  *   state WORD			settles, and prints where the items are
  *   end			opens all gates, settles, prints where the items are, and all that happened
+ *   busy			prints what the kernel said when the guest asked for its busy workqueues
+ *   listed			prints that the guest has printed what it has to say of a case that hangs
  *   bye			prints that all commands before it are done
  */
 #define pr_fmt(fmt) "wqjudge: " fmt
@@ -54,6 +59,14 @@ MODULE_PARM_DESC(looks, "what hasn't happened after so many looks, 20 ms apart, 
 
 static struct judged_case *cases[MAX_CASES];
 static struct judged_case *current_case;
+static bool hangs;	/* the current case, when its state was printed last */
+
+int next_line(void)
+{
+	static atomic_t lines = ATOMIC_INIT(0);
+
+	return atomic_inc_return(&lines);
+}
 
 static const char * const deeds[] = {
 	[FLUSH] = "flush", [FLUSHWQ] = "flushwq", [DRAINWQ] = "drain", [CANCEL_SYNC] = "cancelsync", [POLL] = "poll",
@@ -96,6 +109,8 @@ static int do_at(int number)
 	if (number < 0 || number >= MAX_CASES || !cases[number])
 		return -EINVAL;
 	current_case = cases[number];
+	hangs = false;
+	say("at %d\n", number);
 	return 0;
 }
 
@@ -135,11 +150,11 @@ static int do_in_case(const char *command, char *rest)
 	if (!strcmp(command, "state")) {
 		if (sscanf(rest, "%31s", word) != 1)
 			return -EINVAL;
-		print_state(current_case, word);
+		hangs = !print_state(current_case, word);
 		return 0;
 	}
 	if (!strcmp(command, "end")) {
-		end_case(current_case);
+		hangs = !end_case(current_case);
 		return 0;
 	}
 	if (!strcmp(command, "settle")) {
@@ -187,8 +202,10 @@ static int do_line(char *line)
 		return kstrtoint(line + at, 10, &a) ?: free_workers(a);
 	if (!strcmp(command, "plenty"))
 		return end_shortage();
-	if (!strcmp(command, "bye")) {
-		pr_err("bye\n");
+	if (!strcmp(command, "busy"))
+		return print_busy();
+	if (!strcmp(command, "bye") || !strcmp(command, "listed")) {
+		say("%s\n", command);
 		return 0;
 	}
 	return current_case ? do_in_case(command, line + at) : -EINVAL;
@@ -209,19 +226,27 @@ static ssize_t wqjudge_write(struct file *file, const char __user *from, size_t 
 	if (line)
 		err = do_line(line);
 	if (err)
-		pr_err("error %d in: %s\n", err, text);
+		say("error %d in: %s\n", err, text);
 	kfree(line);
 	kfree(text);
 	return err ?: len;
 }
 
-static const struct proc_ops wqjudge_ops = { .proc_write = wqjudge_write };
+/* Whether the current case hung when its state was printed last. */
+static ssize_t wqjudge_read(struct file *file, char __user *to, size_t len, loff_t *pos)
+{
+	const char *text = hangs ? "hung\n" : "done\n";
+
+	return simple_read_from_buffer(to, len, pos, text, strlen(text));
+}
+
+static const struct proc_ops wqjudge_ops = { .proc_read = wqjudge_read, .proc_write = wqjudge_write };
 
 static int __init wqjudge_init(void)
 {
-	if (!proc_create("wqjudge", 0200, NULL, &wqjudge_ops))
+	if (!proc_create("wqjudge", 0600, NULL, &wqjudge_ops))
 		return -ENOMEM;
-	pr_err("ready\n");
+	say("ready\n");
 	return 0;
 }
 module_init(wqjudge_init);

@@ -106,12 +106,15 @@ static int make_place(char kind, int cpu)
 
 int make_blockers(void)
 {
+	static const char kinds[] = "puohg";	/* make_queue() */
+	const char *kind;
 	int cpu, err = 0;
 
 	if (nplaces)
 		return -EBUSY;
 	for_each_online_cpu(cpu)
-		err = err ?: make_place('p', cpu) ?: make_place('u', cpu) ?: make_place('o', cpu);
+		for (kind = kinds; *kind && !err; kind++)
+			err = make_place(*kind, cpu);
 	return err;
 }
 
@@ -183,8 +186,8 @@ static bool is_short(void)
 		char with = READ_ONCE(p->with.by), without = READ_ONCE(p->without.by);
 		int started = nstarted_at(p);
 
-		pr_err("place %c%d: %d of %d blockers run; with a rescuer %c, without %c\n", p->kind, p->cpu, started,
-		       NBLOCKERS, shown(with), shown(without));
+		say("place %c%d: %d of %d blockers run; with a rescuer %c, without %c\n", p->kind, p->cpu, started,
+		    NBLOCKERS, shown(with), shown(without));
 		right &= started < NBLOCKERS && with == 'R' && !without;
 	}
 	return right;
@@ -198,10 +201,10 @@ int begin_shortage(void)
 	queue_blockers();
 	quiet();
 	if (!is_short()) {
-		pr_err("error: there is no shortage, or not the right one\n");
+		say("error: there is no shortage, or not the right one\n");
 		return -EAGAIN;
 	}
-	pr_err("short\n");
+	say("short\n");
 	return 0;
 }
 
@@ -227,10 +230,10 @@ int free_workers(int count)
 	msleep(QUIET_MS);
 	for (i = 0; i < nplaces; i++)
 		if (READ_ONCE(places[i]->without.by) != 'N') {
-			pr_err("error: at place %c%d no worker is free\n", places[i]->kind, places[i]->cpu);
+			say("error: at place %c%d no worker is free\n", places[i]->kind, places[i]->cpu);
 			return -EAGAIN;
 		}
-	pr_err("free %d\n", count);
+	say("free %d\n", count);
 	return 0;
 }
 
@@ -247,6 +250,6 @@ int end_shortage(void)
 	for (i = 0; i < nplaces; i++)
 		for (k = 0; k < NBLOCKERS; k++)
 			flush_work(&places[i]->blockers[k].work);
-	pr_err("plenty\n");
+	say("plenty\n");
 	return 0;
 }

@@ -16,6 +16,14 @@
 
 extern int looks;
 
+/*
+ * Prints a line to the console. All lines are numbered, so whoever reads them sees if one is lost: printk() drops
+ * what its buffer has no room for.
+ */
+#define say(fmt, ...) pr_err("%d " fmt, next_line(), ##__VA_ARGS__)
+
+int next_line(void);
+
 /* A workqueue, and what its rescuer's thread is called: nothing, if it has none. */
 struct queue {
 	struct workqueue_struct *wq;
@@ -30,7 +38,7 @@ enum deed {
 	DRAINWQ,	/* drain_workqueue() of the item's workqueue */
 	CANCEL_SYNC,	/* cancel_work_sync() */
 	POLL,		/* waits in a loop that doesn't sleep, for POLL_MS at most */
-	AWAIT,		/* a completion: until the item has finished once */
+	AWAIT,		/* a completion: see awaited() */
 	QUEUE,		/* queue_work() */
 	NAP,		/* sleeps for so many milliseconds */
 	FINISH,		/* returns */
@@ -60,6 +68,7 @@ struct item {
 	struct act next;
 
 	/* what has happened */
+	int accepted;			/* queueings, less those that were cancelled */
 	int started, finished;
 	enum doing doing;
 	struct act act;			/* the last one, or that in which it waits */
@@ -103,8 +112,11 @@ void queue_item(struct item *it, int cpu);
 void cancel_item(struct item *it);
 void begin_acts(struct judged_case *c);
 int drive(struct judged_case *c, const char *step, int item, int target);
-void print_state(struct judged_case *c, const char *word);
-void end_case(struct judged_case *c);
+bool print_state(struct judged_case *c, const char *word);
+bool end_case(struct judged_case *c);
+
+/* kernel_log.c */
+int print_busy(void);
 
 /* shortage.c */
 int make_blockers(void);

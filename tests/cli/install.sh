@@ -27,32 +27,28 @@ untouched() {
     is "$1: nothing is built" '' "$(cat "$work/calls")"
 }
 
-wanted='bin/
-bin/wqplan 755
-share/
-share/bash-completion/
-share/bash-completion/completions/
-share/bash-completion/completions/wqplan 644
-share/man/
-share/man/man1/
-share/man/man1/wqplan.1 644
-share/man/man5/
-share/man/man5/wqplan.5 644
-share/wqplan/
-share/wqplan/installed 644'
-files='bin/wqplan
+# tools FORMAT: the files of the tools, which stand as they are in the clone, in this format of find.
+tools() {
+    cd -- "$clone" && find source kernel tests docs -type f -printf "$1"
+}
+# What help lists, and then the files of the tools.
+listed='bin/wqjudge
+bin/wqplan
+bin/wqsource
+share/bash-completion/completions/wqjudge
 share/bash-completion/completions/wqplan
+share/bash-completion/completions/wqsource
+share/man/man1/wqjudge.1
 share/man/man1/wqplan.1
+share/man/man1/wqsource.1
 share/man/man5/wqplan.5
 share/wqplan/installed'
-folders='bin
-share
-share/bash-completion
-share/bash-completion/completions
-share/man
-share/man/man1
-share/man/man5
-share/wqplan'
+files=$( (echo "$listed" && tools 'share/wqplan/%p\n') | LC_ALL=C sort)
+folders=$( (printf '%s\n' bin share share/{bash-completion,bash-completion/completions,man,man/man1,man/man5,wqplan} &&
+    cd -- "$clone" && find source kernel tests docs -type d -printf 'share/wqplan/%p\n') | LC_ALL=C sort)
+# (a link has all modes)
+wanted=$( (sed 's|$|/|' <<<"$folders" && tools 'share/wqplan/%p %m\n' &&
+    sed -E 's|$| 644|; s|^bin/wqplan 644|bin/wqplan 755|; s|^(bin/.*) 644|\1 777|' <<<"$listed") | LC_ALL=C sort)
 
 # said VERB PREFIX: the names as seen from PREFIX behind this verb, in what the last run said, in order.
 said() {
@@ -65,6 +61,8 @@ installed() {
     is "$1: what is there" "$wanted" "$(tree "$2")"
     is "$1: what it said" "$files" "$(said installed "$2")"
     is "$1: the program" "$3" "$(limited "$2/bin/wqplan")"
+    is "$1: wqsource is a link to the tool" "$2/share/wqplan/source/wqsource" "$(realpath -- "$2/bin/wqsource")"
+    is "$1: wqjudge is a link to the tool" "$2/share/wqplan/kernel/judge" "$(realpath -- "$2/bin/wqjudge")"
     is "$1: wqplan(1)" '' "$(cmp -- "$repository/man/wqplan.1" "$2/share/man/man1/wqplan.1" 2>&1)"
     is "$1: wqplan(5)" '' "$(cmp -- "$repository/man/wqplan.5" "$2/share/man/man5/wqplan.5" 2>&1)"
     is "$1: the completion" '' "$(cmp -- "$repository/man/wqplan.bash" "$2/share/bash-completion/completions/wqplan" 2>&1)"
@@ -325,7 +323,7 @@ done
 run --help
 ends 'help' 0 ''
 is 'help: the head of the script' "$(awk 'NR > 1 && !/^#/ { exit } NR > 1 { sub(/^# ?/, ""); print }' "$repository/install.sh")" "$(cat "$work/out")"
-is 'help: the files' "$files" "$(sed -nE 's|^ +PREFIX/([^ ]+).*|\1|p' "$work/out" | LC_ALL=C sort)"
+is 'help: the files' "$listed" "$(sed -nE 's|^ +PREFIX/([^ ]+)$|\1|p' "$work/out" | LC_ALL=C sort)"
 is 'help: no line of more than 80 columns' '' "$(grep -E '.{81}' "$work/out")"
 untouched help '' "$prefix"
 

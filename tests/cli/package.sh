@@ -23,7 +23,8 @@ fi
 work=$(mktemp -d)
 trap 'rm -rf -- "$work"' EXIT
 . "$repository/tests/lib/toolchain.bash"
-cp -r -- "$repository"/{README.md,CHANGELOG.md,docs,examples,package} "$clone"
+cp -r -- "$repository"/{README.md,CHANGELOG.md,docs,examples,source,kernel} "$clone"
+find "$clone" -name __pycache__ -prune -exec rm -r -- {} +
 export PROGRAM=$program AFTER='cp -- "$PROGRAM" out/wqplan && chmod 755 out/wqplan'
 export PATH=$PATH:/usr/sbin:/sbin
 unset DEBFULLNAME DEBEMAIL SOURCE_DATE_EPOCH
@@ -79,8 +80,13 @@ is 'no script is run when it is installed or removed' 'control md5sums' "$(dpkg-
 {
     echo '-rwxr-xr-x usr/bin/wqplan'
     cd -- "$repository" && find README.md CHANGELOG.md docs/*.md docs/pictures examples -type f -printf '-rw-r--r-- usr/share/doc/wqplan/%p\n'
-    printf -- '-rw-r--r-- usr/share/%s\n' doc/wqplan/{changelog.gz,copyright} man/man1/wqplan.1.gz man/man5/wqplan.5.gz \
-        bash-completion/completions/wqplan
+    printf -- '-rw-r--r-- usr/share/%s\n' doc/wqplan/{changelog.gz,copyright} man/man1/wq{plan,source,judge}.1.gz \
+        man/man5/wqplan.5.gz bash-completion/completions/wq{plan,source,judge}
+    # The tools stand as they are in the repository; their commands are links to them.
+    printf 'lrwxrwxrwx usr/bin/%s\n' wqsource wqjudge
+    cd -- "$repository" && find source kernel -name __pycache__ -prune -o -type f -printf '%M usr/share/wqplan/%p\n'
+    printf -- '-rw-r--r-- usr/share/wqplan/%s\n' tests/model/{certificate,circle,command_line,deadlock,declaration,steps}.py \
+        tests/lib/records.py docs/tables/directives.txt
 } | LC_ALL=C sort >"$work/wanted"
 dpkg-deb --contents "$deb" >"$work/contents"
 awk '!/^d/ { sub(/^\.\//, "", $6); print $1, $6 }' "$work/contents" | LC_ALL=C sort >"$work/found"
@@ -126,10 +132,31 @@ is 'the program says its version' "wqplan $version" "$(limited "$root/usr/bin/wq
 is 'it finds the plan of the guide' '' "$(limited "$root/usr/bin/wqplan" plan examples/rdisk/rdisk.wq | diff - "$repository/examples/rdisk/rdisk.plan")"
 is 'it judges an example' safe "$(limited "$root/usr/bin/wqplan" deadlock examples/nvme-auth.wq examples/nvme-auth.later.assign)"
 is 'it has no symbols that are of no use to it' 'no symbols' "$(objdump -t "$root/usr/bin/wqplan" | grep -o 'no symbols')"
-for page in 1 5; do
-    is "wqplan($page)" '' "$(zcat "$root/usr/share/man/man$page/wqplan.$page.gz" | cmp - "$repository/man/wqplan.$page" 2>&1)"
+for page in wqplan.1 wqplan.5 wqsource.1 wqjudge.1; do
+    is "$page" '' "$(zcat "$root/usr/share/man/man${page#*.}/$page.gz" | cmp - "$repository/man/$page" 2>&1)"
 done
-is 'the completion' '' "$(cmp -- "$root/usr/share/bash-completion/completions/wqplan" "$repository/man/wqplan.bash" 2>&1)"
+for command in wqplan wqsource wqjudge; do
+    is "the completion of $command" '' "$(cmp -- "$root/usr/share/bash-completion/completions/$command" "$repository/man/$command.bash" 2>&1)"
+done
+
+# The tools, as they stand there. The judge is asked for what needs no guest.
+is 'Recommends' 'python3, coccinelle, graphviz, qemu-system-x86' "$(field Recommends)"
+export XDG_CACHE_HOME=$work/facts
+limited "$root/usr/bin/wqjudge" --help >"$work/out" 2>&1
+is 'wqjudge calls itself so' 'usage: wqjudge' "$(head -n 1 "$work/out" | cut -d ' ' -f 1,2)"
+PATH=$root/usr/bin:$PATH limited "$root/usr/bin/wqjudge" examples/nvme-auth.wq examples/nvme-auth.assign --write-c "$work/hang.c" >"$work/out" 2>&1
+is 'wqjudge writes a file of C of what hangs' "1: written: $work/hang.c" "$?: $(tail -n 1 "$work/out")"
+is 'which has the items' 4 "$(grep -cE '"(io|auth|dhchap_auth|connect)_work"' "$work/hang.c")"
+if command -v spatch >/dev/null; then
+    limited "$root/usr/bin/wqsource" audit --decl examples/rdisk/rdisk.wq --tree examples/rdisk rdisk.c >"$work/out" 2>&1
+    is 'wqsource audits an example' '1: left: rdisk.c:18 rdisk_log: submit_bio_wait(rd->record)  [other]' "$?: $(grep '^left:' "$work/out")"
+    limited "$root/usr/bin/wqsource" draft --tree examples/rdisk rdisk.c >"$work/out" 2>&1
+    is 'wqsource drafts a declaration' '0: 4' "$?: $(grep -c '^item ' "$work/out")"
+else
+    skipped "wqsource: there is no spatch (Debian's coccinelle)"
+fi
+unset XDG_CACHE_HOME
+is 'they have written nothing beside them' '' "$(find "$root/usr/share/wqplan" -name __pycache__ -o -name '*.pyc')"
 is 'its changelog has each version' "$(sed -n 's/^## \([0-9.]*\) - .*/\1/p' "$repository/CHANGELOG.md")" \
     "$(zcat changelog.gz | sed -n 's/^wqplan (\(.*\)) .*/\1/p')"
 is 'its copyright file says that no licence was chosen' 1 "$(grep -c '^Comment: No licence has been chosen' copyright)"

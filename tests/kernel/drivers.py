@@ -4,8 +4,8 @@
     drivers.py [--patched]
 
 On Linux 6.1, unchanged: an NFS mount that ends while a delegation is on its way back (examples/nfs.md), and md on md
-(examples/md.md). While no worker can be created both must hang, and the rescuer must sleep where the page says. It
-takes half a minute of processor time.
+(examples/md.md). While no worker can be created both must hang, and the rescuer must sleep where the page says; and
+the status must be 1, since the script then says `failed`. It takes half a minute of processor time.
 
 With --patched also what the pages say of patched drivers, and NFS on 6.12: that takes some ten minutes more the first
 time, and downloads the sources of two kernels, some 290 MB.
@@ -99,13 +99,14 @@ def is_part_of(wanted, functions):
     return all(any(name == each for each in left) for name in wanted)
 
 
-def judge(asked, console):
-    """Counts what the console of a guest says."""
+def judge(asked, console, status):
+    """Counts what the console of a guest says, and whether the status of the command goes with it."""
     name = " ".join(str(word).replace(f"{ROOT}/", "") for word in [*asked.flags, asked.script])
     parts = parts_of(console)
     if len(parts) != 2:
         tell(False, name, f"the guest didn't come to its end:\n{console[-2000:]}")
         return
+    tell(status == (1 if asked.hung else 0), f"{name}: the status", f"{status}")
     during, after = parts
     hung = hanging(during)
     tell(hung is not None and len(hung) == asked.hung, f"{name}: what hangs", f"{hung}")
@@ -118,10 +119,10 @@ def judge(asked, console):
 def main(arguments):
     for asked in UNCHANGED + (PATCHED if arguments == ["--patched"] else []):
         ended = run(asked.words(), timeout=SECONDS, capture_output=True)
-        if ended.returncode == MISSING:
+        if ended.returncode == MISSING and not ended.stdout:
             print(f"skipped drivers, {asked.script}: {ended.stderr.decode().strip()}")
             continue
-        judge(asked, ended.stdout.decode("latin-1"))
+        judge(asked, ended.stdout.decode("latin-1"), ended.returncode)
     return counts_of("drivers", counts[True], counts[False])
 
 

@@ -6,9 +6,10 @@ README.md says how.
 On Linux 6.1, with one CPU, while no worker can be created: all examples under their assignments and plans; the worked
 rows of `deadlock` (tests/cli/rows/deadlocks.py), with the answers that stand there; random declarations under their
 plans and under unsafe assignments; random runs, driven; and both with workqueues without a rescuer. Then random
-declarations with memory enough, and safe ones on two CPUs. On Linux 6.12 fewer of these. On both the situations of
-kernel/cases. Each wrong machine of mutants.py must be refused by something that 6.1 did; and so must what is no
-shortage, or not the right one, and a kernel and an answer in which each workqueue has a rescuer.
+declarations and long chains with memory enough, and safe declarations on two CPUs. On Linux 6.12 fewer of these. On
+both the situations of kernel/cases. Each wrong machine of mutants.py must be refused by something that 6.1 did; and so
+must what is no shortage, or not the right one, a kernel and an answer in which each workqueue has a rescuer, and each
+of 500 outcomes from which events are removed.
 
 Where QEMU or a kernel can't be had, it says so, and skips what needs it: that is no failure. It takes some two
 minutes of processor time once the cache of kernel/ has what it needs.
@@ -156,6 +157,21 @@ def random_runs(choose, count, letters, without_rescuer=0):
         yield case
 
 
+def chain_cases(choose):
+    """A chain of items on one workqueue, each of which waits for the next: with memory enough all end, if as many
+    workers can be created. (The declaration isn't safe.)
+    """
+    for count in (10, 40):
+        names = [f"i{number}" for number in range(count)]
+        lines = [f"item {name}" for name in names] + [f"flush {one} {next_}" for one, next_ in zip(names, names[1:])]
+        texts = ["".join(line + "\n" for line in lines).encode(), f"wq 0 {' '.join(names)}\n".encode()]
+        for kind in "pu":
+            asked = program.Asked(f"a chain of {count}, {kind}: ", texts, kind, choose)
+            for case in asked.free_cases(1, 1):
+                case.must = "end"
+                yield case
+
+
 def safe_cases(choose, count, letters, cpus):
     """Plans of random declarations, whose items are queued on any CPU."""
     for number in range(count):
@@ -201,6 +217,43 @@ def compare_mutants(made):
     for mutant in MUTANTS:
         refusing = [case.name for case in made if case.judge(mutant)]
         tell(refusing, f"a wrong model is noticed: {mutant.__name__}: by {len(refusing)} cases, such as {refusing[:1]}")
+
+
+# What is taken out of the events of an outcome, in words, and whether an event is. (module/cases.c, print_events)
+REMOVED = {
+    "all events": lambda letter: True,
+    "each queueing": lambda letter: letter == "q",
+    "each start": lambda letter: letter == "s",
+    "each finish": lambda letter: letter == "f",
+    "each wait": lambda letter: letter in cases.WAITING,
+    "the end of each wait": lambda letter: letter == "o",
+    "each mark of a step": lambda letter: letter == "|",
+}
+
+
+def without(case, events):
+    """The case, with an outcome that has these events alone."""
+    case = copy.copy(case)
+    case.outcome = copy.copy(case.outcome)
+    case.outcome.events = events
+    return case
+
+
+def try_removed(made, choose):
+    """Of 500 cases that agree each must differ if some of what happened is missing: all events of a kind, or one."""
+    made = [case for case in made if case.outcome.events and not case.judge()]
+    made = choose.sample(made, min(500, len(made)))
+    for what, is_removed in REMOVED.items():
+        tried = [case for case in made if any(is_removed(event[0]) for event in case.outcome.events)]
+        kept = [[event for event in case.outcome.events if not is_removed(event[0])] for case in tried]
+        told = sum(bool(without(case, events).judge()) for case, events in zip(tried, kept))
+        tell(tried and told == len(tried), f"{what} removed: told in {told} of {len(tried)} outcomes")
+    told = 0
+    for case in made:
+        events = list(case.outcome.events)
+        del events[choose.randrange(len(events))]
+        told += bool(without(case, events).judge())
+    tell(made and told == len(made), f"any one event removed: told in {told} of {len(made)} outcomes")
 
 
 def try_pinned(kernel):
@@ -353,6 +406,7 @@ def main(arguments):
     sets = {
         "with memory enough": random_sets(plenty, 12, letters["mixed"], "plenty"),
         "with memory enough, without rescuers": bare_sets(bare, 6, letters["mixed"], "plenty"),
+        "with memory enough, chains": chain_cases(plenty),
     }
     made += judged(kernel, sets, weather="plenty")
     sets = {
@@ -361,6 +415,7 @@ def main(arguments):
     }
     judged(kernel, sets, cpus=2)
     compare_mutants(made)
+    try_removed(made, random.Random("removed"))
     try_pinned(kernel)
     try_self_check(kernel, made)
     try_without_rescuers(made, rescued)

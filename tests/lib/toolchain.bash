@@ -2,12 +2,21 @@
 # and a `rattle-link`, which note their calls. The scripts that run install.sh source this file, once they have a folder $work and the
 # $repository; then the copy is $clone, the toolchain's folder $kit, and `run` runs install.sh.
 
-# A clone: install.sh, crates.txt, the pages, and of each crate a file in src/, in specs/ and (but for wq_text) in proofs/, and
+# A clone: install.sh, crates.txt, the pages, package/, and of each crate a file in src/, in specs/ and (but for wq_text) in proofs/, and
 # what install.sh has no use for.
 clone="$work/the clone"
 kit="$work/the kit"
 mkdir -p -- "$clone/crates" "$work/toolchain" "$kit/bin" "$work/home" "$work/tmp"
-cp -r -- "$repository/install.sh" "$repository/crates.txt" "$repository/man" "$clone"
+cp -r -- "$repository"/{install.sh,crates.txt,man,package} "$clone"
+# Of the tools beside it their commands and one more file each, and what one uses of tests/ and docs/.
+mkdir -p -- "$clone"/{source/csource,kernel/lib,tests/lib,tests/model,docs/tables}
+cp -- "$repository/source/wqsource" "$clone/source"
+cp -- "$repository/source/csource/says.py" "$clone/source/csource"
+cp -- "$repository/kernel/judge" "$clone/kernel"
+cp -- "$repository/kernel/lib/init" "$clone/kernel/lib"
+cp -- "$repository"/tests/model/{certificate,circle,command_line,deadlock,declaration,steps}.py "$clone/tests/model"
+cp -- "$repository/tests/lib/records.py" "$clone/tests/lib"
+cp -- "$repository/docs/tables/directives.txt" "$clone/docs/tables"
 while IFS=: read -r crate _; do
     mkdir -p -- "$clone/crates/$crate"/{src,specs,proofs,must-fail,out}
     echo "$crate" | tee -- "$clone/crates/$crate"/{src/lib.rt,specs/Lib.antt} >"$clone/crates/$crate/proofs/Lib.antt"
