@@ -1,0 +1,235 @@
+"""What was seen, beside what is declared."""
+
+import collections
+from dataclasses import dataclass, field
+from enum import Enum
+from typing import Iterator, Optional
+
+from csource.declaration import Dismissal
+
+from . import says
+from .causes import Wait
+from .declaration import Drawing
+from .declared import Declared, DeclaredItem, DeclaredWait, dismisses, is_cited_at, is_cited_in, is_on
+from .items import Edge, Item
+from .places import Frame
+
+# How many frames of a stack are printed.
+MOST_FRAMES = 14
+
+
+class Class(Enum):
+    """What becomes of a wait that was seen. The values are the headings."""
+
+    HOLE = "seen, not declared"
+    DISMISSED = "seen, but dismissed"
+    UNSURE = "perhaps seen, not declared (a lock, a thread between, or what was waited for had always started)"
+    OUTSIDE = "seen, of an item that isn't declared"
+    DECLARED = "declared and seen"
+
+
+class Exactness(Enum):
+    LINE = "at the same line"
+    FUNCTION = "in the same function"
+    ELSEWHERE = "at another place"
+
+
+@dataclass(eq=False)
+class Seen:
+    """A wait that was seen, and what the declaration has of it."""
+
+    edge: Edge
+    frames: list[Frame]
+    by: list[tuple[DeclaredWait, Exactness]] = field(default_factory=list)
+    dismissal: Optional[Dismissal] = None
+    is_implied: bool = False
+
+
+class Comparison:
+    def __init__(self, drawing: Drawing, declared: Declared) -> None:
+        self.drawing, self.declared = drawing, declared
+        self.reaches = self.closure()
+        self.seen: dict[Class, list[Seen]] = {kind: [] for kind in Class}
+        self.seen_waits: dict[DeclaredWait, Exactness] = {}
+        for edge in drawing.chosen.edges:
+            if self.concerns(edge):
+                one = self.judged(edge)
+                self.seen[self.class_of(one)].append(one)
+
+    @property
+    def has_hole(self) -> bool:
+        return bool(self.seen[Class.HOLE])
+
+    # What is declared -------------------------------------------------------------------------------
+
+    def closure(self) -> dict[DeclaredItem, set[DeclaredItem]]:
+        """For each item those that it waits for, and that these wait for."""
+        found: dict[DeclaredItem, set[DeclaredItem]] = {item: set() for item in self.declared.items.values()}
+        for wait in self.declared.waits:
+            found[wait.source] |= {wait.target, *(self.declared.on_workqueue_of(wait.target) if wait.is_whole else [])}
+        changed = True
+        while changed:
+            changed = False
+            for item, targets in found.items():
+                more = set().union(*(found[target] for target in targets)) - targets if targets else set()
+                if more:
+                    targets |= more
+                    changed = True
+        return found
+
+    def covers(self, wait: DeclaredWait, edge: Edge) -> bool:
+        """Whether a declared wait is one of this edge. One for a whole workqueue is one for each item there."""
+        sources, targets = self.declared.of_item(edge.source), self.declared.of_item(edge.target)
+        if wait.source not in sources:
+            return False
+        waited = [wait.target, *(self.declared.on_workqueue_of(wait.target) if wait.is_whole else [])]
+        if edge.is_whole and not wait.is_whole:
+            return False
+        return any(target in waited for target in targets)
+
+    # What was seen ----------------------------------------------------------------------------------
+
+    def concerns(self, edge: Edge) -> bool:
+        """Whether an edge is the declaration's business: an item of its own waits. (A wait for itself is none of two items.)"""
+        is_own = edge.source is edge.target and not edge.is_whole
+        return bool(self.declared.of_item(edge.source)) and not is_own and not edge.is_never_queued
+
+    def judged(self, edge: Edge) -> Seen:
+        frames = [frame for site in self.drawing.sites.of_edge(edge) for frame in site.frames]
+        found = Seen(edge, frames)
+        for wait in self.declared.waits:
+            if self.covers(wait, edge):
+                exactness = self.exactness(wait, frames)
+                found.by.append((wait, exactness))
+                if list(Exactness).index(exactness) < list(Exactness).index(self.seen_waits.get(wait, Exactness.ELSEWHERE)) or wait not in self.seen_waits:
+                    self.seen_waits[wait] = exactness
+        for site in self.drawing.sites.of_edge(edge):
+            for dismissal in self.declared.dismissals:
+                if found.dismissal is None and dismisses(dismissal, list(site.frames)):
+                    found.dismissal = dismissal
+        sources, targets = self.declared.of_item(edge.source), self.declared.of_item(edge.target)
+        found.is_implied = any(target in self.reaches[source] for source in sources for target in targets)
+        return found
+
+    @staticmethod
+    def exactness(wait: DeclaredWait, frames: list[Frame]) -> Exactness:
+        if is_cited_at(wait.citations, frames):
+            return Exactness.LINE
+        return Exactness.FUNCTION if is_cited_in(wait.citations, frames) else Exactness.ELSEWHERE
+
+    def class_of(self, one: Seen) -> Class:
+        if one.by:
+            return Class.DECLARED
+        if one.dismissal:
+            return Class.DISMISSED
+        if not one.edge.is_sure or one.is_implied:
+            return Class.UNSURE
+        if not self.declared.of_item(one.edge.target):
+            return Class.OUTSIDE
+        return Class.HOLE
+
+    # What is printed --------------------------------------------------------------------------------
+
+    def lines(self) -> Iterator[str]:
+        yield from (f"# {line}" for line in self.drawing.head)
+        for kind, found in self.seen.items():
+            yield f"{kind.value}: {len(found)}"
+            for one in sorted(found, key=lambda one: (one.edge.source.name, one.edge.target.name)):
+                yield from self.seen_lines(kind, one)
+        yield from self.never_seen_lines()
+        yield from self.item_lines()
+        yield from self.quiet_lines()
+        opened = [f"  {self.drawing.open_words(sleep)}" for sleep in self.drawing.open]
+        if opened:
+            yield f"still asleep when the record ended: {len(opened)}"
+            yield from opened
+        yield f"# {self.counts()}"
+
+    def seen_lines(self, kind: Class, one: Seen) -> Iterator[str]:
+        arrow = "=> all on the workqueue of" if one.edge.is_whole else "->"
+        yield f"  {one.edge.source.name} {arrow} {one.edge.target.name}: {self.drawing.words(one.edge)}"
+        if one.by:
+            best = sorted(one.by, key=lambda row: (list(Exactness).index(row[1]), row[0].number))[:4]
+            yield "      " + "; ".join(f"line {wait.number}: {exactness.value}" for wait, exactness in best)
+            return
+        yield from self.stack_lines(one.edge)
+        if one.dismissal:
+            yield f"      line {one.dismissal.number}: {one.dismissal}"
+        elif kind is Class.UNSURE and one.is_implied:
+            yield "      its waits follow from those that are declared"
+
+    def stack_lines(self, edge: Edge) -> Iterator[str]:
+        for site in self.drawing.sites.of_edge(edge)[:2]:
+            yield f"      {site.count}: " + " < ".join(map(str, site.frames[:MOST_FRAMES]))
+
+    def never_seen_lines(self) -> Iterator[str]:
+        unseen = [wait for wait in self.declared.waits if wait not in self.seen_waits]
+        yield f"declared, never seen: {len(unseen)}"
+        for wait in unseen:
+            yield f"  line {wait.number}: {wait.source.name} {'=> all on the workqueue of' if wait.is_whole else '->'} {wait.target.name}"
+
+    def item_lines(self) -> Iterator[str]:
+        lines = [*self.items_not_declared(), *self.items_that_never_ran(), *self.workqueues_that_differ()]
+        yield f"items and workqueues that differ: {len(lines)}"
+        yield from lines
+
+    def items_not_declared(self) -> Iterator[str]:
+        """Items that aren't declared and ran on a workqueue of declared ones, or were waited for by these."""
+        on = {kind for item in self.drawing.chosen.items if self.declared.of_item(item) for kind in [item.kind]}
+        waited = {one.edge.target for one in self.seen[Class.OUTSIDE]}
+        for item in self.drawing.chosen.items:
+            if item.runs and not self.declared.of_item(item) and (item.kind in on or item in waited):
+                dismissed = self.declared.dismissed_item(item)
+                why = f"; line {dismissed.number}: {dismissed}" if dismissed else ""
+                yield f"  not declared: {item.name}, on {item.kind}, ran {item.runs} times{why}"
+
+    def items_that_never_ran(self) -> Iterator[str]:
+        ran = {declared for item in self.drawing.items.items.values() if item.runs for declared in self.declared.of_item(item)}
+        for declared in self.declared.items.values():
+            if declared not in ran:
+                yield f"  never ran: {declared.name} (line {declared.number})"
+
+    def workqueues_that_differ(self) -> Iterator[str]:
+        for item in self.drawing.chosen.items:
+            same = self.declared.of_item(item)
+            if not same or not item.runs or not all(declared.in_assignment for declared in same):
+                continue
+            names = " or ".join(dict.fromkeys(declared.name for declared in same))
+            if not any(is_on(declared, item) for declared in same):
+                wanted = " or ".join(dict.fromkeys(str(declared.workqueue) for declared in same))
+                yield f"  {names} is assigned to {wanted}, and ran on {item.kind}"
+            for workqueue in item.workqueues.values():
+                if any(is_on(d, item) and d.has_rescuer is not None and d.has_rescuer != workqueue.has_rescuer for d in same):
+                    yield f"  {names}: the workqueue {workqueue.name} has {'a' if workqueue.has_rescuer else 'no'} rescuer, and is assigned otherwise"
+
+    def quiet_lines(self) -> Iterator[str]:
+        """Sleeps that no item ended: beside what is dismissed, these confirm it."""
+        told: dict[str, collections.Counter[str]] = collections.defaultdict(collections.Counter)
+        for wait in self.drawing.quiet:
+            item = self.drawing.items.item_of(wait.run)
+            if self.declared.of_item(item):
+                told[self.quiet_words(item, wait)][says.ender(wait.by.kind, self.drawing.history.names.get(wait.by.pid, "?"))] += 1
+        yield f"sleeps that no item ended: {sum(sum(row.values()) for row in told.values())}"
+        for words, row in sorted(told.items()):
+            yield f"  {words}: ended by {', '.join(f'{by} ({count})' for by, count in row.most_common(4))}"
+
+    def quiet_words(self, item: Item, wait: Wait) -> str:
+        frames = self.drawing.sites.frames(wait.stack)
+        for dismissal in self.declared.dismissals:
+            if dismisses(dismissal, frames):
+                return f"line {dismissal.number} says no wait at {dismissal.key}: {dismissal.why}"
+        names = {declared.name for declared in self.declared.of_item(item)}
+        for declared in self.declared.waits:
+            if declared.source.name in names and is_cited_in(declared.citations, frames):
+                return f"line {declared.number} cites this place for {declared.source.name} -> {declared.target.name}"
+        return f"neither a wait nor dismissed: {item.name} at {' < '.join(map(str, frames[:6]))}"
+
+    def counts(self) -> str:
+        """The last line."""
+        exact = collections.Counter(self.seen_waits.values())
+        seen = ", ".join(f"{exact[one]} {one.value}" for one in Exactness if exact[one])
+        return (
+            f"{len(self.declared.waits)} waits declared: {len(self.seen_waits)} seen ({seen or 'none'}), "
+            f"{len(self.declared.waits) - len(self.seen_waits)} never. {len(self.seen[Class.HOLE])} seen and not declared, "
+            f"{len(self.seen[Class.DISMISSED])} seen and dismissed."
+        )
