@@ -122,7 +122,8 @@ def boot(wanted: Guest, out: pathlib.Path, kernel: packages.Kernel, probes: str)
             "-nodefaults", "-no-user-config", "-display", "none", "-no-reboot", "-serial", "stdio", *disks,
             "-kernel", str(kernel.image), "-initrd", str(room / "initrd"), "-append", BOOT,
         ]  # fmt: skip
-        console = console_of(words, {**os.environ, **environment})
+        out.mkdir(parents=True, exist_ok=True)
+        console = console_of(words, {**os.environ, **environment}, out / "console")
         if "guest: ended\n" not in console:
             raise Failed(f"the guest ended early:\n{console[-3000:]}")
         with tarfile.open(room / "disk0", "r:", ignore_zeros=False) as left:
@@ -130,16 +131,15 @@ def boot(wanted: Guest, out: pathlib.Path, kernel: packages.Kernel, probes: str)
     return console
 
 
-def console_of(words: list[str], environment: dict[str, str]) -> str:
-    with subprocess.Popen(
-        words, stdin=subprocess.DEVNULL, stdout=subprocess.PIPE, stderr=subprocess.STDOUT, env=environment
-    ) as running:
+def console_of(words: list[str], environment: dict[str, str], path: pathlib.Path) -> str:
+    """Runs QEMU. What the guest says goes to a file meanwhile."""
+    with open(path, "wb") as console:
+        running = subprocess.Popen(words, stdin=subprocess.DEVNULL, stdout=console, stderr=console, env=environment)
         try:
-            said, _ = running.communicate(timeout=SECONDS)
-        except BaseException as stopped:
+            running.wait(timeout=SECONDS)
+        except subprocess.TimeoutExpired as late:
+            raise Failed(f"the guest took more than {SECONDS} s: its console is {path}") from late
+        finally:
             running.kill()
-            said, _ = running.communicate()
-            if isinstance(stopped, subprocess.TimeoutExpired):
-                raise Failed(f"the guest took more than {SECONDS} s:\n{said.decode('latin-1')[-3000:]}") from stopped
-            raise
-    return said.decode("latin-1").replace("\r", "")
+            running.wait()
+    return path.read_text("latin-1").replace("\r", "")

@@ -2,7 +2,7 @@
 
 import collections
 from dataclasses import dataclass, field
-from enum import Enum
+from enum import Enum, IntEnum
 from typing import Iterator, Optional
 
 from csource.declaration import Dismissal
@@ -16,6 +16,15 @@ from .places import Frame
 
 # How many frames of a stack are printed.
 MOST_FRAMES = 14
+# How many lines of the declaration are named for one wait.
+MOST_LINES = 4
+
+
+# Workqueues with rescuers of their own whose items need no line.
+NEEDS_NO_LINE = {
+    name: "a grace period's items need no line: their workqueue has a rescuer (docs/GUIDE.md, section 2, (f) and (j))"
+    for name in ("rcu_gp", "rcu_par_gp")
+}
 
 
 class Class(Enum):
@@ -24,14 +33,19 @@ class Class(Enum):
     HOLE = "seen, not declared"
     DISMISSED = "seen, but dismissed"
     UNSURE = "perhaps seen, not declared (a lock, a thread between, or what was waited for had always started)"
-    OUTSIDE = "seen, of an item that isn't declared"
     DECLARED = "declared and seen"
 
 
-class Exactness(Enum):
-    LINE = "at the same line"
-    FUNCTION = "in the same function"
-    ELSEWHERE = "at another place"
+class Exactness(IntEnum):
+    """How well the place where a wait was seen is the one that its line cites, from best to worst."""
+
+    LINE = 0
+    FUNCTION = 1
+    ELSEWHERE = 2
+
+    @property
+    def words(self) -> str:
+        return ("at the same line", "in the same function", "at another place")[self]
 
 
 @dataclass(eq=False)
@@ -101,15 +115,16 @@ class Comparison:
             if self.covers(wait, edge):
                 exactness = self.exactness(wait, frames)
                 found.by.append((wait, exactness))
-                if list(Exactness).index(exactness) < list(Exactness).index(self.seen_waits.get(wait, Exactness.ELSEWHERE)) or wait not in self.seen_waits:
-                    self.seen_waits[wait] = exactness
-        for site in self.drawing.sites.of_edge(edge):
-            for dismissal in self.declared.dismissals:
-                if found.dismissal is None and dismisses(dismissal, list(site.frames)):
-                    found.dismissal = dismissal
+                self.seen_waits[wait] = min(exactness, self.seen_waits.get(wait, exactness))
+        found.dismissal = next(filter(None, (self.dismissal_of(fact.stack) for fact in edge.facts)), None)
         sources, targets = self.declared.of_item(edge.source), self.declared.of_item(edge.target)
         found.is_implied = any(target in self.reaches[source] for source in sources for target in targets)
         return found
+
+    def dismissal_of(self, stack: tuple[int, ...]) -> Optional[Dismissal]:
+        chain = self.drawing.sites.places.chain(stack)
+        functions = self.drawing.history.symbols.names
+        return next((one for one in self.declared.dismissals if dismisses(one, chain, functions)), None)
 
     @staticmethod
     def exactness(wait: DeclaredWait, frames: list[Frame]) -> Exactness:
@@ -120,13 +135,19 @@ class Comparison:
     def class_of(self, one: Seen) -> Class:
         if one.by:
             return Class.DECLARED
-        if one.dismissal:
+        if one.dismissal or self.reason(one.edge.target):
             return Class.DISMISSED
         if not one.edge.is_sure or one.is_implied:
             return Class.UNSURE
-        if not self.declared.of_item(one.edge.target):
-            return Class.OUTSIDE
         return Class.HOLE
+
+    def reason(self, item: Item) -> str:
+        """Why no wait for an item needs a line, or ""."""
+        dismissed = self.declared.dismissed_item(item)
+        if dismissed:
+            return f"line {dismissed.number}: {dismissed}"
+        has_rescuer = all(workqueue.has_rescuer for workqueue in item.workqueues.values())
+        return NEEDS_NO_LINE.get(item.kind, "") if has_rescuer and item.workqueues else ""
 
     # What is printed --------------------------------------------------------------------------------
 
@@ -149,12 +170,16 @@ class Comparison:
         arrow = "=> all on the workqueue of" if one.edge.is_whole else "->"
         yield f"  {one.edge.source.name} {arrow} {one.edge.target.name}: {self.drawing.words(one.edge)}"
         if one.by:
-            best = sorted(one.by, key=lambda row: (list(Exactness).index(row[1]), row[0].number))[:4]
-            yield "      " + "; ".join(f"line {wait.number}: {exactness.value}" for wait, exactness in best)
+            best = sorted(one.by, key=lambda row: (row[1], row[0].number))[:MOST_LINES]
+            yield "      " + "; ".join(f"line {wait.number}: {exactness.words}" for wait, exactness in best)
             return
         yield from self.stack_lines(one.edge)
         if one.dismissal:
             yield f"      line {one.dismissal.number}: {one.dismissal}"
+        elif kind is Class.DISMISSED:
+            yield f"      {self.reason(one.edge.target)}"
+        elif not self.declared.of_item(one.edge.target):
+            yield f"      {one.edge.target.function}, on {one.edge.target.kind}, isn't declared"
         elif kind is Class.UNSURE and one.is_implied:
             yield "      its waits follow from those that are declared"
 
@@ -175,13 +200,13 @@ class Comparison:
 
     def items_not_declared(self) -> Iterator[str]:
         """Items that aren't declared and ran on a workqueue of declared ones, or were waited for by these."""
-        on = {kind for item in self.drawing.chosen.items if self.declared.of_item(item) for kind in [item.kind]}
-        waited = {one.edge.target for one in self.seen[Class.OUTSIDE]}
+        on = {item.kind for item in self.drawing.chosen.items if self.declared.of_item(item)}
+        waited = {one.edge.target for one in self.seen[Class.HOLE]}
         for item in self.drawing.chosen.items:
             if item.runs and not self.declared.of_item(item) and (item.kind in on or item in waited):
                 dismissed = self.declared.dismissed_item(item)
                 why = f"; line {dismissed.number}: {dismissed}" if dismissed else ""
-                yield f"  not declared: {item.name}, on {item.kind}, ran {item.runs} times{why}"
+                yield f"  not declared: {item.name}, on {item.kind}, ran {says.times(item.runs)}{why}"
 
     def items_that_never_ran(self) -> Iterator[str]:
         ran = {declared for item in self.drawing.items.items.values() if item.runs for declared in self.declared.of_item(item)}
@@ -215,9 +240,9 @@ class Comparison:
 
     def quiet_words(self, item: Item, wait: Wait) -> str:
         frames = self.drawing.sites.frames(wait.stack)
-        for dismissal in self.declared.dismissals:
-            if dismisses(dismissal, frames):
-                return f"line {dismissal.number} says no wait at {dismissal.key}: {dismissal.why}"
+        dismissal = self.dismissal_of(wait.stack)
+        if dismissal:
+            return f"line {dismissal.number} says no wait at {dismissal.key}: {dismissal.why}"
         names = {declared.name for declared in self.declared.of_item(item)}
         for declared in self.declared.waits:
             if declared.source.name in names and is_cited_in(declared.citations, frames):
@@ -227,7 +252,7 @@ class Comparison:
     def counts(self) -> str:
         """The last line."""
         exact = collections.Counter(self.seen_waits.values())
-        seen = ", ".join(f"{exact[one]} {one.value}" for one in Exactness if exact[one])
+        seen = ", ".join(f"{exact[one]} {one.words}" for one in Exactness if exact[one])
         return (
             f"{len(self.declared.waits)} waits declared: {len(self.seen_waits)} seen ({seen or 'none'}), "
             f"{len(self.declared.waits) - len(self.seen_waits)} never. {len(self.seen[Class.HOLE])} seen and not declared, "

@@ -72,7 +72,7 @@ class Drawing:
         width = max((len(item.name) for item in items), default=0)
         for item in items:
             places = ", ".join(self.sites.of_queueing(item)[:MOST_PLACES]) or "a place that wasn't recorded"
-            yield f"item {item.name:{width}}  # {item.function}, queued to {item.kind} at {places}; ran {item.runs} times"
+            yield f"item {item.name:{width}}  # {item.function}, queued to {item.kind} at {places}; ran {says.times(item.runs)}"
 
     def flush_lines(self) -> Iterator[str]:
         width = 2 * max((len(item.name) for item in self.chosen.items), default=0) + 8
@@ -90,7 +90,7 @@ class Drawing:
         hows = {fact.how for fact in edge.facts}
         how = next(how for how in How if how in hows)
         places = ", ".join(site.words for site in self.sites.of_edge(edge)[:MOST_SITES])
-        told = f"{WORDS[how]} {places}; seen {len(edge.facts)} times, slept {edge.slept}, longest {says.milliseconds(edge.longest)}"
+        told = f"{WORDS[how]} {places}; seen {says.times(len(edge.facts))}, slept {edge.slept}, longest {says.milliseconds(edge.longest)}"
         return "; ".join([told, *self.remarks(edge, how)])
 
     def remarks(self, edge: Edge, how: How) -> Iterator[str]:
@@ -124,7 +124,7 @@ class Drawing:
             by = "itself" if wait.by.run is wait.run else says.ender(wait.by.kind, self.history.names.get(wait.by.pid, "?"))
             counts[name, self.sites.cited(wait.stack), by] += 1
         for (name, place, by), count in sorted(counts.items()):
-            yield f"# no item: {name} slept at {place}, and {by} ended it, {count} times"
+            yield f"# no item: {name} slept at {place}, and {by} ended it, {says.times(count)}"
 
     def open_lines(self) -> Iterator[str]:
         for sleep in self.open:

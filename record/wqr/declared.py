@@ -11,6 +11,7 @@ from csource.declaration import Citation, Declaration, Dismissal, DismissedItem
 
 from .items import Item, kind_of
 from .places import Frame
+from .sites import is_machinery
 from .symbols import Symbols
 
 QUEUED = re.compile(r"queued to (?:the )?([\w-]+)")
@@ -155,15 +156,39 @@ def is_cited_in(citations: list[Citation], frames: Iterable[Frame]) -> bool:
     )
 
 
-def dismisses(dismissal: Dismissal, frames: list[Frame]) -> bool:
-    """Whether a wait with these frames, the innermost first, is in the call that is dismissed: the function is among them, and
-    either is the innermost, or calls what the dismissal names, or by a pointer or in a macro something else."""
-    for at, frame in enumerate(frames):
-        if frame.function == dismissal.key.function and is_file(dismissal.key.file, frame.file):
-            inner = frames[at - 1].function if at else None
-            if inner is None or plain(inner) == plain(dismissal.key.call):
+def dismisses(dismissal: Dismissal, chain: list[Frame], functions: set[str]) -> bool:
+    """Whether a wait is in a call that is dismissed. `chain` has all frames of its stack, the innermost first, and `functions`
+    are those of the kernel. The call is one of a frame, or a macro in the frame that waits, which the stack doesn't name. Where
+    the function that makes it isn't on the stack (a tail call), the file decides.
+    """
+    function, call = dismissal.key.function, dismissal.key.call
+    inner: Optional[Frame] = None
+    for frame in chain:
+        if is_file(dismissal.key.file, frame.file):
+            if frame.function == function and (inner is None or is_call(call, inner) or is_in_macro(call, inner, functions)):
                 return True
+            if frame.file and inner is not None and is_machinery(inner) and not is_machinery(frame) and is_call(call, inner):
+                return True
+        inner = frame
     return False
+
+
+# Calls whose own frames are missing, since they end with another call.
+ALIKE = (
+    re.compile(r"flush_(delayed_|rcu_)?work"),
+    re.compile(r"(flush|cancel)_(delayed_)?work(_sync|_timer)?"),
+    re.compile(r"(flush|destroy|drain)_workqueue"),
+)
+
+
+def is_call(call: str, frame: Frame) -> bool:
+    """Whether this is the frame of a call: of the function, or of what it calls at its end (as submit_bio_noacct)."""
+    name, wanted = plain(frame.function), plain(call)
+    return name.startswith(wanted) or any(alike.fullmatch(name) and alike.fullmatch(wanted) for alike in ALIKE)
+
+
+def is_in_macro(call: str, inner: Frame, functions: set[str]) -> bool:
+    return is_machinery(inner) and call not in functions
 
 
 def plain(name: str) -> str:

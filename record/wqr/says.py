@@ -39,3 +39,7 @@ def ender(kind: Kind, name: str) -> str:
 
 def milliseconds(time: int) -> str:
     return f"{time / 1e6:.1f} ms" if time < 10**9 else f"{time / 1e9:.1f} s"
+
+
+def times(count: int) -> str:
+    return "once" if count == 1 else f"{count} times"
