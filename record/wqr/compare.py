@@ -28,12 +28,15 @@ NEEDS_NO_LINE = {
 
 
 class Class(Enum):
-    """What becomes of a wait that was seen. The values are the headings."""
+    """What becomes of a wait that was seen. The values are the headings. `Perhaps`: it was for a lock, a thread was between, or
+    what was waited for had always started."""
 
     HOLE = "seen, not declared"
     DISMISSED = "seen, but dismissed"
-    UNSURE = "perhaps seen, not declared (a lock, a thread between, or what was waited for had always started)"
+    IMPLIED = "seen, not declared, and follows from what is"
+    UNSURE = "perhaps seen, not declared"
     DECLARED = "declared and seen"
+    PERHAPS = "declared, and perhaps seen"
 
 
 class Exactness(IntEnum):
@@ -65,10 +68,12 @@ class Comparison:
         self.reaches = self.closure()
         self.seen: dict[Class, list[Seen]] = {kind: [] for kind in Class}
         self.seen_waits: dict[DeclaredWait, Exactness] = {}
+        self.perhaps: set[DeclaredWait] = set()
         for edge in drawing.chosen.edges:
             if self.concerns(edge):
                 one = self.judged(edge)
                 self.seen[self.class_of(one)].append(one)
+        self.perhaps -= self.seen_waits.keys()
 
     @property
     def has_hole(self) -> bool:
@@ -115,7 +120,10 @@ class Comparison:
             if self.covers(wait, edge):
                 exactness = self.exactness(wait, frames)
                 found.by.append((wait, exactness))
-                self.seen_waits[wait] = min(exactness, self.seen_waits.get(wait, exactness))
+                if edge.is_sure:
+                    self.seen_waits[wait] = min(exactness, self.seen_waits.get(wait, exactness))
+                else:
+                    self.perhaps.add(wait)
         found.dismissal = next(filter(None, (self.dismissal_of(fact.stack) for fact in edge.facts)), None)
         sources, targets = self.declared.of_item(edge.source), self.declared.of_item(edge.target)
         found.is_implied = any(target in self.reaches[source] for source in sources for target in targets)
@@ -134,12 +142,12 @@ class Comparison:
 
     def class_of(self, one: Seen) -> Class:
         if one.by:
-            return Class.DECLARED
+            return Class.DECLARED if one.edge.is_sure else Class.PERHAPS
         if one.dismissal or self.reason(one.edge.target):
             return Class.DISMISSED
-        if not one.edge.is_sure or one.is_implied:
-            return Class.UNSURE
-        return Class.HOLE
+        if one.is_implied:
+            return Class.IMPLIED
+        return Class.HOLE if one.edge.is_sure else Class.UNSURE
 
     def reason(self, item: Item) -> str:
         """Why no wait for an item needs a line, or ""."""
@@ -180,15 +188,13 @@ class Comparison:
             yield f"      {self.reason(one.edge.target)}"
         elif not self.declared.of_item(one.edge.target):
             yield f"      {one.edge.target.function}, on {one.edge.target.kind}, isn't declared"
-        elif kind is Class.UNSURE and one.is_implied:
-            yield "      its waits follow from those that are declared"
 
     def stack_lines(self, edge: Edge) -> Iterator[str]:
         for site in self.drawing.sites.of_edge(edge)[:2]:
             yield f"      {site.count}: " + " < ".join(map(str, site.frames[:MOST_FRAMES]))
 
     def never_seen_lines(self) -> Iterator[str]:
-        unseen = [wait for wait in self.declared.waits if wait not in self.seen_waits]
+        unseen = [wait for wait in self.declared.waits if wait not in self.seen_waits and wait not in self.perhaps]
         yield f"declared, never seen: {len(unseen)}"
         for wait in unseen:
             yield f"  line {wait.number}: {wait.source.name} {'=> all on the workqueue of' if wait.is_whole else '->'} {wait.target.name}"
@@ -253,8 +259,8 @@ class Comparison:
         """The last line."""
         exact = collections.Counter(self.seen_waits.values())
         seen = ", ".join(f"{exact[one]} {one.words}" for one in Exactness if exact[one])
+        never = len(self.declared.waits) - len(self.seen_waits) - len(self.perhaps)
         return (
-            f"{len(self.declared.waits)} waits declared: {len(self.seen_waits)} seen ({seen or 'none'}), "
-            f"{len(self.declared.waits) - len(self.seen_waits)} never. {len(self.seen[Class.HOLE])} seen and not declared, "
-            f"{len(self.seen[Class.DISMISSED])} seen and dismissed."
+            f"{len(self.declared.waits)} waits declared: {len(self.seen_waits)} seen ({seen or 'none'}), {len(self.perhaps)} perhaps, "
+            f"{never} never. {len(self.seen[Class.HOLE])} seen and not declared, {len(self.seen[Class.DISMISSED])} seen and dismissed."
         )
