@@ -10,7 +10,7 @@ from csource.declaration import Dismissal
 from . import says
 from .causes import Wait
 from .declaration import Drawing
-from .declared import Declared, DeclaredItem, DeclaredWait, dismisses, is_cited_at, is_cited_in, is_on
+from .declared import SYSTEM, Declared, DeclaredItem, DeclaredWait, dismisses, is_cited_at, is_cited_in, is_on
 from .items import Edge, Item
 from .places import Frame
 
@@ -165,14 +165,12 @@ class Comparison:
             yield f"{kind.value}: {len(found)}"
             for one in sorted(found, key=lambda one: (one.edge.source.name, one.edge.target.name)):
                 yield from self.seen_lines(kind, one)
-        yield from self.never_seen_lines()
         yield from self.item_lines()
         yield from self.quiet_lines()
         opened = [f"  {self.drawing.open_words(sleep)}" for sleep in self.drawing.open]
         if opened:
             yield f"still asleep when the record ended: {len(opened)}"
             yield from opened
-        yield f"# {self.counts()}"
 
     def seen_lines(self, kind: Class, one: Seen) -> Iterator[str]:
         arrow = "=> all on the workqueue of" if one.edge.is_whole else "->"
@@ -193,20 +191,15 @@ class Comparison:
         for site in self.drawing.sites.of_edge(edge)[:2]:
             yield f"      {site.count}: " + " < ".join(map(str, site.frames[:MOST_FRAMES]))
 
-    def never_seen_lines(self) -> Iterator[str]:
-        unseen = [wait for wait in self.declared.waits if wait not in self.seen_waits and wait not in self.perhaps]
-        yield f"declared, never seen: {len(unseen)}"
-        for wait in unseen:
-            yield f"  line {wait.number}: {wait.source.name} {'=> all on the workqueue of' if wait.is_whole else '->'} {wait.target.name}"
-
     def item_lines(self) -> Iterator[str]:
         lines = [*self.items_not_declared(), *self.items_that_never_ran(), *self.workqueues_that_differ()]
         yield f"items and workqueues that differ: {len(lines)}"
         yield from lines
 
     def items_not_declared(self) -> Iterator[str]:
-        """Items that aren't declared and ran on a workqueue of declared ones, or were waited for by these."""
-        on = {item.kind for item in self.drawing.chosen.items if self.declared.of_item(item)}
+        """Items that aren't declared and ran on a workqueue of declared ones, or were waited for by these. (On the system's
+        workqueues is everybody's.)"""
+        on = {item.kind for item in self.drawing.chosen.items if self.declared.of_item(item)} - set(SYSTEM.values())
         waited = {one.edge.target for one in self.seen[Class.HOLE]}
         for item in self.drawing.chosen.items:
             if item.runs and not self.declared.of_item(item) and (item.kind in on or item in waited):
@@ -255,12 +248,43 @@ class Comparison:
                 return f"line {declared.number} cites this place for {declared.source.name} -> {declared.target.name}"
         return f"neither a wait nor dismissed: {item.name} at {' < '.join(map(str, frames[:6]))}"
 
-    def counts(self) -> str:
-        """The last line."""
-        exact = collections.Counter(self.seen_waits.values())
-        seen = ", ".join(f"{exact[one]} {one.words}" for one in Exactness if exact[one])
-        never = len(self.declared.waits) - len(self.seen_waits) - len(self.perhaps)
+
+# Of one record or several -----------------------------------------------------------------------------
+
+
+@dataclass
+class Total:
+    """What several records have seen together."""
+
+    comparisons: list[Comparison]
+    seen: dict[tuple[int, str], Exactness] = field(default_factory=dict)
+    perhaps: set[tuple[int, str]] = field(default_factory=set)
+
+    def __post_init__(self) -> None:
+        for comparison in self.comparisons:
+            for wait, exactness in comparison.seen_waits.items():
+                self.seen[wait.key] = min(exactness, self.seen.get(wait.key, exactness))
+            self.perhaps |= {wait.key for wait in comparison.perhaps}
+        self.perhaps -= self.seen.keys()
+
+    @property
+    def waits(self) -> list[DeclaredWait]:
+        return self.comparisons[0].declared.waits
+
+    def lines(self) -> Iterator[str]:
+        unseen = [wait for wait in self.waits if wait.key not in self.seen and wait.key not in self.perhaps]
+        yield f"declared, never seen: {len(unseen)}"
+        yield from (f"  line {wait.number}: {wait}" for wait in unseen)
+        yield f"# {self.counts(len(unseen))}"
+
+    def counts(self, unseen: int) -> str:
+        exact = collections.Counter(self.seen.values())
+        how = ", ".join(f"{exact[one]} {one.words}" for one in Exactness if exact[one])
+        holes, dismissed = (
+            len({(one.edge.source.name, one.edge.target.name) for each in self.comparisons for one in each.seen[kind]})
+            for kind in (Class.HOLE, Class.DISMISSED)
+        )
         return (
-            f"{len(self.declared.waits)} waits declared: {len(self.seen_waits)} seen ({seen or 'none'}), {len(self.perhaps)} perhaps, "
-            f"{never} never. {len(self.seen[Class.HOLE])} seen and not declared, {len(self.seen[Class.DISMISSED])} seen and dismissed."
+            f"{len(self.waits)} waits declared: {len(self.seen)} seen ({how or 'none'}), {len(self.perhaps)} perhaps, "
+            f"{unseen} never. {holes} seen and not declared, {dismissed} seen and dismissed."
         )

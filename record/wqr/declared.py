@@ -14,6 +14,17 @@ from .places import Frame
 from .sites import is_machinery
 from .symbols import Symbols
 
+# What the system's workqueues are called: the variables, and the names that the kernel gives them (kernel/workqueue.c).
+SYSTEM = {
+    "system_wq": "events",
+    "system_percpu_wq": "events",
+    "system_highpri_wq": "events_highpri",
+    "system_long_wq": "events_long",
+    "system_unbound_wq": "events_unbound",
+    "system_dfl_wq": "events_unbound",
+    "system_freezable_wq": "events_freezable",
+    "system_power_efficient_wq": "events_power_efficient",
+}
 QUEUED = re.compile(r"queued to (?:the )?([\w-]+)")
 WORD = re.compile(r"[A-Za-z_]\w+")
 FLUSHES = ("flush", "flushwq", "flush?", "flushwq?")
@@ -40,6 +51,14 @@ class DeclaredWait:
     source: DeclaredItem
     target: DeclaredItem
     citations: list[Citation]
+
+    def __str__(self) -> str:
+        return f"{self.source.name} {'=> all on the workqueue of' if self.is_whole else '->'} {self.target.name}"
+
+    @property
+    def key(self) -> tuple[int, str]:
+        """Which one it is, whichever record it is beside."""
+        return self.number, self.target.name
 
 
 @dataclass(frozen=True)
@@ -93,7 +112,7 @@ class Declared:
 
 
 def is_on(declared: DeclaredItem, item: Item) -> bool:
-    return declared.workqueue is not None and kind_of(declared.workqueue) == item.kind
+    return declared.workqueue is not None and kind_of(SYSTEM.get(declared.workqueue, declared.workqueue)) == item.kind
 
 
 def assigned(text: str) -> dict[str, Assigned]:

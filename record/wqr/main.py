@@ -12,7 +12,7 @@ from wqr.archive import PLACES, Archive, Unreadable  # noqa: E402
 from wqr.btf import NoTypes  # noqa: E402
 from wqr.causes import Causes  # noqa: E402
 from wqr.chosen import Chosen  # noqa: E402
-from wqr.compare import Comparison  # noqa: E402
+from wqr.compare import Comparison, Total  # noqa: E402
 from wqr.declaration import Drawing  # noqa: E402
 from wqr.declared import Declared  # noqa: E402
 from wqr.history import History  # noqa: E402
@@ -23,8 +23,8 @@ from wqr.sites import Sites  # noqa: E402
 HOLE, FAULT, NO_TYPES = 1, 3, 14
 
 
-def drawing_of(options: argparse.Namespace) -> Drawing:
-    archive = Archive.read(options.file)
+def drawing_of(file: pathlib.Path, options: argparse.Namespace) -> Drawing:
+    archive = Archive.read(file)
     history = History.of(archive)
     causes = Causes(history)
     items = Items(history, causes)
@@ -34,7 +34,7 @@ def drawing_of(options: argparse.Namespace) -> Drawing:
 
 
 def declare(options: argparse.Namespace) -> int:
-    drawing = drawing_of(options)
+    drawing = drawing_of(options.file, options)
     if options.assign:
         options.assign.write_text(drawing.assignment())
     if options.out:
@@ -45,11 +45,17 @@ def declare(options: argparse.Namespace) -> int:
 
 
 def compare(options: argparse.Namespace) -> int:
-    drawing = drawing_of(options)
-    declared = Declared.read(options.decl, options.assign, drawing.history.symbols)
-    comparison = Comparison(drawing, declared)
-    sys.stdout.writelines(f"{line}\n" for line in comparison.lines())
-    return HOLE if comparison.has_hole else 0
+    comparisons = []
+    for file in options.files:
+        drawing = drawing_of(file, options)
+        comparisons.append(Comparison(drawing, Declared.read(options.decl, options.assign, drawing.history.symbols)))
+        if len(options.files) > 1:
+            print(f"== {file}")
+        sys.stdout.writelines(f"{line}\n" for line in comparisons[-1].lines())
+    if len(options.files) > 1:
+        print("== together")
+    sys.stdout.writelines(f"{line}\n" for line in Total(comparisons).lines())
+    return HOLE if any(comparison.has_hole for comparison in comparisons) else 0
 
 
 def keep_places(options: argparse.Namespace) -> int:
@@ -83,8 +89,11 @@ def parser() -> argparse.ArgumentParser:
         added.set_defaults(does=does)
         return added
 
-    def reads_record(added: argparse.ArgumentParser) -> None:
-        added.add_argument("file", metavar="FILE", type=pathlib.Path, help="a record")
+    def reads_record(added: argparse.ArgumentParser, several: bool = False) -> None:
+        if several:
+            added.add_argument("files", metavar="FILE", nargs="+", type=pathlib.Path, help="records")
+        else:
+            added.add_argument("file", metavar="FILE", type=pathlib.Path, help="a record")
         added.add_argument(
             "--debug", metavar="FOLDER", type=pathlib.Path, default=pathlib.Path("/usr/lib/debug"), help="debug symbols of the kernel (default: /usr/lib/debug)"
         )
@@ -97,7 +106,7 @@ def parser() -> argparse.ArgumentParser:
     added.add_argument("--assign", metavar="ASSIGN", type=pathlib.Path, help="where the assignment goes")
     added = verb("compare", compare, "Tells what was seen beside what is declared. Status 1: a wait isn't declared.")
     added.add_argument("decl", metavar="DECL", type=pathlib.Path, help="a declaration")
-    reads_record(added)
+    reads_record(added, several=True)
     added.add_argument("--assign", metavar="ASSIGN", type=pathlib.Path, help="an assignment of it, whose comments name the workqueues")
     added.add_argument("--about", **about)
     added = verb("places", keep_places, "Writes the lines of the source into a record, so that it needs no debug symbols any more.")

@@ -4,7 +4,7 @@ import pytest
 from made import Made
 from test_causes import A, B, C, OTHER, PROCESS, THIRD, THREAD, WORKER, a_sleeps
 
-from wqr.compare import Class, Comparison
+from wqr.compare import Class, Comparison, Total
 from wqr.declared import Declared
 
 ITEMS = "item a  # a_work, queued to w at x.c:1 queue_here\nitem b  # b_work, queued to v at x.c:2 queue_here\n"
@@ -47,9 +47,16 @@ def test_a_declared_wait_is_seen():
 
 
 def test_a_declared_wait_that_did_not_happen_is_named():
-    comparison = compared(b_wakes(), ITEMS + "flush a b\nflush b a\n")
-    lines = list(comparison.lines())
-    assert lines[lines.index("declared, never seen: 1") + 1] == "  line 4: b -> a"
+    lines = list(Total([compared(b_wakes(), ITEMS + "flush a b\nflush b a\n")]).lines())
+    assert lines[:2] == ["declared, never seen: 1", "  line 4: b -> a"]
+    assert lines[2].startswith("# 2 waits declared: 1 seen (1 at another place), 0 perhaps, 1 never. 0 seen and not declared")
+
+
+def test_records_together_have_seen_what_one_of_them_has():
+    other = Made().queue(PROCESS, B, "b_work", wq=2).start(WORKER, B, "b_work").sleep(WORKER, B, "b_work")
+    other.queue(PROCESS, A, "a_work").start(OTHER, A, "a_work").wake(OTHER, WORKER)
+    declaration = ITEMS + "flush a b\nflush b a\n"
+    assert next(Total([compared(b_wakes(), declaration), compared(other, declaration)]).lines()) == "declared, never seen: 0"
 
 
 @pytest.mark.parametrize("line", ["no wait: x.c wait_here schedule(): why not", "no wait: x.c wait_here wait_event(q): why not"])
@@ -102,6 +109,13 @@ def test_items_of_a_grace_period_need_no_line():
 def test_an_item_on_another_workqueue_is_told():
     assignment = "wq 0 a  # z, x.c:5 make\nwq 1 b  # v, x.c:6 make\n"
     assert "  a is assigned to z, and ran on w" in list(compared(b_wakes(), ITEMS, assignment).lines())
+
+
+def test_the_systems_workqueue_is_called_events_by_the_kernel():
+    made = Made().queue(PROCESS, A, "a_work", name="events", rescuer=0).run(WORKER, A, "a_work")
+    made.queue(PROCESS, C, "c_work", name="events", rescuer=0).run(WORKER, C, "c_work")
+    lines = list(compared(made, ITEMS.splitlines()[0], "norescuer 0 a  # system_wq, kernel/workqueue.c:6067\n").lines())
+    assert "items and workqueues that differ: 0" in lines
 
 
 def test_a_rescuer_that_is_assigned_and_is_not_there_is_told():
