@@ -132,7 +132,9 @@ def boot(wanted: Guest, out: pathlib.Path, kernel: packages.Kernel, probes: str)
 
 
 def console_of(words: list[str], environment: dict[str, str], path: pathlib.Path) -> str:
-    """Runs QEMU. What the guest says goes to a file meanwhile."""
+    """Runs QEMU, which ends when this program does. What the guest says goes to a file meanwhile."""
+    if shutil.which("setpriv"):
+        words = ["setpriv", "--pdeathsig", "KILL", *words]
     with open(path, "wb") as console:
         running = subprocess.Popen(words, stdin=subprocess.DEVNULL, stdout=console, stderr=console, env=environment)
         try:

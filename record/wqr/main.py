@@ -72,7 +72,7 @@ def keep_places(options: argparse.Namespace) -> int:
 
 def print_probes(options: argparse.Namespace) -> int:
     try:
-        lines = probes.lines(options.btf.read_bytes(), options.mode)
+        lines = probes.lines(options.btf.read_bytes())
     except FileNotFoundError:
         print(f"wqrecord: the kernel has no BTF ({options.btf})", file=sys.stderr)
         return NO_TYPES
@@ -114,7 +114,6 @@ def parser() -> argparse.ArgumentParser:
     added.add_argument("--out", metavar="FILE", type=pathlib.Path, help="writes another record")
     added = verb("probes", print_probes, "Prints the probes for a kernel.")
     added.add_argument("--btf", metavar="FILE", type=pathlib.Path, default=pathlib.Path("/sys/kernel/btf/vmlinux"), help="its types (default: those of this kernel)")
-    added.add_argument("--mode", choices=("light", "default", "full"), default="default")
     return whole
 
 

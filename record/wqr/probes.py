@@ -25,10 +25,11 @@ class UnknownKernel(Exception):
     """The kernel's types lack what the probes need."""
 
 
-def lines(types: bytes, mode: str) -> list[str]:
+def lines(types: bytes) -> list[str]:
+    """Those of completions come last: they are for --full alone."""
     offsets = btf.structs(types, STRUCTS)
     try:
-        return [*usual(offsets), *(completions() if mode == "full" else [])]
+        return [*usual(offsets), *completions()]
     except KeyError as missing:
         raise UnknownKernel(f"the types of this kernel have no {missing.args[0]}") from missing
 

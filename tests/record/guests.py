@@ -48,7 +48,7 @@ input: 0, left:
 input: given to the command
 terminated: 143, left:
 terminated: 1 raw
-begun: 130, left:
+begun: 143, left:
 started: 0, left: instance probes state
 twice: 3, left: instance probes state
 stopped: 0, left:

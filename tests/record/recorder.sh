@@ -1,6 +1,7 @@
 # For a guest of record/: how `wqrecord run`, `start` and `stop` end, and what they leave behind. Each line of the form
 # `NAME: ..` is looked at by test_recorder.py.
-# modules: brd
+# modules: brd; md-mod; raid1
+# programs: setpriv
 
 tracing=/sys/kernel/tracing
 given="--probes /probes"
@@ -19,13 +20,30 @@ told() {
     echo "$1: $2, left:$(left)"
 }
 
-# flushes COUNT: items are queued and flushed by reading a disk's events.
+# A mirror on a RAM disk, each flush of which is a work item or two.
+echo md0 >/sys/module/md_mod/parameters/new_array
+array=/sys/block/md0/md
+echo none >$array/metadata_version
+echo raid1 >$array/level
+echo 1 >$array/raid_disks
+echo 4096 >$array/component_size
+echo 1:0 >$array/new_dev
+echo 0 >$array/dev-ram0/slot
+echo active >$array/array_state
+
+# flushes COUNT: in tens.
 flushes() {
-    count=$1
-    while [ $count -gt 0 ]; do
-        : </dev/ram0
-        count=$((count - 1))
+    tens=$1
+    while [ $tens -gt 0 ]; do
+        sync -d /dev/md0 /dev/md0 /dev/md0 /dev/md0 /dev/md0 /dev/md0 /dev/md0 /dev/md0 /dev/md0 /dev/md0
+        tens=$((tens - 1))
     done
+}
+
+# recording: waits until it has begun.
+recording() {
+    while [ ! -s /run/wqrecord/began ]; do wait_for 1; done
+    wait_for 1
 }
 
 wqrecord run $given -o /tmp/ended -- sh -c 'exit 7' 2>/tmp/said
@@ -39,7 +57,7 @@ told input $?
 echo "input: $(cat /tmp/copied)"
 
 wqrecord run $given -o /tmp/terminated -- sleep 1000 2>/tmp/said &
-wait_for 25
+recording
 kill -TERM $!
 wait $!
 told terminated $?
@@ -58,7 +76,7 @@ wqrecord start $given 2>/tmp/said
 told twice $?
 cat /tmp/said
 wqrecord status
-flushes 10
+flushes 1
 wqrecord stop -o /tmp/stopped 2>/dev/null
 told stopped $?
 wqrecord stop -o /tmp/stopped 2>/tmp/said
@@ -68,12 +86,12 @@ wqrecord drop
 told dropped $?
 
 wqrecord start $given --buffer 8
-flushes 1000
+flushes 30
 wqrecord stop -o /tmp/lost
 told lost $?
 wqrecord start $given --buffer 64 --stream /tmp/stream
 for part in 1 2 3 4 5; do
-    flushes 200
+    flushes 25
     wait_for 1
 done
 wqrecord stop -o /rec/streamed
@@ -82,8 +100,7 @@ echo "streamed: $(wc -c </rec/streamed) bytes"
 
 # A record, and the kernel's own text of the same events.
 wqrecord start $given
-flushes 20
-sync -d /dev/ram0
+flushes 2
 echo 0 >$tracing/instances/wqrecord/tracing_on
 cat $tracing/instances/wqrecord/trace >/rec/text
 wqrecord stop -o /rec/record
@@ -104,7 +121,7 @@ mount -t tmpfs none /sys/kernel/btf
 wqrecord start 2>/tmp/said
 told untyped $?
 cat /tmp/said
-setuidgid 1000 wqrecord start $given 2>/tmp/said
+setpriv --reuid 1000 --clear-groups wqrecord start $given 2>/tmp/said
 told unprivileged $?
 echo 2 >/proc/sys/kernel/kptr_restrict
 wqrecord start $given 2>/tmp/said

@@ -60,25 +60,24 @@ def test_offsets_with_bit_fields_are_read():
 def test_the_probe_of_a_sleep_goes_from_the_thread_to_its_item():
     # task_struct.worker_private is a kthread, whose data is the worker (kernel/kthread.c, kthread_data)
     wanted = "p sleep wq_worker_sleeping func=+24(+24(+2648(%di))):x64 work=+16(+24(+2648(%di))):x64"
-    assert probes.lines(types_of(MEMBERS), "default")[0] == wanted
+    assert probes.lines(types_of(MEMBERS))[0] == wanted
 
 
 def test_a_workqueue_of_6_12_has_max_active():
     newer = MEMBERS | {"workqueue_struct": {"rescuer": 136, "max_active": 148, "name": 192, "flags": 256, "saved_max_active": 300}}
-    queue = next(line for line in probes.lines(types_of(newer), "default") if line.startswith("p queue"))
+    queue = next(line for line in probes.lines(types_of(newer)) if line.startswith("p queue"))
     assert "max=+148(%si):s32" in queue and "name=+192(%si):string" in queue
 
 
-def test_completions_are_probed_in_full_alone():
-    assert not any("complete" in line for line in probes.lines(types_of(MEMBERS), "default"))
-    assert any(line.startswith("p complete complete ") for line in probes.lines(types_of(MEMBERS), "full"))
+def test_completions_are_probed_by_their_addresses():
+    assert "p complete complete c=%di:x64" in probes.lines(types_of(MEMBERS))
 
 
 def test_types_that_lack_a_member_are_told():
     with pytest.raises(probes.UnknownKernel, match="current_func"):
-        probes.lines(types_of(MEMBERS | {"worker": {"entry": 0}}), "default")
+        probes.lines(types_of(MEMBERS | {"worker": {"entry": 0}}))
 
 
 def test_what_is_no_btf_is_told():
     with pytest.raises(btf.NoTypes):
-        probes.lines(b"nothing", "default")
+        probes.lines(b"nothing")
