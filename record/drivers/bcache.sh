@@ -1,5 +1,5 @@
-# A cache on one disk for another one (examples/bcache.wq): writes that are written back, reads, garbage collection, and the end of
-# the cache.
+# A cache on one disk for another one (examples/bcache.wq): writes that are written back, reads, garbage collection, and
+# the end of the cache.
 # modules: bcache
 # programs: make-bcache
 # disks: 64M; 128M

@@ -1,5 +1,5 @@
-# What it costs to record: md on md, flushes and nothing else, without a record and in each mode, twice in turn. The guest's clock
-# counts instructions. (Not an example: record/README.md, "What it costs".)
+# What it costs to record: md on md, flushes and nothing else, without a record and in each mode, twice in turn. The
+# guest's clock counts instructions. (Not an example: record/README.md, "What it costs".)
 # modules: brd; md-mod; raid1
 
 array() {

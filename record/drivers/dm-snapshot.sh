@@ -1,5 +1,5 @@
-# An origin with snapshots on RAM disks (examples/dm-snapshot.wq). One snapshot is merged while another one of the same origin
-# copies; one overflows during the merge; and one is made invalid since its origin can't be read.
+# An origin with snapshots on RAM disks (examples/dm-snapshot.wq). One snapshot is merged while another one of the same
+# origin copies; one overflows during the merge; and one is made invalid since its origin can't be read.
 # modules: brd rd_nr=8; dm-snapshot
 # programs: dmsetup
 

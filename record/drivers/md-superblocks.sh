@@ -1,5 +1,5 @@
-# md on md with superblocks, and XFS on top, so that writes come with a flush (examples/md.wq): a write to a clean array waits
-# until its superblocks are written.
+# md on md with superblocks, and XFS on top, so that writes come with a flush (examples/md.wq): a write to a clean array
+# waits until its superblocks are written.
 # modules: brd rd_nr=1 rd_size=130000; md-mod; raid1; xfs
 # programs: mkfs.xfs; mdadm
 

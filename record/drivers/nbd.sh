@@ -1,5 +1,5 @@
-# A network block device of a server on this machine (examples/nbd.wq): reads, writes, a server that is silent until requests
-# time out, and the end of the connection.
+# A network block device of a server on this machine (examples/nbd.wq): reads, writes, a server that is silent until
+# requests time out, and the end of the connection.
 # modules: nbd
 # programs: nbd-client; nbd-server
 

@@ -1,5 +1,5 @@
-# An NFSv4.1 server on this machine, mounted twice (examples/nfs.wq). A process of real-time priority closes files and unmounts
-# before any worker runs: so the release of a task ends the mount.
+# An NFSv4.1 server on this machine, mounted twice (examples/nfs.wq). A process of real-time priority closes files and
+# unmounts before any worker runs: so the release of a task ends the mount.
 # modules: nfsv4; nfsd
 # programs: chrt
 

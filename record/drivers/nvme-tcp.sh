@@ -1,5 +1,6 @@
-# The NVMe host and target over TCP on this machine (examples/nvme-auth.wq, examples/nvmet-tcp.wq), without authentication, which
-# Debian's 6.1 hasn't built: namespaces that are files, a lost connection, a reconnect, and removals.
+# The NVMe host and target over TCP on this machine (examples/nvme-auth.wq, examples/nvmet-tcp.wq), without
+# authentication, which Debian's 6.1 hasn't built: namespaces that are files, a lost connection, a reconnect, and
+# removals.
 # modules: nvmet; nvmet-tcp; nvme-tcp
 # programs: nvme
 
@@ -30,7 +31,7 @@ ln -s $target/subsystems/here $target/ports/1/subsystems/here
 
 load() {
     nvme connect -t tcp -a 127.0.0.1 -s 4420 -n here --reconnect-delay=2 --ctrl-loss-tmo=60 --keep-alive-tmo=5 ||
-        echo 'transport=tcp,traddr=127.0.0.1,trsvcid=4420,nqn=here,reconnect_delay=2,keep_alive_tmo=5' >/dev/nvme-fabrics
+        return
     wait_for 2
     ls /dev/nvme*
     dd if=/dev/urandom of=/dev/nvme0n1 bs=4k count=100 oflag=direct 2>/dev/null &

@@ -1,5 +1,5 @@
-# XFS with -o discard on a virtio disk, with a small log (examples/xfs.wq): small files, fragments, direct writes, writers that sync
-# in parallel, removals, and a disk that becomes full.
+# XFS with -o discard on a virtio disk, with a small log (examples/xfs.wq): small files, fragments, direct writes,
+# writers that sync in parallel, removals, and a disk that becomes full.
 # modules: xfs
 # programs: mkfs.xfs; xfs_io
 # disks: 120M
@@ -26,7 +26,9 @@ load() {
     report written
     (for k in 1 2 3 4 5 6; do dd if=/dev/zero of=/x/s$k bs=4k count=5 conv=fsync 2>/dev/null; done) &
     (for k in 1 2 3 4; do xfs_io -f -d -s -c 'pwrite -q -b 4k 0 16k' /x/t$k; done) &
-    (for k in 1 2 3; do xfs_io -f -c 'falloc 0 1m' -c 'pwrite -q 0 512k' -c 'sync_range -w 0 512k' -c 'pwrite -q 0 256k' -c fsync /x/u$k; done) &
+    (for k in 1 2 3; do
+        xfs_io -f -c 'falloc 0 1m' -c 'pwrite -q 0 512k' -c 'sync_range -w 0 512k' -c 'pwrite -q 0 256k' -c fsync /x/u$k
+    done) &
     (sync; sync; sync) &
     rm -r /x/d1 /x/d2 /x/big
     wait

@@ -21,9 +21,8 @@ import guest as judge  # noqa: E402  (in kernel/lib)
 import packages  # noqa: E402
 
 SECONDS = 3600
-FOLDERS = (
-    "bin dev proc sys lib lib64 usr usr/bin usr/sbin usr/lib usr/lib/x86_64-linux-gnu lib/x86_64-linux-gnu sbin etc".split()
-)
+FOLDERS = "bin dev proc sys lib lib64 usr usr/bin usr/sbin usr/lib sbin etc".split()
+LIBRARIES = "usr/lib/x86_64-linux-gnu", "lib/x86_64-linux-gnu"
 BOOT = (
     f"{judge.BOOT} rcupdate.rcu_cpu_stall_suppress=1 cryptomgr.notests "
     "initcall_blacklist=load_system_certificate_list,load_module_cert,ima_init,init_ima"
@@ -76,7 +75,9 @@ def program_files(name: str) -> dict[str, tuple[int, bytes]]:
     path = shutil.which(name, path=f"{os.environ['PATH']}:/usr/sbin:/sbin")
     if path is None:
         raise packages.Missing(f"the guest needs {name}, which isn't installed here")
-    wanted = {f"usr/sbin/{os.path.basename(path)}": path} | {library.lstrip("/"): library for library in libraries(path)}
+    wanted = {f"usr/sbin/{os.path.basename(path)}": path} | {
+        library.lstrip("/"): library for library in libraries(path)
+    }
     return {where: (judge.PROGRAM, pathlib.Path(file).read_bytes()) for where, file in wanted.items()}
 
 
@@ -85,14 +86,17 @@ def files_of(wanted: Guest, kernel: packages.Kernel, probes: str) -> dict[str, t
     names = [*(["virtio_pci"] if kernel.series == "6.1" else []), "virtio_blk", *(word[0] for word in words)]
     parameters = {word[0].replace("-", "_"): " ".join(word[1:]) for word in words}
     modules = [module for group in packages.modules(kernel, names) for module in group]
-    files = {folder: (judge.FOLDER, b"") for folder in FOLDERS}
+    files = {folder: (judge.FOLDER, b"") for folder in (*FOLDERS, *LIBRARIES)}
     files["bin/busybox"] = judge.PROGRAM, packages.busybox().read_bytes()
     files["init"] = judge.PROGRAM, (HERE / "init").read_bytes()
     files["usr/bin/wqrecord"] = judge.PROGRAM, (RECORD / "wqrecord").read_bytes()
     files["probes"] = judge.TEXT, probes.encode()
     files["script"] = judge.TEXT, wanted.script.encode()
     files["settings"] = judge.TEXT, "".join(f"{name}='{value}'\n" for name, value in wanted.settings.items()).encode()
-    files["modules"] = judge.TEXT, "".join(f"{module.name} {parameters.get(packages.plain_name(module), '')}\n" for module in modules).encode()
+    files["modules"] = (
+        judge.TEXT,
+        "".join(f"{module.name} {parameters.get(packages.plain_name(module), '')}\n" for module in modules).encode(),
+    )
     files |= {module.name: (judge.TEXT, module.read_bytes()) for module in modules}
     for name in wanted.programs:
         files |= program_files(name)
@@ -115,7 +119,11 @@ def boot(wanted: Guest, out: pathlib.Path, kernel: packages.Kernel, probes: str)
         room = pathlib.Path(folder)
         (room / "initrd").write_bytes(judge.archive(files_of(wanted, kernel, probes)))
         clock = ["-icount", f"shift={judge.ICOUNT_SHIFT},sleep=off", "-rtc", "clock=vm"] if wanted.cpus == 1 else []
-        disks = [word for number, size in enumerate(["1G", *wanted.disks]) for word in disk(room / f"disk{number}", size, f"d{number}")]
+        disks = [
+            word
+            for number, size in enumerate(["1G", *wanted.disks])
+            for word in disk(room / f"disk{number}", size, f"d{number}")
+        ]
         words = [
             *program, "-accel", f"tcg,thread={'single' if wanted.cpus == 1 else 'multi'}", *clock, "-seed", "1",
             "-machine", "pc", "-cpu", "max", "-smp", str(wanted.cpus), "-m", wanted.memory,

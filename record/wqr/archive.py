@@ -85,7 +85,9 @@ class Archive:
         for name in sorted(self.parts):
             if name.endswith(".stats"):
                 counts = dict(re.findall(r"^([a-z ]+): (\d+)$", self.text(name), re.M))
-                found += [f"{counts[word]} events of {name[:-6]} ({word})" for word in LOSSES if int(counts.get(word, 0))]
+                found += [
+                    f"{counts[word]} events of {name[:-6]} ({word})" for word in LOSSES if int(counts.get(word, 0))
+                ]
         return found
 
     def missed(self) -> list[Missed]:

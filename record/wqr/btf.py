@@ -16,7 +16,9 @@ class NoTypes(Exception):
 
 def structs(data: bytes, wanted: set[str]) -> dict[str, dict[str, int]]:
     """Of the structs of these names the offset of each member, in bytes."""
-    magic, _, _, head, type_at, type_size, string_at, string_size = struct.unpack_from("<HBBIIIII", data.ljust(24, b"\0"))
+    magic, _, _, head, type_at, type_size, string_at, string_size = struct.unpack_from(
+        "<HBBIIIII", data.ljust(24, b"\0")
+    )
     if magic != MAGIC:
         raise NoTypes("this is no BTF (the kernel's is /sys/kernel/btf/vmlinux)")
     strings = data[head + string_at : head + string_at + string_size]

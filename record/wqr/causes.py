@@ -18,8 +18,9 @@ from .history import Agent, Call, History, Kind, Run, Sleep
 
 # Who sleeps in one of these waits for a lock, and so for its holder, which has started.
 LOCK = re.compile(
-    r"rwsem_down_(read|write)_slowpath|__mutex_lock.*|___?down.*|__down.*|down(_read|_write|_killable|_interruptible|_timeout)?"
-    r"|__lock_sock|__folio_lock.*|__?rt_mutex_.*slow.*|__wait_on_bit_lock|bit_wait_lock|__percpu_down_read|percpu_rwsem_wait"
+    r"rwsem_down_(read|write)_slowpath|__mutex_lock.*|___?down.*|__down.*"
+    r"|down(_read|_write|_killable|_interruptible|_timeout)?|__lock_sock|__folio_lock.*|__?rt_mutex_.*slow.*"
+    r"|__wait_on_bit_lock|bit_wait_lock|__percpu_down_read|percpu_rwsem_wait"
 )
 # The functions in which a call that flushes sleeps.
 FLUSHERS = {"__flush_work", "__flush_workqueue", "drain_workqueue"}
@@ -54,9 +55,8 @@ CALLS = {how.value: how for how in (How.FLUSH, How.CANCEL, How.FLUSHWQ, How.DRAI
 
 @dataclass(eq=False)
 class Fact:
-    """An item waited for another one. Without a target it is known by its function or its workqueue alone: no execution of it
-    was seen. `had_started`: the target ran already when the wait began. `through`: the thread between them.
-    """
+    """An item waited for another one. Without a target it is known by its function or its workqueue alone: no execution
+    of it was seen. `had_started`: the target ran already when the wait began. `through`: the thread between them."""
 
     run: Run
     how: How
@@ -184,7 +184,12 @@ class Causes:
             yield self.fact(wait, how, target, last, through)
         named = {id(wait.by.run)}
         for sleep in wait.sleeps[:-1]:
-            if sleep.by and sleep.by.kind is Kind.ITEM and id(sleep.by.run) not in named and not sleep.by.run.is_barrier:
+            if (
+                sleep.by
+                and sleep.by.kind is Kind.ITEM
+                and id(sleep.by.run) not in named
+                and not sleep.by.run.is_barrier
+            ):
                 named.add(id(sleep.by.run))
                 yield self.fact(wait, How.EARLY, sleep.by.run, sleep)
 
@@ -194,7 +199,12 @@ class Causes:
         if wait.by.kind is Kind.ITEM and not wait.by.run.is_barrier:
             yield self.fact(wait, How.LOCK, wait.by.run, last)
             for sleep in self.sleeps_of.get(wait.by.pid, []):
-                if sleep.by and sleep.by.kind is Kind.ITEM and wait.start < sleep.end < wait.end and not sleep.by.run.is_barrier:
+                if (
+                    sleep.by
+                    and sleep.by.kind is Kind.ITEM
+                    and wait.start < sleep.end < wait.end
+                    and not sleep.by.run.is_barrier
+                ):
                     yield self.fact(wait, How.LOCK, sleep.by.run, last, wait.by.pid)
         elif wait.by.kind is Kind.THREAD:
             for _, target, through in self.through(wait.by, wait.start, wait.end):

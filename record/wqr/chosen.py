@@ -1,6 +1,5 @@
-"""Which items a declaration is about: those of some modules, functions or workqueues; what these wait for, and what that
-waits for; and who waits for them.
-"""
+"""Which items a declaration is about: those of some modules, functions or workqueues; what these wait for, and what
+that waits for; and who waits for them."""
 
 import re
 from dataclasses import dataclass

@@ -28,8 +28,8 @@ NEEDS_NO_LINE = {
 
 
 class Class(Enum):
-    """What becomes of a wait that was seen. The values are the headings. `Perhaps`: it was for a lock, a thread was between, or
-    what was waited for had always started."""
+    """What becomes of a wait that was seen. The values are the headings. `Perhaps`: it was for a lock, a thread was
+    between, or what was waited for had always started."""
 
     HOLE = "seen, not declared"
     DISMISSED = "seen, but dismissed"
@@ -109,7 +109,8 @@ class Comparison:
     # What was seen ----------------------------------------------------------------------------------
 
     def concerns(self, edge: Edge) -> bool:
-        """Whether an edge is the declaration's business: an item of its own waits. (A wait for itself is none of two items.)"""
+        """Whether an edge is the declaration's business: an item of its own waits. (A wait for itself is none of two
+        items.)"""
         is_own = edge.source is edge.target and not edge.is_whole
         return bool(self.declared.of_item(edge.source)) and not is_own and not edge.is_never_queued
 
@@ -197,8 +198,8 @@ class Comparison:
         yield from lines
 
     def items_not_declared(self) -> Iterator[str]:
-        """Items that aren't declared and ran on a workqueue of declared ones, or were waited for by these. (On the system's
-        workqueues is everybody's.)"""
+        """Items that aren't declared and ran on a workqueue of declared ones, or were waited for by these. (On the
+        system's workqueues is everybody's.)"""
         on = {item.kind for item in self.drawing.chosen.items if self.declared.of_item(item)} - set(SYSTEM.values())
         waited = {one.edge.target for one in self.seen[Class.HOLE]}
         for item in self.drawing.chosen.items:
@@ -208,7 +209,12 @@ class Comparison:
                 yield f"  not declared: {item.name}, on {item.kind}, ran {says.times(item.runs)}{why}"
 
     def items_that_never_ran(self) -> Iterator[str]:
-        ran = {declared for item in self.drawing.items.items.values() if item.runs for declared in self.declared.of_item(item)}
+        ran = {
+            declared
+            for item in self.drawing.items.items.values()
+            if item.runs
+            for declared in self.declared.of_item(item)
+        }
         for declared in self.declared.items.values():
             if declared not in ran:
                 yield f"  never ran: {declared.name} (line {declared.number})"
@@ -223,8 +229,12 @@ class Comparison:
                 wanted = " or ".join(dict.fromkeys(str(declared.workqueue) for declared in same))
                 yield f"  {names} is assigned to {wanted}, and ran on {item.kind}"
             for workqueue in item.workqueues.values():
-                if any(is_on(d, item) and d.has_rescuer is not None and d.has_rescuer != workqueue.has_rescuer for d in same):
-                    yield f"  {names}: the workqueue {workqueue.name} has {'a' if workqueue.has_rescuer else 'no'} rescuer, and is assigned otherwise"
+                if any(
+                    is_on(d, item) and d.has_rescuer is not None and d.has_rescuer != workqueue.has_rescuer
+                    for d in same
+                ):
+                    has = "a" if workqueue.has_rescuer else "no"
+                    yield f"  {names}: the workqueue {workqueue.name} has {has} rescuer, and is assigned otherwise"
 
     def quiet_lines(self) -> Iterator[str]:
         """Sleeps that no item ended: beside what is dismissed, these confirm it."""
@@ -232,7 +242,9 @@ class Comparison:
         for wait in self.drawing.quiet:
             item = self.drawing.items.item_of(wait.run)
             if self.declared.of_item(item):
-                told[self.quiet_words(item, wait)][says.ender(wait.by.kind, self.drawing.history.names.get(wait.by.pid, "?"))] += 1
+                told[self.quiet_words(item, wait)][
+                    says.ender(wait.by.kind, self.drawing.history.names.get(wait.by.pid, "?"))
+                ] += 1
         yield f"sleeps that no item ended: {sum(sum(row.values()) for row in told.values())}"
         for words, row in sorted(told.items()):
             yield f"  {words}: ended by {', '.join(f'{by} ({count})' for by, count in row.most_common(4))}"

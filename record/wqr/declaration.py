@@ -72,7 +72,8 @@ class Drawing:
         width = max((len(item.name) for item in items), default=0)
         for item in items:
             places = ", ".join(self.sites.of_queueing(item)[:MOST_PLACES]) or "a place that wasn't recorded"
-            yield f"item {item.name:{width}}  # {item.function}, queued to {item.kind} at {places}; ran {says.times(item.runs)}"
+            queued = f"{item.function}, queued to {item.kind} at {places}"
+            yield f"item {item.name:{width}}  # {queued}; ran {says.times(item.runs)}"
 
     def flush_lines(self) -> Iterator[str]:
         width = 2 * max((len(item.name) for item in self.chosen.items), default=0) + 8
@@ -90,8 +91,8 @@ class Drawing:
         hows = {fact.how for fact in edge.facts}
         how = next(how for how in How if how in hows)
         places = ", ".join(site.words for site in self.sites.of_edge(edge)[:MOST_SITES])
-        told = f"{WORDS[how]} {places}; seen {says.times(len(edge.facts))}, slept {edge.slept}, longest {says.milliseconds(edge.longest)}"
-        return "; ".join([told, *self.remarks(edge, how)])
+        seen = f"seen {says.times(len(edge.facts))}, slept {edge.slept}, longest {says.milliseconds(edge.longest)}"
+        return "; ".join([f"{WORDS[how]} {places}", seen, *self.remarks(edge, how)])
 
     def remarks(self, edge: Edge, how: How) -> Iterator[str]:
         if how is How.QUEUED:
@@ -102,7 +103,11 @@ class Drawing:
             yield "it had ended the wait already"
         threads = {self.history.names.get(fact.through, "?") for fact in edge.facts if fact.through is not None}
         if how is How.LOCK:
-            yield "a lock: " + (f"its holder {', '.join(sorted(threads))} was woken by it" if threads else "it was the holder, and had started")
+            yield "a lock: " + (
+                f"its holder {', '.join(sorted(threads))} was woken by it"
+                if threads
+                else "it was the holder, and had started"
+            )
         elif how is How.THROUGH:
             yield f"through {', '.join(sorted(threads))}, which it woke meanwhile"
         if edge.is_never_queued:
@@ -112,7 +117,9 @@ class Drawing:
         if how in (How.DONE, How.QUEUED) and not edge.is_sure:
             yield "it had always started before"
         ended = collections.Counter(
-            self.sites.actor(fact.ender, fact.ended_in_interrupt) for fact in edge.facts if fact.ender and fact.how is How.DONE
+            self.sites.actor(fact.ender, fact.ended_in_interrupt)
+            for fact in edge.facts
+            if fact.ender and fact.how is How.DONE
         )
         if ended:
             yield f"ended at {ended.most_common(1)[0][0]}"
@@ -121,7 +128,11 @@ class Drawing:
         counts: collections.Counter[tuple[str, str, str]] = collections.Counter()
         for wait in self.quiet:
             name = self.items.item_of(wait.run).name
-            by = "itself" if wait.by.run is wait.run else says.ender(wait.by.kind, self.history.names.get(wait.by.pid, "?"))
+            by = (
+                "itself"
+                if wait.by.run is wait.run
+                else says.ender(wait.by.kind, self.history.names.get(wait.by.pid, "?"))
+            )
             counts[name, self.sites.cited(wait.stack), by] += 1
         for (name, place, by), count in sorted(counts.items()):
             yield f"# no item: {name} slept at {place}, and {by} ended it, {says.times(count)}"
@@ -159,7 +170,8 @@ class Drawing:
         word = "wq" if all(one.has_rescuer for one in known.values()) else "norescuer"
         one = next(iter(known.values()))
         several = f", {len(known)} of them" if len(known) > 1 else ""
-        return f"{word} {number} {names}  # {items[0].kind}, {', '.join(flags_of(one))}, max_active {one.max_active}{several}"
+        flags = ", ".join(flags_of(one))
+        return f"{word} {number} {names}  # {items[0].kind}, {flags}, max_active {one.max_active}{several}"
 
 
 def flags_of(workqueue: Workqueue) -> list[str]:

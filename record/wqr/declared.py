@@ -79,7 +79,9 @@ class Declared:
     @staticmethod
     def read(path: pathlib.Path, assignment: Optional[pathlib.Path], symbols: Symbols) -> "Declared":
         text = path.read_text(errors="surrogateescape")
-        return Declared.of(str(path), text, assignment.read_text(errors="surrogateescape") if assignment else "", symbols)
+        return Declared.of(
+            str(path), text, assignment.read_text(errors="surrogateescape") if assignment else "", symbols
+        )
 
     @staticmethod
     def of(path: str, text: str, assignment: str, symbols: Symbols) -> "Declared":
@@ -91,7 +93,11 @@ class Declared:
             queued = QUEUED.search(line.comment)
             item = DeclaredItem(line.number, line.name, function, queued[1] if queued else None)
             if line.name in on:
-                item.workqueue, item.has_rescuer, item.in_assignment = on[line.name].workqueue, on[line.name].has_rescuer, True
+                item.workqueue, item.has_rescuer, item.in_assignment = (
+                    on[line.name].workqueue,
+                    on[line.name].has_rescuer,
+                    True,
+                )
             found.items[line.name] = item
         found.waits = list(waits_of(declaration, found.items))
         return found
@@ -128,8 +134,8 @@ def assigned(text: str) -> dict[str, Assigned]:
 
 
 def function_of(name: str, comment: str, symbols: Symbols, earlier: Iterable[DeclaredItem]) -> str:
-    """The work function of an item: the word with which its comment begins, or its name, if the kernel has such a function; or
-    that of an earlier item of the same stem."""
+    """The work function of an item: the word with which its comment begins, or its name, if the kernel has such a
+    function; or that of an earlier item of the same stem."""
     stem = name.split(".")[0]
     first = re.match(r"\s*([A-Za-z_]\w+)\s*(?:,|$)", comment)
     if first and (first[1] in symbols.names or "_" in first[1] and stem not in symbols.names):
@@ -155,7 +161,8 @@ def waits_of(declaration: Declaration, items: dict[str, DeclaredItem]) -> Iterat
 
 
 def is_file(cited: str, file: str) -> bool:
-    """Whether a citation's file is this one: it is the end of its path. Where a frame has no file, its function decides."""
+    """Whether a citation's file is this one: it is the end of its path. Where a frame has no file, its function
+    decides."""
     return not file or file == cited or file.endswith("/" + cited)
 
 
@@ -171,22 +178,31 @@ def is_cited_at(citations: list[Citation], frames: Iterable[Frame]) -> bool:
 def is_cited_in(citations: list[Citation], frames: Iterable[Frame]) -> bool:
     """Whether a frame is in a function that is cited."""
     return any(
-        citation.function == frame.function and is_file(citation.file, frame.file) for citation in citations for frame in frames
+        citation.function == frame.function and is_file(citation.file, frame.file)
+        for citation in citations
+        for frame in frames
     )
 
 
 def dismisses(dismissal: Dismissal, chain: list[Frame], functions: set[str]) -> bool:
-    """Whether a wait is in a call that is dismissed. `chain` has all frames of its stack, the innermost first, and `functions`
-    are those of the kernel. The call is one of a frame, or a macro in the frame that waits, which the stack doesn't name. Where
-    the function that makes it isn't on the stack (a tail call), the file decides.
-    """
+    """Whether a wait is in a call that is dismissed. `chain` has all frames of its stack, the innermost first, and
+    `functions` are those of the kernel. The call is one of a frame, or a macro in the frame that waits, which the
+    stack doesn't name. Where the function that makes it isn't on the stack (a tail call), the file decides."""
     function, call = dismissal.key.function, dismissal.key.call
     inner: Optional[Frame] = None
     for frame in chain:
         if is_file(dismissal.key.file, frame.file):
-            if frame.function == function and (inner is None or is_call(call, inner) or is_in_macro(call, inner, functions)):
+            if frame.function == function and (
+                inner is None or is_call(call, inner) or is_in_macro(call, inner, functions)
+            ):
                 return True
-            if frame.file and inner is not None and is_machinery(inner) and not is_machinery(frame) and is_call(call, inner):
+            if (
+                frame.file
+                and inner is not None
+                and is_machinery(inner)
+                and not is_machinery(frame)
+                and is_call(call, inner)
+            ):
                 return True
         inner = frame
     return False

@@ -105,7 +105,9 @@ class Stream:
             kind, delta = head & 31, head >> 5
             if kind < PADDING:
                 time += delta
-                start, size = (at + 4, 4 * kind) if kind else (at + 8, int.from_bytes(pages[at + 4 : at + 8], "little") - 4)
+                start, size = (
+                    (at + 4, 4 * kind) if kind else (at + 8, int.from_bytes(pages[at + 4 : at + 8], "little") - 4)
+                )
                 yield time, pages[start : start + size]
                 at = start + size
                 continue

@@ -266,7 +266,16 @@ class Reader:
 
     def starts_in_kthread(self, event: Event) -> None:
         self.begin(
-            Run(event.values["work"], event.values["function"], None, event.pid, event.time, None, False, is_kthread_work=True)
+            Run(
+                event.values["work"],
+                event.values["function"],
+                None,
+                event.pid,
+                event.time,
+                None,
+                False,
+                is_kthread_work=True,
+            )
         )
 
     def begin(self, run: Run) -> None:
@@ -316,7 +325,9 @@ class Reader:
             return
         value = event.values
         workqueue = self.workqueue(event) if "wq" in value else None
-        how = {"flush_wq": "flushwq", "drain_wq": "drain"}.get(event.name) or ("cancel" if value["cancel"] & 1 else "flush")
+        how = {"flush_wq": "flushwq", "drain_wq": "drain"}.get(event.name) or (
+            "cancel" if value["cancel"] & 1 else "flush"
+        )
         call = Call(run, how, event.time, event.stack, value.get("work", 0), value.get("func", 0), workqueue)
         self.calls[event.pid] = call
         self.history.calls.append(call)

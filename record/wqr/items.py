@@ -1,6 +1,5 @@
-"""Items: executions by their function and workqueue. Those of one function that waited for one another are items apart, and
-so are those of workqueues of one name, where an item of one waited for one of another.
-"""
+"""Items: executions by their function and workqueue. Those of one function that waited for one another are items apart,
+and so are those of workqueues of one name, where an item of one waited for one of another."""
 
 import collections
 import re

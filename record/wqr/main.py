@@ -95,25 +95,47 @@ def parser() -> argparse.ArgumentParser:
         else:
             added.add_argument("file", metavar="FILE", type=pathlib.Path, help="a record")
         added.add_argument(
-            "--debug", metavar="FOLDER", type=pathlib.Path, default=pathlib.Path("/usr/lib/debug"), help="debug symbols of the kernel (default: /usr/lib/debug)"
+            "--debug",
+            metavar="FOLDER",
+            type=pathlib.Path,
+            default=pathlib.Path("/usr/lib/debug"),
+            help="debug symbols of the kernel (default: /usr/lib/debug)",
         )
 
-    about = dict(metavar="PATTERN", action="append", help="modules, functions or workqueues that it is about: a whole regular expression")
+    about = dict(
+        metavar="PATTERN",
+        action="append",
+        help="modules, functions or workqueues that it is about: a whole regular expression",
+    )
     added = verb("declare", declare, "Writes a declaration and an assignment of a record.")
     reads_record(added)
     added.add_argument("--about", **about)
-    added.add_argument("--out", metavar="DECL", type=pathlib.Path, help="where the declaration goes (default: standard output)")
+    added.add_argument(
+        "--out", metavar="DECL", type=pathlib.Path, help="where the declaration goes (default: standard output)"
+    )
     added.add_argument("--assign", metavar="ASSIGN", type=pathlib.Path, help="where the assignment goes")
     added = verb("compare", compare, "Tells what was seen beside what is declared. Status 1: a wait isn't declared.")
     added.add_argument("decl", metavar="DECL", type=pathlib.Path, help="a declaration")
     reads_record(added, several=True)
-    added.add_argument("--assign", metavar="ASSIGN", type=pathlib.Path, help="an assignment of it, whose comments name the workqueues")
+    added.add_argument(
+        "--assign", metavar="ASSIGN", type=pathlib.Path, help="an assignment of it, whose comments name the workqueues"
+    )
     added.add_argument("--about", **about)
-    added = verb("places", keep_places, "Writes the lines of the source into a record, so that it needs no debug symbols any more.")
+    added = verb(
+        "places",
+        keep_places,
+        "Writes the lines of the source into a record, so that it needs no debug symbols any more.",
+    )
     reads_record(added)
     added.add_argument("--out", metavar="FILE", type=pathlib.Path, help="writes another record")
     added = verb("probes", print_probes, "Prints the probes for a kernel.")
-    added.add_argument("--btf", metavar="FILE", type=pathlib.Path, default=pathlib.Path("/sys/kernel/btf/vmlinux"), help="its types (default: those of this kernel)")
+    added.add_argument(
+        "--btf",
+        metavar="FILE",
+        type=pathlib.Path,
+        default=pathlib.Path("/sys/kernel/btf/vmlinux"),
+        help="its types (default: those of this kernel)",
+    )
     return whole
 
 

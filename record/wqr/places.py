@@ -1,6 +1,5 @@
-"""FILE:LINE of addresses, by addr2line and a kernel's debug symbols (Debian's linux-image-*-dbg), with inlined functions.
-Without them a place is a function, and how far behind its beginning.
-"""
+"""FILE:LINE of addresses, by addr2line and a kernel's debug symbols (Debian's linux-image-*-dbg), with inlined
+functions. Without them a place is a function, and how far behind its beginning."""
 
 import collections
 import json
@@ -37,7 +36,10 @@ class Places:
             self.frames[int(address, 16)] = tuple(Frame(*row) for row in rows)
 
     def kept(self) -> bytes:
-        rows = {f"{at:x}": [[one.function, one.file, one.line] for one in frames] for at, frames in sorted(self.frames.items())}
+        rows = {
+            f"{at:x}": [[one.function, one.file, one.line] for one in frames]
+            for at, frames in sorted(self.frames.items())
+        }
         return json.dumps(rows, separators=(",", ":")).encode()
 
     def learn(self, addresses: Iterable[int]) -> None:

@@ -39,8 +39,10 @@ def usual(offsets: dict[str, dict[str, int]]) -> list[str]:
     worker = f"+{offsets['kthread']['data']}(+{offsets['task_struct']['worker_private']}(%di))"
     item = offsets["worker"]
     return [
-        # Each worker that goes to sleep comes here (kernel/sched/core.c, sched_submit_work); one that runs no item has no function.
-        f"p sleep wq_worker_sleeping func=+{item['current_func']}({worker}):x64 work=+{item['current_work']}({worker}):x64",
+        # Each worker that goes to sleep comes here (kernel/sched/core.c, sched_submit_work); one that runs no item has
+        # no function.
+        f"p sleep wq_worker_sleeping func=+{item['current_func']}({worker}):x64 "
+        f"work=+{item['current_work']}({worker}):x64",
         f"p queue __queue_work {workqueue('si', offsets)} work=%dx:x64 func=+{function}(%dx):x64",
         "p delayed __queue_delayed_work wq=%si:x64 work=%dx:x64",
         f"p flush_work __flush_work work=%di:x64 func=+{function}(%di):x64 cancel=%si:u8",
@@ -50,7 +52,8 @@ def usual(offsets: dict[str, dict[str, int]]) -> list[str]:
 
 
 def workqueue(register: str, offsets: dict[str, dict[str, int]]) -> str:
-    """What is fetched of a workqueue. In 6.12 max_active is what is in force, and 6.1's saved_max_active what was asked for."""
+    """What is fetched of a workqueue. In 6.12 max_active is what is in force, and 6.1's saved_max_active what was asked
+    for."""
     members = offsets["workqueue_struct"]
     limit = members["max_active"] if "max_active" in members else members["saved_max_active"]
     return (

@@ -7,9 +7,10 @@ from .items import Items
 
 # What no record shows. Each reader of an answer has to know it.
 UNSEEN = (
-    "What isn't here: what didn't happen while it was recorded; waits that were over at once, so that nobody slept (flushes are",
-    "here all the same); for whom a poll or a sleep of fixed length waits; for whom an interrupt acts; which object, as an item is a",
-    "function; the sleeps of threads that aren't workers. That an item ended a wait is a fact; that nobody else could have, isn't.",
+    "What isn't here: what didn't happen while it was recorded; waits that were over at once, so that nobody slept",
+    "(flushes are here all the same); for whom a poll or a sleep of fixed length waits; for whom an interrupt acts;",
+    "which object, as an item is a function; the sleeps of threads that aren't workers. That an item ended a wait is",
+    "a fact; that nobody else could have, isn't.",
 )
 
 
@@ -17,10 +18,13 @@ def head(archive: Archive, history: History, causes: Causes, items: Items) -> li
     """The first lines of an answer."""
     ran = sum(item.runs > 0 for item in items.items.values())
     found = [
-        f"Recorded on Linux {archive.release} in {archive.seconds:.0f} s, mode {archive.mode}: {history.events} events, "
+        f"Recorded on Linux {archive.release} in {archive.seconds:.0f} s, mode {archive.mode}: "
+        f"{history.events} events, "
         f"{len(history.runs)} runs of {ran} items, {len(history.sleeps)} sleeps of items."
     ]
-    found += [f"LOST: {words}. So waits may be missing, and what was waited for may be wrong." for words in archive.lost()]
+    found += [
+        f"LOST: {words}. So waits may be missing, and what was waited for may be wrong." for words in archive.lost()
+    ]
     if history.gaps:
         found.append(f"LOST: events before {history.gaps} pages of the buffer.")
     for one in archive.missed():

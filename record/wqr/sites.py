@@ -3,24 +3,29 @@
 import collections
 import re
 from dataclasses import dataclass
-from typing import Iterable, Optional
+from typing import Iterable
 
 from .items import Edge, Item
 from .places import Frame, Places
 
 # Files whose code makes a sleep, and isn't where somebody decided to wait.
-MACHINERY = re.compile(r"(kernel/(sched|workqueue|locking|time|trace|rcu|events|kthread|kprobes|fork|softirq)|include/|lib/|arch/|block/bio\.c)")
+MACHINERY = re.compile(
+    r"(kernel/(sched|workqueue|locking|time|trace|rcu|events|kthread|kprobes|fork|softirq)"
+    r"|include/|lib/|arch/|block/bio\.c)"
+)
 # The same by their names, for what has no file, and in files that have other code too.
 SLEEPERS = re.compile(
-    r"kprobe_.*|ftrace_.*|trace_.*|do_trace_event_raw_event_.*|__traceiter_.*|wq_worker_sleeping|__pfx_.*|asm_.*"
-    r"|__?schedule|schedule(_.*)?|io_schedule.*|__wait_for_common|wait_for_completion.*|wait_for_common.*|try_to_wake_up|__wake_up.*|wake_up.*"
-    r"|autoremove_wake_function|default_wake_function|woken_wake_function|prepare_to_wait.*|bit_wait.*|__wait_on_bit.*"
-    r"|out_of_line_wait_on_bit.*|var_wake_function|wake_bit_function|swake_up.*|complete.*|mutex_.*|__mutex_.*|down(_.*)?"
-    r"|__down.*|up(_.*)?|rwsem_.*|rt_mutex.*|preempt_schedule.*|__cond_resched|ttwu_.*|wait_woken|__flush_work.*|flush_work"
-    r"|flush_delayed_work|flush_workqueue|drain_workqueue|__queue_work|queue_work_on|queue_delayed_work_on|mod_delayed_work_on"
-    r"|__queue_delayed_work|delayed_work_timer_fn|__cancel_work_(timer|sync)|cancel_(delayed_)?work_sync|call_timer_fn"
-    r"|__run_timers|__flush_workqueue|destroy_workqueue|ret_from_fork.*|kthread|worker_thread|rescuer_thread"
-    r"|process_one_work|process_scheduled_works|kthread_worker_fn|msleep|usleep_range.*"
+    r"kprobe_.*|ftrace_.*|trace_.*|do_trace_event_raw_event_.*|__traceiter_.*|wq_worker_sleeping|__pfx_.*"
+    r"|asm_.*|__?schedule|schedule(_.*)?|io_schedule.*|__wait_for_common|wait_for_completion.*"
+    r"|wait_for_common.*|try_to_wake_up|__wake_up.*|wake_up.*|autoremove_wake_function|default_wake_function"
+    r"|woken_wake_function|prepare_to_wait.*|bit_wait.*|__wait_on_bit.*|out_of_line_wait_on_bit.*"
+    r"|var_wake_function|wake_bit_function|swake_up.*|complete.*|mutex_.*|__mutex_.*|down(_.*)?|__down.*"
+    r"|up(_.*)?|rwsem_.*|rt_mutex.*|preempt_schedule.*|__cond_resched|ttwu_.*|wait_woken|__flush_work.*"
+    r"|flush_work|flush_delayed_work|flush_workqueue|drain_workqueue|__queue_work|queue_work_on"
+    r"|queue_delayed_work_on|mod_delayed_work_on|__queue_delayed_work|delayed_work_timer_fn"
+    r"|__cancel_work_(timer|sync)|cancel_(delayed_)?work_sync|call_timer_fn|__run_timers|__flush_workqueue"
+    r"|destroy_workqueue|ret_from_fork.*|kthread|worker_thread|rescuer_thread|process_one_work"
+    r"|process_scheduled_works|kthread_worker_fn|msleep|usleep_range.*"
 )
 INTERRUPTS = ("asm_", "handle_softirqs", "__do_softirq", "do_softirq", "__irq_exit_rcu", "call_timer_fn")
 # How many more frames are named, each of another folder.
@@ -78,7 +83,10 @@ class Sites:
         counts: collections.Counter[tuple[Frame, ...]] = collections.Counter()
         for fact in edge.facts:
             counts[tuple(self.frames(fact.stack))] += 1
-        sites = [Site(str(frames[0]) if frames else "a place that wasn't recorded", frames, n) for frames, n in counts.items()]
+        sites = [
+            Site(str(frames[0]) if frames else "a place that wasn't recorded", frames, n)
+            for frames, n in counts.items()
+        ]
         return sorted(merged(sites), key=lambda site: (-site.count, site.cited))
 
     def of_queueing(self, item: Item) -> list[str]:
@@ -102,7 +110,11 @@ class Sites:
             return "a timer"
         if in_interrupt:
             return "an interrupt"
-        return f"{self.places.symbols.function(by_function)}, by a tail call" if by_function else "a place that wasn't recorded"
+        return (
+            f"{self.places.symbols.function(by_function)}, by a tail call"
+            if by_function
+            else "a place that wasn't recorded"
+        )
 
 
 def merged(sites: list[Site]) -> list[Site]:
@@ -110,7 +122,9 @@ def merged(sites: list[Site]) -> list[Site]:
     by_place: dict[str, Site] = {}
     for site in sorted(sites, key=lambda site: -site.count):
         known = by_place.get(site.cited)
-        by_place[site.cited] = Site(site.cited, known.frames if known else site.frames, site.count + (known.count if known else 0))
+        by_place[site.cited] = Site(
+            site.cited, known.frames if known else site.frames, site.count + (known.count if known else 0)
+        )
     return list(by_place.values())
 
 
@@ -118,7 +132,3 @@ def stacks_of(edge: Edge) -> Iterable[tuple[int, ...]]:
     for fact in edge.facts:
         yield fact.stack
         yield fact.ender
-
-
-def innermost_known(frames: Iterable[Frame]) -> Optional[Frame]:
-    return next(iter(frames), None)

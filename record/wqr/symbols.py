@@ -8,7 +8,7 @@ CODE = "tTwW"
 
 @dataclass(frozen=True)
 class Symbol:
-    """A function, and how far behind its beginning an address is. The module is "" for what is built into the kernel."""
+    """A function, and how far behind its beginning an address is. What is built into the kernel has the module ""."""
 
     name: str
     offset: int
@@ -51,6 +51,10 @@ class Symbols:
 
     def text_of(self, addresses: set[int]) -> str:
         """The list again, with the functions of these addresses alone."""
-        kept = {self.starts[max(bisect.bisect_right(self.starts, address) - 1, 0)] for address in addresses} if self.starts else set()
+        kept = (
+            {self.starts[max(bisect.bisect_right(self.starts, address) - 1, 0)] for address in addresses}
+            if self.starts
+            else set()
+        )
         rows = [row for row in self.rows if row[0] in kept]
         return "".join(f"{at:016x} t {name}" + (f"\t[{module}]" if module else "") + "\n" for at, name, module in rows)

@@ -1,10 +1,11 @@
 #!/usr/bin/env python3
 """Does wqrecord, in a guest with an unchanged kernel, see the waits that examples/ declares? And how does it end?
 
-    guests.py
+guests.py
 
-On Linux 6.1: md, dm-snapshot and nfs are recorded, and compared with their declarations; and recorder.sh has recordings end in
-all ways. Where QEMU, a kernel or a program of the guest can't be had, it says so, and skips what needs it: that is no failure.
+On Linux 6.1: md, dm-snapshot and nfs are recorded, and compared with their declarations; and recorder.sh has recordings
+end in all ways. Where QEMU, a kernel or a program of the guest can't be had, it says so, and skips what needs it: that
+is no failure.
 
 A later kernel in which a wait isn't seen any more fails this test: then the examples have to say so.
 """
@@ -146,7 +147,9 @@ def told_by_record(archive):
 
 def same_events(folder):
     """Are the events of the record those of the kernel's own text?"""
-    wanted, found = told_by_kernel((folder / "text").read_text("latin-1")), told_by_record(Archive.read(folder / "record"))
+    wanted, found = told_by_kernel((folder / "text").read_text("latin-1")), told_by_record(
+        Archive.read(folder / "record")
+    )
     tell(len(wanted) > 50, "recorder.sh: the kernel's own text has events", f"{len(wanted)}")
     different = [pair for pair in zip(wanted, found) if pair[0] != pair[1]]
     tell(len(wanted) == len(found), "recorder.sh: as many are in the record", f"{len(wanted)} and {len(found)}")
@@ -161,7 +164,10 @@ def recorder(folder):
     for wanted in SAID.splitlines():
         # (what is left stands behind the colon, so the whole line must be the same there)
         is_whole = ", left:" in wanted
-        where = next((n for n in range(at, len(lines)) if lines[n] == wanted or not is_whole and lines[n].startswith(wanted)), None)
+        where = next(
+            (n for n in range(at, len(lines)) if lines[n] == wanted or not is_whole and lines[n].startswith(wanted)),
+            None,
+        )
         tell(where is not None, f"recorder.sh: {wanted}", "it didn't say so")
         at = at if where is None else where + 1
     for line in NEVER:
@@ -169,7 +175,11 @@ def recorder(folder):
     same_events(folder)
     archive = Archive.read(folder / "streamed")
     size = sum(len(pages) for pages in archive.pages().values())
-    tell(size > 128 * 1024 and not archive.lost(), "recorder.sh: a stream is larger than its buffer", f"{size}, {archive.lost()}")
+    tell(
+        size > 128 * 1024 and not archive.lost(),
+        "recorder.sh: a stream is larger than its buffer",
+        f"{size}, {archive.lost()}",
+    )
 
 
 def main():

@@ -16,7 +16,8 @@ from wqr.symbols import Symbols
 
 # Functions, a page apart each.
 NAMES = (
-    "a_work b_work c_work d_work wait_here wait_there wake_here queue_here schedule wq_worker_sleeping process_one_work __flush_work "
+    "a_work b_work c_work d_work wait_here wait_there wake_here queue_here schedule wq_worker_sleeping "
+    "process_one_work __flush_work "
     "__flush_workqueue wq_barrier_func __mutex_lock __queue_work"
 ).split()
 AT = {name: 0x1000 * (number + 1) for number, name in enumerate(NAMES)}
@@ -39,11 +40,15 @@ class Made:
     events: list[Event] = field(default_factory=list)
     names: dict[int, str] = field(default_factory=dict)
 
-    def add(self, name: str, by: int, in_interrupt: bool = False, at: tuple[int, ...] = (), /, **values: object) -> "Made":
+    def add(
+        self, name: str, by: int, in_interrupt: bool = False, at: tuple[int, ...] = (), /, **values: object
+    ) -> "Made":
         self.events.append(Event(1000 * (len(self.events) + 1), 0, name, by, in_interrupt, values, at))
         return self
 
-    def queue(self, pid: int, work: int, function: str, wq: int = 1, name: str = "", rescuer: int = 1, timer: bool = False) -> "Made":
+    def queue(
+        self, pid: int, work: int, function: str, wq: int = 1, name: str = "", rescuer: int = 1, timer: bool = False
+    ) -> "Made":
         at = stack("__queue_work", "queue_here")
         name = name or {1: "w", 2: "v", 3: "u"}[wq]
         return self.add(
@@ -60,13 +65,17 @@ class Made:
         return self.start(pid, work, function).end(pid, work, function)
 
     def sleep(self, pid: int, work: int, function: str, *where: str) -> "Made":
-        return self.add("sleep", pid, False, sleeping(*(where or ("wait_here",)), function), work=work, func=AT[function])
+        return self.add(
+            "sleep", pid, False, sleeping(*(where or ("wait_here",)), function), work=work, func=AT[function]
+        )
 
     def wake(self, by: int, pid: int, in_interrupt: bool = False) -> "Made":
         return self.add("sched_waking", by, in_interrupt, pid=pid, comm=self.names.get(pid, f"thread{pid}"))
 
     def flush(self, pid: int, work: int, function: str, cancel: int = 0) -> "Made":
-        return self.add("flush_work", pid, False, stack("__flush_work", "wait_there"), work=work, func=AT[function], cancel=cancel)
+        return self.add(
+            "flush_work", pid, False, stack("__flush_work", "wait_there"), work=work, func=AT[function], cancel=cancel
+        )
 
     # What is made of them ---------------------------------------------------------------------------
 
@@ -85,7 +94,9 @@ class Made:
     def flushes(self) -> list[str]:
         """The lines of the declaration that say who waits for whom, without their comments; and unsure ones."""
         lines = self.drawing().declaration().splitlines()
-        found = [line.split("  #")[0].strip() for line in lines if line.startswith(("flush", "# flush", "# not queued"))]
+        found = [
+            line.split("  #")[0].strip() for line in lines if line.startswith(("flush", "# flush", "# not queued"))
+        ]
         return sorted(found)
 
     def comment(self, line: str) -> str:

@@ -41,7 +41,9 @@ def test_who_queued_before_the_wait_is_not_waited_for():
 
 
 def test_a_thread_between_is_seen_through_but_not_sure():
-    made = a_sleeps().queue(PROCESS, B, "b_work", wq=2).start(OTHER, B, "b_work").wake(OTHER, THREAD).wake(THREAD, WORKER)
+    made = (
+        a_sleeps().queue(PROCESS, B, "b_work", wq=2).start(OTHER, B, "b_work").wake(OTHER, THREAD).wake(THREAD, WORKER)
+    )
     assert made.flushes() == ["# flush? a_work b_work"]
     assert "through a_thread" in made.comment("# flush? a_work b_work")
 
@@ -49,7 +51,10 @@ def test_a_thread_between_is_seen_through_but_not_sure():
 def test_a_thread_that_no_item_woke_is_told_as_a_thread():
     made = a_sleeps().wake(THREAD, WORKER)
     assert made.flushes() == []
-    assert "# no item: a_work slept at wait_here+0x10, and the thread a_thread ended it, once\n" in made.drawing().declaration()
+    assert (
+        "# no item: a_work slept at wait_here+0x10, and the thread a_thread ended it, once\n"
+        in made.drawing().declaration()
+    )
 
 
 def test_an_interrupt_is_told_as_one():
@@ -67,7 +72,9 @@ def test_a_lock_is_told_as_a_lock_and_what_woke_its_holder_too():
     made = Made(names={OTHER: "kworker/0:2"}).queue(PROCESS, B, "b_work", wq=2).start(OTHER, B, "b_work")
     made.sleep(OTHER, B, "b_work", "wait_there").queue(PROCESS, A, "a_work").start(WORKER, A, "a_work")
     made.sleep(WORKER, A, "a_work", "__mutex_lock", "wait_here")
-    made.queue(PROCESS, C, "c_work", wq=3).start(THIRD, C, "c_work").wake(THIRD, OTHER).end(THIRD, C, "c_work").wake(OTHER, WORKER)
+    made.queue(PROCESS, C, "c_work", wq=3).start(THIRD, C, "c_work").wake(THIRD, OTHER).end(THIRD, C, "c_work").wake(
+        OTHER, WORKER
+    )
     assert made.flushes() == ["# flush? a_work b_work", "# flush? a_work c_work", "flush b_work c_work"]
     assert made.comment("# flush? a_work b_work").startswith("lock wait_here")
     assert "it was the holder" in made.comment("# flush? a_work b_work")
@@ -77,7 +84,9 @@ def test_a_lock_is_told_as_a_lock_and_what_woke_its_holder_too():
 @pytest.mark.parametrize("cancel, kind", [(0, "flush"), (1, "cancel")])
 def test_a_flush_is_exact_even_if_nobody_slept(cancel, kind):
     made = Made().queue(PROCESS, B, "b_work", wq=2).run(OTHER, B, "b_work")
-    made.queue(PROCESS, A, "a_work").start(WORKER, A, "a_work").flush(WORKER, B, "b_work", cancel).end(WORKER, A, "a_work")
+    made.queue(PROCESS, A, "a_work").start(WORKER, A, "a_work").flush(WORKER, B, "b_work", cancel).end(
+        WORKER, A, "a_work"
+    )
     assert made.flushes() == ["flush a_work b_work"]
     assert made.comment("flush a_work b_work").startswith(f"{kind} wait_there+0x10; seen once, slept 0")
 
@@ -119,7 +128,10 @@ def test_workqueues_of_one_name_are_told_apart_where_items_wait_across():
 def test_workqueues_of_one_name_are_one_where_nobody_waits_across():
     made = Made().queue(PROCESS, A, "a_work", wq=1, name="xfs-conv/vda").run(WORKER, A, "a_work")
     made.queue(PROCESS, B, "a_work", wq=2, name="xfs-conv/vdb").run(OTHER, B, "a_work")
-    assert made.drawing().assignment().splitlines()[1] == "wq 0 a_work  # xfs-conv, WQ_MEM_RECLAIM, max_active 256, 2 of them"
+    assert (
+        made.drawing().assignment().splitlines()[1]
+        == "wq 0 a_work  # xfs-conv, WQ_MEM_RECLAIM, max_active 256, 2 of them"
+    )
 
 
 def test_a_workqueue_without_a_rescuer_is_on_a_norescuer_line():
@@ -135,11 +147,20 @@ def test_who_is_woken_too_early_waits_for_the_last_one():
 
 def test_a_sleep_that_is_open_at_the_end_is_printed():
     made = a_sleeps().queue(PROCESS, B, "b_work", wq=2)
-    assert "# open: a_work still slept at wait_here+0x10, for 0.0 ms, in the thread kworker/0:1" in made.drawing().declaration()
+    assert (
+        "# open: a_work still slept at wait_here+0x10, for 0.0 ms, in the thread kworker/0:1"
+        in made.drawing().declaration()
+    )
 
 
 def test_an_item_that_has_run_since_before_the_record_is_one():
-    made = Made().sleep(WORKER, A, "a_work").queue(PROCESS, B, "b_work", wq=2).start(OTHER, B, "b_work").wake(OTHER, WORKER)
+    made = (
+        Made()
+        .sleep(WORKER, A, "a_work")
+        .queue(PROCESS, B, "b_work", wq=2)
+        .start(OTHER, B, "b_work")
+        .wake(OTHER, WORKER)
+    )
     assert made.flushes() == ["flush a_work b_work"]
 
 

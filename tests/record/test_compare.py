@@ -49,17 +49,24 @@ def test_a_declared_wait_is_seen():
 def test_a_declared_wait_that_did_not_happen_is_named():
     lines = list(Total([compared(b_wakes(), ITEMS + "flush a b\nflush b a\n")]).lines())
     assert lines[:2] == ["declared, never seen: 1", "  line 4: b -> a"]
-    assert lines[2].startswith("# 2 waits declared: 1 seen (1 at another place), 0 perhaps, 1 never. 0 seen and not declared")
+    assert lines[2].startswith(
+        "# 2 waits declared: 1 seen (1 at another place), 0 perhaps, 1 never. 0 seen and not declared"
+    )
 
 
 def test_records_together_have_seen_what_one_of_them_has():
     other = Made().queue(PROCESS, B, "b_work", wq=2).start(WORKER, B, "b_work").sleep(WORKER, B, "b_work")
     other.queue(PROCESS, A, "a_work").start(OTHER, A, "a_work").wake(OTHER, WORKER)
     declaration = ITEMS + "flush a b\nflush b a\n"
-    assert next(Total([compared(b_wakes(), declaration), compared(other, declaration)]).lines()) == "declared, never seen: 0"
+    assert (
+        next(Total([compared(b_wakes(), declaration), compared(other, declaration)]).lines())
+        == "declared, never seen: 0"
+    )
 
 
-@pytest.mark.parametrize("line", ["no wait: x.c wait_here schedule(): why not", "no wait: x.c wait_here wait_event(q): why not"])
+@pytest.mark.parametrize(
+    "line", ["no wait: x.c wait_here schedule(): why not", "no wait: x.c wait_here wait_event(q): why not"]
+)
 def test_a_dismissed_wait_is_told_with_its_line(line):
     comparison = compared(b_wakes(), f"{ITEMS}# {line}\n")
     assert classes(comparison) == {"DISMISSED": ["a_work b_work"]}
@@ -85,7 +92,9 @@ def test_a_line_for_a_whole_workqueue_covers_each_item_of_it():
 
 
 def test_what_is_perhaps_a_wait_is_no_hole():
-    made = a_sleeps().queue(PROCESS, B, "b_work", wq=2).start(OTHER, B, "b_work").wake(OTHER, THREAD).wake(THREAD, WORKER)
+    made = (
+        a_sleeps().queue(PROCESS, B, "b_work", wq=2).start(OTHER, B, "b_work").wake(OTHER, THREAD).wake(THREAD, WORKER)
+    )
     assert classes(compared(made, ITEMS)) == {"UNSURE": ["a_work b_work"]}
     assert classes(compared(made, ITEMS + "flush a b\n")) == {"PERHAPS": ["a_work b_work"]}
 
@@ -102,7 +111,12 @@ def test_a_wait_that_follows_from_others_is_told_as_that():
 def test_items_of_a_grace_period_need_no_line():
     made = a_sleeps().queue(PROCESS, C, "c_work", wq=3, name="rcu_gp").start(THIRD, C, "c_work").wake(THIRD, WORKER)
     assert classes(compared(made, ITEMS)) == {"DISMISSED": ["a_work c_work"]}
-    made = a_sleeps().queue(PROCESS, C, "c_work", wq=3, name="rcu_gp", rescuer=0).start(THIRD, C, "c_work").wake(THIRD, WORKER)
+    made = (
+        a_sleeps()
+        .queue(PROCESS, C, "c_work", wq=3, name="rcu_gp", rescuer=0)
+        .start(THIRD, C, "c_work")
+        .wake(THIRD, WORKER)
+    )
     assert classes(compared(made, ITEMS)) == {"HOLE": ["a_work c_work"]}
 
 
@@ -125,7 +139,9 @@ def test_a_rescuer_that_is_assigned_and_is_not_there_is_told():
 
 
 def test_items_that_did_not_run_and_items_beside_them_are_told():
-    made = Made().queue(PROCESS, A, "a_work").run(WORKER, A, "a_work").queue(PROCESS, C, "c_work").run(OTHER, C, "c_work")
+    made = (
+        Made().queue(PROCESS, A, "a_work").run(WORKER, A, "a_work").queue(PROCESS, C, "c_work").run(OTHER, C, "c_work")
+    )
     lines = list(compared(made, ITEMS).lines())
     assert "  never ran: b (line 2)" in lines
     assert "  not declared: c_work, on w, ran once" in lines
@@ -134,8 +150,8 @@ def test_items_that_did_not_run_and_items_beside_them_are_told():
 def test_a_sleep_that_an_interrupt_ended_confirms_its_dismissal():
     made = a_sleeps().wake(OTHER, WORKER, in_interrupt=True)
     lines = list(compared(made, f"{ITEMS}# no wait: x.c wait_here wait_event(q): an interrupt ends it\n").lines())
-    wanted = "  line 3 says no wait at x.c wait_here wait_event(q): an interrupt ends it: ended by an interrupt or a timer (1)"
-    assert wanted in lines
+    (found,) = [line for line in lines if line.startswith("  line 3 says no wait at x.c wait_here wait_event(q): ")]
+    assert found.endswith("an interrupt ends it: ended by an interrupt or a timer (1)")
 
 
 def test_the_headings_are_all_there():
@@ -160,4 +176,7 @@ def test_the_function_of_an_item_is_found(line, function):
 
 def test_an_item_of_the_same_kind_has_the_same_function():
     text = "item up.lower  # a_work, queued to w\nitem up.upper  # the same of the upper one, queued to w\n"
-    assert [item.function for item in Declared.of("made.wq", text, "", Made().history().symbols).items.values()] == ["a_work", "a_work"]
+    assert [item.function for item in Declared.of("made.wq", text, "", Made().history().symbols).items.values()] == [
+        "a_work",
+        "a_work",
+    ]

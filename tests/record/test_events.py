@@ -52,7 +52,9 @@ def queue(pid: int, wq: int, name: bytes) -> bytes:
 
 
 def stack(pid: int, *addresses: int, flags: int = 0) -> bytes:
-    return head(STACK, pid, flags) + struct.pack("<iI", len(addresses), 0) + struct.pack(f"<{len(addresses)}Q", *addresses)
+    return (
+        head(STACK, pid, flags) + struct.pack("<iI", len(addresses), 0) + struct.pack(f"<{len(addresses)}Q", *addresses)
+    )
 
 
 def entry(delta: int, body: bytes) -> bytes:
@@ -97,7 +99,13 @@ def test_a_text_behind_the_fields_is_read():
 
 
 def test_times_add_up_and_are_extended():
-    entries = entry(1, waking(3, b"a", 1)), extend(1 << 40), entry(2, waking(3, b"b", 2)), stamp(7 << 30), entry(3, waking(3, b"c", 3))
+    entries = (
+        entry(1, waking(3, b"a", 1)),
+        extend(1 << 40),
+        entry(2, waking(3, b"b", 2)),
+        stamp(7 << 30),
+        entry(3, waking(3, b"c", 3)),
+    )
     assert [event.time for event in read(page(1000, *entries)).events()] == [1001, 1001 + (1 << 40) + 2, (7 << 30) + 3]
 
 

@@ -64,7 +64,9 @@ def test_the_probe_of_a_sleep_goes_from_the_thread_to_its_item():
 
 
 def test_a_workqueue_of_6_12_has_max_active():
-    newer = MEMBERS | {"workqueue_struct": {"rescuer": 136, "max_active": 148, "name": 192, "flags": 256, "saved_max_active": 300}}
+    newer = MEMBERS | {
+        "workqueue_struct": {"rescuer": 136, "max_active": 148, "name": 192, "flags": 256, "saved_max_active": 300}
+    }
     queue = next(line for line in probes.lines(types_of(newer)) if line.startswith("p queue"))
     assert "max=+148(%si):s32" in queue and "name=+192(%si):string" in queue
 

@@ -1,6 +1,5 @@
-"""Small records of Linux 6.1.192 beside the declarations of examples/, which were made by reading. What is wanted is what these
-say: record/README.md has how the records were made.
-"""
+"""Small records of Linux 6.1.192 beside the declarations of examples/, which were made by reading. What is wanted is
+what these say: record/README.md has how the records were made."""
 
 import json
 import pathlib
@@ -68,7 +67,11 @@ LINE = "at the same line"
         (
             "nfs",
             "nfs",
-            {("rpc_async.put", "rpc_async", LINE), ("rpc_async.put", "wb_workfn", LINE), ("put_release", "wb_workfn", LINE)},
+            {
+                ("rpc_async.put", "rpc_async", LINE),
+                ("rpc_async.put", "wb_workfn", LINE),
+                ("put_release", "wb_workfn", LINE),
+            },
         ),
     ],
 )
@@ -110,9 +113,10 @@ def test_the_threads_that_end_dismissed_waits_are_told():
 
 def test_workqueues_and_flags_are_those_of_the_kernel():
     # drivers/md/md.c:9748 md_init, net/sunrpc/sched.c:1283, 1287 rpciod_start, fs/nfs/inode.c:2405 nfsiod_start
-    assert "wq 0 md_submit_flush_data submit_flushes submit_flushes.waits  # md, WQ_MEM_RECLAIM, max_active 256\n" in drawing_of(
-        "md", "md_mod"
-    ).assignment()
+    assert (
+        "wq 0 md_submit_flush_data submit_flushes submit_flushes.waits  # md, WQ_MEM_RECLAIM, max_active 256\n"
+        in drawing_of("md", "md_mod").assignment()
+    )
     assignment = drawing_of("nfs", "nfs|nfsv4|sunrpc").assignment()
     for name in ("rpciod", "xprtiod", "nfsiod"):
         assert f"# {name}, WQ_UNBOUND, WQ_MEM_RECLAIM, max_active 256\n" in assignment
@@ -121,7 +125,11 @@ def test_workqueues_and_flags_are_those_of_the_kernel():
 
 
 def test_an_items_places_are_where_the_source_queues_it():
-    (item,) = [line for line in drawing_of("md", "md_mod").declaration().splitlines() if line.startswith("item submit_flushes ")]
+    (item,) = [
+        line
+        for line in drawing_of("md", "md_mod").declaration().splitlines()
+        if line.startswith("item submit_flushes ")
+    ]
     assert "queued to md at drivers/md/md.c:628 md_flush_request" in item
 
 
@@ -142,7 +150,9 @@ def run(*words: object) -> subprocess.CompletedProcess[str]:
 def test_compare_ends_with_0_where_nothing_is_missing():
     ended = run("compare", EXAMPLES / "md.wq", RECORDS / "md.gz", "--assign", EXAMPLES / "md.assign")
     assert (ended.returncode, ended.stderr) == (0, "")
-    assert ended.stdout.splitlines()[-1].startswith("# 4 waits declared: 2 seen (2 at the same line), 0 perhaps, 2 never.")
+    assert ended.stdout.splitlines()[-1].startswith(
+        "# 4 waits declared: 2 seen (2 at the same line), 0 perhaps, 2 never."
+    )
 
 
 def test_compare_ends_with_1_where_a_wait_is_missing(tmp_path):
@@ -165,7 +175,9 @@ def test_a_file_that_is_not_there_is_a_fault(tmp_path):
 
 def test_what_cannot_be_seen_is_said_where_the_answer_is_read():
     for ended in (run("declare", RECORDS / "md.gz"), run("compare", EXAMPLES / "md.wq", RECORDS / "md.gz")):
-        assert "# What isn't here: what didn't happen while it was recorded; waits that were over at once" in ended.stdout
+        assert (
+            "# What isn't here: what didn't happen while it was recorded; waits that were over at once" in ended.stdout
+        )
 
 
 def test_a_record_with_lost_events_says_so(tmp_path):
@@ -179,7 +191,9 @@ def test_places_make_a_record_stand_alone(tmp_path):
     # (again, since this record has its places already)
     assert run("places", RECORDS / "md.gz", "--out", tmp_path / "again.gz").returncode == 0
     assert run("declare", tmp_path / "again.gz").stdout == run("declare", RECORDS / "md.gz").stdout
-    assert json.loads(Archive.read(tmp_path / "again.gz").parts["places"]) == json.loads(Archive.read(RECORDS / "md.gz").parts["places"])
+    assert json.loads(Archive.read(tmp_path / "again.gz").parts["places"]) == json.loads(
+        Archive.read(RECORDS / "md.gz").parts["places"]
+    )
 
 
 def test_an_archive_without_its_parts_is_no_record(tmp_path):
