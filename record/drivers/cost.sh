@@ -30,7 +30,7 @@ work() {
 array md0 1:0
 array md1 9:0
 work
-for mode in none light default full none light default full; do
+for mode in none default full none default full; do
     case $mode in
         none) ;;
         default) wqrecord start --probes /probes ;;

@@ -71,8 +71,8 @@ class Drawing:
         items = [item for item in self.chosen.items if item.runs]
         width = max((len(item.name) for item in items), default=0)
         for item in items:
-            places = ", ".join(self.sites.of_queueing(item)[:MOST_PLACES]) or "a place that wasn't recorded"
-            queued = f"{item.function}, queued to {item.kind} at {places}"
+            places = ", ".join(self.sites.of_queueing(item)[:MOST_PLACES])
+            queued = f"{item.function}, queued to {item.kind}" + (f" at {places}" if places else "")
             yield f"item {item.name:{width}}  # {queued}; ran {says.times(item.runs)}"
 
     def flush_lines(self) -> Iterator[str]:

@@ -59,12 +59,15 @@ wqrecord: LOST:
 lost: 4, left:
 streamed: 0, left:
 text: 0, left:
+wqrecord: this kernel has no no_such_function: no sleep is recorded
+wqrecord: without the probes of wq_worker_sleeping
 lacking: 12, left:
 wqrecord: the kernel refuses the probe p:wqrecord/refused __flush_work
 wqrecord: 1 probes were refused by the kernel
 refused: 0, left:
 unprepared: 3, left:
 untyped: 14, left:
+wqrecord: only root may record
 unprivileged: 10, left:
 hidden: 15, left:
 locked: 13, left:
@@ -109,7 +112,7 @@ LINE = re.compile(r"^ *.+-(\d+) +\[(\d+)\] (\S+) +(\d+\.\d+): (\w+): (.*)$")
 
 
 def told_by_kernel(text):
-    """Of each event in the kernel's own text the time in microseconds, the thread, the event, and numbers of it."""
+    """Of each event in the kernel's own text the time in microseconds, the thread, the event, and what it tells."""
     rows = []
     for line in text.splitlines():
         match = LINE.match(line)
@@ -141,7 +144,7 @@ def told_by_record(archive):
                 fields = value["wq"], value["work"], value["name"]
             elif event.name in ("sleep", "flush_work", "delayed"):
                 fields = (value["work"],)
-            rows.append((round(event.time / 1e3), event.pid, event.name, fields))
+            rows.append(((event.time + 500) // 1000, event.pid, event.name, fields))
     return rows
 
 

@@ -9,7 +9,7 @@ given="--probes /probes"
 # left: what a recording has left in the kernel and on the disk.
 left() {
     [ -d $tracing/instances/wqrecord ] && echo -n " instance"
-    grep -q wqrecord $tracing/kprobe_events && echo -n " probes"
+    grep -q wqrecord $tracing/kprobe_events 2>/dev/null && echo -n " probes"
     [ -d /run/wqrecord ] && echo -n " state"
     ls -d /tmp/*.?????? 2>/dev/null
     ps | grep -q '[d]d if=/sys' && echo -n " readers"
@@ -86,12 +86,12 @@ wqrecord drop
 told dropped $?
 
 wqrecord start $given --buffer 8
-flushes 30
+flushes 10
 wqrecord stop -o /tmp/lost
 told lost $?
 wqrecord start $given --buffer 64 --stream /tmp/stream
 for part in 1 2 3 4 5; do
-    flushes 25
+    flushes 4
     wait_for 1
 done
 wqrecord stop -o /rec/streamed
@@ -99,7 +99,7 @@ told streamed $?
 echo "streamed: $(wc -c </rec/streamed) bytes"
 
 # A record, and the kernel's own text of the same events.
-wqrecord start $given
+wqrecord start $given --full
 flushes 2
 echo 0 >$tracing/instances/wqrecord/tracing_on
 cat $tracing/instances/wqrecord/trace >/rec/text
@@ -121,7 +121,7 @@ mount -t tmpfs none /sys/kernel/btf
 wqrecord start 2>/tmp/said
 told untyped $?
 cat /tmp/said
-setpriv --reuid 1000 --clear-groups wqrecord start $given 2>/tmp/said
+setpriv --reuid 1000 --regid 1000 --clear-groups wqrecord start $given
 told unprivileged $?
 echo 2 >/proc/sys/kernel/kptr_restrict
 wqrecord start $given 2>/tmp/said
