@@ -18,9 +18,10 @@
 #     runtime    books, runtimes and rescuers: with test_runtime
 #     kernel     the workqueue code of two series of Linux, and two drivers, in QEMU, where that and packages of Debian can be had:
 #                with wqplan, but for `drivers`
+#     record     record/wqrecord, by small records, and in guests as for `kernel`: without a program
 #     edits      all wrong bodies of tests/edits, which takes hours, and the script that tries them
 #
-# Parts of cli, model and source are tests by pytest (pytest.sh, which installs it where it may, or says what is missing). One is run by
+# Parts of cli, model, source and record are tests by pytest (pytest.sh, which installs it where it may, or says what is missing). One is run by
 # its name as `python3 -m pytest tests/cli -k NAME`.
 #
 # wqplan is the one at crates/wqplan/out or, where there is none, the one that install.sh built in ~/.cache/wqplan or
@@ -63,6 +64,7 @@ runtime  runtime      runtime/main.py TEST_RUNTIME | runtime/wakes.py TEST_RUNTI
                       | runtime/interleavings.py
 kernel   kernel       kernel/offline.py WQPLAN | kernel/main.py WQPLAN | kernel/broken.py WQPLAN | kernel/ending.py WQPLAN
 kernel   drivers      kernel/drivers.py
+record   record       pytest.sh - record | record/guests.py
 docs     guide        docs/guide.sh WQPLAN EXAMPLE_RDISK
 runtime  book_model   model/book_properties.py | model/drive_books.py TEST_RUNTIME
 edits    edits        edits/edits.py
@@ -99,7 +101,7 @@ for word; do
         fi
     done
     if [ ${#found[@]} -eq 0 ]; then
-        echo "run: there is no part or script $word; the parts are lib docs cli model source runtime kernel edits," \
+        echo "run: there is no part or script $word; the parts are lib docs cli model source runtime kernel record edits," \
             "the scripts ${names[*]}" >&2
         exit 2
     fi

@@ -535,7 +535,7 @@ hangs 'xfs: the kernel, at a shutdown' xfs.down.wq xfs.assign
 
 # nbd: five workqueues, of which two have no rescuer; four items wait for one of these. If it had one, the five would be safe, though
 # the least is five as well. A line for whoever runs already would be a false alarm.
-counts nbd 8 15 8 5
+counts nbd 8 16 8 5
 answers nbd 'plan 5' nbd_dev_remove_work wb_workfn recv_work blk_mq_run_work_fn nbd_dead_link_work
 without_cancel nbd 5
 plan_is_least nbd
@@ -546,9 +546,9 @@ run deadlock nbd.wq nbd.rescued.assign
 ends 'nbd: the kernel, with rescuers' 0 safe
 sed '/system_wq/s/^norescuer/wq/' nbd.assign >nbd.system.assign
 notes 'nbd: the kernel, with a rescuer of system_wq' nbd.wq nbd.system.assign nbd_dev_remove_work
-draws nbd 'plan of 5 workqueues, 4 waits in bold: items 8, workqueues 5, arrows 15, red 0, bold 4' nbd.wq
-draws 'nbd: the kernel' 'can hang, 4 waits in red, 4 to no rescuer, 1 in bold: items 8, workqueues 5, arrows 15, red 4, bold 1' nbd.wq nbd.assign
-draws 'nbd: the kernel, with rescuers' 'safe: items 8, workqueues 5, arrows 15, red 0, bold 0' nbd.wq nbd.rescued.assign
+draws nbd 'plan of 5 workqueues, 4 waits in bold: items 8, workqueues 5, arrows 16, red 0, bold 4' nbd.wq
+draws 'nbd: the kernel' 'can hang, 4 waits in red, 4 to no rescuer, 1 in bold: items 8, workqueues 5, arrows 16, red 4, bold 1' nbd.wq nbd.assign
+draws 'nbd: the kernel, with rescuers' 'safe: items 8, workqueues 5, arrows 16, red 0, bold 0' nbd.wq nbd.rescued.assign
 { cat nbd.wq && echo 'flush blk_mq_timeout_work blk_mq_run_work_fn'; } >nbd.alarm.wq
 hangs 'nbd: the kernel, with rescuers, with a line for what runs already' nbd.alarm.wq nbd.rescued.assign
 repairs 'nbd: the kernel' nbd.wq nbd.assign 'rescuer 0'

@@ -1,0 +1,178 @@
+"""A declaration and an assignment of what was recorded."""
+
+import collections
+from typing import Iterator
+
+from . import says
+from .causes import How, Wait
+from .chosen import Chosen
+from .history import History, Kind, Sleep, Workqueue
+from .items import Edge, Item, Items
+from .sites import Sites, stacks_of
+from .spelling import flush_line
+
+# How many places one line cites.
+MOST_PLACES = 4
+MOST_SITES = 3
+LONGEST_LINE = 4000
+# How a flush line says what kind of wait it is (examples/README.md). The first that an edge has is said.
+WORDS = {
+    How.FLUSH: "flush",
+    How.FLUSHWQ: "flushwq",
+    How.DRAIN: "flushwq",
+    How.CANCEL: "cancel",
+    How.DONE: "done",
+    How.BEFORE: "done",
+    How.QUEUED: "done",
+    How.EARLY: "done",
+    How.THROUGH: "done",
+    How.LOCK: "lock",
+}
+FLAGS = {
+    1 << 1: "WQ_UNBOUND",
+    1 << 2: "WQ_FREEZABLE",
+    1 << 3: "WQ_MEM_RECLAIM",
+    1 << 4: "WQ_HIGHPRI",
+    1 << 5: "WQ_CPU_INTENSIVE",
+    1 << 7: "WQ_POWER_EFFICIENT",
+    1 << 17: "ordered",
+}
+
+
+class Drawing:
+    """The texts of a record."""
+
+    def __init__(self, items: Items, chosen: Chosen, sites: Sites, head: list[str]) -> None:
+        self.items, self.chosen, self.sites, self.head = items, chosen, sites, head
+        self.history: History = items.history
+        self.quiet = [wait for wait in items.causes.quiet if self.has(wait)]
+        self.open = [sleep for sleep in self.history.open_sleeps if self.items.item_of(sleep.run) in chosen.items]
+        stacks = [stack for edge in chosen.edges for stack in stacks_of(edge)]
+        stacks += [place.stack for item in chosen.items for place in item.places]
+        stacks += [wait.stack for wait in self.quiet] + [sleep.stack for sleep in self.open]
+        sites.learn(stacks)
+
+    def has(self, wait: Wait) -> bool:
+        return self.items.item_of(wait.run) in self.chosen.items
+
+    # The declaration --------------------------------------------------------------------------------
+
+    def declaration(self) -> str:
+        blocks = [
+            [f"# {line}" for line in self.head],
+            list(self.item_lines()),
+            list(self.flush_lines()),
+            list(self.quiet_lines()),
+            list(self.open_lines()),
+        ]
+        return "\n\n".join("\n".join(line[:LONGEST_LINE] for line in block) for block in blocks if block) + "\n"
+
+    def item_lines(self) -> Iterator[str]:
+        items = [item for item in self.chosen.items if item.runs]
+        width = max((len(item.name) for item in items), default=0)
+        for item in items:
+            places = ", ".join(self.sites.of_queueing(item)[:MOST_PLACES])
+            queued = f"{item.function}, queued to {item.kind}" + (f" at {places}" if places else "")
+            yield f"item {item.name:{width}}  # {queued}; ran {says.times(item.runs)}"
+
+    def flush_lines(self) -> Iterator[str]:
+        width = 2 * max((len(item.name) for item in self.chosen.items), default=0) + 8
+        for edge in self.chosen.edges:
+            yield f"{self.line(edge):{width}}  # {self.words(edge)}"
+
+    def line(self, edge: Edge) -> str:
+        is_own = edge.source is edge.target and not edge.is_whole
+        if edge.is_never_queued or not edge.target.runs:
+            return f"# not queued: {edge.source.name} {edge.target.name}"
+        return flush_line(edge.source.name, edge.target.name, edge.is_whole, edge.is_sure and not is_own)
+
+    def words(self, edge: Edge) -> str:
+        """Kind, places, and how the wait is known."""
+        hows = {fact.how for fact in edge.facts}
+        how = next(how for how in How if how in hows)
+        places = ", ".join(site.words for site in self.sites.of_edge(edge)[:MOST_SITES])
+        seen = f"seen {says.times(len(edge.facts))}, slept {edge.slept}, longest {says.milliseconds(edge.longest)}"
+        return "; ".join([f"{WORDS[how]} {places}", seen, *self.remarks(edge, how)])
+
+    def remarks(self, edge: Edge, how: How) -> Iterator[str]:
+        if how is How.QUEUED:
+            yield "it queues who ends the wait"
+        if how is How.EARLY:
+            yield "it woke the waiter, which slept again"
+        if how is How.BEFORE:
+            yield "it had ended the wait already"
+        threads = {self.history.names.get(fact.through, "?") for fact in edge.facts if fact.through is not None}
+        if how is How.LOCK:
+            yield "a lock: " + (
+                f"its holder {', '.join(sorted(threads))} was woken by it"
+                if threads
+                else "it was the holder, and had started"
+            )
+        elif how is How.THROUGH:
+            yield f"through {', '.join(sorted(threads))}, which it woke meanwhile"
+        if edge.is_never_queued:
+            yield "nobody queued this work_struct"
+        elif not edge.target.runs:
+            yield "it never ran"
+        if how in (How.DONE, How.QUEUED) and not edge.is_sure:
+            yield "it had always started before"
+        ended = collections.Counter(
+            self.sites.actor(fact.ender, fact.ended_in_interrupt)
+            for fact in edge.facts
+            if fact.ender and fact.how is How.DONE
+        )
+        if ended:
+            yield f"ended at {ended.most_common(1)[0][0]}"
+
+    def quiet_lines(self) -> Iterator[str]:
+        counts: collections.Counter[tuple[str, str, str]] = collections.Counter()
+        for wait in self.quiet:
+            name = self.items.item_of(wait.run).name
+            by = (
+                "itself"
+                if wait.by.run is wait.run
+                else says.ender(wait.by.kind, self.history.names.get(wait.by.pid, "?"))
+            )
+            counts[name, self.sites.cited(wait.stack), by] += 1
+        for (name, place, by), count in sorted(counts.items()):
+            yield f"# no item: {name} slept at {place}, and {by} ended it, {says.times(count)}"
+
+    def open_lines(self) -> Iterator[str]:
+        for sleep in self.open:
+            yield f"# open: {self.open_words(sleep)}"
+
+    def open_words(self, sleep: Sleep) -> str:
+        """A sleep that hadn't ended: of a hang these are the waits themselves."""
+        name = self.items.item_of(sleep.run).name
+        since = says.milliseconds(self.history.end - sleep.start)
+        thread = self.history.names.get(sleep.pid, "?")
+        return f"{name} still slept at {self.sites.cited(sleep.stack)}, for {since}, in the thread {thread}"
+
+    # The assignment ---------------------------------------------------------------------------------
+
+    def assignment(self) -> str:
+        lines: dict[tuple[str, int], list[Item]] = collections.defaultdict(list)
+        for item in self.chosen.items:
+            if item.runs:
+                lines[item.kind, item.key.instance or 0].append(item)
+        rows = [f"# {self.head[0]}"]
+        for number, (_, items) in enumerate(sorted(lines.items(), key=lambda row: row[0])):
+            rows.append(self.assignment_line(number, items))
+        return "\n".join(rows) + "\n"
+
+    def assignment_line(self, number: int, items: list[Item]) -> str:
+        known = {address: one for item in items for address, one in item.workqueues.items()}
+        names = " ".join(sorted(item.name for item in items))
+        if any(item.is_kthread_work for item in items):
+            return f"wq {number} {names}  # {items[0].kind}: a kernel thread, ordered"
+        if not known:
+            return f"norescuer {number} {names}  # {items[0].kind}: it isn't known on which workqueue this was"
+        word = "wq" if all(one.has_rescuer for one in known.values()) else "norescuer"
+        one = next(iter(known.values()))
+        several = f", {len(known)} of them" if len(known) > 1 else ""
+        flags = ", ".join(flags_of(one))
+        return f"{word} {number} {names}  # {items[0].kind}, {flags}, max_active {one.max_active}{several}"
+
+
+def flags_of(workqueue: Workqueue) -> list[str]:
+    return [name for bit, name in FLAGS.items() if workqueue.flags & bit] or ["no flags"]

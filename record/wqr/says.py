@@ -1,0 +1,49 @@
+"""What is said of a record as a whole: how large it is, what it lost, and what it can't see."""
+
+from .archive import Archive
+from .causes import Causes
+from .history import History, Kind
+from .items import Items
+
+# What no record shows. Each reader of an answer has to know it.
+UNSEEN = (
+    "What isn't here: what didn't happen while it was recorded; waits that were over at once, so that nobody slept",
+    "(flushes are here all the same); for whom a poll or a sleep of fixed length waits; for whom an interrupt acts;",
+    "which object, as an item is a function; the sleeps of threads that aren't workers. That an item ended a wait is",
+    "a fact; that nobody else could have, isn't.",
+)
+
+
+def head(archive: Archive, history: History, causes: Causes, items: Items) -> list[str]:
+    """The first lines of an answer."""
+    ran = sum(item.runs > 0 for item in items.items.values())
+    found = [
+        f"Recorded on Linux {archive.release} in {archive.seconds:.0f} s, mode {archive.mode}: "
+        f"{history.events} events, "
+        f"{len(history.runs)} runs of {ran} items, {len(history.sleeps)} sleeps of items."
+    ]
+    found += [
+        f"LOST: {words}. So waits may be missing, and what was waited for may be wrong." for words in archive.lost()
+    ]
+    if history.gaps:
+        found.append(f"LOST: events before {history.gaps} pages of the buffer.")
+    for one in archive.missed():
+        found.append(f"The kernel missed {one.missed} hits of the probe {one.probe}, and took {one.hits}.")
+    refused = int(archive.text("refused") or 0)
+    if refused:
+        found.append(f"The kernel refused {refused} probes.")
+    if causes.unseen:
+        found.append(f"Of {causes.unseen} waits it isn't known who ended them.")
+    return found + list(UNSEEN)
+
+
+def ender(kind: Kind, name: str) -> str:
+    return f"the thread {name}" if kind is Kind.THREAD else kind.value
+
+
+def milliseconds(time: int) -> str:
+    return f"{time / 1e6:.1f} ms" if time < 10**9 else f"{time / 1e9:.1f} s"
+
+
+def times(count: int) -> str:
+    return "once" if count == 1 else f"{count} times"

@@ -1,0 +1,143 @@
+# For a guest of record/: how `wqrecord run`, `start` and `stop` end, and what they leave behind. Each line of the form
+# `NAME: ..` is looked at by test_recorder.py.
+# modules: brd; md-mod; raid1
+# programs: setpriv
+
+tracing=/sys/kernel/tracing
+given="--probes /probes"
+
+# left: what a recording has left in the kernel and on the disk.
+left() {
+    [ -d $tracing/instances/wqrecord ] && echo -n " instance"
+    grep -q wqrecord $tracing/kprobe_events 2>/dev/null && echo -n " probes"
+    [ -d /run/wqrecord ] && echo -n " state"
+    ls -d /tmp/*.?????? 2>/dev/null
+    ps | grep -q '[d]d if=/sys' && echo -n " readers"
+}
+
+# told NAME STATUS: how it ended, and what is left.
+told() {
+    echo "$1: $2, left:$(left)"
+}
+
+# A mirror on a RAM disk, each flush of which is a work item or two.
+echo md0 >/sys/module/md_mod/parameters/new_array
+array=/sys/block/md0/md
+echo none >$array/metadata_version
+echo raid1 >$array/level
+echo 1 >$array/raid_disks
+echo 4096 >$array/component_size
+echo 1:0 >$array/new_dev
+echo 0 >$array/dev-ram0/slot
+echo active >$array/array_state
+
+# flushes COUNT: in tens.
+flushes() {
+    tens=$1
+    while [ $tens -gt 0 ]; do
+        sync -d /dev/md0 /dev/md0 /dev/md0 /dev/md0 /dev/md0 /dev/md0 /dev/md0 /dev/md0 /dev/md0 /dev/md0
+        tens=$((tens - 1))
+    done
+}
+
+# recording: waits until it has begun.
+recording() {
+    while [ ! -s /run/wqrecord/began ]; do wait_for 1; done
+    wait_for 1
+}
+
+wqrecord run $given -o /tmp/ended -- sh -c 'exit 7' 2>/tmp/said
+told ended $?
+cat /tmp/said
+
+wqrecord run $given -o /tmp/input -- cat >/tmp/copied 2>/dev/null <<I
+given to the command
+I
+told input $?
+echo "input: $(cat /tmp/copied)"
+
+wqrecord run $given -o /tmp/terminated -- sleep 1000 2>/tmp/said &
+recording
+kill -TERM $!
+wait $!
+told terminated $?
+echo "terminated: $(tar tf /tmp/terminated | grep -c raw) raw"
+ps | grep -q '[s]leep 1000' && echo "terminated: the command still runs"
+
+wqrecord start $given 2>/dev/null &
+wait_for 2
+kill -TERM $!
+wait $!
+told begun $?
+
+wqrecord start $given
+told started $?
+wqrecord start $given 2>/tmp/said
+told twice $?
+cat /tmp/said
+wqrecord status
+flushes 1
+wqrecord stop -o /tmp/stopped 2>/dev/null
+told stopped $?
+wqrecord stop -o /tmp/stopped 2>/tmp/said
+told none $?
+wqrecord start $given
+wqrecord drop
+told dropped $?
+
+wqrecord start $given --buffer 8
+flushes 10
+wqrecord stop -o /tmp/lost
+told lost $?
+wqrecord start $given --buffer 64 --stream /tmp/stream
+for part in 1 2 3 4 5; do
+    flushes 4
+    wait_for 1
+done
+wqrecord stop -o /rec/streamed
+told streamed $?
+echo "streamed: $(wc -c </rec/streamed) bytes"
+
+# A record, and the kernel's own text of the same events.
+wqrecord start $given --full
+flushes 2
+echo 0 >$tracing/instances/wqrecord/tracing_on
+cat $tracing/instances/wqrecord/trace >/rec/text
+wqrecord stop -o /rec/record
+told text $?
+
+sed 's/ wq_worker_sleeping/ no_such_function/' /probes >/probes.lacking
+wqrecord start --probes /probes.lacking
+told lacking $?
+{ cat /probes; echo 'p refused __flush_work what=+0(%nowhere):x64'; } >/probes.refused
+wqrecord start --probes /probes.refused
+wqrecord stop -o /tmp/refused
+told refused $?
+
+wqrecord start 2>/tmp/said
+told unprepared $?
+cat /tmp/said
+mount -t tmpfs none /sys/kernel/btf
+wqrecord start 2>/tmp/said
+told untyped $?
+cat /tmp/said
+setpriv --reuid 1000 --regid 1000 --clear-groups wqrecord start $given
+told unprivileged $?
+echo 2 >/proc/sys/kernel/kptr_restrict
+wqrecord start $given 2>/tmp/said
+told hidden $?
+cat /tmp/said
+echo 0 >/proc/sys/kernel/kptr_restrict
+mkdir -p /tmp/security
+mount -t tmpfs none /sys/kernel/security
+echo 'none integrity [confidentiality]' >/sys/kernel/security/lockdown
+wqrecord start $given 2>/tmp/said
+told locked $?
+umount /sys/kernel/security
+wqrecord record 2>/dev/null
+told wrong $?
+mount -t tmpfs none $tracing
+mkdir $tracing/instances
+wqrecord start $given 2>/tmp/said
+told probeless $?
+umount $tracing

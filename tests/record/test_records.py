@@ -1,0 +1,211 @@
+"""Small records of Linux 6.1.192 beside the declarations of examples/, which were made by reading. What is wanted is
+what these say: record/README.md has how the records were made."""
+
+import json
+import pathlib
+import subprocess
+
+import pytest
+from conftest import ROOT
+
+from wqr.archive import Archive, Unreadable
+from wqr.causes import Causes
+from wqr.chosen import Chosen
+from wqr.compare import Class, Comparison
+from wqr.declaration import Drawing
+from wqr.declared import Declared
+from wqr.history import History
+from wqr.items import Items
+from wqr.places import Places
+from wqr.sites import Sites
+
+RECORDS = pathlib.Path(__file__).resolve().parent / "records"
+EXAMPLES = ROOT / "examples"
+WQRECORD = ROOT / "record/wqrecord"
+
+
+def drawing_of(name: str, *about: str) -> Drawing:
+    archive = Archive.read(RECORDS / f"{name}.gz")
+    history = History.of(archive)
+    items = Items(history, Causes(history))
+    places = Places(history.symbols, None, archive.release, archive.parts["places"])
+    return Drawing(items, Chosen.of(items, list(about) or None), Sites(places), ["a head"])
+
+
+def compared(name: str, example: str) -> Comparison:
+    drawing = drawing_of(name)
+    declared = Declared.read(EXAMPLES / f"{example}.wq", EXAMPLES / f"{example}.assign", drawing.history.symbols)
+    return Comparison(drawing, declared)
+
+
+def seen(comparison: Comparison) -> set[tuple[str, str, str]]:
+    """The declared waits that were seen, and how well the place is the cited one."""
+    return {(wait.source.name, wait.target.name, how.words) for wait, how in comparison.seen_waits.items()}
+
+
+LINE = "at the same line"
+
+
+@pytest.mark.parametrize(
+    "record, example, wanted",
+    [
+        # The two waits of examples/md.md for a flush of the lower array, at md.c:602.
+        ("md", "md", {("submit.upper", "submit.lower", LINE), ("submit.upper", "data.lower", LINE)}),
+        # The two for superblocks, at md.c:8684.
+        ("md-superblocks", "md", {("data.upper", "submit.lower", LINE), ("data.upper", "data.lower", LINE)}),
+        # All but that of dm-zoned, which isn't there.
+        (
+            "dm-snapshot",
+            "dm-snapshot",
+            {
+                ("do_work.merging", "do_work.other", LINE),
+                ("do_work.other", "do_metadata.other", LINE),
+                ("do_work.merging", "do_metadata.other", LINE),
+            },
+        ),
+        # The circle of examples/nfs.md, and the flusher of a mount that ends.
+        (
+            "nfs",
+            "nfs",
+            {
+                ("rpc_async.put", "rpc_async", LINE),
+                ("rpc_async.put", "wb_workfn", LINE),
+                ("put_release", "wb_workfn", LINE),
+            },
+        ),
+    ],
+)
+def test_declared_waits_are_seen_at_the_cited_lines(record, example, wanted):
+    comparison = compared(record, example)
+    assert seen(comparison) == wanted
+    assert comparison.seen[Class.HOLE] == []
+
+
+def without(*starts: str) -> Declared:
+    """examples/md.wq without its lines that begin so."""
+    text = "\n".join(line for line in (EXAMPLES / "md.wq").read_text().splitlines() if not line.startswith(starts))
+    return Declared.of("md.wq", text, (EXAMPLES / "md.assign").read_text(), drawing_of("md").history.symbols)
+
+
+def functions(found: list) -> set[tuple[str, str]]:
+    return {(one.edge.source.function, one.edge.target.function) for one in found}
+
+
+ABOVE_AND_BELOW = {("submit_flushes", "md_submit_flush_data"), ("submit_flushes", "submit_flushes")}
+
+
+def test_a_declaration_that_lacks_lines_has_holes():
+    comparison = Comparison(drawing_of("md"), without("flush submit.upper", "# no wait: md.c md_flush_request"))
+    assert functions(comparison.seen[Class.HOLE]) == ABOVE_AND_BELOW
+
+
+def test_what_another_item_may_do_without_a_wait_is_told_as_dismissed():
+    # (the same place is dismissed for the lower items, and a record doesn't tell these apart)
+    comparison = Comparison(drawing_of("md"), without("flush submit.upper"))
+    assert functions(comparison.seen[Class.DISMISSED]) == ABOVE_AND_BELOW
+
+
+def test_the_threads_that_end_dismissed_waits_are_told():
+    lines = list(compared("md-superblocks", "md").lines())
+    (found,) = [line for line in lines if "says no wait at md.c md_write_start" in line]
+    assert "ended by the thread md0_raid1" in found
+
+
+def test_workqueues_and_flags_are_those_of_the_kernel():
+    # drivers/md/md.c:9748 md_init, net/sunrpc/sched.c:1283, 1287 rpciod_start, fs/nfs/inode.c:2405 nfsiod_start
+    assert (
+        "wq 0 md_submit_flush_data submit_flushes submit_flushes.waits  # md, WQ_MEM_RECLAIM, max_active 256\n"
+        in drawing_of("md", "md_mod").assignment()
+    )
+    assignment = drawing_of("nfs", "nfs|nfsv4|sunrpc").assignment()
+    for name in ("rpciod", "xprtiod", "nfsiod"):
+        assert f"# {name}, WQ_UNBOUND, WQ_MEM_RECLAIM, max_active 256\n" in assignment
+    # system_wq, which has no rescuer (kernel/workqueue.c:6067 workqueue_init_early)
+    assert "norescuer 0 rpc_free_client_work xprt_destroy_cb  # events, no flags" in assignment
+
+
+def test_an_items_places_are_where_the_source_queues_it():
+    (item,) = [
+        line
+        for line in drawing_of("md", "md_mod").declaration().splitlines()
+        if line.startswith("item submit_flushes ")
+    ]
+    assert "queued to md at drivers/md/md.c:628 md_flush_request" in item
+
+
+def test_each_line_is_one_of_a_declaration():
+    text = drawing_of("nfs").declaration()
+    words = [line.partition("#")[0].split() for line in text.splitlines()]
+    names = {row[1] for row in words if row[:1] == ["item"]}
+    assert all(row[0] in ("item", "flush", "flushwq") and set(row[1:]) <= names for row in words if row)
+
+
+# The command -------------------------------------------------------------------------------------------
+
+
+def run(*words: object) -> subprocess.CompletedProcess[str]:
+    return subprocess.run([WQRECORD, *map(str, words)], capture_output=True, text=True)
+
+
+def test_compare_ends_with_0_where_nothing_is_missing():
+    ended = run("compare", EXAMPLES / "md.wq", RECORDS / "md.gz", "--assign", EXAMPLES / "md.assign")
+    assert (ended.returncode, ended.stderr) == (0, "")
+    assert ended.stdout.splitlines()[-1].startswith(
+        "# 4 waits declared: 2 seen (2 at the same line), 0 perhaps, 2 never."
+    )
+
+
+def test_compare_ends_with_1_where_a_wait_is_missing(tmp_path):
+    (tmp_path / "md.wq").write_text("item submit  # submit_flushes, queued to md at md.c:628\n")
+    ended = run("compare", tmp_path / "md.wq", RECORDS / "md.gz")
+    assert ended.returncode == 1
+    assert "seen, not declared: " in ended.stdout
+
+
+def test_what_is_no_record_is_a_fault(tmp_path):
+    (tmp_path / "no").write_text("nothing")
+    ended = run("declare", tmp_path / "no")
+    assert ended.returncode == 3
+    assert "no record" in ended.stderr
+
+
+def test_a_file_that_is_not_there_is_a_fault(tmp_path):
+    assert run("compare", tmp_path / "no.wq", RECORDS / "md.gz").returncode == 3
+
+
+def test_what_cannot_be_seen_is_said_where_the_answer_is_read():
+    for ended in (run("declare", RECORDS / "md.gz"), run("compare", EXAMPLES / "md.wq", RECORDS / "md.gz")):
+        assert (
+            "# What isn't here: what didn't happen while it was recorded; waits that were over at once" in ended.stdout
+        )
+
+
+def test_a_record_with_lost_events_says_so(tmp_path):
+    archive = Archive.read(RECORDS / "md.gz")
+    archive.parts["cpu0.stats"] = archive.parts["cpu0.stats"].replace(b"\noverrun: 0", b"\noverrun: 17")
+    archive.write(tmp_path / "lost.gz")
+    assert "# LOST: 17 events of cpu0 (overrun)." in run("declare", tmp_path / "lost.gz").stdout
+
+
+def test_places_make_a_record_stand_alone(tmp_path):
+    # (again, since this record has its places already)
+    assert run("places", RECORDS / "md.gz", "--out", tmp_path / "again.gz").returncode == 0
+    assert run("declare", tmp_path / "again.gz").stdout == run("declare", RECORDS / "md.gz").stdout
+    assert json.loads(Archive.read(tmp_path / "again.gz").parts["places"]) == json.loads(
+        Archive.read(RECORDS / "md.gz").parts["places"]
+    )
+
+
+def test_an_archive_without_its_parts_is_no_record(tmp_path):
+    archive = Archive.read(RECORDS / "md.gz")
+    del archive.parts["formats"]
+    archive.write(tmp_path / "half")
+    with pytest.raises(Unreadable):
+        Archive.read(tmp_path / "half")
+
+
+def test_a_wrong_command_line_is_told():
+    assert run("declare").returncode == 2
+    assert run("records").returncode == 2
+    assert run("run", "--", "true").returncode == 2
+    assert run("stop").returncode == 2
