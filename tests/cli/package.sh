@@ -140,7 +140,8 @@ for command in wqplan wqsource wqjudge; do
 done
 
 # The tools, as they stand there. The judge is asked for what needs no guest.
-is 'Recommends' 'python3, coccinelle, graphviz, qemu-system-x86' "$(field Recommends)"
+# (spatch opens Python's library, and Debian's coccinelle doesn't depend on it)
+is 'Recommends' 'python3, coccinelle, libpython3.11 | libpython3-dev, graphviz, qemu-system-x86' "$(field Recommends)"
 export XDG_CACHE_HOME=$work/facts
 limited "$root/usr/bin/wqjudge" --help >"$work/out" 2>&1
 is 'wqjudge calls itself so' 'usage: wqjudge' "$(head -n 1 "$work/out" | cut -d ' ' -f 1,2)"
