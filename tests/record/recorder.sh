@@ -121,7 +121,7 @@ mount -t tmpfs none /sys/kernel/btf
 wqrecord start 2>/tmp/said
 told untyped $?
 cat /tmp/said
-setpriv --reuid 1000 --regid 1000 --clear-groups wqrecord start $given
+/usr/sbin/setpriv --reuid 1000 --regid 1000 --clear-groups wqrecord start $given
 told unprivileged $?
 echo 2 >/proc/sys/kernel/kptr_restrict
 wqrecord start $given 2>/tmp/said
