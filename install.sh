@@ -11,19 +11,22 @@
 #     PREFIX/bin/wqplan
 #     PREFIX/bin/wqsource
 #     PREFIX/bin/wqjudge
+#     PREFIX/bin/wqrecord
 #     PREFIX/share/man/man1/wqplan.1
 #     PREFIX/share/man/man1/wqsource.1
 #     PREFIX/share/man/man1/wqjudge.1
+#     PREFIX/share/man/man1/wqrecord.1
 #     PREFIX/share/man/man5/wqplan.5
 #     PREFIX/share/bash-completion/completions/wqplan
 #     PREFIX/share/bash-completion/completions/wqsource
 #     PREFIX/share/bash-completion/completions/wqjudge
+#     PREFIX/share/bash-completion/completions/wqrecord
 #     PREFIX/share/wqplan/installed
 #
-# and in PREFIX/share/wqplan the folders source and kernel of the repository, to
-# which bin/wqsource and bin/wqjudge lead, with what kernel uses of tests and
-# docs. PREFIX/share/wqplan/installed is a list of the others and of the folders
-# that were made.
+# and in PREFIX/share/wqplan the folders source, kernel and record of the
+# repository, to which bin/wqsource, bin/wqjudge and bin/wqrecord lead, with what
+# kernel uses of tests and docs. PREFIX/share/wqplan/installed is a list of the
+# others and of the folders that were made.
 # Nothing is installed unless all that is built was proved. That is done in a
 # folder of its own, ~/.cache/wqplan or $XDG_CACHE_HOME/wqplan, on all processors.
 # From a fresh clone it takes about an hour. What was proved stays in that folder

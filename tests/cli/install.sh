@@ -29,23 +29,26 @@ untouched() {
 
 # tools FORMAT: the files of the tools, which stand as they are in the clone, in this format of find.
 tools() {
-    cd -- "$clone" && find source kernel tests docs -type f -printf "$1"
+    cd -- "$clone" && find source kernel record tests docs -type f -printf "$1"
 }
 # What help lists, and then the files of the tools.
 listed='bin/wqjudge
 bin/wqplan
+bin/wqrecord
 bin/wqsource
 share/bash-completion/completions/wqjudge
 share/bash-completion/completions/wqplan
+share/bash-completion/completions/wqrecord
 share/bash-completion/completions/wqsource
 share/man/man1/wqjudge.1
 share/man/man1/wqplan.1
+share/man/man1/wqrecord.1
 share/man/man1/wqsource.1
 share/man/man5/wqplan.5
 share/wqplan/installed'
 files=$( (echo "$listed" && tools 'share/wqplan/%p\n') | LC_ALL=C sort)
 folders=$( (printf '%s\n' bin share share/{bash-completion,bash-completion/completions,man,man/man1,man/man5,wqplan} &&
-    cd -- "$clone" && find source kernel tests docs -type d -printf 'share/wqplan/%p\n') | LC_ALL=C sort)
+    cd -- "$clone" && find source kernel record tests docs -type d -printf 'share/wqplan/%p\n') | LC_ALL=C sort)
 # (a link has all modes)
 wanted=$( (sed 's|$|/|' <<<"$folders" && tools 'share/wqplan/%p %m\n' &&
     sed -E 's|$| 644|; s|^bin/wqplan 644|bin/wqplan 755|; s|^(bin/.*) 644|\1 777|' <<<"$listed") | LC_ALL=C sort)
@@ -63,6 +66,7 @@ installed() {
     is "$1: the program" "$3" "$(limited "$2/bin/wqplan")"
     is "$1: wqsource is a link to the tool" "$2/share/wqplan/source/wqsource" "$(realpath -- "$2/bin/wqsource")"
     is "$1: wqjudge is a link to the tool" "$2/share/wqplan/kernel/judge" "$(realpath -- "$2/bin/wqjudge")"
+    is "$1: wqrecord is a link to the tool" "$2/share/wqplan/record/wqrecord" "$(realpath -- "$2/bin/wqrecord")"
     is "$1: wqplan(1)" '' "$(cmp -- "$repository/man/wqplan.1" "$2/share/man/man1/wqplan.1" 2>&1)"
     is "$1: wqplan(5)" '' "$(cmp -- "$repository/man/wqplan.5" "$2/share/man/man5/wqplan.5" 2>&1)"
     is "$1: the completion" '' "$(cmp -- "$repository/man/wqplan.bash" "$2/share/bash-completion/completions/wqplan" 2>&1)"

@@ -23,7 +23,7 @@ fi
 work=$(mktemp -d)
 trap 'rm -rf -- "$work"' EXIT
 . "$repository/tests/lib/toolchain.bash"
-cp -r -- "$repository"/{README.md,CHANGELOG.md,docs,examples,source,kernel} "$clone"
+cp -r -- "$repository"/{README.md,CHANGELOG.md,docs,examples,source,kernel,record} "$clone"
 find "$clone" -name __pycache__ -prune -exec rm -r -- {} +
 export PROGRAM=$program AFTER='cp -- "$PROGRAM" out/wqplan && chmod 755 out/wqplan'
 export PATH=$PATH:/usr/sbin:/sbin
@@ -80,11 +80,11 @@ is 'no script is run when it is installed or removed' 'control md5sums' "$(dpkg-
 {
     echo '-rwxr-xr-x usr/bin/wqplan'
     cd -- "$repository" && find README.md CHANGELOG.md docs/*.md docs/pictures examples -type f -printf '-rw-r--r-- usr/share/doc/wqplan/%p\n'
-    printf -- '-rw-r--r-- usr/share/%s\n' doc/wqplan/{changelog.gz,copyright} man/man1/wq{plan,source,judge}.1.gz \
-        man/man5/wqplan.5.gz bash-completion/completions/wq{plan,source,judge}
+    printf -- '-rw-r--r-- usr/share/%s\n' doc/wqplan/{changelog.gz,copyright} man/man1/wq{plan,source,judge,record}.1.gz \
+        man/man5/wqplan.5.gz bash-completion/completions/wq{plan,source,judge,record}
     # The tools stand as they are in the repository; their commands are links to them.
-    printf 'lrwxrwxrwx usr/bin/%s\n' wqsource wqjudge
-    cd -- "$repository" && find source kernel -name __pycache__ -prune -o -type f -printf '%M usr/share/wqplan/%p\n'
+    printf 'lrwxrwxrwx usr/bin/%s\n' wqsource wqjudge wqrecord
+    cd -- "$repository" && find source kernel record -name __pycache__ -prune -o -type f -printf '%M usr/share/wqplan/%p\n'
     printf -- '-rw-r--r-- usr/share/wqplan/%s\n' tests/model/{certificate,circle,command_line,deadlock,declaration,steps}.py \
         tests/lib/records.py docs/tables/directives.txt
 } | LC_ALL=C sort >"$work/wanted"
@@ -132,22 +132,29 @@ is 'the program says its version' "wqplan $version" "$(limited "$root/usr/bin/wq
 is 'it finds the plan of the guide' '' "$(limited "$root/usr/bin/wqplan" plan examples/rdisk/rdisk.wq | diff - "$repository/examples/rdisk/rdisk.plan")"
 is 'it judges an example' safe "$(limited "$root/usr/bin/wqplan" deadlock examples/nvme-auth.wq examples/nvme-auth.later.assign)"
 is 'it has no symbols that are of no use to it' 'no symbols' "$(objdump -t "$root/usr/bin/wqplan" | grep -o 'no symbols')"
-for page in wqplan.1 wqplan.5 wqsource.1 wqjudge.1; do
+for page in wqplan.1 wqplan.5 wqsource.1 wqjudge.1 wqrecord.1; do
     is "$page" '' "$(zcat "$root/usr/share/man/man${page#*.}/$page.gz" | cmp - "$repository/man/$page" 2>&1)"
 done
-for command in wqplan wqsource wqjudge; do
+for command in wqplan wqsource wqjudge wqrecord; do
     is "the completion of $command" '' "$(cmp -- "$root/usr/share/bash-completion/completions/$command" "$repository/man/$command.bash" 2>&1)"
 done
 
 # The tools, as they stand there. The judge is asked for what needs no guest.
 # (spatch opens Python's library, and Debian's coccinelle doesn't depend on it)
-is 'Recommends' 'python3, coccinelle, libpython3.11 | libpython3-dev, graphviz, qemu-system-x86' "$(field Recommends)"
+is 'Recommends' 'python3, binutils, coccinelle, libpython3.11 | libpython3-dev, graphviz, qemu-system-x86' "$(field Recommends)"
 export XDG_CACHE_HOME=$work/facts
 limited "$root/usr/bin/wqjudge" --help >"$work/out" 2>&1
 is 'wqjudge calls itself so' 'usage: wqjudge' "$(head -n 1 "$work/out" | cut -d ' ' -f 1,2)"
 PATH=$root/usr/bin:$PATH limited "$root/usr/bin/wqjudge" examples/nvme-auth.wq examples/nvme-auth.assign --write-c "$work/hang.c" >"$work/out" 2>&1
 is 'wqjudge writes a file of C of what hangs' "1: written: $work/hang.c" "$?: $(tail -n 1 "$work/out")"
 is 'which has the items' 4 "$(grep -cE '"(io|auth|dhchap_auth|connect)_work"' "$work/hang.c")"
+limited "$root/usr/bin/wqrecord" --help >"$work/out" 2>&1
+is 'wqrecord says its commands' '0: run start stop drop status declare compare places probes' \
+    "$?: $(sed -nE 's/^  wqrecord ([a-z]+) .*/\1/p' "$work/out" | xargs)"
+# (the two waits of examples/md.md for superblocks)
+limited "$root/usr/bin/wqrecord" compare examples/md.wq "$repository/tests/record/records/md-superblocks.gz" \
+    --assign examples/md.assign >"$work/out" 2>&1
+is 'wqrecord compares a record with an example' '0: declared and seen: 2' "$?: $(grep '^declared and seen:' "$work/out")"
 if command -v spatch >/dev/null; then
     limited "$root/usr/bin/wqsource" audit --decl examples/rdisk/rdisk.wq --tree examples/rdisk rdisk.c >"$work/out" 2>&1
     is 'wqsource audits an example' '1: left: rdisk.c:18 rdisk_log: submit_bio_wait(rd->record)  [other]' "$?: $(grep '^left:' "$work/out")"
@@ -169,9 +176,9 @@ grep -rnoE '\]\([^)#]+\)' --include='*.md' . | sed -E 's/^([^:]*):[0-9]+:\]\((.*
         *) [ -e "$(dirname "$page")/$link" ] || echo "${page#./} $link" ;;
     esac
 done >"$work/dead"
-is 'the pages that only the repository has' "$(printf '%s\n' README.md\ {bench,kernel,source}/README.md)" \
+is 'the pages that only the repository has' "$(printf '%s\n' README.md\ {bench,kernel,record,source}/README.md)" \
     "$(grep '^README.md ' "$work/dead" | LC_ALL=C sort -u)"
-is 'no other link leads nowhere' '' "$(grep -vE ' (\.\./)?(bench|kernel|source|tests|crates)/' "$work/dead")"
+is 'no other link leads nowhere' '' "$(grep -vE ' (\.\./)?(bench|kernel|record|source|tests|crates)/' "$work/dead")"
 
 # Removed.
 cd -- "$work" || exit 1

@@ -1,8 +1,8 @@
 #!/usr/bin/env python3
-"""Compares man/wqsource.1 and man/wqjudge.1, and the completion of both for bash, with what the programs say of
-themselves: each option of their help is an entry of the page, and offered; and there are no others. The exit statuses
-of the page of wqjudge are those of its help. Where there is a groff, both pages are rendered, without a warning and
-within 80 columns.
+"""Compares the manual pages of wqsource, wqjudge and wqrecord, and their completion for bash, with what the programs
+say of themselves: each command, each option and each exit status of their help is an entry of the page, and there are
+no others; and the commands and options are offered. Where there is a groff, the pages are rendered, without a warning
+and within 80 columns.
 """
 
 import pathlib
@@ -15,7 +15,13 @@ ROOT = pathlib.Path(__file__).resolve().parents[2]
 sys.path.append(str(ROOT / "tests/lib"))
 from programs import counts_of, run  # noqa: E402  (in tests/lib)
 
-TOOLS = {"wqsource": ROOT / "source/wqsource", "wqjudge": ROOT / "kernel/judge"}
+TOOLS = {
+    "wqsource": ROOT / "source/wqsource",
+    "wqjudge": ROOT / "kernel/judge",
+    "wqrecord": ROOT / "record/wqrecord",
+}
+# Commands of wqrecord whose help is the whole one, and that have none of its long options.
+BARE = ["stop", "drop", "status"]
 OPTION = re.compile(r"(?<![\w-])--[a-z][a-z-]*")
 counts = {True: 0, False: 0}
 
@@ -52,26 +58,40 @@ def offered(tool, words):
     return set(ended.stdout.decode().split())
 
 
-def try_tool(tool, program):
-    commands = []
+def commands_of(tool, told):
+    """The commands that a help names."""
     if tool == "wqsource":
-        commands = re.search(r" ([a-z]+(?:\|[a-z]+)+) ", help_of(program))[1].split("|")
+        return re.search(r" ([a-z]+(?:\|[a-z]+)+) ", told)[1].split("|")
+    return re.findall(rf"^  {tool} ([a-z]+) ", told, re.M)
+
+
+def try_tool(tool, program):
+    commands = commands_of(tool, help_of(program))
+    if commands:
         equal(f"{tool}.1: COMMANDS", [f".B {command}" for command in commands], tagged(page_of(tool), "COMMANDS"))
         equal(f"{tool}.bash: commands", set(commands), offered(tool, [program, ""]))
     options = set()
     for words in [[command] for command in commands] or [[]]:
         told = set(OPTION.findall(help_of(program, *words)))
         options |= told
+        if tool == "wqrecord" and words[0] in BARE:
+            told = {"--help"}
         equal(f"{tool}.bash: options of {words}", told, offered(tool, [program, *words, "--"]))
     found = {option for tag in tagged(page_of(tool), "OPTIONS") for option in OPTION.findall(tag)}
     equal(f"{tool}.1: OPTIONS", options, found)
 
 
-def try_statuses():
-    text = help_of(TOOLS["wqjudge"])
-    wanted = re.findall(r"[:;] (\d) ", re.search(r"The status:(.*?)\.\n", " " + text, re.S)[0].replace("\n", " "))
-    found = [tag.split()[-1] for tag in tagged(page_of("wqjudge"), "EXIT STATUS")]
-    equal("wqjudge.1: EXIT STATUS", wanted, found)
+def try_statuses(tool, program):
+    told = re.search(r"\b[Ss]tatus:.*?\.( |\n)", help_of(program), re.S)[0]
+    wanted = re.findall(r"[:;,]\s(\d+)\b", told)
+    found = [tag.split()[-1] for tag in tagged(page_of(tool), "EXIT STATUS")]
+    equal(f"{tool}.1: EXIT STATUS", wanted, found)
+
+
+def try_other_command():
+    """Behind `--` of `wqrecord run` stands another command."""
+    wanted = run(["bash", "-c", "compgen -c -- bas"], capture_output=True).stdout.decode().split()
+    equal("wqrecord.bash: the command that it runs", set(wanted), offered("wqrecord", ["wqrecord", "run", "--", "bas"]))
 
 
 def try_rendered(tool):
@@ -85,9 +105,10 @@ def try_rendered(tool):
 def main():
     for tool, program in TOOLS.items():
         try_tool(tool, program)
+        try_statuses(tool, program)
         if shutil.which("groff"):
             try_rendered(tool)
-    try_statuses()
+    try_other_command()
     return counts_of("tools", counts[True], counts[False])
 
 

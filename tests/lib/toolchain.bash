@@ -9,11 +9,13 @@ kit="$work/the kit"
 mkdir -p -- "$clone/crates" "$work/toolchain" "$kit/bin" "$work/home" "$work/tmp"
 cp -r -- "$repository"/{install.sh,crates.txt,man,package} "$clone"
 # Of the tools beside it their commands and one more file each, and what one uses of tests/ and docs/.
-mkdir -p -- "$clone"/{source/csource,kernel/lib,tests/lib,tests/model,docs/tables}
+mkdir -p -- "$clone"/{source/csource,kernel/lib,record/wqr,tests/lib,tests/model,docs/tables}
 cp -- "$repository/source/wqsource" "$clone/source"
 cp -- "$repository/source/csource/says.py" "$clone/source/csource"
 cp -- "$repository/kernel/judge" "$clone/kernel"
 cp -- "$repository/kernel/lib/init" "$clone/kernel/lib"
+cp -- "$repository/record/wqrecord" "$clone/record"
+cp -- "$repository/record/wqr/says.py" "$clone/record/wqr"
 cp -- "$repository"/tests/model/{certificate,circle,command_line,deadlock,declaration,steps}.py "$clone/tests/model"
 cp -- "$repository/tests/lib/records.py" "$clone/tests/lib"
 cp -- "$repository/docs/tables/directives.txt" "$clone/docs/tables"
