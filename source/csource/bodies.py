@@ -3,7 +3,7 @@
 from typing import Optional
 
 from .sink import OUTSIDE, Sink
-from .words_of_c import KEYWORDS, NO_TYPE, PLAIN_TYPES, is_word, qualifies
+from .words_of_c import ATTRIBUTES, KEYWORDS, NO_TYPE, PLAIN_TYPES, is_word, qualifies
 
 ENDS_EXPRESSION = (";", ",", ")", "}", "]")
 WORK_DECLARERS = ("DECLARE_WORK", "DECLARE_DELAYED_WORK", "DECLARE_DEFERRABLE_WORK")
@@ -148,25 +148,44 @@ class Bodies:
                 self.sink.fact("ASG", value, self.words[name], self.sink.text(value, last))
 
     def initialisers(self, struct: str, start: int, end: int) -> None:
-        """.m = f, [2] = {..}, {..}"""
+        """.m = f, [2] = {..}, {..}, f"""
         words = self.words
         for number, (first, last) in enumerate(self.source.parts(start, end)):
-            value = first
+            value, member = first, f"#{number}"
             if words[first] == "[":
                 value = self.source.after(first)
                 value += value < last and words[value] == "="
+            elif words[first] == "." and last - first > 3:
+                inner, value = self.designated(struct, first, last)
+                self.initialiser(inner[0], inner[1], value, last)
+                continue
             if value < last and words[value] == "{":
                 self.initialisers(struct, value + 1, self.source.closed_by[value])
-            elif words[first] == "." and last - first > 3 and words[first + 2] == "=":
-                self.initialiser(struct, first + 1, first + 3, last)
-            elif first + 1 <= last <= first + 2 and is_word(words[last - 1]) and words[last - 1] not in KEYWORDS:
-                # by its place: NAME, &NAME
-                self.sink.fact("INI", first, struct, f"#{number}", self.sink.text(first, last))
+            elif self.is_one_name(value, last):
+                self.sink.fact("INI", value, struct, member, self.sink.text(value, last))
 
-    def initialiser(self, struct: str, member: int, value: int, end: int) -> None:
+    def is_one_name(self, start: int, end: int) -> bool:
+        """NAME, or & NAME."""
+        start += start < end and self.words[start] == "&"
+        return end - start == 1 and is_word(self.words[start]) and self.words[start] not in KEYWORDS
+
+    def designated(self, struct: str, start: int, end: int) -> tuple[tuple[str, str], int]:
+        """`.m =`, `.m.n =`, `.m[2] =`: the struct and the member, and where the value begins."""
+        words, member, at = self.words, "", start
+        while at < end and words[at] != "=":
+            if words[at] == "." and at + 1 < end:
+                struct, member = (f"{struct}.{member}" if member else struct), words[at + 1]
+                at += 2
+            else:
+                at = self.source.after(at)
+        return (struct, member), at + 1
+
+    def initialiser(self, struct: str, member: str, value: int, end: int) -> None:
         words = self.words
+        if value >= end or not member:
+            return
         if words[value] == "{":
-            self.initialisers(f"{struct}.{words[member]}", value + 1, self.source.closed_by[value])
+            self.initialisers(f"{struct}.{member}", value + 1, self.source.closed_by[value])
             return
         if words[value] == "(":
             # a cast, or a compound literal
@@ -176,7 +195,7 @@ class Bodies:
                 self.initialisers(inner, behind + 1, self.source.closed_by[behind])
                 return
             value = behind
-        self.sink.fact("INI", member, struct, words[member], self.sink.text(value, end))
+        self.sink.fact("INI", min(value, end - 1), struct, member, self.sink.text(value, end))
 
     # Expressions
 
@@ -196,7 +215,7 @@ class Bodies:
         words, sink = self.words, self.sink
         before, end = words[at - 1], self.source.closed_by[at]
         if before == ")":
-            self.call_of_pointer(at, start)
+            self.call_of_brackets(at, start)
         elif before == "]":
             callee = self.primary(at - 1, start)
             if callee is not None:
@@ -217,11 +236,18 @@ class Bodies:
             sink = self.sink
             sink.fact("PCALL", member, sink.text(base, member - 1), self.words[member], sink.text(at + 1, end))
 
-    def call_of_pointer(self, at: int, start: int) -> None:
-        """(* BASE -> MEMBER)(..), (* VARIABLE)(..), (c ? f : g)(..). A cast has neither mark."""
+    def call_of_brackets(self, at: int, start: int) -> None:
+        """(* BASE -> MEMBER)(..), (* VARIABLE)(..), (c ? f : g)(..), f(..)(..). A cast is none of these."""
         words, sink = self.words, self.sink
         opens = self.source.opened_by.get(at - 1)
-        if opens is None or opens < start or words[opens + 1] != "*" and "?" not in words[opens:at]:
+        if opens is None or opens < start:
+            return
+        if opens > start and is_word(words[opens - 1]) and words[opens - 1] not in KEYWORDS:
+            callee = self.primary(at - 1, start)
+            if callee is not None and words[callee] not in ATTRIBUTES:
+                sink.fact("ECALL", at, sink.text(callee, at), sink.text(at + 1, self.source.closed_by[at]))
+            return
+        if words[opens + 1] != "*" and "?" not in words[opens:at]:
             return
         text = sink.text(at + 1, self.source.closed_by[at])
         if at - opens > 5 and words[at - 3] in ("->", ".") and is_word(words[at - 2]):
@@ -268,7 +294,7 @@ class Bodies:
     def literal(self, brace: int) -> None:
         """(struct s) { .m = f }"""
         opens = self.source.opened_by.get(brace - 1)
-        if opens is not None and opens > 0 and self.words[opens - 1] in ("=", "(", ",", "return"):
+        if opens is not None and opens > 0 and self.words[opens - 1] in ("=", "(", ",", "&", "return"):
             struct = self.sink.type_of(opens + 1, brace - 1)
             if struct:
                 self.initialisers(struct, brace + 1, self.source.closed_by[brace])

@@ -2,11 +2,10 @@
 
 import functools
 import pathlib
-import re
 from dataclasses import dataclass
 from typing import Iterable, Iterator
 
-from .tables import FOLDER, TableError, pattern, rows
+from .tables import FOLDER, Names, TableError, pattern, rows
 
 BEHIND = ":"
 
@@ -15,7 +14,7 @@ BEHIND = ":"
 class Row:
     """Names, and the files that belong to who has one of them."""
 
-    names: re.Pattern[str]
+    names: Names
     files: tuple[str, ...]
 
 

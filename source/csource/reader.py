@@ -194,7 +194,9 @@ class Reader:
             self.variables(start, end)
 
     def is_macro_call(self, start: int, end: int) -> bool:
-        return start + 1 < end and is_word(self.words[start]) and self.words[start + 1] == "("
+        """NAME(..), where that is no type before `(*name)`."""
+        words = self.words
+        return start + 2 < end and is_word(words[start]) and words[start + 1] == "(" and words[start + 2] != "*"
 
     def typedef(self, start: int, end: int) -> None:
         at = self.sink.last_name(start + 1, end)

@@ -3,7 +3,7 @@
 import pathlib
 import re
 from dataclasses import dataclass
-from typing import Iterator
+from typing import Iterator, Optional
 
 from . import ctext
 
@@ -17,9 +17,21 @@ class TableError(Exception):
     """A line of a table that has not the form that the head of the table describes."""
 
 
-def pattern(names: list[str]) -> re.Pattern[str]:
-    """What fits one of the names, in each of which `*` stands for any letters."""
-    return re.compile("|".join(re.escape(name).replace(r"\*", r"\w*") for name in names) or r"(?!)")
+class Names:
+    """What fits one of some names, in each of which `*` stands for any letters. The same name is asked about often."""
+
+    def __init__(self, names: list[str]) -> None:
+        self.pattern = re.compile("|".join(re.escape(name).replace(r"\*", r"\w*") for name in names) or r"(?!)")
+        self.known: dict[str, Optional[re.Match[str]]] = {}
+
+    def fullmatch(self, name: str) -> Optional[re.Match[str]]:
+        if name not in self.known:
+            self.known[name] = self.pattern.fullmatch(name)
+        return self.known[name]
+
+
+def pattern(names: list[str]) -> Names:
+    return Names(names)
 
 
 def rows(path: pathlib.Path) -> Iterator[tuple[int, list[str]]]:
@@ -72,7 +84,7 @@ class Waits:
     """waits.txt: the kind of each call."""
 
     def __init__(self, path: pathlib.Path = FOLDER / "waits.txt") -> None:
-        self.rows: list[tuple[Kind, re.Pattern[str]]] = []
+        self.rows: list[tuple[Kind, Names]] = []
         self.nowait: set[str] = set()
         groups: dict[str, list[str]] = {word: [] for word in GROUPS}
         self.known: dict[str, Kind] = {}
@@ -119,9 +131,9 @@ class Idioms:
 
     def __init__(self, path: pathlib.Path = FOLDER / "idioms.txt") -> None:
         names: dict[str, list[str]] = {"now": [], "later": [], "atomic": []}
-        self.members: list[tuple[re.Pattern[str], str, str]] = []
-        self.stacked: list[tuple[re.Pattern[str], str, str]] = []
-        self.kept: list[tuple[str, re.Pattern[str]]] = []
+        self.members: list[tuple[Names, str, str]] = []
+        self.stacked: list[tuple[Names, str, str]] = []
+        self.kept: list[tuple[str, Names]] = []
         for number, (word, *given) in rows(path):
             if word in names:
                 names[word] += given

@@ -104,13 +104,17 @@ class TokenFacts(Facts):
             super().take(file, words)
 
     def take_initialiser(self, place: Place, struct: str, member: str, value: Tokens) -> None:
-        """A member by name, or by its place among those of the struct."""
-        if member.startswith(BY_PLACE):
-            names = self.expressions.types.members_of(struct)
-            at = int(member[1:])
-            if at >= len(names):
-                return
-            member = names[at]
+        """A member by name, or by its place among those of the struct. What no struct is known of is an array."""
+        known = self.expressions.types.meant(struct)
+        if member.startswith(BY_PLACE) and known is None:
+            struct, _, member = struct.rpartition(".")
+            known = self.expressions.types.meant(struct) if struct else None
+        elif member.startswith(BY_PLACE):
+            names = self.expressions.types.members_of(known or struct)
+            member = names[int(member[1:])] if int(member[1:]) < len(names) else ""
+        struct = known or struct
+        if not struct or not member:
+            return
         self.initialisers.append(Initialiser(place, struct, member, value))
 
     def take_initialisers(self, file: str) -> None:

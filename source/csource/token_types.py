@@ -66,6 +66,16 @@ class Types:
         found = self.members.get(struct, {}).get(name)
         return self.above.member(struct, name) if found is None and self.above else found
 
+    def meant(self, name: str) -> Optional[str]:
+        """The struct of a name, or of A.m the one that the member m of A is; None where that is none that is known."""
+        name = self.struct(name)
+        outer, _, member = name.rpartition(".")
+        if self.knows(name) or not outer:
+            return name if self.knows(name) else None
+        struct = self.meant(outer)
+        inner = self.member(struct, member) if struct else None
+        return self.struct(inner) if inner and self.knows(self.struct(inner)) else None
+
     def members_of(self, struct: str) -> list[str]:
         """The names of its members, in the order of the definition."""
         found = self.members.get(struct)

@@ -150,7 +150,9 @@ def test_the_small_files_beside_coccinelle(cache):
     """Each fact that Coccinelle has of the files of the tests the reader has as well."""
     files = sorted(path.name for path in C_FILES.glob("*.c") if path.name not in ("swallowed.c", "read.c"))
     compared = readers.compare(C_FILES, files, cache)
-    assert {kind: found for kind, found in compared.coccinelle.items() if found} == {}
+    only = {kind: {fact[1] for fact in found} for kind, found in compared.coccinelle.items() if found}
+    # (Coccinelle takes a cast for a call)
+    assert only == {"ECALL": {(47, "(ar_size)")}}
 
 
 @pytest.mark.skipif(not (LINUX / "Makefile").exists(), reason="no source of Linux 6.1: set LINUX_6_1")

@@ -21,7 +21,7 @@ static struct workqueue_struct *rd_wq, *rd_other_wq;
 #if 0
 static void rd_never(void)
 {
-	flush_workqueue(rd_wq);
+	rd_nothing(rd_wq);
 }
 #endif
 
