@@ -42,8 +42,8 @@ WAITS = {
     ),
     "nfs": ("nfs", ["rpc_async.put -> rpc_async", "rpc_async.put -> wb_workfn"]),
 }
-# Items for which nfs.wq dismisses the wait by a function that the compiler has inlined. There are no debug symbols here, so
-# the stack doesn't show it.
+# Items for which nfs.wq dismisses the wait by a function that the compiler has inlined. There are no debug symbols
+# here, so the stack doesn't show it.
 INLINED = {"wb_update_bandwidth_workfn"}
 # What recorder.sh says, in lines that begin so.
 SAID = """\
