@@ -29,7 +29,7 @@ item pool_give_work
 flush pool_take_work pool_give_work  # pool pool.c:6 pool_take_work, an element comes back at pool.c:16 pool_give_work
 item ti_first
 item ti_second
-flush ti_second ti_first  # cancel two_inits.c:10 ti_second
+flush ti_second ti_first  # flush two_inits.c:10 ti_second
 item macro_work
 item macro_ready_work
 flush macro_work macro_ready_work  # done macro.c:2 macro_wait, at macro.c:12 macro_work, by macro.c:20 macro_ready_work
@@ -100,7 +100,7 @@ def test_the_declaration_cites_what_it_says():
         ("rdisk.c", 9): "wait_for_completion",
         ("callback.c", 4): "flush_work",
         ("pool.c", 6): "mempool_alloc",
-        ("two_inits.c", 10): "cancel_work_sync",
+        ("two_inits.c", 10): "flush_work",
         ("ops.c", 27): "complete",
         ("macro.c", 20): "wake_up",
     }.items():
