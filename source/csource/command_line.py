@@ -13,6 +13,7 @@ from typing import Any, NoReturn, Optional
 from . import audit, audit_text, draft, draft_text, drift, drift_text, outputs, program, scan_command
 from .declaration import Declaration
 from .extract import ExtractError, Extractor, default_cache
+from .names import from_top
 from .progress import Progress
 from .tables import TableError
 from .token_extract import TokenExtractor
@@ -112,6 +113,7 @@ def expanded(tree: pathlib.Path, names: list[str]) -> list[str]:
 
 
 def meant(tree: pathlib.Path, name: str) -> list[str]:
+    name = from_top(tree, name)
     return sorted(glob.glob(name, root_dir=tree, recursive=True)) if "*" in name else [name]
 
 
@@ -123,7 +125,7 @@ def wrong_name(tree: pathlib.Path, name: str) -> Optional[str]:
     for file in files:
         path = tree / file
         if path.is_dir():
-            return f"{path}: a folder: write '{file.rstrip('/')}/*.c'"
+            return f"{path}: a folder: write '{file}/*.c'"
         if not path.is_file():
             return f"{path}: no such file"
         if re.search(r"\s", file):
@@ -172,11 +174,17 @@ def run_audit(words: argparse.Namespace, extractor: program.ReadsFacts) -> int:
 
 def run_drift(words: argparse.Namespace, extractor: program.ReadsFacts) -> int:
     declaration = declared(words.decl)
-    files = files_of(words.old, words.files, declaration)
+    if not words.new.is_dir():
+        raise Fault(f"{words.new}: no such folder")
+    names = [from_top(words.old, name) for name in words.files or declaration.files]
+    for name in names:
+        if os.path.isabs(name):
+            raise Fault(f"{name}: not below {words.old}, so the other tree has no file of this name")
+    files = files_of(words.old, names, declaration)
     tables, stacked = program.Tables(), words.stacked or declaration.is_stacked
     old = program.read(words.old, files, extractor, tables, stacked)
     # (a file may be gone; one that a name with `*` means may be new)
-    later = expanded(words.new, words.files or declaration.files)
+    later = expanded(words.new, names)
     new = program.read(words.new, [file for file in later if (words.new / file).is_file()], extractor, tables, stacked)
     found = drift.Drift(declaration, old, new)
     extractor.progress.end()

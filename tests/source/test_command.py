@@ -32,6 +32,29 @@ def test_statuses(wqsource, tmp_path):
         assert ran.status == 3 and said in ran.err and ran.out == "", words
 
 
+def test_one_file_by_several_names(wqsource, tmp_path):
+    """It is read once, and is called as it is from the top of the tree."""
+    plain = wqsource("draft", "--tree", RDISK, "rdisk.c")
+    assert plain.status == 0 and "# files: rdisk.c\n" in plain.out
+    for names in (["./rdisk.c"], [RDISK / "rdisk.c"], ["rdisk.c", "./rdisk.c", f"{RDISK}//rdisk.c", f"{RDISK}/r*k.c"]):
+        assert wqsource("draft", "--tree", RDISK, *names) == plain
+
+
+def test_drift_to_what_is_no_other_tree(wqsource, tmp_path):
+    """A folder that isn't there has lost no file, and a file beside itself hasn't changed."""
+    for name in ("old", "new", "beside"):
+        (tmp_path / name).mkdir()
+        (tmp_path / name / "rdisk.c").write_bytes((RDISK / "rdisk.c").read_bytes())
+    words = ("drift", "--decl", RDISK / "rdisk.wq", "--old", tmp_path / "old", "--new")
+    ran = wqsource(*words, tmp_path / "none", "rdisk.c")
+    assert ran == (3, "", f"wqsource: {tmp_path}/none: no such folder\n")
+    ran = wqsource(*words, tmp_path / "new", tmp_path / "beside" / "rdisk.c")
+    assert ran.status == 3 and f"{tmp_path}/beside/rdisk.c: not below {tmp_path}/old" in ran.err
+    assert wqsource(*words, tmp_path / "new", tmp_path / "old" / "rdisk.c").status == 0
+    (tmp_path / "new" / "rdisk.c").write_text("int nothing;\n")
+    assert wqsource(*words, tmp_path / "new", tmp_path / "old" / "rdisk.c").status == 1
+
+
 def only(tmp_path, *programs):
     """A PATH with nothing but these."""
     folder = tmp_path / "bin"
