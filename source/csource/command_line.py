@@ -7,6 +7,7 @@ import io
 import os
 import pathlib
 import re
+import signal
 import sys
 from typing import Any, NoReturn, Optional
 
@@ -19,6 +20,8 @@ from .tables import TableError
 from .token_extract import TokenExtractor
 
 DONE, LEFT, USAGE, FAULT = 0, 1, 2, 3
+# What a shell says of a program that SIGPIPE ended.
+UNREAD = 141
 
 ABOUT = """\
 Reads C sources beside a declaration of wqplan.
@@ -236,8 +239,31 @@ def main() -> NoReturn:
             if getattr(words, "module", None):
                 words.files = scan_command.chosen_for(words.tree, words.module, reader).files
             status = VERBS[words.verb](words, extractor)
+        sys.stdout.flush()
+    except KeyboardInterrupt:
+        extractor.progress.end()
+        end_by_interrupt()
+    except BrokenPipeError:
+        extractor.progress.end()
+        status = UNREAD
     except (Fault, ExtractError, TableError, OSError, *scan_command.FAULTS) as fault:
         extractor.progress.end()
         print(f"wqsource: {fault}", file=sys.stderr)
         status = FAULT
+    let_go_of_output()
     sys.exit(status)
+
+
+def end_by_interrupt() -> NoReturn:
+    """Ends as a program does that catches nothing: then a shell's loop around it ends, too."""
+    signal.signal(signal.SIGINT, signal.SIG_DFL)
+    signal.raise_signal(signal.SIGINT)
+    raise KeyboardInterrupt
+
+
+def let_go_of_output() -> None:
+    """What couldn't be written isn't tried again when Python ends, which would say so with a status of its own."""
+    try:
+        sys.stdout.flush()
+    except OSError:
+        os.dup2(os.open(os.devnull, os.O_WRONLY), sys.stdout.fileno())
