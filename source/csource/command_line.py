@@ -7,17 +7,21 @@ import io
 import os
 import pathlib
 import re
+import signal
 import sys
 from typing import Any, NoReturn, Optional
 
 from . import audit, audit_text, draft, draft_text, drift, drift_text, outputs, program, scan_command
 from .declaration import Declaration
 from .extract import ExtractError, Extractor, default_cache
+from .names import from_top
 from .progress import Progress
 from .tables import TableError
 from .token_extract import TokenExtractor
 
 DONE, LEFT, USAGE, FAULT = 0, 1, 2, 3
+# What a shell says of a program that SIGPIPE ended.
+UNREAD = 141
 
 ABOUT = """\
 Reads C sources beside a declaration of wqplan.
@@ -112,6 +116,7 @@ def expanded(tree: pathlib.Path, names: list[str]) -> list[str]:
 
 
 def meant(tree: pathlib.Path, name: str) -> list[str]:
+    name = from_top(tree, name)
     return sorted(glob.glob(name, root_dir=tree, recursive=True)) if "*" in name else [name]
 
 
@@ -123,7 +128,7 @@ def wrong_name(tree: pathlib.Path, name: str) -> Optional[str]:
     for file in files:
         path = tree / file
         if path.is_dir():
-            return f"{path}: a folder: write '{file.rstrip('/')}/*.c'"
+            return f"{path}: a folder: write '{file}/*.c'"
         if not path.is_file():
             return f"{path}: no such file"
         if re.search(r"\s", file):
@@ -172,11 +177,17 @@ def run_audit(words: argparse.Namespace, extractor: program.ReadsFacts) -> int:
 
 def run_drift(words: argparse.Namespace, extractor: program.ReadsFacts) -> int:
     declaration = declared(words.decl)
-    files = files_of(words.old, words.files, declaration)
+    if not words.new.is_dir():
+        raise Fault(f"{words.new}: no such folder")
+    names = [from_top(words.old, name) for name in words.files or declaration.files]
+    for name in names:
+        if os.path.isabs(name):
+            raise Fault(f"{name}: not below {words.old}, so the other tree has no file of this name")
+    files = files_of(words.old, names, declaration)
     tables, stacked = program.Tables(), words.stacked or declaration.is_stacked
     old = program.read(words.old, files, extractor, tables, stacked)
     # (a file may be gone; one that a name with `*` means may be new)
-    later = expanded(words.new, words.files or declaration.files)
+    later = expanded(words.new, names)
     new = program.read(words.new, [file for file in later if (words.new / file).is_file()], extractor, tables, stacked)
     found = drift.Drift(declaration, old, new)
     extractor.progress.end()
@@ -228,8 +239,31 @@ def main() -> NoReturn:
             if getattr(words, "module", None):
                 words.files = scan_command.chosen_for(words.tree, words.module, reader).files
             status = VERBS[words.verb](words, extractor)
+        sys.stdout.flush()
+    except KeyboardInterrupt:
+        extractor.progress.end()
+        end_by_interrupt()
+    except BrokenPipeError:
+        extractor.progress.end()
+        status = UNREAD
     except (Fault, ExtractError, TableError, OSError, *scan_command.FAULTS) as fault:
         extractor.progress.end()
         print(f"wqsource: {fault}", file=sys.stderr)
         status = FAULT
+    let_go_of_output()
     sys.exit(status)
+
+
+def end_by_interrupt() -> NoReturn:
+    """Ends as a program does that catches nothing: then a shell's loop around it ends, too."""
+    signal.signal(signal.SIGINT, signal.SIG_DFL)
+    signal.raise_signal(signal.SIGINT)
+    raise KeyboardInterrupt
+
+
+def let_go_of_output() -> None:
+    """What couldn't be written isn't tried again when Python ends, which would say so with a status of its own."""
+    try:
+        sys.stdout.flush()
+    except OSError:
+        os.dup2(os.open(os.devnull, os.O_WRONLY), sys.stdout.fileno())

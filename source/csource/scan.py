@@ -7,6 +7,7 @@ import hashlib
 import multiprocessing
 import pathlib
 import resource
+import signal
 import time
 from dataclasses import dataclass, field
 from typing import Iterable, Iterator, Optional
@@ -301,6 +302,11 @@ def scan_one(name: str) -> UnitResult:
     return _scan.scan(next(unit for unit in _scan.units() if unit.module.name == name))
 
 
+def end_at_interrupt() -> None:
+    """In such a process: an interrupt ends it without a word. What there is to say its parent says."""
+    signal.signal(signal.SIGINT, signal.SIG_DFL)
+
+
 def scan_all(scan: TreeScan, units: list[Unit], jobs: int) -> Iterator[UnitResult]:
     """The results of modules, as they come."""
     global _scan
@@ -309,6 +315,11 @@ def scan_all(scan: TreeScan, units: list[Unit], jobs: int) -> Iterator[UnitResul
         return
     # (what all need is read before the processes are made)
     _scan, _, _ = scan, scan.users, scan.include_types
-    with concurrent.futures.ProcessPoolExecutor(jobs, multiprocessing.get_context("fork")) as pool:
-        for future in concurrent.futures.as_completed([pool.submit(scan_one, unit.module.name) for unit in units]):
-            yield future.result()
+    fork = multiprocessing.get_context("fork")
+    with concurrent.futures.ProcessPoolExecutor(jobs, fork, end_at_interrupt) as pool:
+        try:
+            for future in concurrent.futures.as_completed([pool.submit(scan_one, unit.module.name) for unit in units]):
+                yield future.result()
+        except BaseException:
+            pool.shutdown(cancel_futures=True)
+            raise

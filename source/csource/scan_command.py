@@ -10,6 +10,7 @@ from typing import Any, Optional
 from . import says
 from .choose import Chooser, Chosen
 from .layers import Layers
+from .names import from_top
 from .question import NoWqplan, find_wqplan
 from .scan import TreeScan, Unit, UnitResult, scan_all
 from .scan_text import Printer, counts_of_makers
@@ -65,9 +66,9 @@ def chosen_for(tree: pathlib.Path, name: str, extractor: TokenExtractor) -> Chos
     extractor.progress.say(f"looking for what belongs to {name}")
     summary = functools.cache(lambda file: Summary.of(extractor.lines_of(tree, file)))
     chooser = Chooser(tree, TreeIndex.kept(tree, extractor.cache), Layers(), summary)
-    module = chooser.kbuild.named(name)
+    module = chooser.kbuild.named(from_top(tree, name))
     if module is None:
-        raise ScanFault(f"{name}: no module of {tree} has this name. Its folder, and behind a / the name of its object")
+        raise ScanFault(f"{name}: no module of {tree} has this name: write its folder, `/`, and the name of its object")
     return chooser.choose(module)
 
 
@@ -105,7 +106,7 @@ def run(words: argparse.Namespace, extractor: TokenExtractor) -> int:
     survey = read_survey(words.verdicts)
     extractor.progress.say(f"looking through {words.tree}")
     scan = TreeScan(words.tree, extractor, TreeIndex.kept(words.tree, extractor.cache))
-    units = selected(scan, words.module)
+    units = selected(scan, [from_top(words.tree, name) for name in words.module])
     results = scanned(scan, units, words)
     printer = Printer(sys.stdout, survey, results)
     if not words.stale:

@@ -2,6 +2,9 @@
 
 import io
 import os
+import signal
+import subprocess
+import time
 
 import pytest
 
@@ -30,6 +33,66 @@ def test_statuses(wqsource, tmp_path):
     ):
         ran = wqsource(*words)
         assert ran.status == 3 and said in ran.err and ran.out == "", words
+
+
+def test_one_file_by_several_names(wqsource, tmp_path):
+    """It is read once, and is called as it is from the top of the tree."""
+    plain = wqsource("draft", "--tree", RDISK, "rdisk.c")
+    assert plain.status == 0 and "# files: rdisk.c\n" in plain.out
+    for names in (["./rdisk.c"], [RDISK / "rdisk.c"], ["rdisk.c", "./rdisk.c", f"{RDISK}//rdisk.c", f"{RDISK}/r*k.c"]):
+        assert wqsource("draft", "--tree", RDISK, *names) == plain
+
+
+def test_drift_to_what_is_no_other_tree(wqsource, tmp_path):
+    """A folder that isn't there has lost no file, and a file beside itself hasn't changed."""
+    for name in ("old", "new", "beside"):
+        (tmp_path / name).mkdir()
+        (tmp_path / name / "rdisk.c").write_bytes((RDISK / "rdisk.c").read_bytes())
+    words = ("drift", "--decl", RDISK / "rdisk.wq", "--old", tmp_path / "old", "--new")
+    ran = wqsource(*words, tmp_path / "none", "rdisk.c")
+    assert ran == (3, "", f"wqsource: {tmp_path}/none: no such folder\n")
+    ran = wqsource(*words, tmp_path / "new", tmp_path / "beside" / "rdisk.c")
+    assert ran.status == 3 and f"{tmp_path}/beside/rdisk.c: not below {tmp_path}/old" in ran.err
+    assert wqsource(*words, tmp_path / "new", tmp_path / "old" / "rdisk.c").status == 0
+    (tmp_path / "new" / "rdisk.c").write_text("int nothing;\n")
+    assert wqsource(*words, tmp_path / "new", tmp_path / "old" / "rdisk.c").status == 1
+
+
+def test_an_interrupt(tmp_path):
+    """^C goes to all processes of a terminal. The command ends by it, without a traceback."""
+    (tmp_path / "bin").mkdir()
+    spatch = tmp_path / "bin" / "spatch"
+    spatch.write_text(f"#!/bin/sh\n: > {tmp_path}/began\nexec sleep 60\n")
+    spatch.chmod(0o755)
+    words = ["draft", "--facts", "coccinelle", "--cache", tmp_path / "cache", "--tree", RDISK, "rdisk.c"]
+    # (if the tests run in the background, their programs would ignore it)
+    before = signal.signal(signal.SIGINT, signal.default_int_handler)
+    try:
+        started = subprocess.Popen(
+            [ROOT / "source" / "wqsource", *words],
+            env={**os.environ, "PATH": f"{spatch.parent}:{os.environ['PATH']}"},
+            stdout=subprocess.PIPE,
+            stderr=subprocess.PIPE,
+            start_new_session=True,
+        )
+    finally:
+        signal.signal(signal.SIGINT, before)
+    while not (tmp_path / "began").exists() and started.poll() is None:
+        time.sleep(0.05)
+    os.killpg(started.pid, signal.SIGINT)
+    out, err = started.communicate(timeout=50)
+    assert (started.returncode, out) == (-signal.SIGINT, b"") and b"Traceback" not in err
+
+
+@pytest.mark.parametrize("to,status,said", [("closed", 141, ""), ("full", 3, "No space left on device")])
+def test_output_that_is_not_taken(tmp_path, to, status, said):
+    """No reader is no fault; a full disk is one. Python has nothing to add."""
+    command = f"'{ROOT}/source/wqsource' draft --cache '{tmp_path}' --tree '{RDISK}' rdisk.c"
+    scripts = {"closed": "{ sleep 1; COMMAND; echo $? >status; } | :", "full": "COMMAND >/dev/full; echo $? >status"}
+    script = scripts[to].replace("COMMAND", command)
+    ran = subprocess.run(["sh", "-c", script], cwd=tmp_path, stderr=subprocess.PIPE, text=True)
+    assert int((tmp_path / "status").read_text()) == status
+    assert said in ran.stderr and ran.stderr.count("\n") == (1 if said else 0)
 
 
 def only(tmp_path, *programs):

@@ -27,6 +27,13 @@ def test_several_names_and_a_call_on_the_next_line(wqsource, drafted, tmp_path):
     assert "next, several.c:19 sv_start, NO WQ_MEM_RECLAIM" in out.read_text()
 
 
+def test_work_that_runs_on_no_workqueue(drafted):
+    """A task runs what init_task_work sets, and an interrupt what init_irq_work sets: the latter ends the wait."""
+    found = drafted("task_work.c")
+    assert found.items == {"tw_work": {"tw"}} and found.flushes == set()
+    assert found.open == {("task_work.c:6", "wait_for_completion(&t->done)"): ({"tw_work"}, set())}
+
+
 def test_whether_there_is_a_rescuer(read):
     """True and False only where each way says so."""
     workqueues = read(C_FILES, ["flags.c"]).workqueues

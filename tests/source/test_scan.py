@@ -83,6 +83,8 @@ def test_the_files_of_a_module(wqsource, tree, tmp_path):
         "drivers/nvme/main.c drivers/nvme/lib/more.c drivers/nvme/rdma.c drivers/nvme/tcp.c drivers/nvme/core.h"
     ]
     assert ran.status == 0 and "item rdma_reset " in ran.out
+    for name in ("./drivers/nvme/core", "drivers//nvme/core/", tree / "drivers/nvme/core"):
+        assert wqsource("draft", "--module", name, "--tree", tree, "--cache", tmp_path) == ran
     ran = wqsource("draft", "--module", "drivers/nvme/nothing", "--tree", tree, "--cache", tmp_path)
     assert ran.status == 3 and "no module of" in ran.err
 
@@ -104,6 +106,7 @@ def test_what_is_printed(scanned):
 def test_one_module(scanned):
     out = scanned("--module", "drivers/block/own").out
     assert "own_a" in out and "zero_a" not in out
+    assert "own_a" in scanned("--module", "./drivers/block/own/").out
     ran = scanned("--module", "drivers/block/plain")
     assert ran.status == 3 and "no module of this name makes a workqueue with a rescuer" in ran.err
 
