@@ -13,7 +13,7 @@ LOSSES = ("overrun", "commit overrun", "dropped events")
 
 
 class Unreadable(Exception):
-    """The file isn't a record."""
+    """The file isn't what it should be."""
 
 
 @dataclass(frozen=True)

@@ -3,6 +3,7 @@ what these say: record/README.md has how the records were made."""
 
 import json
 import pathlib
+import re
 import subprocess
 import tarfile
 
@@ -171,7 +172,37 @@ def test_what_is_no_record_is_a_fault(tmp_path):
 
 
 def test_a_file_that_is_not_there_is_a_fault(tmp_path):
-    assert run("compare", tmp_path / "no.wq", RECORDS / "md.gz").returncode == 3
+    ended = run("compare", tmp_path / "no.wq", RECORDS / "md.gz")
+    assert (ended.returncode, ended.stderr) == (3, f"wqrecord: {tmp_path}/no.wq: No such file or directory\n")
+
+
+@pytest.mark.parametrize("wrong", [EXAMPLES / "md.assign", RECORDS / "md.gz", "/dev/null"])
+def test_what_declares_no_item_is_a_fault_and_no_answer(wrong):
+    ended = run("compare", wrong, RECORDS / "md.gz")
+    assert (ended.returncode, ended.stdout) == (3, "")
+    assert f"{wrong}: it declares no item" in ended.stderr
+
+
+@pytest.mark.parametrize("wrong", ["md.wq", "nfs.assign"])
+def test_an_assignment_without_the_declared_items_is_a_fault(wrong):
+    ended = run("compare", EXAMPLES / "md.wq", RECORDS / "md.gz", "--assign", EXAMPLES / wrong)
+    assert (ended.returncode, ended.stdout) == (3, "")
+    assert f"{EXAMPLES}/{wrong}: it assigns no item of {EXAMPLES}/md.wq" in ended.stderr
+
+
+def test_a_pattern_that_matches_nothing_is_told_with_what_there_is():
+    # (a module's file is md-mod.ko, and its name md_mod)
+    told = run("declare", RECORDS / "md.gz", "--about", "md-mod", "--about", "md").stdout
+    assert "# Nothing here matches --about md-mod.\n" in told
+    assert re.search(r"^# Modules whose items ran: .*\bmd_mod\b", told, re.M)
+    assert "--about md." not in told
+    assert "Nothing here" not in run("declare", RECORDS / "md.gz", "--about", "md_mod").stdout
+
+
+def test_a_wrong_pattern_is_a_wrong_command_line():
+    ended = run("declare", RECORDS / "md.gz", "--about", "(")
+    assert ended.returncode == 2
+    assert "'(' is no regular expression" in ended.stderr
 
 
 def test_what_cannot_be_seen_is_said_where_the_answer_is_read():
