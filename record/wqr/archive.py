@@ -1,9 +1,11 @@
 """A record as `wqrecord stop` writes it: an archive whose parts are what tracefs gave."""
 
+import gzip
 import io
 import pathlib
 import re
 import tarfile
+import zlib
 from dataclasses import dataclass, field
 
 PLACES = "places"  # the lines of the source, once `wqrecord places` has put them there
@@ -11,7 +13,7 @@ LOSSES = ("overrun", "commit overrun", "dropped events")
 
 
 class Unreadable(Exception):
-    """The file isn't a record."""
+    """The file isn't what it should be."""
 
 
 @dataclass(frozen=True)
@@ -33,16 +35,27 @@ class Archive:
     @staticmethod
     def read(path: pathlib.Path) -> "Archive":
         found = Archive(path)
-        try:
-            with tarfile.open(path, "r:*") as archive:
-                for member in archive:
-                    if member.isfile():
-                        found.parts[pathlib.PurePath(member.name).name] = archive.extractfile(member).read()
-        except tarfile.TarError as error:
-            raise Unreadable(f"{path}: it is no record: {error}") from error
+        with open(path, "rb") as file:
+            try:
+                archive = tarfile.open(fileobj=file, mode="r:*")
+            except (tarfile.TarError, EOFError, zlib.error) as error:
+                raise Unreadable(f"{path}: it is no record: neither tar nor tar.gz, or empty") from error
+            try:
+                found.take(archive)
+            except (tarfile.TarError, EOFError, zlib.error, gzip.BadGzipFile) as error:
+                raise Unreadable(f"{path}: it is damaged, or its end is missing: {error}") from error
         if not {"formats", "kallsyms", "release"} <= found.parts.keys():
             raise Unreadable(f"{path}: it is no record of wqrecord")
         return found
+
+    def take(self, archive: tarfile.TarFile) -> None:
+        """Reads all parts. Python takes it for the end where the file is cut between two of them."""
+        for member in archive:
+            if member.isfile():
+                self.parts[pathlib.PurePath(member.name).name] = archive.extractfile(member).read()
+        archive.fileobj.seek(archive.offset)
+        if archive.fileobj.read(tarfile.BLOCKSIZE) != bytes(tarfile.BLOCKSIZE):
+            raise tarfile.ReadError("an archive ends with a block of zeros")
 
     def write(self, path: pathlib.Path) -> None:
         with tarfile.open(path, "w:gz" if path.suffix == ".gz" else "w") as archive:

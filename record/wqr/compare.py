@@ -115,7 +115,7 @@ class Comparison:
         return bool(self.declared.of_item(edge.source)) and not is_own and not edge.is_never_queued
 
     def judged(self, edge: Edge) -> Seen:
-        frames = [frame for site in self.drawing.sites.of_edge(edge) for frame in site.frames]
+        frames = [frame for site in self.drawing.sites.ways_of_edge(edge) for frame in site.frames]
         found = Seen(edge, frames)
         for wait in self.declared.waits:
             if self.covers(wait, edge):
@@ -189,7 +189,7 @@ class Comparison:
             yield f"      {one.edge.target.function}, on {one.edge.target.kind}, isn't declared"
 
     def stack_lines(self, edge: Edge) -> Iterator[str]:
-        for site in self.drawing.sites.of_edge(edge)[:2]:
+        for site in self.drawing.sites.ways_of_edge(edge)[:2]:
             yield f"      {site.count}: " + " < ".join(map(str, site.frames[:MOST_FRAMES]))
 
     def item_lines(self) -> Iterator[str]:

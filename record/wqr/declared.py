@@ -9,6 +9,7 @@ from typing import Iterable, Iterator, Optional
 
 from csource.declaration import Citation, Declaration, Dismissal, DismissedItem
 
+from .archive import Unreadable
 from .items import Item, kind_of
 from .places import Frame
 from .sites import is_machinery
@@ -79,9 +80,13 @@ class Declared:
     @staticmethod
     def read(path: pathlib.Path, assignment: Optional[pathlib.Path], symbols: Symbols) -> "Declared":
         text = path.read_text(errors="surrogateescape")
-        return Declared.of(
-            str(path), text, assignment.read_text(errors="surrogateescape") if assignment else "", symbols
-        )
+        on = assignment.read_text(errors="surrogateescape") if assignment else ""
+        found = Declared.of(str(path), text, on, symbols)
+        if not found.items:
+            raise Unreadable(f"{path}: it declares no item (a declaration is wanted here, before the records)")
+        if assignment and not any(item.in_assignment for item in found.items.values()):
+            raise Unreadable(f"{assignment}: it assigns no item of {path}")
+        return found
 
     @staticmethod
     def of(path: str, text: str, assignment: str, symbols: Symbols) -> "Declared":

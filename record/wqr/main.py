@@ -2,6 +2,7 @@
 
 import argparse
 import pathlib
+import re
 import sys
 import traceback
 from typing import Callable
@@ -29,7 +30,7 @@ def drawing_of(file: pathlib.Path, options: argparse.Namespace) -> Drawing:
     causes = Causes(history)
     items = Items(history, causes)
     places = Places(history.symbols, options.debug, archive.release, archive.parts.get(PLACES, b""))
-    head = says.head(archive, history, causes, items)
+    head = says.head(archive, history, causes, items) + says.about_nothing(items, options.about or [])
     return Drawing(items, Chosen.of(items, options.about), Sites(places), head)
 
 
@@ -80,6 +81,21 @@ def print_probes(options: argparse.Namespace) -> int:
     return 0
 
 
+def pattern(text: str) -> str:
+    """A regular expression of the command line."""
+    try:
+        re.compile(text)
+    except re.error as error:
+        raise argparse.ArgumentTypeError(f"{text!r} is no regular expression: {error}") from error
+    return text
+
+
+def words_of(fault: Exception) -> str:
+    if isinstance(fault, OSError) and fault.filename is not None:
+        return f"{fault.filename}: {fault.strerror}"
+    return str(fault)
+
+
 def parser() -> argparse.ArgumentParser:
     whole = argparse.ArgumentParser(prog="wqrecord")
     verbs = whole.add_subparsers(dest="verb", required=True)
@@ -105,6 +121,7 @@ def parser() -> argparse.ArgumentParser:
     about = dict(
         metavar="PATTERN",
         action="append",
+        type=pattern,
         help="modules, functions or workqueues that it is about: a whole regular expression",
     )
     added = verb("declare", declare, "Writes a declaration and an assignment of a record.")
@@ -144,7 +161,7 @@ def main(arguments: list[str]) -> int:
     try:
         return options.does(options)
     except (OSError, Unreadable, NoTypes, probes.UnknownKernel) as fault:
-        print(f"wqrecord: {fault}", file=sys.stderr)
+        print(f"wqrecord: {words_of(fault)}", file=sys.stderr)
     except Exception:
         # (Python's own status is 1, which is an answer here)
         traceback.print_exc()

@@ -2,6 +2,7 @@
 
 from .archive import Archive
 from .causes import Causes
+from .chosen import is_about
 from .history import History, Kind
 from .items import Items
 
@@ -35,6 +36,15 @@ def head(archive: Archive, history: History, causes: Causes, items: Items) -> li
     if causes.unseen:
         found.append(f"Of {causes.unseen} waits it isn't known who ended them.")
     return found + list(UNSEEN)
+
+
+def about_nothing(items: Items, about: list[str]) -> list[str]:
+    """Of each pattern of the command line that no item matches that it is so, and what there is."""
+    every = list(items.items.values())
+    lacking = [one for one in about if not any(is_about(item, [one]) for item in every)]
+    found = [f"Nothing here matches --about {one}." for one in lacking]
+    modules = sorted({item.module for item in every if item.module and item.runs})
+    return [*found, f"Modules whose items ran: {', '.join(modules) or 'none'}."] if found else []
 
 
 def ender(kind: Kind, name: str) -> str:

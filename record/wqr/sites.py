@@ -80,6 +80,10 @@ class Sites:
 
     def of_edge(self, edge: Edge) -> list[Site]:
         """Where the source waited, the place of the most waits first."""
+        return in_order(merged(self.ways_of_edge(edge)))
+
+    def ways_of_edge(self, edge: Edge) -> list[Site]:
+        """The same, each way by which such a place was come to for itself."""
         counts: collections.Counter[tuple[Frame, ...]] = collections.Counter()
         for fact in edge.facts:
             counts[tuple(self.frames(fact.stack))] += 1
@@ -87,7 +91,7 @@ class Sites:
             Site(str(frames[0]) if frames else "a place that wasn't recorded", frames, n)
             for frames, n in counts.items()
         ]
-        return sorted(merged(sites), key=lambda site: (-site.count, site.cited))
+        return in_order(sites)
 
     def of_queueing(self, item: Item) -> list[str]:
         """From where an item was queued."""
@@ -115,6 +119,10 @@ class Sites:
             if by_function
             else "a place that wasn't recorded"
         )
+
+
+def in_order(sites: list[Site]) -> list[Site]:
+    return sorted(sites, key=lambda site: (-site.count, site.cited))
 
 
 def merged(sites: list[Site]) -> list[Site]:

@@ -52,10 +52,17 @@ input: 0, left:
 input: given to the command
 terminated: 143, left:
 terminated: 1 raw
+nowhere: 3, left:
+wqrecord: /nowhere/record can't be written
+wqrecord: /tmp is a folder
+folder: 3, left:
 begun: 143, left:
 started: 0, left: instance probes state
 twice: 3, left: instance probes state
+elsewhere: 3, left: instance probes state
+wqrecord: /nowhere/record can't be written: end the recording by
 stopped: 0, left:
+stopped: 1 raw
 none: 3, left:
 dropped: 0, left:
 wqrecord: LOST:
@@ -77,7 +84,7 @@ locked: 13, left:
 wrong: 2, left:
 probeless: 12, left:
 """
-NEVER = ["terminated: the command still runs"]
+NEVER = ["terminated: the command still runs", "/tmp/ran"]
 
 
 def tell(passed, name, why=""):

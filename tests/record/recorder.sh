@@ -64,6 +64,14 @@ told terminated $?
 echo "terminated: $(tar tf /tmp/terminated | grep -c raw) raw"
 ps | grep -q '[s]leep 1000' && echo "terminated: the command still runs"
 
+wqrecord run $given -o /nowhere/record -- touch /tmp/ran 2>/tmp/said
+told nowhere $?
+cat /tmp/said
+ls /tmp/ran 2>/dev/null
+wqrecord run $given -o /tmp -- touch /tmp/ran
+told folder $?
+ls /tmp/ran 2>/dev/null
+
 wqrecord start $given 2>/dev/null &
 wait_for 2
 kill -TERM $!
@@ -77,8 +85,12 @@ told twice $?
 cat /tmp/said
 wqrecord status
 flushes 1
+wqrecord stop -o /nowhere/record 2>/tmp/said
+told elsewhere $?
+cat /tmp/said
 wqrecord stop -o /tmp/stopped 2>/dev/null
 told stopped $?
+echo "stopped: $(tar tf /tmp/stopped | grep -c raw) raw"
 wqrecord stop -o /tmp/stopped 2>/tmp/said
 told none $?
 wqrecord start $given

@@ -46,6 +46,28 @@ def test_a_declared_wait_is_seen():
     assert "      line 3: in the same function" in list(comparison.lines())
 
 
+def by_two_ways() -> Made:
+    """a_work waits in wait_here, called twice by queue_here, and once by wait_there."""
+    made = Made()
+    for caller in ("queue_here", "wait_there", "queue_here"):
+        made.queue(PROCESS, A, "a_work").start(WORKER, A, "a_work").sleep(WORKER, A, "a_work", "wait_here", caller)
+        made.queue(PROCESS, B, "b_work", wq=2).start(OTHER, B, "b_work").wake(OTHER, WORKER)
+        made.end(OTHER, B, "b_work").end(WORKER, A, "a_work")
+    return made
+
+
+@pytest.mark.parametrize("caller", ["queue_here", "wait_there"])
+def test_a_declared_wait_may_cite_any_way_to_the_place(caller):
+    comparison = compared(by_two_ways(), f"{ITEMS}flush a b  # done x.c:9 {caller}\n")
+    assert "      line 3: in the same function" in list(comparison.lines())
+
+
+def test_each_way_to_a_place_is_told_with_its_own_count():
+    lines = [line.split() for line in compared(by_two_ways(), ITEMS).lines() if " < " in line]
+    told = {(row[0], row[3].partition("+")[0]) for row in lines}
+    assert told == {("2:", "queue_here"), ("1:", "wait_there")}
+
+
 def test_a_declared_wait_that_did_not_happen_is_named():
     lines = list(Total([compared(b_wakes(), ITEMS + "flush a b\nflush b a\n")]).lines())
     assert lines[:2] == ["declared, never seen: 1", "  line 4: b -> a"]

@@ -3,7 +3,9 @@ what these say: record/README.md has how the records were made."""
 
 import json
 import pathlib
+import re
 import subprocess
+import tarfile
 
 import pytest
 from conftest import ROOT
@@ -170,7 +172,37 @@ def test_what_is_no_record_is_a_fault(tmp_path):
 
 
 def test_a_file_that_is_not_there_is_a_fault(tmp_path):
-    assert run("compare", tmp_path / "no.wq", RECORDS / "md.gz").returncode == 3
+    ended = run("compare", tmp_path / "no.wq", RECORDS / "md.gz")
+    assert (ended.returncode, ended.stderr) == (3, f"wqrecord: {tmp_path}/no.wq: No such file or directory\n")
+
+
+@pytest.mark.parametrize("wrong", [EXAMPLES / "md.assign", RECORDS / "md.gz", "/dev/null"])
+def test_what_declares_no_item_is_a_fault_and_no_answer(wrong):
+    ended = run("compare", wrong, RECORDS / "md.gz")
+    assert (ended.returncode, ended.stdout) == (3, "")
+    assert f"{wrong}: it declares no item" in ended.stderr
+
+
+@pytest.mark.parametrize("wrong", ["md.wq", "nfs.assign"])
+def test_an_assignment_without_the_declared_items_is_a_fault(wrong):
+    ended = run("compare", EXAMPLES / "md.wq", RECORDS / "md.gz", "--assign", EXAMPLES / wrong)
+    assert (ended.returncode, ended.stdout) == (3, "")
+    assert f"{EXAMPLES}/{wrong}: it assigns no item of {EXAMPLES}/md.wq" in ended.stderr
+
+
+def test_a_pattern_that_matches_nothing_is_told_with_what_there_is():
+    # (a module's file is md-mod.ko, and its name md_mod)
+    told = run("declare", RECORDS / "md.gz", "--about", "md-mod", "--about", "md").stdout
+    assert "# Nothing here matches --about md-mod.\n" in told
+    assert re.search(r"^# Modules whose items ran: .*\bmd_mod\b", told, re.M)
+    assert "--about md." not in told
+    assert "Nothing here" not in run("declare", RECORDS / "md.gz", "--about", "md_mod").stdout
+
+
+def test_a_wrong_pattern_is_a_wrong_command_line():
+    ended = run("declare", RECORDS / "md.gz", "--about", "(")
+    assert ended.returncode == 2
+    assert "'(' is no regular expression" in ended.stderr
 
 
 def test_what_cannot_be_seen_is_said_where_the_answer_is_read():
@@ -202,6 +234,42 @@ def test_an_archive_without_its_parts_is_no_record(tmp_path):
     archive.write(tmp_path / "half")
     with pytest.raises(Unreadable):
         Archive.read(tmp_path / "half")
+
+
+def test_a_compressed_record_that_is_cut_is_a_fault(tmp_path):
+    (tmp_path / "cut.gz").write_bytes((RECORDS / "md.gz").read_bytes()[:7000])
+    ended = run("declare", tmp_path / "cut.gz")
+    assert (ended.returncode, len(ended.stderr.splitlines())) == (3, 1)
+    assert f"{tmp_path}/cut.gz: it is damaged, or its end is missing" in ended.stderr
+
+
+def test_a_compressed_record_with_a_wrong_byte_is_a_fault(tmp_path):
+    data = bytearray((RECORDS / "md.gz").read_bytes())
+    data[6000:6004] = b"\xff" * 4
+    (tmp_path / "wrong.gz").write_bytes(data)
+    ended = run("declare", tmp_path / "wrong.gz")
+    assert (ended.returncode, len(ended.stderr.splitlines())) == (3, 1)
+    assert f"{tmp_path}/wrong.gz: it is damaged" in ended.stderr
+
+
+@pytest.mark.parametrize("beyond", [0, 100])
+def test_a_record_that_is_cut_between_two_parts_is_a_fault(tmp_path, beyond):
+    # (at the head of its last part, or in this: what is before it could be read)
+    Archive.read(RECORDS / "md.gz").write(tmp_path / "whole")
+    with tarfile.open(tmp_path / "whole") as archive:
+        last = archive.getmembers()[-1]
+    (tmp_path / "cut").write_bytes((tmp_path / "whole").read_bytes()[: last.offset + beyond])
+    ended = run("declare", tmp_path / "cut")
+    assert (ended.returncode, ended.stdout) == (3, "")
+    assert f"{tmp_path}/cut: it is damaged, or its end is missing" in ended.stderr
+
+
+@pytest.mark.parametrize("content", [b"", b"item submit\n"])
+def test_what_is_no_record_is_told_in_a_line(tmp_path, content):
+    (tmp_path / "no").write_bytes(content)
+    assert run("declare", tmp_path / "no").stderr == (
+        f"wqrecord: {tmp_path}/no: it is no record: neither tar nor tar.gz, or empty\n"
+    )
 
 
 def test_a_wrong_command_line_is_told():
