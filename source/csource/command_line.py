@@ -36,7 +36,8 @@ these are all. Nothing here is proved. README.md beside it has the comments that
 
 ENDS = """\
 Status: 0 nothing is left to decide or to look at, 1 something is, 2 the command line is wrong, 3 a fault: a file that
-can't be read or mustn't be written, a name that means no file, a declaration without items, or Coccinelle is missing."""
+can't be read or mustn't be written, a name that means no file, a declaration without items, or Coccinelle is missing,
+141 nobody reads standard output any more."""
 
 
 class Fault(Exception):
