@@ -208,13 +208,16 @@ class Comparison:
                 why = f"; line {dismissed.number}: {dismissed}" if dismissed else ""
                 yield f"  not declared: {item.name}, on {item.kind}, ran {says.times(item.runs)}{why}"
 
-    def items_that_never_ran(self) -> Iterator[str]:
-        ran = {
+    def items_that_ran(self) -> set[DeclaredItem]:
+        return {
             declared
             for item in self.drawing.items.items.values()
             if item.runs
             for declared in self.declared.of_item(item)
         }
+
+    def items_that_never_ran(self) -> Iterator[str]:
+        ran = self.items_that_ran()
         for declared in self.declared.items.values():
             if declared not in ran:
                 yield f"  never ran: {declared.name} (line {declared.number})"
@@ -297,6 +300,6 @@ class Total:
             for kind in (Class.HOLE, Class.DISMISSED)
         )
         return (
-            f"{len(self.waits)} waits declared: {len(self.seen)} seen ({how or 'none'}), {len(self.perhaps)} perhaps, "
+            f"{says.count(len(self.waits), 'wait')} declared: {len(self.seen)} seen ({how or 'none'}), {len(self.perhaps)} perhaps, "
             f"{unseen} never. {holes} seen and not declared, {dismissed} seen and dismissed."
         )

@@ -56,6 +56,8 @@ def compare(options: argparse.Namespace) -> int:
     if len(options.files) > 1:
         print("== together")
     sys.stdout.writelines(f"{line}\n" for line in Total(comparisons).lines())
+    if not any(comparison.items_that_ran() for comparison in comparisons):
+        raise Unreadable(f"{options.decl}: none of its items ran; is it about another driver than what was recorded?")
     return HOLE if any(comparison.has_hole for comparison in comparisons) else 0
 
 

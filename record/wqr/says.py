@@ -55,5 +55,9 @@ def milliseconds(time: int) -> str:
     return f"{time / 1e6:.1f} ms" if time < 10**9 else f"{time / 1e9:.1f} s"
 
 
+def count(number: int, word: str) -> str:
+    return f"{number} {word}" if number == 1 else f"{number} {word}s"
+
+
 def times(count: int) -> str:
     return "once" if count == 1 else f"{count} times"

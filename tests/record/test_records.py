@@ -183,6 +183,13 @@ def test_what_declares_no_item_is_a_fault_and_no_answer(wrong):
     assert f"{wrong}: it declares no item" in ended.stderr
 
 
+def test_a_declaration_of_another_driver_is_a_fault(tmp_path):
+    (tmp_path / "other.wq").write_text("item crypt  # kcryptd_crypt, queued to kcryptd at dm-crypt.c:1 kcryptd_queue\n")
+    ended = run("compare", tmp_path / "other.wq", RECORDS / "md.gz")
+    assert ended.returncode == 3
+    assert f"{tmp_path}/other.wq: none of its items ran" in ended.stderr
+
+
 @pytest.mark.parametrize("wrong", ["md.wq", "nfs.assign"])
 def test_an_assignment_without_the_declared_items_is_a_fault(wrong):
     ended = run("compare", EXAMPLES / "md.wq", RECORDS / "md.gz", "--assign", EXAMPLES / wrong)
