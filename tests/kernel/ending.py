@@ -26,7 +26,7 @@ for folder in ("kernel/lib", "tests/lib"):
     sys.path.append(str(ROOT / folder))
 import guest  # noqa: E402  (in kernel/lib, as is the next one)
 import packages  # noqa: E402
-from programs import counts_of, is_there, run  # noqa: E402  (in tests/lib)
+from programs import counts_of, is_there, run, started  # noqa: E402  (in tests/lib)
 
 SERIES = "6.1"
 SECONDS = 600
@@ -72,18 +72,17 @@ def try_signals():
     ):
         with tempfile.TemporaryDirectory() as folder:
             name = f"kernel/{words[0].name}, {number.name}"
-            ended = subprocess.Popen(
-                words, env={**os.environ, "TMPDIR": folder}, stdout=subprocess.PIPE, stderr=subprocess.PIPE, text=True
-            )
-            machine = wait_until(lambda: guest_of(ended.pid))
-            ended.send_signal(number)
-            printed, errors = ended.communicate(timeout=SECONDS)
-            tell(machine, f"{name}: a guest ran", errors)
-            tell(ended.returncode == status, f"{name}: the status is {status}", f"{ended.returncode}")
-            tell("Traceback" not in errors and not printed, f"{name}: it says so in a line", printed + errors)
-            is_gone = wait_until(lambda: not pathlib.Path(f"/proc/{machine}").exists(), 10)
-            tell(is_gone, f"{name}: QEMU is gone")
-            tell(not os.listdir(folder), f"{name}: nothing is left", f"{os.listdir(folder)}")
+            given = dict(env={**os.environ, "TMPDIR": folder}, stdout=subprocess.PIPE, stderr=subprocess.PIPE, text=True)
+            with started(words, timeout=SECONDS, **given) as ended:
+                machine = wait_until(lambda: guest_of(ended.pid))
+                ended.send_signal(number)
+                printed, errors = ended.communicate()
+                tell(machine, f"{name}: a guest ran", errors)
+                tell(ended.returncode == status, f"{name}: the status is {status}", f"{ended.returncode}")
+                tell("Traceback" not in errors and not printed, f"{name}: it says so in a line", printed + errors)
+                is_gone = wait_until(lambda: not pathlib.Path(f"/proc/{machine}").exists(), 10)
+                tell(is_gone, f"{name}: QEMU is gone")
+                tell(not os.listdir(folder), f"{name}: nothing is left", f"{os.listdir(folder)}")
 
 
 # By the name of the module the assignment of nvme-auth.wq, and what the module says while no worker can be created:

@@ -8,6 +8,7 @@ import contextlib
 import os
 import signal
 import subprocess
+import threading
 import typing
 
 # The programs take some milliseconds, few of them a second: this is enough on a machine that has much else to do.
@@ -32,6 +33,33 @@ def run(words, *, timeout=SECONDS_PER_RUN, input=None, capture_output=False, **g
             os.killpg(started.pid, signal.SIGKILL)
             raise
     return subprocess.CompletedProcess(words, started.returncode, printed, errors)
+
+
+@contextlib.contextmanager
+def started(words, *, timeout=SECONDS_PER_RUN, **given):
+    """A program that runs meanwhile, as a Popen.
+
+    It is ended, with all that it started, when the block ends or it has taken so long. It heeds SIGINT, also if the tests run in
+    the background, where a shell has programs ignore it.
+    """
+    before = signal.signal(signal.SIGINT, signal.default_int_handler)
+    try:
+        running = subprocess.Popen(words, start_new_session=True, **given)
+    finally:
+        signal.signal(signal.SIGINT, before)
+
+    def end():
+        with contextlib.suppress(ProcessLookupError):
+            os.killpg(running.pid, signal.SIGKILL)
+
+    with running:
+        late = threading.Timer(timeout, end)
+        late.start()
+        try:
+            yield running
+        finally:
+            late.cancel()
+            end()
 
 
 class Answer(typing.NamedTuple):

@@ -6,6 +6,7 @@ import signal
 import subprocess
 import time
 
+import programs
 import pytest
 
 from conftest import ROOT
@@ -65,22 +66,13 @@ def test_an_interrupt(tmp_path):
     spatch.write_text(f"#!/bin/sh\n: > {tmp_path}/began\nexec sleep 60\n")
     spatch.chmod(0o755)
     words = ["draft", "--facts", "coccinelle", "--cache", tmp_path / "cache", "--tree", RDISK, "rdisk.c"]
-    # (if the tests run in the background, their programs would ignore it)
-    before = signal.signal(signal.SIGINT, signal.default_int_handler)
-    try:
-        started = subprocess.Popen(
-            [ROOT / "source" / "wqsource", *words],
-            env={**os.environ, "PATH": f"{spatch.parent}:{os.environ['PATH']}"},
-            stdout=subprocess.PIPE,
-            stderr=subprocess.PIPE,
-            start_new_session=True,
-        )
-    finally:
-        signal.signal(signal.SIGINT, before)
-    while not (tmp_path / "began").exists() and started.poll() is None:
-        time.sleep(0.05)
-    os.killpg(started.pid, signal.SIGINT)
-    out, err = started.communicate(timeout=50)
+    environment = {**os.environ, "PATH": f"{spatch.parent}:{os.environ['PATH']}"}
+    given = dict(env=environment, stdout=subprocess.PIPE, stderr=subprocess.PIPE)
+    with programs.started([ROOT / "source" / "wqsource", *words], **given) as started:
+        while not (tmp_path / "began").exists() and started.poll() is None:
+            time.sleep(0.05)
+        os.killpg(started.pid, signal.SIGINT)
+        out, err = started.communicate()
     assert (started.returncode, out) == (-signal.SIGINT, b"") and b"Traceback" not in err
 
 
@@ -90,7 +82,7 @@ def test_output_that_is_not_taken(tmp_path, to, status, said):
     command = f"'{ROOT}/source/wqsource' draft --cache '{tmp_path}' --tree '{RDISK}' rdisk.c"
     scripts = {"closed": "{ sleep 1; COMMAND; echo $? >status; } | :", "full": "COMMAND >/dev/full; echo $? >status"}
     script = scripts[to].replace("COMMAND", command)
-    ran = subprocess.run(["sh", "-c", script], cwd=tmp_path, stderr=subprocess.PIPE, text=True)
+    ran = programs.run(["sh", "-c", script], cwd=tmp_path, stderr=subprocess.PIPE, text=True)
     assert int((tmp_path / "status").read_text()) == status
     assert said in ran.stderr and ran.stderr.count("\n") == (1 if said else 0)
 

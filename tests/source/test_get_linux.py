@@ -32,9 +32,10 @@ def folder(tmp_path_factory):
     )
     (root / "usr" / "src").mkdir(parents=True)
     archive = root / "usr" / "src" / "linux-source-9.9.tar.xz"
-    subprocess.run(["tar", "-cJf", archive, "-C", top, tree.name], check=True)
+    subprocess.run(["tar", "-cJf", archive, "-C", top, tree.name], check=True, timeout=programs.SECONDS_PER_RUN)
     package = top / "linux-source-9.9_9.9_all.deb"
-    subprocess.run(["dpkg-deb", "--build", root, package], check=True, stdout=subprocess.DEVNULL)
+    build = ["dpkg-deb", "--build", root, package]
+    subprocess.run(build, check=True, stdout=subprocess.DEVNULL, timeout=programs.SECONDS_PER_RUN)
     (top / "bin").mkdir()
     (top / "bin" / "apt-get").write_text(APT_GET.format(package=package))
     (top / "bin" / "apt-get").chmod(0o755)
