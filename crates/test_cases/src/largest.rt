@@ -143,6 +143,9 @@ flush xlog_cil_push_work xlog_ioend_work             # done xfs_log.c:890 xlog_w
 # fs/fs-writeback.c:1557 __inode_wait_for_writeback for that of one inode, \
     mm/page-writeback.c:3058 folio_wait_writeback for that of
 # a page, fs/inode.c:2437 __inode_dio_wait for direct writes.
+# Writeback of a page allocates bios from pools, at fs/iomap/buffered-io.c:1488 iomap_alloc_ioend and
+# fs/iomap/buffered-io.c:1519 iomap_chain_bio. For pages that xfs_end_io completes it gives the bios back, too
+# (fs/iomap/buffered-io.c:1329 iomap_finish_ioend), so that wb_workfn waits for xfs_end_io there.
 # More waits of the items that commit transactions, for items that their lines name. \
     A commit that finds too much in memory waits
 # until xlog_cil_push_work has begun, at xfs_log_cil.c:1480 xlog_cil_push_background. \
@@ -151,13 +154,16 @@ flush xlog_cil_push_work xlog_ioend_work             # done xfs_log.c:890 xlog_w
     ended the log buffer before
 # its own (xfs_log.c:2871 xlog_state_done_syncing). A direct write that is to be on disk when it \
     ends waits as these do, at
-# fs/iomap/direct-io.c:122 iomap_dio_complete.
+# fs/iomap/direct-io.c:122 iomap_dio_complete. Whoever writes pages takes an ioend of a pool, at \
+    fs/iomap/buffered-io.c:1488 iomap_alloc_ioend:
+# xfs_end_io gives it back when it says that the pages are written, else an interrupt does; the lines have that wait.
 # no wait: xfs_trans.c xfs_trans_alloc xfs_blockgc_flush_all(mp): where no free block is left: xfs.nospace.wq has it
 # no wait: xfs_trans.c xfs_trans_alloc_inode xfs_blockgc_free_quota(ip): a forced reservation meets no limit, \
     and what comes here forces it (xfs_iomap.c:582 xfs_iomap_write_unwritten)
 # no wait: fs-writeback.c inode_sleep_on_writeback prepare_to_wait(wqh): whoever writes the inode has started
 # no wait: inode.c inode_wait_for_lru_isolating __wait_on_bit(wqh): whoever isolates it has started
 # no wait: buffered-io.c iomap_submit_ioend submit_bio(ioend->io_bio): the disk ends requests
+# no wait: buffered-io.c iomap_chain_bio submit_bio(prev): the disk ends requests
 # no wait: xfs_bmap_util.c xfs_zero_extent blkdev_issue_zeroout(target->bt_bdev): \
     only for a write without the page cache, on DAX (xfs_iomap.c:276 xfs_iomap_write_direct)
 # no wait: xfs_buf.c xfs_buf_wait_unpin add_wait_queue(&bp->b_waiters): only a write waits. \
