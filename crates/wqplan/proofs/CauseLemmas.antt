@@ -5,10 +5,7 @@ use Rattle.std.proofs.lemmas.List.Elements.{All-contains}
 use Rattle.std.specs.List.{Contains}
 use Rattle.wq_meter.specs.declared.fault.Fault.{Fault}
 use Rattle.wq_meter.specs.declared.fault.Fault.TheVariants.{Memory, Read, Write}
-use Rattle.wq_meter.specs.declared.shell.Stopped.{Stopped}
-use Rattle.wq_meter.specs.declared.shell.Stopped.TheVariants.{Faulted, Unanswered}
 use Rattle.wq_commands.specs.declared.end.End.{End}
-use Rattle.wq_commands.specs.declared.why.Outcome.{Outcome}
 use Rattle.wq_explain.specs.declared.explain.Explained.{Explained}
 use Rattle.wq_run.specs.declared.fault.CommandFault.{CommandFault}
 use Rattle.wq_run.specs.declared.fault.CommandFault.TheVariants.{Common, Tally, Thread}
@@ -21,22 +18,22 @@ module _ {F : Type 0} (Seeds : Option ℕ → Type 0) (Opens : Text → Option F
   -- ---- ends
 
   module _ (files : List Text) (ready : IsReady Seeds Opens files) where
-    caused : (MayFail : Type 0) {S : Type 0} (ended : Result Outcome (Stopped S))
-        → (ended ≡ Err (Faulted Read) → MayFail) → EndsReady Seeds Opens files MayFail ⊥ (end_or_common ended)
-    caused MayFail (Ok o) may_fail = ready
-    caused MayFail (Err (Faulted Memory)) may_fail = ready
-    caused MayFail (Err (Faulted Read)) may_fail = inr (ready, may_fail refl)
-    caused MayFail (Err (Faulted Write)) may_fail = ready
-    caused MayFail (Err (Unanswered s)) may_fail = ready
+    caused : (MayFail : Type 0) (ended : Result End Fault) → (ended ≡ Err Read → MayFail)
+        → EndsReady Seeds Opens files MayFail ⊥ (end_or_common ended)
+    caused MayFail (Ok end) may_fail = ready
+    caused MayFail (Err Read) may_fail = inr (ready, may_fail refl)
+    caused MayFail (Err Write) may_fail = ready
+    caused MayFail (Err Memory) may_fail = ready
 
-    pub caused_by : (MayFail : Type 0) {S : Type 0} (ended : Result Outcome (Stopped S))
-        (result : Result End CommandFault) → result ≡ end_or_common ended
-        → (ended ≡ Err (Faulted Read) → MayFail) → EndsReady Seeds Opens files MayFail ⊥ result
+    -- it is `fault read` only where a read may have failed
+    pub caused_by : (MayFail : Type 0) (ended : Result End Fault) (result : Result End CommandFault)
+        → result ≡ end_or_common ended
+        → (ended ≡ Err Read → MayFail) → EndsReady Seeds Opens files MayFail ⊥ result
     caused_by MayFail ended result is may_fail =
         subst (EndsReady Seeds Opens files MayFail ⊥) (sym is) (caused MayFail ended may_fail)
 
     -- a read of a file may always have failed
-    pub files_caused : {S : Type 0} (ended : Result Outcome (Stopped S)) (result : Result End CommandFault)
+    pub files_caused : (ended : Result End Fault) (result : Result End CommandFault)
         → result ≡ end_or_common ended → EndsReady Seeds Opens files (Unit {0}) ⊥ result
     files_caused ended result is = caused_by (Unit {0}) ended result is (λ _. tt)
 

@@ -1,5 +1,5 @@
 -- The files of a command: they are opened, and have texts.
-use Rattle.std.proofs.Common.{ℕ, List, [], ◌∷◌, Option, Some, None, Result, Ok, Err, sym, subst}
+use Rattle.std.proofs.Common.{ℕ, List, [], ◌∷◌, Option, Some, None, ◌≡◌, Result, Ok, Err, subst}
 use Rattle.std.proofs.lemmas.List.Elements.{All-cons, All-nil}
 use Rattle.std.specs.Borrow.{Bor}
 use Rattle.std.specs.List.{All}
@@ -10,7 +10,9 @@ use Rattle.wq_meter.specs.Shell.{Given, kept}
 use Rattle.wq_meter.specs.declared.fault.Fault.TheVariants.{Memory, Read, Write}
 use Rattle.wq_meter.specs.declared.texts.Limits.{Limits}
 use Rattle.wq_commands.specs.declared.end.End.{End}
-use Rattle.wq_commands.specs.declared.why.Outcome.{Outcome}
+use Rattle.wq_text.specs.Refusal.{Refusal}
+use Rattle.wq_commands.specs.Declaration.{Declared}
+use Rattle.wq_commands.specs.Shell.{AnswersTexts}
 use Rattle.wq_run.specs.declared.fault.CommandFault.{CommandFault}
 use Rattle.wq_run.specs.declared.fault.CommandFault.TheVariants.{Common, Tally, Thread}
 use Rattle.wqplan.specs.Cause.{IsOpened}
@@ -77,16 +79,16 @@ module _ {F : Type 0} (Opens : Text → Option F → Type 0) where
 -- ---- how a command ends
 
 -- a command that ended on files ended as it is to
-module _ {W : Type 0} (contents : W → Option (List ℕ)) (old new : Meter W) (Holds : Text → List ℕ → Type 0)
-    (limits : Limits) (Answers : Given → Outcome → List ℕ → Type 0) (paths : Files (Bor Text))
+module _ {W F : Type 0} (contents : W → Option (List ℕ)) (old new : Meter W) (Holds : Text → List ℕ → Type 0)
+    (limits : Limits) (Answers : Declared → Given → F → End → List ℕ → Type 0) (paths : Files (Bor Text))
     (Ends : End → List ℕ → Type 0) where
-  -- from the texts and the outcome of a command
+  -- from the texts, and what was found in them
   abbrev pub Gives : Type 0
-  Gives = (o : Outcome) (t : Given) (out : List ℕ) → HaveTexts Holds limits paths t → Answers (kept limits t) o out
-      → Ends o.end out
+  Gives = (t : Given) (found : Result F Refusal) (end : End) (out : List ℕ) → HaveTexts Holds limits paths t
+      → AnswersTexts Answers (kept limits t) found end out → Ends end out
 
   end_on : (end : End) (out : List ℕ) → EndsFiles Holds limits Answers paths end out → Gives → Ends end out
-  end_on end out h f = subst (λ e. Ends e out) (sym h.2) (f h.0 h.1 out h.3 h.4)
+  end_on end out h f = f h.0 h.2 end out h.1 h.3
 
   pub ends_on_files : (result : Result End CommandFault)
       → EndedBy contents old new (EndsFiles Holds limits Answers paths) result → Gives
@@ -97,3 +99,11 @@ module _ {W : Type 0} (contents : W → Option (List ℕ)) (old new : Meter W) (
   ends_on_files (Err (Common Memory)) h f = h
   ends_on_files (Err Thread) h f = h
   ends_on_files (Err Tally) h f = h
+
+-- ---- what is told
+
+-- what holds of names holds of the names that they are
+pub named : (P : List ℕ → List ℕ → List ℕ → Type 0) (first second third one two three : List ℕ) → first ≡ one
+    → second ≡ two → third ≡ three → P first second third → P one two three
+named P first second third one two three is is_second is_third h =
+    subst (λ x. P one two x) is_third (subst (λ x. P one x third) is_second (subst (λ x. P x second third) is h))

@@ -5,3 +5,4 @@ mod FileLemmas
 mod NumberLemmas
 mod HelperLemmas
 mod PromiseLemmas
+mod ToldLemmas

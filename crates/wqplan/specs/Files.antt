@@ -1,11 +1,13 @@
 -- The files of a command: their paths, the texts that they have, and how the command ends on these.
-use Rattle.std.specs.Prelude.{◌≡◌, ℕ, List, [], ◌∷◌, Option, Some, None}
+use Rattle.std.specs.Prelude.{◌≡◌, ℕ, List, [], ◌∷◌, Option, Some, None, Result}
 use Rattle.std.specs.Borrow.{Bor}
 use Rattle.clap.specs.Words.{Text}
 use Rattle.wq_meter.specs.Shell.{Given, kept}
 use Rattle.wq_meter.specs.declared.texts.Limits.{Limits}
 use Rattle.wq_commands.specs.declared.end.End.{End}
-use Rattle.wq_commands.specs.declared.why.Outcome.{Outcome}
+use Rattle.wq_commands.specs.Declaration.{Declared}
+use Rattle.wq_commands.specs.Shell.{AnswersTexts, SaysOfTexts}
+use Rattle.wq_text.specs.Refusal.{Refusal}
 use Rattle.wqplan.specs.declared.performing.Files.{Files}
 use Rattle.wqplan.specs.declared.performing.Files.TheVariants.{One, Two, Three}
 
@@ -38,8 +40,18 @@ HaveTexts Holds limits (Three first second third) texts =
     × HoldsIf Holds limits.third third.now texts.third
 
 -- a command with these limits and answers ends like this with this answer, if the files at these paths have its texts
-abbrev pub EndsFiles : (Text → List ℕ → Type 0) → Limits → (Given → Outcome → List ℕ → Type 0) → Files (Bor Text)
-    → End → List ℕ → Type 0
-EndsFiles Holds limits Answers paths end out =
-    (outcome : Outcome) × (texts : Given) × (end ≡ outcome.end)
-    × HaveTexts Holds limits paths texts × Answers (kept limits texts) outcome out
+abbrev pub EndsFiles : {F : Type 0} → (Text → List ℕ → Type 0) → Limits
+    → (Declared → Given → F → End → List ℕ → Type 0) → Files (Bor Text) → End → List ℕ → Type 0
+EndsFiles {F} Holds limits Answers paths end out =
+    (texts : Given) × HaveTexts Holds limits paths texts
+    × (found : Result F Refusal) × AnswersTexts Answers (kept limits texts) found end out
+
+-- and this is told of what it found
+abbrev pub TellsFiles : {F : Type 0} → (Text → List ℕ → Type 0) → Limits
+    → (Declared → Given → F → End → List ℕ → Type 0) → (Declared → Given → F → Option (List ℕ) → Type 0)
+    → (Given → Refusal → Option (List ℕ) → Type 0) → Files (Bor Text) → End → List ℕ
+    → ((Option (List ℕ) → Type 0) → Type 0) → Type 0
+TellsFiles {F} Holds limits Answers Says Refuses paths end out IsTold =
+    (texts : Given) × HaveTexts Holds limits paths texts
+    × (found : Result F Refusal) × AnswersTexts Answers (kept limits texts) found end out
+    × IsTold (SaysOfTexts Says Refuses (kept limits texts) found)

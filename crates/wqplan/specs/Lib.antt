@@ -5,3 +5,4 @@ pub mod Numbers
 pub mod Cause
 pub mod Files
 pub mod Promised
+pub mod Told

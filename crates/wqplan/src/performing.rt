@@ -2,46 +2,45 @@
 //! error.
 //!
 //! A seed is drawn, and the files of a command are opened in the order of its arguments, before any of them is read.
-//! Then `carry_out` reads them, writes the answer, and says what is wrong, where something is; for `run`,
-//! `carry_out_run` does. `carry_out_files`, `carry_out_input` and `run` ask that the seed they are given was drawn:
-//! that of the command, and that of what says more of its answer. The running time is that of the command.
+//! Then `carry_out` reads them, writes the answer, and says more of it, where there is more to say; for `run`,
+//! `carry_out_run` does. Each function that carries out a command asks that its seed was drawn. The running time is
+//! that of the command.
 
-ghost use Rattle.std.specs.Prelude.{◌≡◌, ◌≢◌, ◌≤◌, ◌∷◌, ℕ, List, [], Err, IfErr, IfOk, IfSome, None, OnErr, Some};
-ghost use Rattle.std.specs.Prelude.{option_map, option_to_list};
+ghost use Rattle.std.specs.Prelude.{◌≡◌, ◌≢◌, ◌≤◌, ◌∷◌, ℕ, List, [], Result, Err, IfErr, IfOk, IfSome, None, OnErr};
+ghost use Rattle.std.specs.Prelude.{Some, option_map, option_to_list};
 ghost use Rattle.std.specs.List.{Any};
+ghost use Rattle.wq_text.specs.Refusal.{Refusal};
 ghost use Rattle.wq_meter.specs.Input.{HasFailed, IsInput};
 ghost use Rattle.wq_meter.specs.Meter.{count_after, WritesPrefix, WritesWhole};
-ghost use Rattle.wq_meter.specs.Shell.{AreFrom, Given, kept};
-ghost use Rattle.wq_meter.specs.declared.shell.Stopped.TheVariants.{Faulted};
-ghost use Rattle.wq_run.specs.Running.{RunsTexts};
+ghost use Rattle.wq_meter.specs.Shell.{AreFrom, Given, Tells, kept};
+ghost use Rattle.wq_commands.specs.Shell.{AnswersTexts, SaysOfTexts};
 ghost use Rattle.wqplan.specs.CommandLine.{HasFewHelpers, plans, spelled};
 ghost use Rattle.wqplan.specs.Cause.{EndsAlone, EndsReady, IsCaused, ReadsInput};
-ghost use Rattle.wqplan.specs.Files.{AreOpened, EndsFiles, paths_of};
+ghost use Rattle.wqplan.specs.Files.{AreOpened, EndsFiles, TellsFiles, paths_of};
 ghost use Rattle.wqplan.specs.Promised.{PromisesAsAsked};
 ghost use Rattle.wqplan.specs.Status.{end_or_common, explained_or_common, unheld};
 ghost use Rattle.wqplan.specs.Ended.{EndedBy, EndsAsAsked, EndsCircles, EndsDot, EndsExplain, EndsPlan, EndsRun, Has};
 ghost use Rattle.wqplan.specs.Ended.{IsInputIf};
+ghost use Rattle.wqplan.specs.Told.{TellsAsAsked, TellsCircles, TellsDot, TellsRun, shown_name};
 
 use crate::command_line::Request;
-use crate::seeded::Seeded;
 use crate::world::{STDIN, World, shown_name};
-use std::alloc::{AllocError, Global};
+use std::alloc::Global;
 use std::io::{self, Read, Write};
 use std::sync::Wait;
 use std::thread::Threads;
-use wq_changes::Repairing;
+use wq_changes::RepairVoice;
 use wq_circles::CirclesCommand;
 use wq_commands::{
-    CheckCommand, Command, DeadlockCommand, End, Fault, Metered, Outcome, PlanCommand,
-    ReplayCommand, Stopped, Voice, carry_out,
+    CheckCommand, Command, DeadlockCommand, End, PlanCommand, ReplayCommand, Voice, carry_out,
 };
 use wq_dot::DotCommand;
 use wq_explain::{Explained, explain_cmd};
 use wq_hang_command::HangCommand;
-use wq_meter::write_text;
+use wq_meter::{Fault, Metered, write_text};
 use wq_repair_command::RepairCommand;
-use wq_run::{CommandFault, carry_out_run, end_of_run};
-use wq_voice::{Beside, CertificateKind, Diagnosing};
+use wq_run::{CommandFault, RunCommand, carry_out_run, end_of_run};
+use wq_voice::FileNames;
 
 /// The files of a command, in the order of its arguments: their paths, or what reads them.
 #[derive(Drop)]
@@ -73,7 +72,7 @@ fn open<'a, O: World<'a>>(world: &O, paths: Files<&'a str>) -> Option<Files<O::F
 /// Carries out a command on these readers.
 fn carry_out_on<
     C: Command<Global>,
-    V: Voice<Global, C::End>,
+    V: Voice<C, Global>,
     D: Read + Drop,
     S: Read + Drop,
     T: Read + Drop,
@@ -81,6 +80,7 @@ fn carry_out_on<
     E: Write,
 >(
     alloc: Global,
+    seed: u64,
     command: &C,
     voice: &V,
     first: D,
@@ -88,28 +88,31 @@ fn carry_out_on<
     third: T,
     writer: &mut Metered<W>,
     teller: &mut Metered<E>,
-) -> Result<C::End, Stopped<C::Stop>>
-    ensures answered { IfOk result (λ end. (texts : Given) × (out : List ℕ)
+) -> Result<End, Fault>
+    ensures told { IfOk result (λ end. (texts : Given) × (found : Result C.Found Refusal) × (out : List ℕ)
         × AreFrom (IsInput (D.remaining first)) (IsInputIf (C.limits command.now).second (S.remaining second))
         (IsInputIf (C.limits command.now).third (T.remaining third)) texts
-        × C.answers command.now (kept (C.limits command.now) texts) end out
-        × WritesWhole W.contents writer.old writer.new out) }
-    ensures prefix { result ≡ Err (Faulted Fault.Write) → (end : C.End) × (texts : Given) × (out : List ℕ)
+        × AnswersTexts (C.answers command.now) (kept (C.limits command.now) texts) found end out
+        × WritesWhole W.contents writer.old writer.new out
+        × Tells E.contents teller.old teller.new (SaysOfTexts (V.says voice.now command.now) (V.refuses voice.now)
+        (kept (C.limits command.now) texts) found)) }
+    ensures prefix { result ≡ Err Fault.Write
+        → (end : End) × (texts : Given) × (found : Result C.Found Refusal) × (out : List ℕ)
         × AreFrom (IsInput (D.remaining first)) (IsInputIf (C.limits command.now).second (S.remaining second))
         (IsInputIf (C.limits command.now).third (T.remaining third)) texts
-        × C.answers command.now (kept (C.limits command.now) texts) end out
+        × AnswersTexts (C.answers command.now) (kept (C.limits command.now) texts) found end out
         × WritesPrefix W.contents writer.old writer.new out }
-    ensures untouched { IfErr result (λ stopped. stopped ≢ Faulted Fault.Write → writer.new ≡ writer.old) }
+    ensures untouched { IfErr result (λ fault. fault ≢ Fault.Write → writer.new ≡ writer.old) }
     ensures unsaid { OnErr result (teller.new ≡ teller.old) }
-    ensures write_failed { result ≡ Err (Faulted Fault.Write)
-        → writer.new.failures ≡ count_after writer.old.failures 1 }
-    ensures no_write_failed { result ≢ Err (Faulted Fault.Write) → writer.new.failures ≡ writer.old.failures }
+    ensures write_failed { result ≡ Err Fault.Write → writer.new.failures ≡ count_after writer.old.failures 1 }
+    ensures no_write_failed { result ≢ Err Fault.Write → writer.new.failures ≡ writer.old.failures }
 {
     let mut first = Metered::new(first);
     let mut second = Metered::new(second);
     let mut third = Metered::new(third);
     carry_out(
         alloc,
+        seed,
         command,
         voice,
         &mut first,
@@ -120,14 +123,13 @@ fn carry_out_on<
     )
 }
 
-/// The end of a command, or the fault that stopped it. Where it has no answer, memory ran out.
-fn end_of(ended: Result<Outcome, Stopped<AllocError>>) -> Result<End, CommandFault>
+/// The end of a command, or the fault that stopped it.
+fn end_of(ended: Result<End, Fault>) -> Result<End, CommandFault>
     ensures { result ≡ end_or_common ended }
 {
     match ended {
-        Ok(outcome) => Ok(outcome.end),
-        Err(Stopped::Faulted(fault)) => Err(CommandFault::Common(fault)),
-        Err(Stopped::Unanswered(AllocError)) => Err(CommandFault::Common(Fault::Memory)),
+        Ok(end) => Ok(end),
+        Err(fault) => Err(CommandFault::Common(fault)),
     }
 }
 
@@ -147,23 +149,28 @@ fn end_of_explain(ended: Result<Explained, Fault>) -> Result<End, CommandFault>
 fn carry_out_files<
     'a,
     O: World<'a>,
-    C: Command<Global, End = Outcome, Stop = AllocError> + Seeded,
-    V: Voice<Global, Outcome> + Seeded,
+    C: Command<Global>,
+    V: Voice<C, Global>,
     W: Write,
     E: Write,
 >(
     world: &O,
     alloc: Global,
+    seed: u64,
     command: &C,
     voice: &V,
     paths: Files<&'a str>,
     writer: &mut Metered<W>,
     teller: &mut Metered<E>,
 ) -> Result<End, CommandFault>
-    requires drawn { O.seeds world.now (Some (C.seed command.now)) }
-    requires said { O.seeds world.now (Some (V.seed voice.now)) }
+    requires drawn { O.seeds world.now (Some seed) }
     ensures ended { EndedBy W.contents writer.old writer.new (EndsFiles (Has (O.opens world.now) O.File.Read.remaining)
         (C.limits command.now) (C.answers command.now) paths.entry) result }
+    ensures told { IfOk result (λ end. (out : List ℕ)
+        × TellsFiles (Has (O.opens world.now) O.File.Read.remaining) (C.limits command.now) (C.answers command.now)
+        (V.says voice.now command.now) (V.refuses voice.now) paths.entry end out
+        (Tells E.contents teller.old teller.new)
+        × WritesWhole W.contents writer.old writer.new out) }
     ensures caused { EndsReady (O.seeds world.now) (O.opens world.now) (paths_of paths.entry) (Unit {0}) ⊥ result }
     ensures unsaid { OnErr result (teller.new ≡ teller.old) }
 {
@@ -173,49 +180,54 @@ fn carry_out_files<
     match files {
         Files::One(first) => {
             let (second, third) = (io::empty(), io::empty());
-            end_of(carry_out_on(alloc, command, voice, first, second, third, writer, teller))
+            end_of(carry_out_on(
+                alloc, seed, command, voice, first, second, third, writer, teller,
+            ))
         }
         Files::Two(first, second) => {
             let third = io::empty();
-            end_of(carry_out_on(alloc, command, voice, first, second, third, writer, teller))
+            end_of(carry_out_on(
+                alloc, seed, command, voice, first, second, third, writer, teller,
+            ))
         }
         Files::Three(first, second, third) => end_of(carry_out_on(
-            alloc, command, voice, first, second, third, writer, teller,
+            alloc, seed, command, voice, first, second, third, writer, teller,
         )),
     }
 }
 
 /// Carries out `plan` on standard input.
-fn carry_out_input<
-    'a,
-    O: World<'a>,
-    V: Voice<Global, Outcome> + Seeded,
-    I: Read,
-    W: Write,
-    E: Write,
->(
+fn carry_out_input<'a, O: World<'a>, I: Read, W: Write, E: Write>(
     _world: &O,
     alloc: Global,
-    command: &PlanCommand,
-    voice: &V,
+    seed: u64,
     input: &mut Metered<I>,
     writer: &mut Metered<W>,
     teller: &mut Metered<E>,
 ) -> Result<End, CommandFault>
-    requires drawn { O.seeds _world.now (Some command.now.seed) }
-    requires said { O.seeds _world.now (Some (V.seed voice.now)) }
+    requires drawn { O.seeds _world.now (Some seed) }
     ensures ended { EndedBy W.contents writer.old writer.new (EndsPlan (Has (O.opens _world.now) O.File.Read.remaining)
         (IsInput (I.remaining input.old.device)) None) result }
+    ensures told { IfOk result (λ end. (out : List ℕ)
+        × TellsAsAsked (Has (O.opens _world.now) O.File.Read.remaining) (IsInput (I.remaining input.old.device))
+        (plans None) end out (Tells E.contents teller.old teller.new)
+        × WritesWhole W.contents writer.old writer.new out) }
     ensures caused { EndsReady (O.seeds _world.now) (O.opens _world.now) [] (HasFailed input.old input.new) ⊥ result }
     ensures input { ReadsInput I.remaining input.old input.new (plans None) }
     ensures unsaid { OnErr result (teller.new ≡ teller.old) }
 {
     let mut second = Metered::new(io::empty());
     let mut third = Metered::new(io::empty());
+    let voice = FileNames {
+        declaration: STDIN,
+        second: "",
+        run: "",
+    };
     let ended = carry_out(
         alloc,
-        command,
-        voice,
+        seed,
+        &PlanCommand,
+        &voice,
         input,
         &mut second,
         &mut third,
@@ -225,30 +237,38 @@ fn carry_out_input<
     end_of(ended)
 }
 
+/// The names of these files, as diagnoses show them. A file that the command doesn't have has the empty name.
+fn names<'a>(declaration: &'a str, second: &'a str, run: &'a str) -> FileNames<'a>
+    ensures declaration { result.declaration.now ≡ shown_name declaration.entry.now }
+    ensures second { result.second.now ≡ shown_name second.entry.now }
+    ensures run { result.run.now ≡ shown_name run.entry.now }
+{
+    FileNames {
+        declaration: shown_name(declaration),
+        second: shown_name(second),
+        run: shown_name(run),
+    }
+}
+
 /// Carries out `run` on the file at this path, with this many helpers. Where it can't be opened, it is `fault read`.
-fn run<
-    'a,
-    O: World<'a>,
-    R: Threads + Wait + Sync,
-    V: Voice<Global, Outcome> + Seeded,
-    W: Write,
-    E: Write,
->(
+fn run<'a, O: World<'a>, R: Threads + Wait + Sync, W: Write, E: Write>(
     world: &O,
     rt: &R,
     alloc: Global,
     seed: u64,
     helpers: u8,
-    voice: &V,
     declaration: &'a str,
     writer: &mut Metered<W>,
     teller: &mut Metered<E>,
 ) -> Result<End, CommandFault>
     requires few_helpers { helpers ≤ 8 }
     requires drawn { O.seeds world.now (Some seed) }
-    requires said { O.seeds world.now (Some (V.seed voice.now)) }
     ensures ended { EndedBy W.contents writer.old writer.new (EndsRun (Has (O.opens world.now) O.File.Read.remaining)
         declaration.now helpers) result }
+    ensures told { IfOk result (λ end. (out : List ℕ)
+        × TellsRun (Has (O.opens world.now) O.File.Read.remaining) declaration.now helpers end out
+        (Tells E.contents teller.old teller.new)
+        × WritesWhole W.contents writer.old writer.new out) }
     ensures caused { EndsReady (O.seeds world.now) (O.opens world.now) (declaration.now ∷ []) (Unit {0}) (Unit {0})
         result }
     ensures unsaid { OnErr result (teller.new ≡ teller.old) }
@@ -256,8 +276,10 @@ fn run<
     let Some(declared) = world.open(declaration) else {
         return Err(CommandFault::Common(Fault::Read));
     };
+    let command = RunCommand { helpers };
+    let voice = names(declaration, "", "");
     let mut input = Metered::new(declared);
-    let ended = carry_out_run(rt, alloc, seed, helpers, voice, &mut input, writer, teller);
+    let ended = carry_out_run(rt, alloc, seed, &command, &voice, &mut input, writer, teller);
     end_of_run(ended)
 }
 
@@ -275,24 +297,6 @@ fn explain<W: Write>(
     end_of_explain(ended)
 }
 
-/// Who says more of an answer to the declaration and the assignment in these files.
-fn assignment_voice<'a>(
-    seed: u64,
-    declaration: &'a str,
-    assignment: &'a str,
-    beside: Beside,
-) -> Diagnosing<'a>
-    ensures { result.seed ≡ seed }
-{
-    Diagnosing::two(
-        seed,
-        shown_name(declaration),
-        CertificateKind::Assignment,
-        shown_name(assignment),
-        beside,
-    )
-}
-
 /// Carries out `plan` on the file at this path, or, without a path, on standard input.
 fn plan<'a, O: World<'a>, I: Read, W: Write, E: Write>(
     world: &O,
@@ -306,22 +310,22 @@ fn plan<'a, O: World<'a>, I: Read, W: Write, E: Write>(
     requires drawn { O.seeds world.now (Some seed) }
     ensures ended { EndedBy W.contents writer.old writer.new (EndsPlan (Has (O.opens world.now) O.File.Read.remaining)
         (IsInput (I.remaining input.old.device)) (option_map (λ s. s.now) file.entry)) result }
+    ensures told { IfOk result (λ end. (out : List ℕ)
+        × TellsAsAsked (Has (O.opens world.now) O.File.Read.remaining) (IsInput (I.remaining input.old.device))
+        (plans (option_map (λ s. s.now) file.entry)) end out (Tells E.contents teller.old teller.new)
+        × WritesWhole W.contents writer.old writer.new out) }
     ensures caused { IsCaused (O.seeds world.now) (O.opens world.now) (HasFailed input.old input.new)
         (plans (option_map (λ s. s.now) file.entry)) result }
     ensures input { ReadsInput I.remaining input.old input.new (plans (option_map (λ s. s.now) file.entry)) }
     ensures unsaid { OnErr result (teller.new ≡ teller.old) }
 {
-    let command = PlanCommand { seed };
     match file {
         Some(file) => {
-            let voice = Diagnosing::one(seed, shown_name(file), Beside::Circle);
+            let voice = names(file, "", "");
             let files = Files::One(file);
-            carry_out_files(world, alloc, &command, &voice, files, writer, teller)
+            carry_out_files(world, alloc, seed, &PlanCommand, &voice, files, writer, teller)
         }
-        None => {
-            let voice = Diagnosing::one(seed, STDIN, Beside::Circle);
-            carry_out_input(world, alloc, &command, &voice, input, writer, teller)
-        }
+        None => carry_out_input(world, alloc, seed, input, writer, teller),
     }
 }
 
@@ -339,28 +343,26 @@ fn circles<'a, O: World<'a>, W: Write, E: Write>(
     ensures ended { EndedBy W.contents writer.old writer.new
         (EndsCircles (Has (O.opens world.now) O.File.Read.remaining)
         declaration.now (option_map (λ s. s.now) assignment.entry)) result }
+    ensures told { IfOk result (λ end. (out : List ℕ)
+        × TellsCircles (Has (O.opens world.now) O.File.Read.remaining) declaration.now
+        (option_map (λ s. s.now) assignment.entry) end out (Tells E.contents teller.old teller.new)
+        × WritesWhole W.contents writer.old writer.new out) }
     ensures caused { EndsReady (O.seeds world.now) (O.opens world.now)
         (declaration.now ∷ option_to_list (option_map (λ s. s.now) assignment.entry)) (Unit {0}) ⊥ result }
     ensures unsaid { OnErr result (teller.new ≡ teller.old) }
 {
     match assignment {
         Some(assignment) => {
-            let command = CirclesCommand {
-                seed,
-                assigned: true,
-            };
-            let voice = assignment_voice(seed, declaration, assignment, Beside::Components);
+            let command = CirclesCommand { assigned: true };
+            let voice = names(declaration, assignment, "");
             let files = Files::Two(declaration, assignment);
-            carry_out_files(world, alloc, &command, &voice, files, writer, teller)
+            carry_out_files(world, alloc, seed, &command, &voice, files, writer, teller)
         }
         None => {
-            let command = CirclesCommand {
-                seed,
-                assigned: false,
-            };
-            let voice = Diagnosing::one(seed, shown_name(declaration), Beside::OwnComponents);
+            let command = CirclesCommand { assigned: false };
+            let voice = names(declaration, "", "");
             let files = Files::One(declaration);
-            carry_out_files(world, alloc, &command, &voice, files, writer, teller)
+            carry_out_files(world, alloc, seed, &command, &voice, files, writer, teller)
         }
     }
 }
@@ -376,30 +378,29 @@ fn dot<'a, O: World<'a>, W: Write, E: Write>(
     teller: &mut Metered<E>,
 ) -> Result<End, CommandFault>
     requires drawn { O.seeds world.now (Some seed) }
-    ensures ended { EndedBy W.contents writer.old writer.new (EndsDot (Has (O.opens world.now) O.File.Read.remaining)
+    ensures ended { EndedBy W.contents writer.old writer.new
+        (EndsDot (Has (O.opens world.now) O.File.Read.remaining)
         declaration.now (option_map (λ s. s.now) assignment.entry)) result }
+    ensures told { IfOk result (λ end. (out : List ℕ)
+        × TellsDot (Has (O.opens world.now) O.File.Read.remaining) declaration.now
+        (option_map (λ s. s.now) assignment.entry) end out (Tells E.contents teller.old teller.new)
+        × WritesWhole W.contents writer.old writer.new out) }
     ensures caused { EndsReady (O.seeds world.now) (O.opens world.now)
         (declaration.now ∷ option_to_list (option_map (λ s. s.now) assignment.entry)) (Unit {0}) ⊥ result }
     ensures unsaid { OnErr result (teller.new ≡ teller.old) }
 {
     match assignment {
         Some(assignment) => {
-            let command = DotCommand {
-                seed,
-                assigned: true,
-            };
-            let voice = assignment_voice(seed, declaration, assignment, Beside::Other);
+            let command = DotCommand { assigned: true };
+            let voice = names(declaration, assignment, "");
             let files = Files::Two(declaration, assignment);
-            carry_out_files(world, alloc, &command, &voice, files, writer, teller)
+            carry_out_files(world, alloc, seed, &command, &voice, files, writer, teller)
         }
         None => {
-            let command = DotCommand {
-                seed,
-                assigned: false,
-            };
-            let voice = Diagnosing::one(seed, shown_name(declaration), Beside::Other);
+            let command = DotCommand { assigned: false };
+            let voice = names(declaration, "", "");
             let files = Files::One(declaration);
-            carry_out_files(world, alloc, &command, &voice, files, writer, teller)
+            carry_out_files(world, alloc, seed, &command, &voice, files, writer, teller)
         }
     }
 }
@@ -420,6 +421,10 @@ fn carry_out_seeded<'a, O: World<'a>, R: Threads + Wait + Sync, I: Read, W: Writ
     ensures ended { EndedBy W.contents writer.old writer.new
         (EndsAsAsked (Has (O.opens world.now) O.File.Read.remaining) (IsInput (I.remaining input.old.device))
         (spelled request.entry)) result }
+    ensures told { IfOk result (λ end. (out : List ℕ)
+        × TellsAsAsked (Has (O.opens world.now) O.File.Read.remaining) (IsInput (I.remaining input.old.device))
+        (spelled request.entry) end out (Tells E.contents teller.old teller.new)
+        × WritesWhole W.contents writer.old writer.new out) }
     ensures caused { IsCaused (O.seeds world.now) (O.opens world.now) (HasFailed input.old input.new)
         (spelled request.entry) result }
     ensures input { ReadsInput I.remaining input.old input.new (spelled request.entry) }
@@ -431,67 +436,48 @@ fn carry_out_seeded<'a, O: World<'a>, R: Threads + Wait + Sync, I: Read, W: Writ
             declaration,
             certificate,
         } => {
-            let command = CheckCommand { seed };
-            let voice = Diagnosing::two(
-                seed,
-                shown_name(declaration),
-                CertificateKind::Answer,
-                shown_name(certificate),
-                Beside::Other,
-            );
+            let voice = names(declaration, certificate, "");
             let files = Files::Two(declaration, certificate);
-            carry_out_files(world, alloc, &command, &voice, files, writer, teller)
+            carry_out_files(world, alloc, seed, &CheckCommand, &voice, files, writer, teller)
         }
         Request::Deadlock {
             declaration,
             assignment,
         } => {
-            let command = DeadlockCommand { seed };
-            let voice = assignment_voice(seed, declaration, assignment, Beside::Verdict);
+            let voice = names(declaration, assignment, "");
             let files = Files::Two(declaration, assignment);
-            carry_out_files(world, alloc, &command, &voice, files, writer, teller)
+            carry_out_files(world, alloc, seed, &DeadlockCommand, &voice, files, writer, teller)
         }
         Request::Hang {
             declaration,
             assignment,
         } => {
-            let command = HangCommand { seed };
-            let voice = assignment_voice(seed, declaration, assignment, Beside::Verdict);
+            let voice = names(declaration, assignment, "");
             let files = Files::Two(declaration, assignment);
-            carry_out_files(world, alloc, &command, &voice, files, writer, teller)
+            carry_out_files(world, alloc, seed, &HangCommand, &voice, files, writer, teller)
         }
         Request::Repair {
             declaration,
             assignment,
-            names,
+            names: moving,
         } => {
-            let names = names.as_slice();
-            let command = RepairCommand { seed, names };
-            let voice = Repairing {
-                seed,
-                declaration: shown_name(declaration),
-                assignment: shown_name(assignment),
-                names,
+            let command = RepairCommand {
+                names: moving.as_slice(),
+            };
+            let voice = RepairVoice {
+                files: names(declaration, assignment, ""),
             };
             let files = Files::Two(declaration, assignment);
-            carry_out_files(world, alloc, &command, &voice, files, writer, teller)
+            carry_out_files(world, alloc, seed, &command, &voice, files, writer, teller)
         }
         Request::Replay {
             declaration,
             assignment,
             run,
         } => {
-            let command = ReplayCommand { seed };
-            let voice = Diagnosing {
-                seed,
-                declaration: shown_name(declaration),
-                kind: CertificateKind::Assignment,
-                certificate: shown_name(assignment),
-                run: shown_name(run),
-                beside: Beside::RunEnd,
-            };
+            let voice = names(declaration, assignment, run);
             let files = Files::Three(declaration, assignment, run);
-            carry_out_files(world, alloc, &command, &voice, files, writer, teller)
+            carry_out_files(world, alloc, seed, &ReplayCommand, &voice, files, writer, teller)
         }
         Request::Circles {
             declaration,
@@ -504,20 +490,7 @@ fn carry_out_seeded<'a, O: World<'a>, R: Threads + Wait + Sync, I: Read, W: Writ
         Request::Run {
             declaration,
             helpers,
-        } => {
-            let voice = Diagnosing::one(seed, shown_name(declaration), Beside::Other);
-            run(
-                world,
-                rt,
-                alloc,
-                seed,
-                helpers,
-                &voice,
-                declaration,
-                writer,
-                teller,
-            )
-        }
+        } => run(world, rt, alloc, seed, helpers, declaration, writer, teller),
         Request::Explain { code } => explain(alloc, code, writer),
     }
 }
@@ -537,6 +510,10 @@ fn carry_out_asked<'a, O: World<'a>, R: Threads + Wait + Sync, I: Read, W: Write
     ensures ended { EndedBy W.contents writer.old writer.new
         (EndsAsAsked (Has (O.opens world.now) O.File.Read.remaining) (IsInput (I.remaining input.old.device))
         (spelled request.entry)) result }
+    ensures told { IfOk result (λ end. (out : List ℕ)
+        × TellsAsAsked (Has (O.opens world.now) O.File.Read.remaining) (IsInput (I.remaining input.old.device))
+        (spelled request.entry) end out (Tells E.contents teller.old teller.new)
+        × WritesWhole W.contents writer.old writer.new out) }
     ensures caused { IsCaused (O.seeds world.now) (O.opens world.now) (HasFailed input.old input.new)
         (spelled request.entry) result }
     ensures input { ReadsInput I.remaining input.old input.new (spelled request.entry) }
@@ -577,6 +554,13 @@ pub(crate) fn perform<'a, O: World<'a>, R: Threads + Wait + Sync, I: Read, W: Wr
         (spelled request.entry) end out
         × WritesWhole W.contents writer.old writer.new out) }
 
+    // What is told, on standard error, is told of this answer: of what the command found in these texts, in the files
+    // with these names.
+    ensures told { IfOk result (λ end. (out : List ℕ)
+        × TellsAsAsked (Has (O.opens world.now) O.File.Read.remaining) (IsInput (I.remaining input.old.device))
+        (spelled request.entry) end out (Tells E.contents teller.old teller.new)
+        × WritesWhole W.contents writer.old writer.new out) }
+
     ensures caused { IsCaused (O.seeds world.now) (O.opens world.now) (HasFailed input.old input.new)
         (spelled request.entry) result }
     ensures input { ReadsInput I.remaining input.old input.new (spelled request.entry) }
@@ -609,6 +593,10 @@ pub(crate) fn perform_above<
     ensures promised { IfOk result (λ end. (out : List ℕ)
         × PromisesAsAsked (Has (O.opens world.now) O.File.Read.remaining) (IsInput (I.remaining input.old.device))
         (spelled request.entry) end out
+        × WritesWhole W.contents writer.old writer.new out) }
+    ensures told { IfOk result (λ end. (out : List ℕ)
+        × TellsAsAsked (Has (O.opens world.now) O.File.Read.remaining) (IsInput (I.remaining input.old.device))
+        (spelled request.entry) end out (Tells E.contents teller.old teller.new)
         × WritesWhole W.contents writer.old writer.new out) }
     ensures caused { IsCaused (O.seeds world.now) (O.opens world.now) (HasFailed input.old input.new)
         (spelled request.entry) result }

@@ -1,31 +1,30 @@
 use Rattle.std.proofs.lemmas.Result.{IfOk-weaker}
 use Rattle.std.proofs.Common.{List, ℕ}
 use Rattle.wq_meter.specs.Meter.{WritesWhole}
-use Rattle.wq_commands.proofs.CommandLemmas.{ended_with, stopped_by}
 use Rattle.wq_run.specs.declared.fault.RunStop.TheVariants as stop
 use Rattle.wq_run.specs.Fault.{Stops}
 use Rattle.wq_run.specs.Run.{RunsInput, IsRunnableInput}
-use Rattle.wq_run.proofs.InputLemmas.{unanswered_for, unwritten_for}
+use Rattle.wq_run.proofs.InputLemmas.{ended_as, not_by, unanswered_for, unwritten_for}
 use Rattle.wq_run.proofs.run.run_cmd.Goals as goal
 
 pub returns-clause-answered : goal.returns-clause-answered
 returns-clause-answered g c =
-    IfOk-weaker c.end_of_run.result _ _ (λ end is. ended_with c.carry_out_run-ended.result end _
+    IfOk-weaker c.end_of_run.result _ _ (λ end is. ended_as c.carry_out_run-ended.result end is
     (λ end. (out : List ℕ) × RunsInput c.args.helpers g.D.Read.remaining c.args.declaration.now c.carry_out_run-ended.new.declaration end out
     × WritesWhole g.W.Write.contents c.args.writer.now c.carry_out_run-ended.new.writer out)
-    (λ outcome h. (h.out, record { text = h.text; given = h.given; answer = h.answer.0 }, h.written))
-    c.carry_out_run-ended.ensures.answered is) c.end_of_run.ensures.end
+    (IfOk-weaker c.carry_out_run-ended.result _ _ (λ end h. (h.out, record { text = h.text; given = h.given; answer = h.answer }, h.written))
+    c.carry_out_run-ended.ensures.answered)) c.end_of_run.ensures.end
 
 pub returns-clause-prefix : goal.returns-clause-prefix
 returns-clause-prefix g c = λ is.
     let h = c.carry_out_run-ended.ensures.prefix (c.end_of_run.ensures.write_failed is) in
-    (h.0.end, h.1.out, record { text = h.1.text; given = h.1.given; answer = h.1.answer.0 }, h.1.written)
+    (h.0, h.1.out, record { text = h.1.text; given = h.1.given; answer = h.1.answer }, h.1.written)
 
 pub returns-clause-untouched : goal.returns-clause-untouched
-returns-clause-untouched g c = λ is. stopped_by c.carry_out_run-ended.result _ _ (c.end_of_run.ensures.memory is) c.carry_out_run-ended.ensures.untouched
+returns-clause-untouched g c = λ is. not_by c.carry_out_run-ended.result _ _ (c.end_of_run.ensures.memory is) c.carry_out_run-ended.ensures.untouched
 
 pub returns-clause-unwritten : goal.returns-clause-unwritten
-returns-clause-unwritten g c = λ is. stopped_by c.carry_out_run-ended.result _ _ (c.end_of_run.ensures.read is) c.carry_out_run-ended.ensures.untouched
+returns-clause-unwritten g c = λ is. not_by c.carry_out_run-ended.result _ _ (c.end_of_run.ensures.read is) c.carry_out_run-ended.ensures.untouched
 
 pub returns-clause-no_thread : goal.returns-clause-no_thread
 returns-clause-no_thread g c = λ is.
