@@ -26,8 +26,10 @@ mod shared;
 mod shortest;
 mod titles;
 mod tooltip;
+mod voice;
 mod workqueue;
 
 pub use dot::DotCommand;
+pub use dotting::Drawn;
 pub use drawing::drawing_text;
 pub use look::FlushLook;

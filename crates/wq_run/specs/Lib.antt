@@ -6,3 +6,4 @@ pub mod Report
 pub mod Running
 pub mod Run
 pub mod Fault
+pub mod Saying

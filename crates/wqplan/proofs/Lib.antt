@@ -1,4 +1,5 @@
 mod CommandLemmas
+mod WordLemmas
 mod CauseLemmas
 mod EndedLemmas
 mod FileLemmas

@@ -10,11 +10,11 @@
 ghost use Rattle.wqplan.specs.CommandLine.{HasFewHelpers, spelled};
 
 mod command_line;
+mod commands;
 mod ending;
 mod help;
 pub mod laws;
 mod performing;
-mod seeded;
 mod statuses;
 mod world;
 

@@ -1,4 +1,5 @@
-use Rattle.wq_circles.proofs.Answered.{Circles-unique, CirclesTexts-unique, OwnCircles-unique}
+use Rattle.wq_circles.proofs.Answered.{Circles-unique, OwnCircles-unique}
+use Rattle.wq_circles.proofs.Found.{circles-unique}
 use Rattle.wq_circles.proofs.laws.circles_have_one_answer.Goals as goal
 
 pub returns-clause-end : goal.returns-clause-end
@@ -14,4 +15,4 @@ pub returns-clause-own_out : goal.returns-clause-own_out
 returns-clause-own_out c = λ declared end other out printed one two. (OwnCircles-unique declared end other out printed one two).1
 
 pub returns-clause-command : goal.returns-clause-command
-returns-clause-command c = CirclesTexts-unique
+returns-clause-command c = circles-unique

@@ -1,5 +1,6 @@
 use Rattle.std.proofs.Common.{refl}
-use Rattle.wq_dot.proofs.OneDrawing.{DrawsBy-one, DrawsTextsBy-unique, OwnDrawsBy-one}
+use Rattle.wq_dot.proofs.Found.{dot-unique}
+use Rattle.wq_dot.proofs.OneDrawing.{DrawsBy-one, OwnDrawsBy-one}
 use Rattle.wq_dot.proofs.laws.drawings_have_one_answer.Goals as goal
 
 pub returns-clause-end : goal.returns-clause-end
@@ -15,4 +16,4 @@ pub returns-clause-own_out : goal.returns-clause-own_out
 returns-clause-own_out c = λ hops declared end other out printed one two. (OwnDrawsBy-one hops hops end other out printed declared one two).1 refl
 
 pub returns-clause-command : goal.returns-clause-command
-returns-clause-command c = DrawsTextsBy-unique
+returns-clause-command c = dot-unique
