@@ -441,3 +441,14 @@ def qemu():
     places = [base / "usr/share" for base in (root, pathlib.Path("/"))]
     firmware = [word for place in places for name in ("qemu", "seabios") for word in ("-L", str(place / name))]
     return [str(root / "usr/bin/qemu-system-x86_64"), *firmware], environment
+
+
+def missing(series):
+    """Why no guest of a series can be started here, or nothing."""
+    try:
+        kernels(series)[0].module()
+        busybox()
+        qemu()
+        return ""
+    except Missing as why:
+        return str(why)

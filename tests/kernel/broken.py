@@ -183,22 +183,11 @@ def run(kernel, names):
     return made
 
 
-def missing():
-    """Why it can't be tried here, or nothing."""
-    try:
-        packages.kernels(SERIES)[0].module()
-        packages.busybox()
-        packages.qemu()
-        return ""
-    except packages.Missing as why:
-        return str(why)
-
-
 def main(arguments):
     if not is_there("kernel_broken", *arguments):
         return 1
     os.environ["WQPLAN"] = os.path.realpath(arguments[0])
-    if why := missing():
+    if why := packages.missing(SERIES):
         print(f"skipped kernel_broken: {why}")
         return 0
     with tempfile.TemporaryDirectory() as folder:

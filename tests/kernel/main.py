@@ -366,27 +366,16 @@ def try_command(series):
             tell(found == (status, last) and is_told, name, f"{found} {ended.stderr}")
 
 
-def missing(series):
-    """Why a series can't be tried here, or nothing."""
-    try:
-        packages.kernels(series)[0].module()
-        packages.busybox()
-        packages.qemu()
-        return ""
-    except packages.Missing as why:
-        return str(why)
-
-
 def main(arguments):
     if not is_there("kernel", *arguments):
         return 1
     os.environ["WQPLAN"] = os.path.realpath(arguments[0])
     letters = program.LETTERS
-    why = missing("6.1")
+    why = packages.missing("6.1")
     if why and os.geteuid() == 0 and shutil.which("apt-get"):
         # (a new machine has no lists of packages)
         subprocess.run(["apt-get", "update", "-q"], stdout=subprocess.DEVNULL, stderr=subprocess.DEVNULL, timeout=600, check=False)
-        why = missing("6.1")
+        why = packages.missing("6.1")
     if why:
         print(f"skipped kernel: {why}")
         return 0
@@ -420,7 +409,7 @@ def main(arguments):
     try_self_check(kernel, made)
     try_without_rescuers(made, rescued)
     try_command("6.1")
-    why = missing("6.12")
+    why = packages.missing("6.12")
     if why:
         print(f"skipped kernel 6.12: {why}")
     else:
