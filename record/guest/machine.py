@@ -54,7 +54,7 @@ def kernel_of(series: str) -> packages.Kernel:
 def types_of(kernel: packages.Kernel) -> bytes:
     """The kernel's BTF, which a guest has told once."""
 
-    def make(place: pathlib.Path) -> None:
+    def make(place: pathlib.Path, _: pathlib.Path) -> None:
         told = boot(Guest(kernel.series, "cat /sys/kernel/btf/vmlinux >/rec/btf\n"), place, kernel, probes="")
         if not (place / "btf").exists():
             raise Failed(f"the guest didn't tell its types:\n{told[-2000:]}")
