@@ -5,31 +5,13 @@
 #
 # With --patch kernel/drivers/md.patch each array has a workqueue for its flushes, and nothing hangs.
 
-# array NAME DEVICE: a mirror of one disk, MAJOR:MINOR.
-array() {
-    echo "$1" >/sys/module/md_mod/parameters/new_array
-    at=/sys/block/$1/md
-    echo none >"$at/metadata_version"
-    echo raid1 >"$at/level"
-    echo 1 >"$at/raid_disks"
-    echo 4096 >"$at/component_size"
-    echo "$2" >"$at/new_dev"
-    for disk in "$at"/dev-*; do
-        echo 0 >"$disk/slot"
-    done
-    echo active >"$at/array_state"
-}
-
+. /shared/md.sh
 array md0 1:0
 array md1 9:0
 # Four processes flush an array each, again and again.
-many() {
-    files=/dev/$1
-    for double in 1 2 3 4 5 6 7 8 9 10 11 12 13 14 15; do files="$files $files"; done
-}
 for number in 1 2; do
     for md in md1 md0; do
-        many $md
+        many $md 15
         $busybox sync -d $files &
         flushing="$flushing $!"
         what="$what $md"

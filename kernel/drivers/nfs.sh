@@ -8,32 +8,13 @@
 # With --patch kernel/drivers/nfs.patch, nfsiod ends the mount, and nothing hangs. nfs-dirty.sh is the same where the
 # mount has an inode that was written to.
 
+. /shared/nfs.sh
 files="0 1 2 3"
-$busybox ifconfig lo 127.0.0.1
-$busybox mkdir /export /mnt /other /nfsd
-$busybox mount -t tmpfs export /export
-for file in $files; do echo hello >/export/$file; done
-
-# The server, without the programs that go with it: what the client's address and the export are is written into the
-# caches that mountd fills (flags 9218: fsid, no_subtree_check, insecure).
-$busybox mount -t nfsd nfsd /nfsd
-echo 10 >/nfsd/nfsv4gracetime
-echo '-3 +4 +4.1' >/nfsd/versions
-echo 'tcp 2049' >/nfsd/portlist
-echo 4 >/nfsd/threads
-echo 'nfsd 127.0.0.1 2147483647 here' >/proc/net/rpc/auth.unix.ip/channel
-echo 'here /export 2147483647 9218 65534 65534 0' >/proc/net/rpc/nfsd.export/channel
-echo 'here 1 \x00000000 2147483647 /export' >/proc/net/rpc/nfsd.fh/channel
-wait_for 15 # the grace period, in which the server gives no delegation
-
-options=vers=4.1,addr=127.0.0.1,clientaddr=127.0.0.1
-$busybox mount -t nfs4 -o $options 127.0.0.1:/ /mnt
-$busybox mount -t nfs4 -o $options,nosharecache 127.0.0.1:/ /other
-for file in $files; do $busybox cat /mnt/$file >/dev/null; done
+serve $files
+open_mounts $files
 echo "what the server has given to /mnt:"
 $busybox cat /nfsd/clients/*/states
-# From now on each delegation is returned when its file is closed, as if there were too many (5000).
-echo 0 >/sys/module/nfsv4/parameters/delegation_watermark
+return_at_close
 
 # Processes that begin when somebody opens /go or /go.other, since none can be made later.
 $busybox mkfifo /go /go.other

@@ -54,13 +54,20 @@ def archive(files):
 PROGRAM, FOLDER, TEXT = 0o100755, 0o040755, 0o100644
 
 
+def shared():
+    """The functions of the shell that scripts of guests read, here and in record/."""
+    paths = sorted((packages.HERE.parent / "shared").glob("*.sh"))
+    return {"shared": (FOLDER, b"")} | {f"shared/{path.name}": (TEXT, path.read_bytes()) for path in paths}
+
+
 def files_of(kernel, others, modules=()):
-    """The files of the guest: these others, by name, and besides the shell, its script, and the modules in the order in
-    which they are loaded, the judge's last."""
+    """The files of the guest: these others, by name, and besides the shell, its script, what is shared, and the modules
+    in the order in which they are loaded, the judge's last."""
     modules = [*modules, kernel.module()]
     files = {name: (FOLDER, b"") for name in ("bin", "dev", "proc", "sys")}
     files["bin/busybox"] = PROGRAM, packages.busybox().read_bytes()
     files["init"] = PROGRAM, b"#!/bin/busybox sh\n" + (packages.HERE / "init").read_bytes()
+    files |= shared()
     files["modules"] = TEXT, "".join(f"{module.name}\n" for module in modules).encode()
     files |= {module.name: (TEXT, module.read_bytes()) for module in modules}
     return files | {name: (TEXT, data) for name, data in others.items()}

@@ -1,4 +1,4 @@
-# What it costs to record XFS on a RAM disk, without a record and in each mode, twice in turn: as cost.sh.
+# What it costs to record XFS on a RAM disk, as cost.sh.
 # modules: brd rd_nr=1 rd_size=130000; xfs
 # programs: mkfs.xfs; xfs_io
 
@@ -19,15 +19,4 @@ work() {
 }
 
 mkdir -p /x
-work
-for mode in none default full none default full; do
-    case $mode in
-        none) ;;
-        default) wqrecord start --probes /probes ;;
-        *) wqrecord start --probes /probes --$mode ;;
-    esac
-    report "$mode from here"
-    work
-    report "$mode to here"
-    [ $mode = none ] || wqrecord stop -o /rec/$mode
-done
+costs work

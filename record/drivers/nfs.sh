@@ -3,30 +3,15 @@
 # modules: nfsv4; nfsd
 # programs: chrt
 
-ifconfig lo 127.0.0.1
-mkdir -p /export /mnt /other /nfsd
-mount -t tmpfs export /export
-for file in 0 1 2 3 4 5 6 7; do echo hello >/export/$file; done
-mount -t nfsd nfsd /nfsd
-echo 10 >/nfsd/nfsv4gracetime
-echo '-3 +4 +4.1' >/nfsd/versions
-echo 'tcp 2049' >/nfsd/portlist
-echo 4 >/nfsd/threads
-echo 'nfsd 127.0.0.1 2147483647 here' >/proc/net/rpc/auth.unix.ip/channel
-echo 'here /export 2147483647 9218 65534 65534 0' >/proc/net/rpc/nfsd.export/channel
-echo 'here 1 \x00000000 2147483647 /export' >/proc/net/rpc/nfsd.fh/channel
-wait_for 15 # the grace period, in which the server gives no delegation
-options_of_mounts=vers=4.1,addr=127.0.0.1,clientaddr=127.0.0.1
-mount -t nfs4 -o $options_of_mounts 127.0.0.1:/ /mnt
-mount -t nfs4 -o $options_of_mounts,nosharecache 127.0.0.1:/ /other
-for file in 0 1 2 3 4 5; do cat /mnt/$file >/dev/null; done
-# From now on each delegation is returned when its file is closed.
-echo 0 >/sys/module/nfsv4/parameters/delegation_watermark
+. /shared/nfs.sh
+serve 0 1 2 3 4 5 6 7
+open_mounts 0 1 2 3 4 5
+return_at_close
 
 # again: a new mount, with delegations.
 again() {
     wait_for 3
-    mount -t nfs4 -o $options_of_mounts 127.0.0.1:/ /mnt
+    mount -t nfs4 -o $nfs_options 127.0.0.1:/ /mnt
     for file in 2 3 4 5; do cat /mnt/$file >/dev/null; done
 }
 

@@ -89,6 +89,7 @@ def files_of(wanted: Guest, kernel: packages.Kernel, probes: str) -> dict[str, t
     files = {folder: (judge.FOLDER, b"") for folder in (*FOLDERS, *LIBRARIES)}
     files["bin/busybox"] = judge.PROGRAM, packages.busybox().read_bytes()
     files["init"] = judge.PROGRAM, b"#!/bin/busybox sh\n" + (HERE / "init").read_bytes()
+    files |= judge.shared()
     files["usr/bin/wqrecord"] = judge.PROGRAM, (RECORD / "wqrecord").read_bytes()
     files["probes"] = judge.TEXT, probes.encode()
     files["script"] = judge.TEXT, wanted.script.encode()

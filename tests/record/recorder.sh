@@ -3,6 +3,7 @@
 # modules: brd; md-mod; raid1
 # programs: setpriv
 
+. /shared/md.sh
 tracing=/sys/kernel/tracing
 given="--probes /probes"
 
@@ -21,15 +22,7 @@ told() {
 }
 
 # A mirror on a RAM disk, each flush of which is a work item or two.
-echo md0 >/sys/module/md_mod/parameters/new_array
-array=/sys/block/md0/md
-echo none >$array/metadata_version
-echo raid1 >$array/level
-echo 1 >$array/raid_disks
-echo 4096 >$array/component_size
-echo 1:0 >$array/new_dev
-echo 0 >$array/dev-ram0/slot
-echo active >$array/array_state
+array md0 1:0
 
 # flushes COUNT: in tens.
 flushes() {

@@ -1,0 +1,26 @@
+# Mirrors of md, without mdadm.
+
+# array NAME DEVICE: a mirror of one disk, MAJOR:MINOR.
+array() {
+    echo "$1" >/sys/module/md_mod/parameters/new_array
+    at=/sys/block/$1/md
+    echo none >"$at/metadata_version"
+    echo raid1 >"$at/level"
+    echo 1 >"$at/raid_disks"
+    echo 4096 >"$at/component_size"
+    echo "$2" >"$at/new_dev"
+    for disk in "$at"/dev-*; do
+        echo 0 >"$disk/slot"
+    done
+    echo active >"$at/array_state"
+}
+
+# many NAME COUNT: this device, 2 to the power of COUNT times, as a process flushes it again and again.
+many() {
+    files=/dev/$1
+    doubled=0
+    while [ "$doubled" -lt "$2" ]; do
+        files="$files $files"
+        doubled=$((doubled + 1))
+    done
+}

@@ -1,0 +1,34 @@
+# An NFSv4.1 server of the guest itself, and mounts of it.
+
+nfs_options=vers=4.1,addr=127.0.0.1,clientaddr=127.0.0.1
+
+# serve FILE..: exports these files, and waits until delegations are given. The server needs none of the programs that
+# go with it: what the client's address and the export are is written into the caches that mountd fills (flags 9218:
+# fsid, no_subtree_check, insecure).
+serve() {
+    $busybox ifconfig lo 127.0.0.1
+    $busybox mkdir -p /export /mnt /other /nfsd
+    $busybox mount -t tmpfs export /export
+    for file; do echo hello >/export/$file; done
+    $busybox mount -t nfsd nfsd /nfsd
+    echo 10 >/nfsd/nfsv4gracetime
+    echo '-3 +4 +4.1' >/nfsd/versions
+    echo 'tcp 2049' >/nfsd/portlist
+    echo 4 >/nfsd/threads
+    echo 'nfsd 127.0.0.1 2147483647 here' >/proc/net/rpc/auth.unix.ip/channel
+    echo 'here /export 2147483647 9218 65534 65534 0' >/proc/net/rpc/nfsd.export/channel
+    echo 'here 1 \x00000000 2147483647 /export' >/proc/net/rpc/nfsd.fh/channel
+    wait_for 15 # the grace period, in which the server gives no delegation
+}
+
+# open_mounts FILE..: the export twice, and delegations for these files of /mnt.
+open_mounts() {
+    $busybox mount -t nfs4 -o $nfs_options 127.0.0.1:/ /mnt
+    $busybox mount -t nfs4 -o $nfs_options,nosharecache 127.0.0.1:/ /other
+    for file; do $busybox cat /mnt/$file >/dev/null; done
+}
+
+# return_at_close: from now on each delegation is returned when its file is closed, as if there were too many (5000).
+return_at_close() {
+    echo 0 >/sys/module/nfsv4/parameters/delegation_watermark
+}
