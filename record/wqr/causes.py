@@ -74,6 +74,11 @@ class Fact:
     def had_started(self) -> bool:
         return self.target is not None and self.target.start <= self.time
 
+    @property
+    def is_exact(self) -> bool:
+        """Known by a call, or since an item ended the wait that hadn't started when it began."""
+        return not self.how.is_guess and not self.is_never_queued and (self.call is not None or not self.had_started)
+
 
 @dataclass(eq=False)
 class Wait:

@@ -91,8 +91,7 @@ class Drawing:
         hows = {fact.how for fact in edge.facts}
         how = next(how for how in How if how in hows)
         places = ", ".join(site.words for site in self.sites.of_edge(edge)[:MOST_SITES])
-        seen = f"seen {says.times(len(edge.facts))}, slept {edge.slept}, longest {says.milliseconds(edge.longest)}"
-        return "; ".join([f"{WORDS[how]} {places}", seen, *self.remarks(edge, how)])
+        return "; ".join([f"{WORDS[how]} {places}", says.seen(edge), *self.remarks(edge, how)])
 
     def remarks(self, edge: Edge, how: How) -> Iterator[str]:
         if how is How.QUEUED:

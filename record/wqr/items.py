@@ -57,12 +57,26 @@ class Edge:
     facts: list[Fact] = field(default_factory=list)
 
     @property
+    def exact(self) -> list[Fact]:
+        """What is known by a call, or since an item ended the wait that hadn't started when it began."""
+        return [fact for fact in self.facts if fact.is_exact]
+
+    @property
+    def shown(self) -> list[Fact]:
+        """What is counted: what is exact, or if nothing is, what is guessed."""
+        return self.exact or self.facts
+
+    @property
+    def guesses(self) -> int:
+        return len(self.facts) - len(self.exact)
+
+    @property
     def longest(self) -> int:
-        return max(fact.slept for fact in self.facts)
+        return max(fact.slept for fact in self.shown)
 
     @property
     def slept(self) -> int:
-        return sum(fact.slept > 0 for fact in self.facts)
+        return sum(fact.slept > 0 for fact in self.shown)
 
     @property
     def is_never_queued(self) -> bool:
@@ -70,11 +84,8 @@ class Edge:
 
     @property
     def is_sure(self) -> bool:
-        """Exact: by a call, or an item ended the wait that at least once hadn't started when it began."""
-        return any(
-            not fact.how.is_guess and not fact.is_never_queued and (fact.call is not None or not fact.had_started)
-            for fact in self.facts
-        )
+        """Exact at least once."""
+        return bool(self.exact)
 
 
 def kind_of(name: str) -> str:
@@ -128,9 +139,8 @@ class Items:
     def exact(self) -> Iterator[Fact]:
         """What is exact, of two executions."""
         for fact in self.causes.facts:
-            if fact.target and fact.target is not fact.run and not fact.how.is_guess:
-                if fact.call is not None or not fact.had_started:
-                    yield fact
+            if fact.target and fact.target is not fact.run and fact.is_exact:
+                yield fact
 
     def family(self, run: Run) -> tuple[int, str, Optional[int]]:
         kind = self.kind(run)

@@ -4,7 +4,7 @@ from .archive import Archive
 from .causes import Causes
 from .chosen import is_about
 from .history import History, Kind
-from .items import Items
+from .items import Edge, Items
 
 # What no record shows. Each reader of an answer has to know it.
 UNSEEN = (
@@ -49,6 +49,15 @@ def about_nothing(items: Items, about: list[str]) -> list[str]:
 
 def ender(kind: Kind, name: str) -> str:
     return f"the thread {name}" if kind is Kind.THREAD else kind.value
+
+
+def seen(edge: Edge) -> str:
+    """How often a wait was seen. What is exact is counted apart from what is guessed."""
+    slept = f"slept {edge.slept}, longest {milliseconds(edge.longest)}"
+    if not edge.is_sure:
+        return f"{'' if edge.is_never_queued else 'perhaps '}seen {times(edge.guesses)}, {slept}"
+    more = f", perhaps {edge.guesses} more" if edge.guesses else ""
+    return f"seen {times(len(edge.exact))}{more}, {slept}"
 
 
 def milliseconds(time: int) -> str:

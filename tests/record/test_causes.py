@@ -145,6 +145,22 @@ def test_who_is_woken_too_early_waits_for_the_last_one():
     assert made.flushes() == ["# flush? a_work b_work", "flush a_work c_work"]
 
 
+def test_what_is_exact_is_counted_apart_from_what_is_guessed():
+    # (three waits, or one that b woke too early twice: the stacks don't tell)
+    made = a_sleeps()
+    for _ in range(2):
+        made.queue(PROCESS, B, "b_work", wq=2).start(OTHER, B, "b_work").wake(OTHER, WORKER).end(OTHER, B, "b_work")
+        made.sleep(WORKER, A, "a_work")
+    made.queue(PROCESS, B, "b_work", wq=2).start(OTHER, B, "b_work").wake(OTHER, WORKER)
+    assert "; seen once, perhaps 2 more, slept 1, longest " in made.comment("flush a_work b_work")
+
+
+def test_what_is_guessed_alone_is_perhaps_seen():
+    made = Made().queue(PROCESS, A, "a_work").queue(PROCESS, B, "b_work", wq=2).start(OTHER, B, "b_work")
+    made.start(WORKER, A, "a_work").sleep(WORKER, A, "a_work").wake(OTHER, WORKER)
+    assert "; perhaps seen once, slept 1, longest " in made.comment("# flush? a_work b_work")
+
+
 def test_a_sleep_that_is_open_at_the_end_is_printed():
     made = a_sleeps().queue(PROCESS, B, "b_work", wq=2)
     assert (
