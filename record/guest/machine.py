@@ -21,6 +21,7 @@ import guest as judge  # noqa: E402  (in kernel/lib)
 import packages  # noqa: E402
 
 SECONDS = 3600
+JUDGE = "wqjudge"
 FOLDERS = "bin dev proc sys lib lib64 usr usr/bin usr/sbin usr/lib sbin etc".split()
 LIBRARIES = "usr/lib/x86_64-linux-gnu", "lib/x86_64-linux-gnu"
 BOOT = (
@@ -83,9 +84,12 @@ def program_files(name: str) -> dict[str, tuple[int, bytes]]:
 
 def files_of(wanted: Guest, kernel: packages.Kernel, probes: str) -> dict[str, tuple[int, bytes]]:
     words = [module.split() for module in wanted.modules]
-    names = [*(["virtio_pci"] if kernel.series == "6.1" else []), "virtio_blk", *(word[0] for word in words)]
+    names = [*(["virtio_pci"] if kernel.series == "6.1" else []), "virtio_blk"]
+    names += [word[0] for word in words if word[0] != JUDGE]
     parameters = {word[0].replace("-", "_"): " ".join(word[1:]) for word in words}
     modules = [module for group in packages.modules(kernel, names) for module in group]
+    # (that of kernel/, which makes the state in which no worker can be created)
+    modules += [kernel.module() for word in words if word[0] == JUDGE]
     files = {folder: (judge.FOLDER, b"") for folder in (*FOLDERS, *LIBRARIES)}
     files["bin/busybox"] = judge.PROGRAM, packages.busybox().read_bytes()
     files["init"] = judge.PROGRAM, b"#!/bin/busybox sh\n" + (HERE / "init").read_bytes()

@@ -1,6 +1,7 @@
 """What was seen, beside what is declared."""
 
 import collections
+import re
 from dataclasses import dataclass, field
 from enum import Enum, IntEnum
 from typing import Iterator, Optional
@@ -20,11 +21,12 @@ MOST_FRAMES = 14
 MOST_LINES = 4
 
 
-# Workqueues with rescuers of their own whose items need no line.
-NEEDS_NO_LINE = {
-    name: "a grace period's items need no line: their workqueue has a rescuer (docs/GUIDE.md, section 2, (f) and (j))"
-    for name in ("rcu_gp", "rcu_par_gp")
-}
+# What executes the items of grace periods: workqueues with rescuers of their own, or threads.
+GRACE_PERIODS = re.compile(r"rcu_gp|rcu_par_gp|kthread_rcu_exp_(par_)?gp_kthread_worker.*")
+IN_A_RESCUER = (
+    "a grace period's items need no line: their workqueue has a rescuer (docs/GUIDE.md, section 2, (f) and (j))"
+)
+IN_A_THREAD = "a grace period's items need no line: they have a thread of their own (docs/GUIDE.md, section 2, (f))"
 
 
 class Class(Enum):
@@ -155,8 +157,12 @@ class Comparison:
         dismissed = self.declared.dismissed_item(item)
         if dismissed:
             return f"line {dismissed.number}: {dismissed}"
+        if not GRACE_PERIODS.fullmatch(item.kind):
+            return ""
+        if item.is_kthread_work:
+            return IN_A_THREAD
         has_rescuer = all(workqueue.has_rescuer for workqueue in item.workqueues.values())
-        return NEEDS_NO_LINE.get(item.kind, "") if has_rescuer and item.workqueues else ""
+        return IN_A_RESCUER if has_rescuer and item.workqueues else ""
 
     # What is printed --------------------------------------------------------------------------------
 
@@ -168,10 +174,26 @@ class Comparison:
                 yield from self.seen_lines(kind, one)
         yield from self.item_lines()
         yield from self.quiet_lines()
-        opened = [f"  {self.drawing.open_words(sleep)}" for sleep in self.drawing.open]
-        if opened:
-            yield f"still asleep when the record ended: {len(opened)}"
-            yield from opened
+        yield from self.hang_lines()
+
+    def hang_lines(self) -> Iterator[str]:
+        """What still slept, with the declared waits that cite the place, what hadn't started, and the circles."""
+        hang = self.drawing.hang
+        if hang.open:
+            yield f"still asleep when the record ended: {len(hang.open)}"
+        for sleeper in hang.open:
+            yield f"  {self.drawing.open_words(sleeper)}"
+            frames, sources = self.drawing.sites.frames(sleeper.sleep.stack), self.declared.of_item(sleeper.item)
+            for wait in self.declared.waits:
+                if wait.source in sources and is_cited_in(wait.citations, frames):
+                    yield f"      line {wait.number}: {wait}"
+        if hang.waiting:
+            yield f"queued, and not started when the record ended: {len(hang.waiting)}"
+            yield from (f"  {self.drawing.waiting_words(one)}" for one in hang.waiting)
+        circles = hang.circles()
+        if circles:
+            yield f"circles: {len(circles)}"
+            yield from (f"  {self.drawing.circle_words(circle)}" for circle in circles)
 
     def seen_lines(self, kind: Class, one: Seen) -> Iterator[str]:
         arrow = "=> all on the workqueue of" if one.edge.is_whole else "->"
@@ -217,10 +239,12 @@ class Comparison:
         }
 
     def items_that_never_ran(self) -> Iterator[str]:
-        ran = self.items_that_ran()
+        ran, symbols = self.items_that_ran(), self.drawing.history.symbols
         for declared in self.declared.items.values():
             if declared not in ran:
-                yield f"  never ran: {declared.name} (line {declared.number})"
+                is_lacking = symbols.is_whole and declared.function not in symbols.names
+                why = f": there was no function {declared.function}" if is_lacking else ""
+                yield f"  never ran: {declared.name} (line {declared.number}){why}"
 
     def workqueues_that_differ(self) -> Iterator[str]:
         for item in self.drawing.chosen.items:

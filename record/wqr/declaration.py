@@ -6,7 +6,8 @@ from typing import Iterator
 from . import says
 from .causes import How, Wait
 from .chosen import Chosen
-from .history import History, Kind, Sleep, Workqueue
+from .hang import Hang, Open, Step
+from .history import History, Kind, Queueing, Workqueue
 from .items import Edge, Item, Items
 from .sites import Sites, stacks_of
 from .spelling import flush_line
@@ -46,11 +47,12 @@ class Drawing:
         self.items, self.chosen, self.sites, self.head = items, chosen, sites, head
         self.history: History = items.history
         self.quiet = [wait for wait in items.causes.quiet if self.has(wait)]
-        self.open = [sleep for sleep in self.history.open_sleeps if self.items.item_of(sleep.run) in chosen.items]
         stacks = [stack for edge in chosen.edges for stack in stacks_of(edge)]
         stacks += [place.stack for item in chosen.items for place in item.places]
-        stacks += [wait.stack for wait in self.quiet] + [sleep.stack for sleep in self.open]
+        stacks += [wait.stack for wait in self.quiet]
+        stacks += [one.stack for one in [*self.history.open_sleeps, *self.history.waiting]]
         sites.learn(stacks)
+        self.hang = Hang(items, sites, chosen.items)
 
     def has(self, wait: Wait) -> bool:
         return self.items.item_of(wait.run) in self.chosen.items
@@ -63,7 +65,7 @@ class Drawing:
             list(self.item_lines()),
             list(self.flush_lines()),
             list(self.quiet_lines()),
-            list(self.open_lines()),
+            [f"# {line}" for line in self.hang_lines()],
         ]
         return "\n\n".join("\n".join(line[:LONGEST_LINE] for line in block) for block in blocks if block) + "\n"
 
@@ -136,16 +138,45 @@ class Drawing:
         for (name, place, by), count in sorted(counts.items()):
             yield f"# no item: {name} slept at {place}, and {by} ended it, {says.times(count)}"
 
-    def open_lines(self) -> Iterator[str]:
-        for sleep in self.open:
-            yield f"# open: {self.open_words(sleep)}"
+    # What hung ---------------------------------------------------------------------------------------
 
-    def open_words(self, sleep: Sleep) -> str:
-        """A sleep that hadn't ended: of a hang these are the waits themselves."""
-        name = self.items.item_of(sleep.run).name
+    def hang_lines(self) -> Iterator[str]:
+        """The sleeps that hadn't ended, what hadn't started, and the circles: of a hang these are the waits
+        themselves."""
+        for sleeper in self.hang.open:
+            yield f"open: {self.open_words(sleeper)}"
+        for one in self.hang.waiting:
+            yield f"not started: {self.waiting_words(one)}"
+        for circle in self.hang.circles():
+            yield f"circle: {self.circle_words(circle)}"
+
+    def open_words(self, sleeper: Open) -> str:
+        sleep = sleeper.sleep
         since = says.milliseconds(self.history.end - sleep.start)
-        thread = self.history.names.get(sleep.pid, "?")
-        return f"{name} still slept at {self.sites.cited(sleep.stack)}, for {since}, in the thread {thread}"
+        place, thread = self.sites.cited(sleep.stack), self.history.names.get(sleep.pid, "?")
+        names = " and ".join(item.name for item in sleeper.targets)
+        before = "it flushes" if sleeper.is_exact else "before, it waited there for"
+        targets = f"; {before} {names}" if names else ""
+        return f"{sleeper.item.name} still slept at {place}, for {since}, in the thread {thread}{targets}"
+
+    def waiting_words(self, one: Queueing) -> str:
+        since = says.milliseconds(self.history.end - one.time)
+        return f"{self.history.symbols.function(one.function)} was queued to {one.workqueue.name} {since} before the end"
+
+    def circle_words(self, circle: list[Step]) -> str:
+        """From one who sleeps back to it."""
+        behind = [step.sleeper for step in [*circle[1:], circle[0]]]
+        parts = [self.step_words(step, other) for step, other in zip(circle, behind)]
+        return f"{circle[0].sleeper.item.name} {', which '.join(parts)}"
+
+    def step_words(self, step: Step, behind: Open) -> str:
+        waits = f"waits for {step.target.name}"
+        if step.waits_on is None:
+            return waits
+        name = step.waits_on.workqueue.name
+        is_rescuer = self.hang.is_in_rescuer(behind.sleep, step.waits_on.workqueue)
+        busy = f"the rescuer of {name} executes" if is_rescuer else f"{name} executes one at a time, now"
+        return f"{waits}, which hasn't started: {busy} {behind.item.name}"
 
     # The assignment ---------------------------------------------------------------------------------
 

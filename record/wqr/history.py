@@ -6,7 +6,7 @@ from dataclasses import dataclass, field
 from enum import Enum
 from typing import Iterable, Iterator, Optional
 
-from .archive import Archive
+from .archive import PLACES, Archive
 from .events import Event, Stream, formats_of
 from .symbols import Symbols
 
@@ -132,6 +132,7 @@ class History:
     queueings: list[Queueing] = field(default_factory=list)
     sleeps: list[Sleep] = field(default_factory=list)
     open_sleeps: list[Sleep] = field(default_factory=list)
+    waiting: list[Queueing] = field(default_factory=list)  # what hadn't started when the record ended
     calls: list[Call] = field(default_factory=list)
     wakings: dict[int, list[Waking]] = field(default_factory=lambda: collections.defaultdict(list))
     completed: list[Completed] = field(default_factory=list)
@@ -145,7 +146,7 @@ class History:
 
     @staticmethod
     def of(archive: Archive) -> "History":
-        symbols = Symbols(archive.text("kallsyms"))
+        symbols = Symbols(archive.text("kallsyms"), is_whole=PLACES not in archive.parts)
         formats = formats_of(archive.text("formats"))
         streams = [Stream(cpu, pages, formats) for cpu, pages in archive.pages().items()]
         events = heapq.merge(*(stream.events() for stream in streams), key=lambda event: event.time)
@@ -184,6 +185,7 @@ class Reader:
         self.running: dict[int, Run] = {}
         self.asleep: dict[int, Sleep] = {}
         self.queued: dict[int, Queueing] = {}
+        self.waiting: dict[int, Queueing] = {}
         self.armed: dict[int, Arming] = {}
         self.calls: dict[int, Call] = {}
         self.done: dict[int, tuple[Agent, tuple[int, ...]]] = {}
@@ -210,6 +212,7 @@ class Reader:
             history.end = event.time
             self.do(event)
         history.open_sleeps = sorted(self.asleep.values(), key=lambda sleep: sleep.start)
+        history.waiting = sorted(self.waiting.values(), key=lambda one: one.time)
         return history
 
     def do(self, event: Event) -> None:
@@ -251,11 +254,12 @@ class Reader:
             event.stack,
             self.armed.pop(work, None),
         )
-        self.queued[work] = one
+        self.queued[work] = self.waiting[work] = one
         self.history.queueings.append(one)
 
     def starts(self, event: Event) -> None:
         work, function = event.values["work"], event.values["function"]
+        self.waiting.pop(work, None)
         one = self.queued.get(work)
         if one is not None and one.function != function:
             one = None  # the queueing was missed, and an older one is of another function
@@ -320,10 +324,12 @@ class Reader:
             self.history.sleeps.append(sleep)
 
     def flushes(self, event: Event) -> None:
+        value = event.values
+        if value.get("cancel", 0) & 1:
+            self.waiting.pop(value["work"], None)
         run = self.running.get(event.pid)
         if run is None or event.in_interrupt:
             return
-        value = event.values
         workqueue = self.workqueue(event) if "wq" in value else None
         how = {"flush_wq": "flushwq", "drain_wq": "drain"}.get(event.name) or (
             "cancel" if value["cancel"] & 1 else "flush"

@@ -16,7 +16,10 @@ class Symbol:
 
 
 class Symbols:
-    def __init__(self, text: str) -> None:
+    """`is_whole`: the list has all functions that there were, and not those of a record's stacks alone."""
+
+    def __init__(self, text: str, is_whole: bool = False) -> None:
+        self.is_whole = is_whole
         self.rows = sorted(self.rows_of(text), key=lambda row: (row[0], row[1].startswith("__"), row[1]))
         self.starts = [row[0] for row in self.rows]
         self.names = {row[1] for row in self.rows}

@@ -35,15 +35,21 @@ def sleeping(*names: str) -> tuple[int, ...]:
 
 @dataclass
 class Made:
-    """Events are added in their order, each a microsecond after the one before."""
+    """Events are added in their order, each a microsecond after the one before, and later after `pause`."""
 
     events: list[Event] = field(default_factory=list)
     names: dict[int, str] = field(default_factory=dict)
+    paused: int = 0
 
     def add(
         self, name: str, by: int, in_interrupt: bool = False, at: tuple[int, ...] = (), /, **values: object
     ) -> "Made":
-        self.events.append(Event(1000 * (len(self.events) + 1), 0, name, by, in_interrupt, values, at))
+        time = self.paused + 1000 * (len(self.events) + 1)
+        self.events.append(Event(time, 0, name, by, in_interrupt, values, at))
+        return self
+
+    def pause(self, seconds: int) -> "Made":
+        self.paused += seconds * 10**9
         return self
 
     def queue(
@@ -80,7 +86,7 @@ class Made:
     # What is made of them ---------------------------------------------------------------------------
 
     def history(self) -> History:
-        return Reader(Symbols(SYMBOLS), dict(self.names)).read(iter(self.events))
+        return Reader(Symbols(SYMBOLS, is_whole=True), dict(self.names)).read(iter(self.events))
 
     def causes(self) -> Causes:
         return Causes(self.history())

@@ -1,7 +1,7 @@
 """What was seen beside what is declared, in histories that are made up."""
 
 import pytest
-from made import Made
+from made import AT, Made
 from test_causes import A, B, C, OTHER, PROCESS, THIRD, THREAD, WORKER, a_sleeps
 
 from wqr.compare import Class, Comparison, Total
@@ -140,6 +140,18 @@ def test_items_of_a_grace_period_need_no_line():
         .wake(THIRD, WORKER)
     )
     assert classes(compared(made, ITEMS)) == {"HOLE": ["a_work c_work"]}
+
+
+def test_items_of_a_grace_period_in_a_thread_need_no_line():
+    made = a_sleeps().add("sched_kthread_work_execute_start", THREAD, work=C, function=AT["c_work"])
+    made.names[THREAD] = "rcu_exp_gp_kthread_worker"
+    assert classes(compared(made.wake(THREAD, WORKER), ITEMS)) == {"DISMISSED": ["a_work c_work"]}
+
+
+def test_of_an_item_that_never_ran_it_is_told_whether_the_kernel_has_its_function():
+    lines = list(compared(b_wakes(), f"{ITEMS}item d  # d_work, queued to u\nitem e  # e_work, queued to u\n").lines())
+    assert "  never ran: d (line 3)" in lines
+    assert "  never ran: e (line 4): there was no function e_work" in lines
 
 
 def test_an_item_on_another_workqueue_is_told():
