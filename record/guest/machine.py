@@ -133,7 +133,7 @@ def boot(wanted: Guest, out: pathlib.Path, kernel: packages.Kernel, probes: str)
             *program, "-accel", f"tcg,thread={'single' if wanted.cpus == 1 else 'multi'}", *clock, "-seed", "1",
             "-machine", "pc", "-cpu", "max", "-smp", str(wanted.cpus), "-m", wanted.memory,
             "-nodefaults", "-no-user-config", "-display", "none", "-no-reboot", "-serial", "stdio", *disks,
-            "-kernel", str(kernel.image), "-initrd", str(room / "initrd"), "-append", BOOT,
+            "-kernel", str(kernel.image), "-initrd", str(room / "initrd"), "-append", BOOT + (judge.WITH_TWO if wanted.cpus > 1 else ""),
         ]  # fmt: skip
         out.mkdir(parents=True, exist_ok=True)
         console = console_of(words, {**os.environ, **environment}, out / "console")
