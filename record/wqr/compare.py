@@ -71,6 +71,7 @@ class Comparison:
         self.seen: dict[Class, list[Seen]] = {kind: [] for kind in Class}
         self.seen_waits: dict[DeclaredWait, Exactness] = {}
         self.perhaps: set[DeclaredWait] = set()
+        self.confirmed: set[int] = set()  # lines that aren't sure, and were seen
         for edge in drawing.chosen.edges:
             if self.concerns(edge):
                 one = self.judged(edge)
@@ -123,6 +124,8 @@ class Comparison:
             if self.covers(wait, edge):
                 exactness = self.exactness(wait, frames)
                 found.by.append((wait, exactness))
+                if self.confirms(edge, wait):
+                    self.confirmed.add(wait.number)
                 if edge.is_sure:
                     self.seen_waits[wait] = min(exactness, self.seen_waits.get(wait, exactness))
                 else:
@@ -131,6 +134,13 @@ class Comparison:
         sources, targets = self.declared.of_item(edge.source), self.declared.of_item(edge.target)
         found.is_implied = any(target in self.reaches[source] for source in sources for target in targets)
         return found
+
+    def confirms(self, edge: Edge, wait: DeclaredWait) -> bool:
+        """Whether an edge decides an unsure line: it is exact, of the same kind, and at the place that the line cites."""
+        if not wait.is_unsure or not edge.is_sure or edge.is_whole != wait.is_whole:
+            return False
+        frames = [frame for site in self.drawing.sites.ways(edge.exact) for frame in site.frames]
+        return not wait.citations or self.exactness(wait, frames) is not Exactness.ELSEWHERE
 
     def dismissal_of(self, stack: tuple[int, ...]) -> Optional[Dismissal]:
         chain = self.drawing.sites.places.chain(stack)
@@ -298,12 +308,14 @@ class Total:
     comparisons: list[Comparison]
     seen: dict[tuple[int, str], Exactness] = field(default_factory=dict)
     perhaps: set[tuple[int, str]] = field(default_factory=set)
+    confirmed: set[int] = field(default_factory=set)
 
     def __post_init__(self) -> None:
         for comparison in self.comparisons:
             for wait, exactness in comparison.seen_waits.items():
                 self.seen[wait.key] = min(exactness, self.seen.get(wait.key, exactness))
             self.perhaps |= {wait.key for wait in comparison.perhaps}
+            self.confirmed |= comparison.confirmed
         self.perhaps -= self.seen.keys()
 
     @property
@@ -311,6 +323,9 @@ class Total:
         return self.comparisons[0].declared.waits
 
     def lines(self) -> Iterator[str]:
+        if any(wait.is_unsure for wait in self.waits):
+            yield f"unsure lines that were seen: {len(self.confirmed)}"
+            yield from (f"  line {wait.number}: {wait}" for wait in self.waits if wait.number in self.confirmed)
         unseen = [wait for wait in self.waits if wait.key not in self.seen and wait.key not in self.perhaps]
         yield f"declared, never seen: {len(unseen)}"
         yield from (f"  line {wait.number}: {wait}" for wait in unseen)

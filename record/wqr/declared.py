@@ -52,6 +52,7 @@ class DeclaredWait:
     source: DeclaredItem
     target: DeclaredItem
     citations: list[Citation]
+    is_unsure: bool = False
 
     def __str__(self) -> str:
         return f"{self.source.name} {'=> all on the workqueue of' if self.is_whole else '->'} {self.target.name}"
@@ -79,8 +80,8 @@ class Declared:
 
     @staticmethod
     def read(path: pathlib.Path, assignment: Optional[pathlib.Path], symbols: Symbols) -> "Declared":
-        text = path.read_text(errors="surrogateescape")
-        on = assignment.read_text(errors="surrogateescape") if assignment else ""
+        text = text_of(path)
+        on = text_of(assignment) if assignment else ""
         found = Declared.of(str(path), text, on, symbols)
         if not found.items:
             raise Unreadable(f"{path}: it declares no item (a declaration is wanted here, before the records)")
@@ -122,6 +123,11 @@ class Declared:
         return [other for other in self.items.values() if other.workqueue and other.workqueue == item.workqueue]
 
 
+def text_of(path: pathlib.Path) -> str:
+    """The text, in which lines end where they do in the bytes."""
+    return path.read_bytes().decode("utf-8", "surrogateescape")
+
+
 def is_on(declared: DeclaredItem, item: Item) -> bool:
     return declared.workqueue is not None and kind_of(SYSTEM.get(declared.workqueue, declared.workqueue)) == item.kind
 
@@ -158,8 +164,9 @@ def waits_of(declaration: Declaration, items: dict[str, DeclaredItem]) -> Iterat
         words = line.partition("#")[0].split()
         if words[:1] and words[0] in FLUSHES and all(word in items for word in words[1:]):
             source, *targets = (items[word] for word in words[1:])
+            is_whole, is_unsure = words[0].startswith("flushwq"), words[0].endswith("?")
             for target in targets:
-                yield DeclaredWait(number, words[0].startswith("flushwq"), source, target, citations.get(number, []))
+                yield DeclaredWait(number, is_whole, source, target, citations.get(number, []), is_unsure)
 
 
 # Places -----------------------------------------------------------------------------------------------

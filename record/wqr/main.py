@@ -8,7 +8,7 @@ import traceback
 from typing import Callable
 
 sys.path.insert(0, str(pathlib.Path(__file__).resolve().parents[1]))
-from wqr import probes, says  # noqa: E402
+from wqr import confirmed, probes, says  # noqa: E402
 from wqr.archive import PLACES, Archive, Unreadable  # noqa: E402
 from wqr.btf import NoTypes  # noqa: E402
 from wqr.causes import Causes  # noqa: E402
@@ -55,9 +55,12 @@ def compare(options: argparse.Namespace) -> int:
         sys.stdout.writelines(f"{line}\n" for line in comparisons[-1].lines())
     if len(options.files) > 1:
         print("== together")
-    sys.stdout.writelines(f"{line}\n" for line in Total(comparisons).lines())
+    total = Total(comparisons)
+    sys.stdout.writelines(f"{line}\n" for line in total.lines())
     if not any(comparison.items_that_ran() for comparison in comparisons):
         raise Unreadable(f"{options.decl}: none of its items ran; is it about another driver than what was recorded?")
+    if options.write and total.confirmed:
+        confirmed.write(options.decl, total.confirmed)
     return HOLE if any(comparison.has_hole for comparison in comparisons) else 0
 
 
@@ -140,6 +143,9 @@ def parser() -> argparse.ArgumentParser:
         "--assign", metavar="ASSIGN", type=pathlib.Path, help="an assignment of it, whose comments name the workqueues"
     )
     added.add_argument("--about", **about)
+    added.add_argument(
+        "--write", action="store_true", help="takes the ? from the flush? and flushwq? lines of DECL that were seen"
+    )
     added = verb(
         "places",
         keep_places,

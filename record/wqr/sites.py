@@ -5,6 +5,7 @@ import re
 from dataclasses import dataclass
 from typing import Iterable
 
+from .causes import Fact
 from .items import Edge, Item
 from .places import Frame, Places
 
@@ -84,8 +85,11 @@ class Sites:
 
     def ways_of_edge(self, edge: Edge) -> list[Site]:
         """The same, each way by which such a place was come to for itself."""
+        return self.ways(edge.facts)
+
+    def ways(self, facts: Iterable[Fact]) -> list[Site]:
         counts: collections.Counter[tuple[Frame, ...]] = collections.Counter()
-        for fact in edge.facts:
+        for fact in facts:
             counts[tuple(self.frames(fact.stack))] += 1
         sites = [
             Site(str(frames[0]) if frames else "a place that wasn't recorded", frames, n)

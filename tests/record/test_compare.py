@@ -5,6 +5,7 @@ from made import AT, Made
 from test_causes import A, B, C, OTHER, PROCESS, THIRD, THREAD, WORKER, a_sleeps
 
 from wqr.compare import Class, Comparison, Total
+from wqr.confirmed import made_sure
 from wqr.declared import Declared
 
 ITEMS = "item a  # a_work, queued to w at x.c:1 queue_here\nitem b  # b_work, queued to v at x.c:2 queue_here\n"
@@ -214,3 +215,35 @@ def test_an_item_of_the_same_kind_has_the_same_function():
         "a_work",
         "a_work",
     ]
+
+
+# Unsure lines -----------------------------------------------------------------------------------------
+
+
+def confirmed(made: Made, declaration: str) -> set[int]:
+    return Total([compared(made, declaration)]).confirmed
+
+
+def test_an_unsure_line_that_was_seen_at_its_place_is_confirmed():
+    assert confirmed(b_wakes(), ITEMS + "flush? a b  # done x.c:9 wait_here\nflush? b a  # done x.c:9 wait_here\n") == {3}
+
+
+def test_an_unsure_line_for_another_place_stays_unsure():
+    assert confirmed(b_wakes(), ITEMS + "flush? a b  # done x.c:9 wait_there\n") == set()
+
+
+def test_an_unsure_line_of_which_a_record_is_unsure_too_stays_unsure():
+    made = Made().queue(PROCESS, A, "a_work").queue(PROCESS, B, "b_work", wq=2).start(OTHER, B, "b_work")
+    made.start(WORKER, A, "a_work").sleep(WORKER, A, "a_work").wake(OTHER, WORKER)
+    assert confirmed(made, ITEMS + "flush? a b\n") == set()
+
+
+def test_a_wait_for_one_item_does_not_confirm_one_for_its_whole_workqueue():
+    assert confirmed(b_wakes(), ITEMS + "flushwq? a b\n") == set()
+
+
+def test_what_is_confirmed_loses_its_mark_and_nothing_else_changes():
+    text = b"item a\r\n\n  flush?  a b # flush? x\xff\nflushwq? a b\nflush? a c\x0b\nflush a d # flush?"
+    wanted = b"item a\r\n\n  flush  a b # flush? x\xff\nflushwq a b\nflush? a c\x0b\nflush a d # flush?"
+    assert made_sure(text, {3, 4}) == wanted
+    assert made_sure(text, set()) == text

@@ -164,6 +164,21 @@ def test_compare_ends_with_1_where_a_wait_is_missing(tmp_path):
     assert "seen, not declared: " in ended.stdout
 
 
+def test_compare_writes_what_was_seen_as_sure(tmp_path):
+    # The two waits of examples/md.md for a flush of the lower array were seen in this record, the other two not.
+    text = (EXAMPLES / "md.wq").read_bytes()
+    unsure = text.replace(b"\nflush ", b"\nflush? ")
+    assert unsure.count(b"\nflush? ") == 4
+    (tmp_path / "md.wq").write_bytes(unsure)
+    words = tmp_path / "md.wq", RECORDS / "md.gz", "--assign", EXAMPLES / "md.assign"
+    told = run("compare", *words).stdout
+    assert "unsure lines that were seen: 2\n" in told
+    assert (tmp_path / "md.wq").read_bytes() == unsure
+    assert run("compare", *words, "--write").stdout == told
+    wanted = unsure.replace(b"\nflush? submit.upper", b"\nflush submit.upper")
+    assert (tmp_path / "md.wq").read_bytes() == wanted
+
+
 def test_what_is_no_record_is_a_fault(tmp_path):
     (tmp_path / "no").write_text("nothing")
     ended = run("declare", tmp_path / "no")
