@@ -1,7 +1,7 @@
-# A cache on one disk for another one (examples/bcache.wq): writes that are written back, reads, garbage collection, and
-# the end of the cache.
+# A cache on one disk for another one (examples/bcache.wq): writes that are written back, more keys than a journal entry
+# and a node of the btree hold, reads, garbage collection, and the end of the cache.
 # modules: bcache
-# programs: make-bcache
+# programs: make-bcache; xfs_io
 # disks: 64M; 128M
 
 load() {
@@ -23,6 +23,16 @@ load() {
     wait
     report written
     set=$(echo /sys/fs/bcache/*-*)
+    # Keys that can't be merged; and the journal isn't written before one of its entries is full.
+    echo 20000 >$set/journal_delay_ms
+    number=0
+    while [ $number -lt 2500 ]; do
+        echo "pwrite -q $((number * 12288)) 4096"
+        number=$((number + 1))
+    done | xfs_io -d /dev/bcache0
+    echo 100 >$set/journal_delay_ms
+    sync
+    report keys
     # More than the cache holds, while it collects.
     echo 1 >$set/internal/trigger_gc
     dd if=/dev/urandom of=/dev/bcache0 bs=64k count=1500 2>/dev/null
