@@ -39,9 +39,9 @@ class Hang:
     def __init__(self, items: Items, sites: Sites, chosen: list[Item]) -> None:
         self.items, self.sites = items, sites
         self.history: History = items.history
-        self.open = [
-            self.opened(sleep) for sleep in self.history.open_sleeps if items.item_of(sleep.run) in set(chosen)
-        ]
+        self.places: dict[tuple[int, ...], str] = {}
+        about = set(chosen)
+        self.open = [self.opened(sleep) for sleep in self.history.open_sleeps if items.item_of(sleep.run) in about]
         functions, kinds = {item.key.function for item in chosen}, {item.kind for item in chosen}
         self.waiting = [
             one
@@ -69,14 +69,20 @@ class Hang:
 
     def before(self, sleep: Sleep, item: Item) -> list[Item]:
         """For which items this one waited at this place before, where that is exact, or else perhaps."""
-        place = self.sites.cited(sleep.stack)
+        place = self.place(sleep.stack)
         found: dict[bool, dict[Item, None]] = {True: {}, False: {}}
         for edge in self.items.edges.values():
             if edge.source.key.function == item.key.function and edge.source.kind == item.kind:
                 for fact in edge.facts:
-                    if fact.call is None and self.sites.cited(fact.stack) == place:
+                    if fact.call is None and self.place(fact.stack) == place:
                         found[fact.is_exact][edge.target] = None
         return list(found[True] or found[False])
+
+    def place(self, stack: tuple[int, ...]) -> str:
+        """What is cited for a stack. (Records have few stacks, and many sleeps.)"""
+        if stack not in self.places:
+            self.places[stack] = self.sites.cited(stack)
+        return self.places[stack]
 
     def queued(self, item: Item) -> Iterator[Queueing]:
         """Where an item is queued and hasn't started. (Of one that never ran it isn't known on which workqueue it is.)"""
