@@ -9,14 +9,7 @@
 array md0 1:0
 array md1 9:0
 # Four processes flush an array each, again and again.
-for number in 1 2; do
-    for md in md1 md0; do
-        many $md 15
-        $busybox sync -d $files &
-        flushing="$flushing $!"
-        what="$what $md"
-    done
-done
+flush_both 15
 
 # slept PID: how often the process has slept, which it does in each flush.
 slept() {

@@ -24,3 +24,18 @@ many() {
         doubled=$((doubled + 1))
     done
 }
+
+# flush_both COUNT: two processes flush md1, and two md0, each 2 to the power of COUNT times. Sets `flushing`, their
+# numbers, and `what`, the arrays.
+flush_both() {
+    flushing=
+    what=
+    for number in 1 2; do
+        for md in md1 md0; do
+            many $md "$1"
+            $busybox sync -d $files &
+            flushing="$flushing $!"
+            what="$what $md"
+        done
+    done
+}

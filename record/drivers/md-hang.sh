@@ -5,12 +5,10 @@
 . /shared/md.sh
 
 load() {
-    for number in 1 2; do
-        for md in md1 md0; do
-            many $md 15
-            sync -d $files &
-        done
-    done
+    flush_both 5
+    dd if=/dev/zero of=/dev/md1 bs=4k count=200 conv=fsync 2>/dev/null
+    wait $flushing
+    flush_both 15
     wait_for 1
     short
     wait_for 10

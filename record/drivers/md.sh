@@ -5,14 +5,7 @@
 . /shared/md.sh
 
 load() {
-    flushing=
-    for number in 1 2; do
-        for md in md1 md0; do
-            many $md 5
-            sync -d $files &
-            flushing="$flushing $!"
-        done
-    done
+    flush_both 5
     dd if=/dev/zero of=/dev/md1 bs=4k count=200 conv=fsync 2>/dev/null
     wait $flushing
 }
