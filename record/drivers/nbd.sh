@@ -1,8 +1,8 @@
 # A network block device of a server on this machine (examples/nbd.wq): reads, writes, a file system, one of two
 # connections that is silent until requests time out, connections that are lost and made again, a server that is silent
 # for good, and the removal of the device.
-# modules: nbd; xfs
-# programs: nbd-client; nbd-server; perl; mkfs.xfs
+# modules: nbd; nls_cp437; nls_ascii; nls_utf8; vfat
+# programs: nbd-client; nbd-server; perl; mkfs.vfat
 
 ifconfig lo 127.0.0.1
 mkdir -p /srv /x
@@ -97,8 +97,8 @@ load() {
     sync
     report parallel
     # A file system: pages that are written again while they are on their way.
-    mkfs.xfs -q -f -m crc=1 -i sparse=1 --unsupported -l size=6m -d size=60m /dev/nbd0
-    mount -t xfs /dev/nbd0 /x
+    mkfs.vfat /dev/nbd0 >/dev/null
+    mount -t vfat /dev/nbd0 /x
     for round in 1 2 3; do
         for file in 1 2 3 4; do dd if=/dev/zero of=/x/$file bs=64k count=10 conv=notrunc 2>/dev/null; done &
         sync &
