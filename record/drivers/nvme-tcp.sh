@@ -8,11 +8,11 @@ ifconfig lo 127.0.0.1
 mkdir -p /config /srv
 mount -t configfs configfs /config
 mount -t tmpfs srv /srv
-dd if=/dev/zero of=/srv/disk bs=1M count=64 2>/dev/null
+dd if=/dev/zero of=/srv/disk bs=1M seek=64 count=0 2>/dev/null
 mkdir /srv/files
 mkfs.xfs -q -f -m crc=1 -i sparse=1 --unsupported -l size=6m -d size=60m /dev/ram0
 mount -t xfs /dev/ram0 /srv/files
-dd if=/dev/zero of=/srv/files/other bs=1M count=32 2>/dev/null
+dd if=/dev/zero of=/srv/files/other bs=1M seek=32 count=0 2>/dev/null
 target=/config/nvmet
 mkdir $target/subsystems/here
 # The host, and its secret: a key of 32 bytes, and their CRC-32.

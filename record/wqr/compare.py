@@ -12,7 +12,8 @@ from . import says
 from .causes import Wait
 from .declaration import Drawing
 from .declared import SYSTEM, Declared, DeclaredItem, DeclaredWait, dismisses, is_cited_at, is_cited_in, is_on
-from .items import Edge, Item
+from .hang import Open
+from .items import Edge, Item, kind_of
 from .places import Frame
 
 # How many frames of a stack are printed.
@@ -187,23 +188,36 @@ class Comparison:
         yield from self.hang_lines()
 
     def hang_lines(self) -> Iterator[str]:
-        """What still slept, with the declared waits that cite the place, what hadn't started, and the circles."""
+        """What of the declaration still slept, with the declared waits that cite the place, what hadn't started, and the
+        circles."""
         hang = self.drawing.hang
-        if hang.open:
-            yield f"still asleep when the record ended: {len(hang.open)}"
-        for sleeper in hang.open:
-            yield f"  {self.drawing.open_words(sleeper)}"
-            frames, sources = self.drawing.sites.frames(sleeper.sleep.stack), self.declared.of_item(sleeper.item)
-            for wait in self.declared.waits:
-                if wait.source in sources and is_cited_in(wait.citations, frames):
-                    yield f"      line {wait.number}: {wait}"
-        if hang.waiting:
-            yield f"queued, and not started when the record ended: {len(hang.waiting)}"
-            yield from (f"  {self.drawing.waiting_words(one)}" for one in hang.waiting)
         circles = hang.circles()
+        in_circles = {step.sleeper for circle in circles for step in circle}
+        sleepers = [one for one in hang.open if one in in_circles or self.declared.of_item(one.item)]
+        if sleepers:
+            yield f"still asleep when the record ended: {len(sleepers)}"
+        for sleeper in sleepers:
+            yield f"  {self.drawing.open_words(sleeper)}"
+            yield from self.cited_lines(sleeper)
+        kinds = self.own_kinds()
+        waiting = [one for one in hang.waiting if kind_of(one.workqueue.name) in kinds]
+        if waiting:
+            yield f"queued, and not started when the record ended: {len(waiting)}"
+            yield from (f"  {self.drawing.waiting_words(one)}" for one in waiting)
         if circles:
             yield f"circles: {len(circles)}"
             yield from (f"  {self.drawing.circle_words(circle)}" for circle in circles)
+
+    def cited_lines(self, sleeper: Open) -> Iterator[str]:
+        """The declared waits of an item that still slept, at this place."""
+        frames, sources = self.drawing.sites.frames(sleeper.sleep.stack), self.declared.of_item(sleeper.item)
+        for wait in self.declared.waits:
+            if wait.source in sources and is_cited_in(wait.citations, frames):
+                yield f"      line {wait.number}: {wait}"
+
+    def own_kinds(self) -> set[str]:
+        """The workqueues of declared items, but for the system's, where everybody's are."""
+        return {item.kind for item in self.drawing.chosen.items if self.declared.of_item(item)} - set(SYSTEM.values())
 
     def seen_lines(self, kind: Class, one: Seen) -> Iterator[str]:
         arrow = "=> all on the workqueue of" if one.edge.is_whole else "->"
@@ -230,9 +244,8 @@ class Comparison:
         yield from lines
 
     def items_not_declared(self) -> Iterator[str]:
-        """Items that aren't declared and ran on a workqueue of declared ones, or were waited for by these. (On the
-        system's workqueues is everybody's.)"""
-        on = {item.kind for item in self.drawing.chosen.items if self.declared.of_item(item)} - set(SYSTEM.values())
+        """Items that aren't declared and ran on a workqueue of declared ones, or were waited for by these."""
+        on = self.own_kinds()
         waited = {one.edge.target for one in self.seen[Class.HOLE]}
         for item in self.drawing.chosen.items:
             if item.runs and not self.declared.of_item(item) and (item.kind in on or item in waited):

@@ -225,6 +225,8 @@ ALIKE = (
     re.compile(r"flush_(delayed_|rcu_)?work"),
     re.compile(r"(flush|cancel)_(delayed_)?work(_sync|_timer)?"),
     re.compile(r"(flush|destroy|drain)_workqueue"),
+    # (of a file system: xfs_file_fsync)
+    re.compile(r"\w+_fsync(_range)?"),
 )
 
 

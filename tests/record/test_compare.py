@@ -104,6 +104,14 @@ def test_a_dismissal_of_another_call_dismisses_nothing(call):
     assert classes(comparison) == {"HOLE": ["a_work b_work"]}
 
 
+def test_a_dismissal_of_an_fsync_holds_for_that_of_each_file_system():
+    # (vfs_fsync ends with a call, so it isn't on the stack)
+    made = Made().queue(PROCESS, A, "a_work").start(WORKER, A, "a_work")
+    made.sleep(WORKER, A, "a_work", "wait_here", "xfs_file_fsync", "wait_there")
+    made.queue(PROCESS, B, "b_work", wq=2).start(OTHER, B, "b_work").wake(OTHER, WORKER)
+    assert classes(compared(made, f"{ITEMS}# no wait: x.c wait_there vfs_fsync(f): why not\n")) == {"DISMISSED": ["a_work b_work"]}
+
+
 def test_a_dismissed_item_is_no_hole():
     comparison = compared(b_wakes(), ITEMS.splitlines()[0] + "\n# no item: x.c b_work: it waits for nothing\n")
     assert classes(comparison) == {"DISMISSED": ["a_work b_work"]}

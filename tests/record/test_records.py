@@ -89,6 +89,23 @@ def without(*starts: str) -> Declared:
     return Declared.of("md.wq", text, (EXAMPLES / "md.assign").read_text(), drawing_of("md").history.symbols)
 
 
+def test_a_record_that_ends_in_mds_hang_tells_its_circle():
+    # What examples/md.md says of it: the rescuer of md sleeps in md_flush_request of the lower array, called by
+    # submit_flushes of the upper one, and that of the lower one hasn't started.
+    lines = list(compared("md-hang", "md").lines())
+    at = lines.index("still asleep when the record ended: 1")
+    assert lines[at + 1].startswith("  submit_flushes still slept at drivers/md/md.c:602 md_flush_request, for 10.5 s")
+    assert lines[at + 2 : at + 4] == ["      line 19: submit.upper -> submit.lower", "      line 20: submit.upper -> data.lower"]
+    assert lines[at + 4 : at + 6] == [
+        "queued, and not started when the record ended: 1",
+        "  submit_flushes was queued to md 10.6 s before the end",
+    ]
+    assert lines[at + 6 :] == [
+        "circles: 1",
+        "  submit_flushes waits for submit_flushes, which hasn't started: the rescuer of md executes submit_flushes",
+    ]
+
+
 def functions(found: list) -> set[tuple[str, str]]:
     return {(one.edge.source.function, one.edge.target.function) for one in found}
 
