@@ -8,7 +8,10 @@ a guest so, and it has the host's clock; what counts as hung is told in looks of
 """
 
 import os
+import pathlib
 import re
+import shutil
+import subprocess
 import sys
 
 import packages
@@ -54,15 +57,31 @@ def archive(files):
 PROGRAM, FOLDER, TEXT = 0o100755, 0o040755, 0o100644
 
 
-def files_of(kernel, others, modules=()):
-    """The files of the guest: these others, by name, and besides the shell, its script, and the modules in the order in
-    which they are loaded, the judge's last."""
+def program_files(name):
+    """A program of this machine, in /bin, and its libraries, where they are here."""
+    path = shutil.which(name, path=f"{os.environ['PATH']}:/usr/sbin:/sbin")
+    if path is None:
+        raise packages.Missing(f"the guest needs {name}, which isn't installed here")
+    told = subprocess.run(["ldd", path], capture_output=True, text=True).stdout
+    wanted = {f"bin/{os.path.basename(path)}": path}
+    wanted |= {library.lstrip("/"): library for library in re.findall(r"(/\S+) \(0x", told)}
+    folders = {str(folder) for file in wanted for folder in pathlib.PurePath(file).parents} - {"."}
+    return {folder: (FOLDER, b"") for folder in sorted(folders)} | {
+        file: (PROGRAM, pathlib.Path(where).read_bytes()) for file, where in wanted.items()
+    }
+
+
+def files_of(kernel, others, modules=(), programs=()):
+    """The files of the guest: these others, by name, and besides the shell, its script, the modules in the order in
+    which they are loaded, the judge's last, and these programs of this machine."""
     modules = [*modules, kernel.module()]
     files = {name: (FOLDER, b"") for name in ("bin", "dev", "proc", "sys")}
     files["bin/busybox"] = PROGRAM, packages.busybox().read_bytes()
     files["init"] = PROGRAM, b"#!/bin/busybox sh\n" + (packages.HERE / "init").read_bytes()
     files["modules"] = TEXT, "".join(f"{module.name}\n" for module in modules).encode()
     files |= {module.name: (TEXT, module.read_bytes()) for module in modules}
+    for name in programs:
+        files |= program_files(name)
     return files | {name: (TEXT, data) for name, data in others.items()}
 
 
