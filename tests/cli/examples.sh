@@ -413,6 +413,14 @@ hangs 'nvme-scan: the kernel' nvme-scan.wq nvme-scan.assign
 to_no_rescuer 'nvme-scan: the kernel' 1 nvme-scan.wq nvme-scan.assign scan_work nvme_scan_ns_async
 repairs 'nvme-scan: the kernel' nvme-scan.wq nvme-scan.assign 'rescuer 3,scan_work 1 4'
 
+# dm-thin: a pool flushes what stands behind another user of dm-bufio, whose disk is a volume of the pool.
+counts dm-thin 5 4 5 3
+answers dm-thin 'plan 3' shrink_work.other do_worker shrink_work.pool
+plan_is_least dm-thin
+hangs 'dm-thin: the kernel' dm-thin.wq dm-thin.assign
+why 'dm-thin: the kernel' dm-thin.wq dm-thin.assign '`do_worker` `shrink_work.pool`'
+repairs 'dm-thin: the kernel' dm-thin.wq dm-thin.assign 'shrink_work.pool 1 2'
+
 # md: one workqueue for all arrays, which hangs where an array has arrays for disks; one for each array doesn't. The kernel's own
 # order of the first hang is a run too, and stuck as soon as the upper array waits.
 counts md 4 4 4 1
@@ -616,6 +624,7 @@ done <<'end'
 4 nvmet-tcp nvmet-tcp
 4 nvme-auth nvme-auth
 4 nvme-multipath nvme-multipath
+7 dm-thin dm-thin
 4 nvme-scan nvme-scan
 4 md md
 3 xfs.full xfs
