@@ -88,11 +88,11 @@ def files_of(kernel, others, modules=(), programs=()):
 # The guest ----------------------------------------------------------------------------------------
 
 
-def machine_words(kernel, initrd, cpus):
+def machine_words(kernel, initrd, cpus, memory):
     """QEMU's arguments."""
     clock = ["-icount", f"shift={ICOUNT_SHIFT},sleep=off", "-rtc", "clock=vm"] if cpus == 1 else []
     words = ["-accel", "tcg,thread=single", *clock, "-seed", "1"]
-    words += ["-machine", "pc", "-cpu", "max", "-smp", str(cpus), "-m", MEMORY]
+    words += ["-machine", "pc", "-cpu", "max", "-smp", str(cpus), "-m", memory]
     words += ["-nodefaults", "-no-user-config", "-display", "none", "-no-reboot", "-serial", "stdio"]
     words += ["-kernel", str(kernel.image), "-initrd", initrd]
     return [*words, "-append", BOOT + (WITH_TWO if cpus > 1 else "")]
@@ -102,11 +102,11 @@ def decoded(printed):
     return printed.decode("latin-1").replace("\r", "")
 
 
-def console_of(kernel, files, cpus=1, watch=lambda line: None):
+def console_of(kernel, files, cpus=1, watch=lambda line: None, memory=MEMORY):
     """All that a guest with these files writes to its console. `watch` is called with each line as it comes."""
     words, environment = packages.qemu()
     with processes.in_memory(archive(files)) as (initrd, number):
-        words = [*words, *machine_words(kernel, initrd, cpus)]
+        words = [*words, *machine_words(kernel, initrd, cpus, memory)]
         environment = {**os.environ, **environment}
         try:
             printed = processes.printed_by(
