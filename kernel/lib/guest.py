@@ -8,7 +8,10 @@ a guest so, and it has the host's clock; what counts as hung is told in looks of
 """
 
 import os
+import pathlib
 import re
+import shutil
+import subprocess
 import sys
 
 import packages
@@ -60,9 +63,23 @@ def shared():
     return {"shared": (FOLDER, b"")} | {f"shared/{path.name}": (TEXT, path.read_bytes()) for path in paths}
 
 
-def files_of(kernel, others, modules=()):
-    """The files of the guest: these others, by name, and besides the shell, its script, what is shared, and the modules
-    in the order in which they are loaded, the judge's last."""
+def program_files(name, folder="bin"):
+    """A program of this machine, in this folder, and its libraries, where they are here."""
+    path = shutil.which(name, path=f"{os.environ['PATH']}:/usr/sbin:/sbin")
+    if path is None:
+        raise packages.Missing(f"the guest needs {name}, which isn't installed here")
+    told = subprocess.run(["ldd", path], capture_output=True, text=True).stdout
+    wanted = {f"{folder}/{os.path.basename(path)}": path}
+    wanted |= {library.lstrip("/"): library for library in re.findall(r"(/\S+) \(0x", told)}
+    folders = {str(folder) for file in wanted for folder in pathlib.PurePath(file).parents} - {"."}
+    return {folder: (FOLDER, b"") for folder in sorted(folders)} | {
+        file: (PROGRAM, pathlib.Path(where).read_bytes()) for file, where in wanted.items()
+    }
+
+
+def files_of(kernel, others, modules=(), programs=()):
+    """The files of the guest: these others, by name, and besides the shell, its script, what is shared, the
+    modules in the order in which they are loaded, the judge's last, and these programs of this machine."""
     modules = [*modules, kernel.module()]
     files = {name: (FOLDER, b"") for name in ("bin", "dev", "proc", "sys")}
     files["bin/busybox"] = PROGRAM, packages.busybox().read_bytes()
@@ -70,17 +87,19 @@ def files_of(kernel, others, modules=()):
     files |= shared()
     files["modules"] = TEXT, "".join(f"{module.name}\n" for module in modules).encode()
     files |= {module.name: (TEXT, module.read_bytes()) for module in modules}
+    for name in programs:
+        files |= program_files(name)
     return files | {name: (TEXT, data) for name, data in others.items()}
 
 
 # The guest ----------------------------------------------------------------------------------------
 
 
-def machine_words(kernel, initrd, cpus):
+def machine_words(kernel, initrd, cpus, memory):
     """QEMU's arguments."""
     clock = ["-icount", f"shift={ICOUNT_SHIFT},sleep=off", "-rtc", "clock=vm"] if cpus == 1 else []
     words = ["-accel", "tcg,thread=single", *clock, "-seed", "1"]
-    words += ["-machine", "pc", "-cpu", "max", "-smp", str(cpus), "-m", MEMORY]
+    words += ["-machine", "pc", "-cpu", "max", "-smp", str(cpus), "-m", memory]
     words += ["-nodefaults", "-no-user-config", "-display", "none", "-no-reboot", "-serial", "stdio"]
     words += ["-kernel", str(kernel.image), "-initrd", initrd]
     return [*words, "-append", BOOT + (WITH_TWO if cpus > 1 else "")]
@@ -90,11 +109,11 @@ def decoded(printed):
     return printed.decode("latin-1").replace("\r", "")
 
 
-def console_of(kernel, files, cpus=1, watch=lambda line: None):
+def console_of(kernel, files, cpus=1, watch=lambda line: None, memory=MEMORY):
     """All that a guest with these files writes to its console. `watch` is called with each line as it comes."""
     words, environment = packages.qemu()
     with processes.in_memory(archive(files)) as (initrd, number):
-        words = [*words, *machine_words(kernel, initrd, cpus)]
+        words = [*words, *machine_words(kernel, initrd, cpus, memory)]
         environment = {**os.environ, **environment}
         try:
             printed = processes.printed_by(

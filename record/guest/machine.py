@@ -6,7 +6,6 @@ network is needed. With one CPU the guest's clock counts instructions, so that a
 
 import os
 import pathlib
-import re
 import shutil
 import subprocess
 import sys
@@ -66,22 +65,6 @@ def types_of(kernel: packages.Kernel) -> bytes:
 # Its files ------------------------------------------------------------------------------------------
 
 
-def libraries(program: str) -> list[str]:
-    told = subprocess.run(["ldd", program], capture_output=True, text=True).stdout
-    return sorted(set(re.findall(r"(/\S+) \(0x", told)))
-
-
-def program_files(name: str) -> dict[str, tuple[int, bytes]]:
-    """A program of this machine, and its libraries."""
-    path = shutil.which(name, path=f"{os.environ['PATH']}:/usr/sbin:/sbin")
-    if path is None:
-        raise packages.Missing(f"the guest needs {name}, which isn't installed here")
-    wanted = {f"usr/sbin/{os.path.basename(path)}": path} | {
-        library.lstrip("/"): library for library in libraries(path)
-    }
-    return {where: (judge.PROGRAM, pathlib.Path(file).read_bytes()) for where, file in wanted.items()}
-
-
 def files_of(wanted: Guest, kernel: packages.Kernel, probes: str) -> dict[str, tuple[int, bytes]]:
     words = [module.split() for module in wanted.modules]
     names = [*(["virtio_pci"] if kernel.series == "6.1" else []), "virtio_blk"]
@@ -104,7 +87,7 @@ def files_of(wanted: Guest, kernel: packages.Kernel, probes: str) -> dict[str, t
     )
     files |= {module.name: (judge.TEXT, module.read_bytes()) for module in modules}
     for name in wanted.programs:
-        files |= program_files(name)
+        files |= judge.program_files(name, "usr/sbin")
     return files
 
 

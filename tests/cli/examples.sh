@@ -397,6 +397,30 @@ repairs 'nvme-auth: the kernel, who flushes moves' nvme-auth.wq nvme-auth.assign
 too_few 'nvme-auth: the kernel, one who flushes moves' nvme-auth.wq nvme-auth.assign connect_work
 repairs 'nvme-auth: a later kernel' nvme-auth.wq nvme-auth.later.assign ''
 
+# nvme-multipath: a partition table is read on the workqueue by which the host connects again; that read and the scan need one each.
+counts nvme-multipath 7 17 7 4
+answers nvme-multipath 'plan 5' scan_work partition_scan_work requeue_work err_work async_event_work
+plan_is_least nvme-multipath
+hangs 'nvme-multipath: the kernel' nvme-multipath.wq nvme-multipath.assign
+why 'nvme-multipath: the kernel' nvme-multipath.wq nvme-multipath.assign '`(partition_)?scan_work` `connect_work`'
+repairs 'nvme-multipath: the kernel' nvme-multipath.wq nvme-multipath.assign 'partition_scan_work 1 4,scan_work 1 5'
+
+# nvme-scan, of Linux 6.12: a scan waits for work without a rescuer, on the workqueue by which the host connects again.
+counts nvme-scan 6 8 6 4
+answers nvme-scan 'plan 4' scan_work nvme_scan_ns_async err_work async_event_work
+plan_is_least nvme-scan
+hangs 'nvme-scan: the kernel' nvme-scan.wq nvme-scan.assign
+to_no_rescuer 'nvme-scan: the kernel' 1 nvme-scan.wq nvme-scan.assign scan_work nvme_scan_ns_async
+repairs 'nvme-scan: the kernel' nvme-scan.wq nvme-scan.assign 'rescuer 3,scan_work 1 4'
+
+# dm-thin: a pool flushes what stands behind another user of dm-bufio, whose disk is a volume of the pool.
+counts dm-thin 5 4 5 3
+answers dm-thin 'plan 3' shrink_work.other do_worker shrink_work.pool
+plan_is_least dm-thin
+hangs 'dm-thin: the kernel' dm-thin.wq dm-thin.assign
+why 'dm-thin: the kernel' dm-thin.wq dm-thin.assign '`do_worker` `shrink_work.pool`'
+repairs 'dm-thin: the kernel' dm-thin.wq dm-thin.assign 'shrink_work.pool 1 2'
+
 # md: one workqueue for all arrays, which hangs where an array has arrays for disks; one for each array doesn't. The kernel's own
 # order of the first hang is a run too, and stuck as soon as the upper array waits.
 counts md 4 4 4 1
@@ -599,6 +623,9 @@ done <<'end'
 4 dm-integrity dm-integrity.merged
 4 nvmet-tcp nvmet-tcp
 4 nvme-auth nvme-auth
+4 nvme-multipath nvme-multipath
+7 dm-thin dm-thin
+4 nvme-scan nvme-scan
 4 md md
 3 xfs.full xfs
 4 xfs xfs

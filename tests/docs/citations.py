@@ -104,8 +104,8 @@ class Tree:
         """Why a place doesn't make the workqueue of a line that begins with this word."""
         where, name, line, _ = place
         path = self.path(folders, name)
-        lines = path.read_text(errors="replace").splitlines()[line - 1:] if path else []
-        made = made_by("\n".join(lines))
+        lines = path.read_text(errors="replace").splitlines() if path else []
+        made = made_by("\n".join(lines[line - 1:]), "\n".join(lines[:line - 1]))
         return None if made == word else f"{where}: line {line} of {name} makes {f'a workqueue of a `{made}` line' if made else 'no workqueue'}"
 
     def wrong(self, folders, place):
@@ -123,12 +123,16 @@ class Tree:
         return None
 
 
-def made_by(text):
-    """The first word of the line of the workqueue that this C text begins by making, or None."""
+def made_by(text, above=""):
+    """The first word of the line of the workqueue that this C text begins by making, or None. Its flags may be in a
+    variable, whose last value stands above."""
     call = MAKES.match(text)
     if call is None:
         return None
-    return "wq" if call[1].startswith("create_") or "WQ_MEM_RECLAIM" in call[2] else "norescuer"
+    flags = call[2]
+    if named := re.search(r", (\w*flags),", flags):
+        flags += "".join(re.findall(rf"\b{named[1]} = ([^;]*);", above)[-1:])
+    return "wq" if call[1].startswith("create_") or "WQ_MEM_RECLAIM" in flags else "norescuer"
 
 
 def functions_of(lines):
@@ -200,6 +204,12 @@ MADE = [
     ('\tif (!a)\n\t\treturn;\n\tb = alloc_workqueue("y", 0, 0);\n', None),
     ("", None),
 ]
+MADE_BY_FLAGS = '\ta = alloc_workqueue("x", wq_flags, 0);\n'
+FLAGS = [
+    ("\tint wq_flags = WQ_UNBOUND;\n\twq_flags = A |\n\t\tWQ_MEM_RECLAIM;\n\twq_flags |= B;\n", "wq"),
+    ("\tint wq_flags = WQ_MEM_RECLAIM;\n\twq_flags = WQ_UNBOUND;\n", "norescuer"),
+    ("\tint more_wq_flags = WQ_MEM_RECLAIM;\n", "norescuer"),
+]
 LINES = range(1, len(C.splitlines()) + 1)
 IN_FUNCTION = {("f", line): 1 <= line <= 8 for line in LINES} | {("g", line): 11 <= line <= 13 for line in LINES}
 
@@ -213,6 +223,9 @@ def planted():
     for text, wanted in MADE:
         if made_by(text) != wanted:
             yield f"{text!r} is said to make {made_by(text)}"
+    for above, wanted in FLAGS:
+        if made_by(MADE_BY_FLAGS, above) != wanted:
+            yield f"below {above!r} {MADE_BY_FLAGS!r} is said to make {made_by(MADE_BY_FLAGS, above)}"
     functions = functions_of(C.splitlines())
     for (name, line), wanted in IN_FUNCTION.items():
         if any(first <= line <= last for first, last in functions[name]) != wanted:
@@ -247,7 +260,7 @@ def main():
     cited = sum(len(text.found) for text in texts)
     if not cited:
         wrong.append("examples/ cites nothing")
-    passed = len(FORMS) + len(MADE) + len(IN_FUNCTION) + sum(not text.wrong for text in texts)
+    passed = len(FORMS) + len(MADE) + len(FLAGS) + len(IN_FUNCTION) + sum(not text.wrong for text in texts)
 
     with tempfile.TemporaryDirectory() as into:
         kernels = sys.argv[1:] or [name for name in os.environ.get("KERNEL", "").split(":") if name]

@@ -3,12 +3,15 @@
 
     drivers.py [--patched]
 
-On Linux 6.1, unchanged: an NFS mount that ends while a delegation is on its way back (examples/nfs.md), and md on md
-(examples/md.md). While no worker can be created both must hang, and the rescuer must sleep where the page says; and
-the status must be 1, since the script then says `failed`. It takes half a minute of processor time.
+On Linux 6.1, unchanged: an NFS mount that ends while a delegation is on its way back (examples/nfs.md), md on md
+(examples/md.md), NVMe whose connection is lost while a partition table is read (examples/nvme-multipath.md), and a thin
+pool that can't write its metadata (examples/dm-thin.md). On Linux 6.12: NVMe whose connection is lost twice
+(examples/nvme-scan.md). While no worker can be created these must hang,
+and the rescuer must sleep where the page says; and the status must be 1, since the script then says `failed`. It takes a
+minute of processor time.
 
-With --patched also what the pages say of patched drivers, and NFS on 6.12: that takes some ten minutes more the first
-time, and downloads the sources of two kernels, some 290 MB.
+With --patched also what the pages say of patched drivers, and of each script on the other kernel: that takes some ten
+minutes more the first time, and downloads the sources of two kernels, some 290 MB. It is run before a release.
 
 A later kernel that doesn't hang fails this test: then the pages have to say so.
 
@@ -34,6 +37,9 @@ ENDS_A_MOUNT = "generic_shutdown_super", "nfs_kill_super", "deactivate_locked_su
 ON_RPCIOD = "rpc_wait_bit_killable", "_nfs4_proc_delegreturn", "evict_inodes", *ENDS_A_MOUNT, "rpc_async_schedule"
 IN_SYNC = "wb_wait_for_completion", "sync_filesystem", *ENDS_A_MOUNT
 ON_MD = "md_flush_request", "raid1_make_request", "submit_flushes"
+READS_A_TABLE = "read_part_sector", "bdev_disk_changed", "nvme_partition_scan_work"
+ABORTS = "flush_work", "dm_pool_abort_metadata", "metadata_operation_failed", "commit", "do_worker"
+SCANS = "async_synchronize_cookie_domain", "nvme_scan_ns_list", "nvme_scan_work"
 
 
 class Run:
@@ -47,14 +53,19 @@ class Run:
 
     def words(self):
         """The command that the script's head has, with the flags."""
-        text = (SCRIPTS / self.script.replace("-dirty", "")).read_text()
-        modules = re.search(r"^# +kernel/driver kernel/drivers/\S+ (.+)$", text, re.MULTILINE)[1].split()
+        text = (SCRIPTS / re.sub("-(dirty|twice)", "", self.script)).read_text()
+        modules = re.search(r"^# +kernel/driver .*kernel/drivers/\S+ (.+)$", text, re.MULTILINE)[1].split()
         return [ROOT / "kernel/driver", *self.flags, SCRIPTS / self.script, *modules]
 
 
+THIN = "thin.sh", "--program", "dmsetup"
+WITH_TWICE = "nvme-twice.sh", "--file", SCRIPTS / "nvme.sh"
 UNCHANGED = [
     Run(NFS, hung=1, rescuer="rpciod", frames=ON_RPCIOD),
     Run("md.sh", hung=4, rescuer="md", frames=ON_MD, stays=True),
+    Run(*THIN, hung=1, rescuer="dm-thin", frames=ABORTS),
+    Run("nvme.sh", hung=1, rescuer="nvme-wq", frames=READS_A_TABLE),
+    Run(*WITH_TWICE, "--kernel", "6.12", hung=1, rescuer="kworker/R-nvme-wq", frames=SCANS),
 ]
 WITH_NFS = "--patch", SCRIPTS / "nfs.patch"
 WITH_DIRTY = "nfs-dirty.sh", "--file", SCRIPTS / NFS
@@ -67,6 +78,8 @@ PATCHED = [
     Run("md.sh", "--patch", SCRIPTS / "md.patch"),
     Run(NFS, "--kernel", "6.12", hung=1, rescuer="kworker/R-rpciod", frames=ON_RPCIOD),
     Run(NFS, "--kernel", "6.12", *WITH_NFS),
+    Run(*WITH_TWICE),
+    Run(*THIN, "--kernel", "6.12", hung=1, rescuer="kworker/R-dm-thin", frames=("__flush_work", *ABORTS[1:])),
 ]
 
 

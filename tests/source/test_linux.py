@@ -12,8 +12,15 @@ from csource.command_line import expanded
 from csource.declaration import Declaration
 
 LINUX = pathlib.Path(os.environ.get("LINUX_6_1") or "/none")
-EXAMPLES = sorted(path for path in (ROOT / "examples").glob("*.wq") if Declaration.read(str(path)).files)
 CITED = "6.1.192"
+
+
+def is_of_this_kernel(path):
+    """Some examples cite another kernel."""
+    return f"\n# Sources: Linux {CITED}," in path.read_text() and Declaration.read(str(path)).files
+
+
+EXAMPLES = sorted(filter(is_of_this_kernel, (ROOT / "examples").glob("*.wq")))
 
 pytestmark = pytest.mark.skipif(not (LINUX / "Makefile").exists(), reason="no source of Linux 6.1: set LINUX_6_1")
 
