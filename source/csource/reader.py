@@ -37,8 +37,9 @@ class Reader:
 
     def read(self) -> list[str]:
         start = at = 0
-        while at < len(self.words):
-            word = self.words[at]
+        words, behind = self.words, self.source.behind
+        while at < len(words):
+            word = words[at]
             if word == ";":
                 self.declaration(start, at)
                 start = at = at + 1
@@ -47,7 +48,7 @@ class Reader:
             elif word == "}":
                 start = at = at + 1
             else:
-                at = self.source.after(at)
+                at = behind[at]
         return self.sink.found
 
     def braces(self, start: int, brace: int) -> tuple[int, int]:
