@@ -54,6 +54,7 @@ class CallGraph:
         self.by_expression = [
             (call, Call(call.place, ctext.joined(call.callee), call.arguments)) for call in facts.expression_calls
         ]
+        self.by_variable = [call for call in facts.calls if self.is_of_variable(call)]
         # of each caller, the functions that it calls, and all the calls by which it does
         self.edges: dict[FunctionId, dict[FunctionId, list[Edge]]] = collections.defaultdict(dict)
         # calls by a pointer whose functions aren't in the files
@@ -182,7 +183,14 @@ class CallGraph:
 
     def is_outside(self, call: Call) -> bool:
         """Whether a call is of no function of the files, and of no variable."""
-        return not self.facts.resolve(call.place.file, call.name) and not self.facts.is_local(call.place, call.name)
+        return not self.facts.resolve(call.place.file, call.name) and not self.is_of_variable(call)
+
+    def is_of_variable(self, call: Call) -> bool:
+        """Whether a call is of a variable: one of its function, or one outside functions."""
+        facts = self.facts
+        if facts.is_local(call.place, call.name):
+            return True
+        return call.name in facts.globals and not facts.resolve(call.place.file, call.name)
 
     def add_pointers(self) -> int:
         """Calls by a member and by a variable."""
@@ -192,13 +200,10 @@ class CallGraph:
             found = functions_of(self.holds.lookup(self.holds.member(place, base, member)))
             added += sum(self.add(place, function, arguments, f"->{member}", call) for function in found)
             self.note_blind(place, f"->{member}", found)
-        for call in self.facts.calls:
-            if self.facts.is_local(call.place, call.name):
-                found = functions_of(self.holds.values(call.place, [call.name]))
-                added += sum(
-                    self.add(call.place, function, call.arguments, f"*{call.name}", call) for function in found
-                )
-                self.note_blind(call.place, f"*{call.name}", found)
+        for call in self.by_variable:
+            found = functions_of(self.holds.values(call.place, [call.name]))
+            added += sum(self.add(call.place, function, call.arguments, f"*{call.name}", call) for function in found)
+            self.note_blind(call.place, f"*{call.name}", found)
         for expression, call in self.by_expression:
             found = functions_of(self.holds.values(call.place, expression.callee))
             if not found and self.is_cast(expression):

@@ -88,7 +88,15 @@ def test_the_files_of_a_module(wqsource, tree, tmp_path):
     for name in ("./drivers/nvme/core", "drivers//nvme/core/", tree / "drivers/nvme/core"):
         assert wqsource("draft", "--module", name, "--tree", tree, "--cache", tmp_path) == ran
     ran = wqsource("draft", "--module", "drivers/nvme/nothing", "--tree", tree, "--cache", tmp_path)
-    assert ran.status == 3 and "no module of" in ran.err
+    assert ran.status == 3 and "no module of" in ran.err and "did you mean" not in ran.err
+
+
+@pytest.mark.parametrize("name", ["drivers/nvme/cores", "drivers/nvm/core", "core", "drivers/core.ko"])
+def test_the_nearest_names(wqsource, scanned, tree, tmp_path, name):
+    ran = wqsource("draft", "--module", name, "--tree", tree, "--cache", tmp_path)
+    assert ran.status == 3 and ran.err.endswith(": did you mean drivers/nvme/core?\n")
+    ran = scanned("--module", name)
+    assert ran.status == 3 and ran.err.endswith("with a rescuer: did you mean drivers/nvme/core?\n")
 
 
 def test_a_library(wqsource, tree, tmp_path):
