@@ -21,6 +21,7 @@ TIMEOUT = "a time passes"
 OWN_KIND = "the own kind"
 CONSTANT = "the arguments exclude it"
 OWN_END = "it would end its own workqueue"
+MADE_HERE = "it was made in the same function"
 LAST_REFERENCE = "the last reference is dropped on the way"
 
 ENDS_WORKQUEUE = "destroy"
@@ -95,10 +96,14 @@ class Lines:
 
     def doubts_of_an_end(self, item: FunctionId, site: Site, workqueue: str, is_direct: bool) -> set[str]:
         """Of a call that ends a workqueue. On that of the item itself it would hang each time, with memory or without:
-        then somebody else makes it. Behind the last reference no item is left that holds one."""
+        then somebody else makes it. Where it was just made, nothing is queued yet. Behind the last reference no item is
+        left that holds one."""
         if ENDS_WORKQUEUE not in site.key.call:
             return set()
         found = {OWN_END} if workqueue in self.program.item(item).workqueues else set()
+        made = self.program.workqueues.made.get(workqueue)
+        if made is not None and made.call.place.id == site.id:
+            found.add(MADE_HERE)
         if is_direct and site.id not in reached_from(self.program.graph, item, keeps_references):
             found.add(LAST_REFERENCE)
         return found

@@ -101,6 +101,11 @@ static void last_free(struct kref *ref)
 """
 )
 
+# A workqueue that is made is ended again, if something fails.
+UNDO = BARE.replace("bare", "undo").replace(
+    "\tqueue_work(undo_slow, &x->c_work);\n", "\tqueue_work(undo_slow, &x->c_work);\n\tdestroy_workqueue(undo_slow);\n"
+)
+
 # A module, a library that it stands on, and what that one stands on; another user of the library.
 LIBRARY_H = """
 struct checks {
@@ -236,7 +241,7 @@ void rdma_init(struct ctrl *ctrl)
 FILES = {
     "Makefile": "VERSION = 6\nPATCHLEVEL = 1\nSUBLEVEL = 0\n",
     "include/linux/workqueue.h": "struct work_struct { int data; };\n",
-    "drivers/block/Makefile": "obj-m += own.o arg.o zero.o ptr.o bare.o cancel.o through.o plain.o ends.o last.o\n",
+    "drivers/block/Makefile": "obj-m += own.o arg.o zero.o ptr.o bare.o cancel.o through.o plain.o ends.o last.o undo.o\n",
     # flushes its own workqueue
     "drivers/block/own.c": module("own", "flush_workqueue(x->wq);"),
     # a constant among the arguments excludes the flush, or doesn't
@@ -250,9 +255,10 @@ FILES = {
     "drivers/block/through.c": module(
         "through", "cancel_work_sync(&x->b_work);", "flush_work(&x->c_work);", before=THROUGH
     ),
-    # ends its own workqueue; ends another one with the last reference
+    # ends its own workqueue; ends another one with the last reference, or as soon as it is made
     "drivers/block/ends.c": module("ends", "destroy_workqueue(x->wq);"),
     "drivers/block/last.c": module("last", "kref_put(&x->ref, last_free);", before=LAST),
+    "drivers/block/undo.c": module("undo", "undo_queue(x);", before=UNDO),
     # no rescuer: no module of a scan
     "drivers/block/plain.c": module("plain", "flush_workqueue(x->wq);", flags="0"),
     "drivers/md/Makefile": "obj-m += thin.o buffer.o other.o library/\n",
@@ -282,6 +288,7 @@ UNSURE = {
     ("drivers/block/arg", "arg_a", "*", ("the arguments exclude it",)),
     ("drivers/block/ptr", "ptr_a", "ptr_b", ("a call by a pointer",)),
     ("drivers/block/ends", "ends_a", "*", ("it would end its own workqueue",)),
+    ("drivers/block/undo", "undo_a", "*", ("it was made in the same function",)),
     ("drivers/block/last", "last_a", "*", ("the last reference is dropped on the way",)),
     ("drivers/nvme/core", "rdma_work", "rdma_reset", ("a call by a pointer",)),
 }

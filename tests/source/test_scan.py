@@ -10,7 +10,7 @@ from csource import extract, progress, scan, token_extract, tree_index
 from csource.kbuild import Kbuild
 from csource.survey import Survey, SurveyError
 
-COUNTS = "# 13 calls make a workqueue: 10 with WQ_MEM_RECLAIM, 0 legacy, 3 without; 10 modules."
+COUNTS = "# 15 calls make a workqueue: 11 with WQ_MEM_RECLAIM, 0 legacy, 4 without; 11 modules."
 
 
 @pytest.fixture(scope="module")
@@ -47,6 +47,7 @@ def test_modules(results):
         "drivers/block/through",
         "drivers/block/ends",
         "drivers/block/last",
+        "drivers/block/undo",
         "drivers/nvme/core",
     }
 
@@ -64,7 +65,7 @@ def test_what_depends(results):
 def test_workqueues(results):
     """Those with a rescuer, with their items."""
     found = {(one.name, one.items) for result in results.values() for one in result.workqueues}
-    others = {(name, 2) for name in ("own", "arg", "zero", "ptr", "bare", "cancel", "ends", "last")}
+    others = {(name, 2) for name in ("own", "arg", "zero", "ptr", "bare", "cancel", "ends", "last", "undo")}
     assert found == others | {("through", 3), ("ctrl-wq", 3)}
 
 
@@ -115,7 +116,7 @@ def test_what_is_printed(scanned):
     assert "drivers/block/own  own  own_a -> all of it  flushwq drivers/block/own.c:" in ran.out
     assert "drivers/block/bare  bare  bare_a -> bare_c on slow  flush drivers/block/bare.c:" in ran.out
     assert (
-        "# depends: 5 flush and flushwq lines in 5 modules (--unsure), 0 others in 0 modules (--unsure=all)" in ran.out
+        "# depends: 6 flush and flushwq lines in 6 modules (--unsure), 0 others in 0 modules (--unsure=all)" in ran.out
     )
     assert "not sure" not in ran.out and "not sure: a call by a pointer" in scanned("--unsure").out
 
@@ -134,7 +135,7 @@ def test_verdicts(scanned, tmp_path, tree):
     assert scanned("--verdicts", verdicts, "--write").status == 1
     text = verdicts.read_text()
     assert (
-        len(re.findall(r"^wait ", text, re.M)) == 10 and len(re.findall(r"^    unread [0-9a-f]{12}$", text, re.M)) == 10
+        len(re.findall(r"^wait ", text, re.M)) == 11 and len(re.findall(r"^    unread [0-9a-f]{12}$", text, re.M)) == 11
     )
     assert "wait own own own_a flushwq * | drivers/block/own.c own_a flush_workqueue(x->wq)\n" in text
     verdicts.write_text("# read by hand\n" + re.sub(r"unread ([0-9a-f]+)", r"can't happen \1: a test", text))
