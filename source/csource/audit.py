@@ -7,7 +7,7 @@ from .backstop import missed_calls
 from .calls import Edge
 from .cited import Cited
 from .fits import Fits
-from .declaration import Declaration, DismissedItem, Dismissal
+from .declaration import Declaration, DismissedItem, Dismissal, Spared
 from .places import FunctionId
 from .program import Program
 from .records import Call
@@ -35,11 +35,14 @@ class Neighbour:
 class Audit:
     """The declaration beside the files, and what is left to decide."""
 
-    def __init__(self, declaration: Declaration, program: Program) -> None:
+    def __init__(self, declaration: Declaration, program: Program, each_item: bool = False) -> None:
         self.declaration = declaration
         self.program = program
+        # whether a cited site is left for each item that reaches it without a line of its own
+        self.each_item = each_item
         self.cited = Cited(declaration, program)
         self.used: set[Dismissal] = set()
+        self.used_spared: set[Spared] = set()
         self.closed = self.cited.closed()
         self.reach = {item.name: self.reached(item.name) for item in declaration.items}
         self.reached_functions = {function for reached in self.reach.values() for function in reached}
@@ -102,6 +105,7 @@ class Audit:
         self.ambiguous = [found for found in self.cited.located if len(found.files) > 1]
         used = {dismissal.number for dismissal in self.used}
         self.stale = [dismissal for dismissal in self.declaration.dismissals if dismissal.number not in used]
+        self.stale_spared = [one for one in self.declaration.spared if one not in self.used_spared]
         called = {callee for function in self.reached_functions for callee in self.program.graph.edges.get(function, ())}
         open_numbers = {one.number for function, one in self.closed.items() if function in called}
         self.stale_closed = [one for one in self.declaration.closed if one.number not in open_numbers]
@@ -152,6 +156,8 @@ class Audit:
             or self.stale
             or self.stale_items
             or self.stale_closed
+            or self.stale_spared
+            or self.each_item and self.for_others
             or self.misplaced
             or any(one.is_fault for one in self.contradictions)
             or self.unknown_items
@@ -226,7 +232,14 @@ class Audit:
             return []
         names = {words[1] for words in lines}
         targets = {target for words in lines for target in words[2:]}
-        return [name for name in found.ways if name not in names and not targets <= self.cited.targets(name) | {name}]
+        others = [name for name in found.ways if name not in names and not targets <= self.cited.targets(name) | {name}]
+        return [name for name in others if not self.spares(name, found.site.key)]
+
+    def spares(self, name: str, key: Key) -> bool:
+        """Whether a line says that this item doesn't wait there. The line is noted as one that is needed."""
+        found = [one for one in self.declaration.spared if name in one.items and self.cited.matches(one.key, key)]
+        self.used_spared.update(found)
+        return bool(found)
 
     # What is beside it
 

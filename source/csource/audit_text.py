@@ -72,10 +72,15 @@ class Printer:
         for number in audit.declaration.malformed:
             self.say(
                 f"{path}:{number}: the forms are `# no wait: FILE FUNCTION CALL(ARGUMENT): WHY`, "
-                "`# not through: FILE FUNCTION: WHY` and `# no item: FILE FUNCTION: WHY`"
+                "`# no wait of ITEM: ..`, `# not through: FILE FUNCTION: WHY` and `# no item: FILE FUNCTION: WHY`"
             )
         for dismissal in audit.stale:
             self.say(f"{path}:{dismissal.number}: dismisses {dismissal.key}, which isn't in reach")
+        for spared in audit.stale_spared:
+            self.say(
+                f"{path}:{spared.number}: {spared.key} is no site that other items' lines cite and {' '.join(spared.items)} "
+                "reaches without one"
+            )
         for closed in audit.stale_closed:
             self.say(f"{path}:{closed.number}: {closed.function} isn't called in reach, or isn't in the files")
         for misfit in [*audit.misplaced, *(one for one in audit.contradictions if one.is_fault)]:
@@ -153,10 +158,12 @@ class Printer:
         return f"{self.audit.name(function)} ({ended.waker.place}{way})"
 
     def print_for_others(self) -> None:
-        """Cited sites that more items reach than those whose lines cite them: to look at, and not counted as left."""
+        """Cited sites that more items reach than those whose lines cite them: to look at, or left, if that is asked."""
         for found, names in self.audit.for_others:
-            self.say(f"cited for other items: {found.site}")
+            self.say(f"{'left, ' if self.audit.each_item else ''}cited for other items: {found.site}")
             self.print_ways(found, names)
+            if self.audit.each_item:
+                print(f"  # no wait of {' '.join(names)}: {found.site.key}: ", file=self.to)
         for misfit in [*self.audit.misfits, *(one for one in self.audit.contradictions if not one.is_fault)]:
             self.say(f"look at {self.audit.declaration.path}:{misfit.number}: {misfit.what}")
 
@@ -235,5 +242,11 @@ class Printer:
             self.to,
             f"{says.counted(len(audit.declaration.items), 'item')}. {says.counted(len(audit.sites), 'site')} in "
             f"reach: {len(audit.cited_sites)} cited, {len(audit.dismissed)} dismissed, {settled}{len(audit.left)} left. "
+            f"{self.for_items_text()}"
             f"{says.counted(len(waiting), 'item')} that may wait, not declared, on their workqueues.",
         )
+
+    def for_items_text(self) -> str:
+        """With --each-item, how many cited sites are left for other items."""
+        left = len(self.audit.for_others)
+        return f"{says.counted(left, 'cited site')} left for other items. " if self.audit.each_item else ""

@@ -27,12 +27,12 @@ class Bodies:
 
     def statements(self, start: int, end: int) -> None:
         """Each statement, and those of the blocks within it."""
-        words = self.words
+        words, behind = self.words, self.source.behind
         at = first = start
         while at < end:
             word = words[at]
             if word == "{" and at > first and words[at - 1] == "=":
-                at = self.source.after(at)
+                at = behind[at]
             elif word in (";", "{", "}"):
                 self.statement(first, at)
                 at = first = at + 1
@@ -43,7 +43,7 @@ class Bodies:
             elif word == ":" and at == first + 1:
                 at = first = at + 1
             else:
-                at = self.source.after(at)
+                at = behind[at]
         self.statement(first, end)
 
     def statement(self, start: int, end: int) -> None:
@@ -274,7 +274,7 @@ class Bodies:
         right = equals + 1
         last = right
         while last < end and words[last] not in ENDS_EXPRESSION:
-            last = self.source.after(last)
+            last = self.source.behind[last]
         if last > right:
             self.sink.fact("ASG", right, self.sink.text(left, equals), self.sink.text(right, last))
 

@@ -1,10 +1,11 @@
 """Which function calls which: by name, by a pointer, by what it is handed to."""
 
 import collections
+from dataclasses import dataclass, field
 from typing import Iterator, NamedTuple
 
 from . import ctext
-from .cells import UNKNOWN, Address, Kept, Member, Variable, functions_of, may_be_same
+from .cells import UNKNOWN, Address, Cell, Kept, Member, Value, Variable, functions_of, may_be_same
 from .ctext import Tokens
 from .facts import Facts
 from .holds import Holds
@@ -28,6 +29,19 @@ class Edge(NamedTuple):
     call: Call
 
 
+@dataclass
+class Handing:
+    """A call that may call what it is handed, or what its object holds: `members` of this, and what `makers` keep."""
+
+    call: Call
+    # how it calls what stands among its arguments
+    how: str
+    members: list[Member] = field(default_factory=list)
+    makers: list[str] = field(default_factory=list)
+    # of each argument the values that it names, and the cells that it reads
+    arguments: list[tuple[set[Value], set[Cell]]] = field(default_factory=list)
+
+
 class CallGraph:
     """The calls of each function."""
 
@@ -40,6 +54,7 @@ class CallGraph:
         self.by_expression = [
             (call, Call(call.place, ctext.joined(call.callee), call.arguments)) for call in facts.expression_calls
         ]
+        self.by_variable = [call for call in facts.calls if self.is_of_variable(call)]
         # of each caller, the functions that it calls, and all the calls by which it does
         self.edges: dict[FunctionId, dict[FunctionId, list[Edge]]] = collections.defaultdict(dict)
         # calls by a pointer whose functions aren't in the files
@@ -50,6 +65,7 @@ class CallGraph:
         self.add_direct()
         self.add_kept()
         self.holds.settle()
+        self.handings = self.handing_calls()
         for _ in range(MOST_ROUNDS):
             added = self.add_handed() + self.add_pointers()
             self.holds.settle()
@@ -74,13 +90,13 @@ class CallGraph:
         if function not in self.facts.definitions:
             return 0
         edges = self.edges[place.id].setdefault(function, [])
-        is_new = not any(edge.how == how and edge.call is call for edge in edges)
-        if is_new:
-            edges.append(Edge(place, how, call))
+        if any(edge.how == how and edge.call is call for edge in edges):
+            return 0
+        edges.append(Edge(place, how, call))
         for parameter, argument in zip(self.facts.definitions[function].parameters, arguments):
             if parameter:
                 self.holds.flow_into_parameter(function, parameter, place, argument)
-        return int(is_new)
+        return 1
 
     def add_direct(self) -> None:
         for call in self.facts.calls:
@@ -96,33 +112,45 @@ class CallGraph:
                         if isinstance(value, Address):
                             self.holds.flow(Kept(maker, value.cell), call.place, call.arguments[1])
 
+    def handing_calls(self) -> list[Handing]:
+        """The calls in functions that may call what they are handed, or what their object holds."""
+        definitions = self.facts.definitions
+        found = [self.handing(call) for call in self.facts.calls if call.place.id in definitions]
+        return [one for one in found if one.members or one.makers or one.arguments]
+
+    def handing(self, call: Call) -> Handing:
+        idioms = self.idioms
+        members = idioms.members + (idioms.stacked if self.stacked else [])
+        found = Handing(call, DIRECT if idioms.is_now(call.name) else f"~{call.name}")
+        found.members = [Member(struct, member) for names, struct, member in members if names.fullmatch(call.name)]
+        if call.arguments:
+            found.makers = [maker for maker, names in idioms.kept if names.fullmatch(call.name)]
+        if self.is_outside(call) and not idioms.is_later(call.name):
+            parts = [self.holds.parts(call.place, words) for words in call.arguments if 0 < len(words) <= 2]
+            found.arguments = [(values, cells) for values, cells in parts if cells or functions_of(values)]
+        return found
+
     def add_handed(self) -> int:
         """Calls that call what they are handed, or what their object holds."""
         added = 0
-        for call in self.facts.calls:
-            if call.place.id in self.facts.definitions:
-                for function, how in list(self.handed(call)):
-                    added += self.add(call.place, function, [], how, call)
+        for one in self.handings:
+            for function, how in list(self.handed(one)):
+                added += self.add(one.call.place, function, [], how, one.call)
         return added
 
-    def handed(self, call: Call) -> Iterator[tuple[FunctionId, str]]:
-        idioms, holds, maybe = self.idioms, self.holds, f"~{call.name}"
-        for names, struct, member in idioms.members + (idioms.stacked if self.stacked else []):
-            if names.fullmatch(call.name):
-                for function in self.held_by(call, Member(struct, member)):
-                    yield function, maybe
-        for maker, names in idioms.kept:
-            if names.fullmatch(call.name) and call.arguments:
-                for value in list(holds.values(call.place, call.arguments[0])):
-                    if isinstance(value, Address):
-                        for function in functions_of(list(holds.held[Kept(maker, value.cell)])):
-                            yield function, maybe
-        if self.is_outside(call) and not idioms.is_later(call.name):
-            how = DIRECT if idioms.is_now(call.name) else maybe
-            for words in call.arguments:
-                if 0 < len(words) <= 2 and words[0] != '"':
-                    for function in functions_of(holds.values(call.place, words)):
-                        yield function, how
+    def handed(self, one: Handing) -> Iterator[tuple[FunctionId, str]]:
+        call, holds, maybe = one.call, self.holds, f"~{one.call.name}"
+        for member in one.members:
+            for function in self.held_by(call, member):
+                yield function, maybe
+        for maker in one.makers:
+            for value in list(holds.values(call.place, call.arguments[0])):
+                if isinstance(value, Address):
+                    for function in functions_of(list(holds.held[Kept(maker, value.cell)])):
+                        yield function, maybe
+        for values, cells in one.arguments:
+            for function in functions_of(holds.values_of(values, cells)):
+                yield function, one.how
 
     def held_by(self, call: Call, member: Member) -> set[FunctionId]:
         """What the member of the call's object may hold. Other objects that are known to be others don't count."""
@@ -155,7 +183,14 @@ class CallGraph:
 
     def is_outside(self, call: Call) -> bool:
         """Whether a call is of no function of the files, and of no variable."""
-        return not self.facts.resolve(call.place.file, call.name) and not self.facts.is_local(call.place, call.name)
+        return not self.facts.resolve(call.place.file, call.name) and not self.is_of_variable(call)
+
+    def is_of_variable(self, call: Call) -> bool:
+        """Whether a call is of a variable: one of its function, or one outside functions."""
+        facts = self.facts
+        if facts.is_local(call.place, call.name):
+            return True
+        return call.name in facts.globals and not facts.resolve(call.place.file, call.name)
 
     def add_pointers(self) -> int:
         """Calls by a member and by a variable."""
@@ -165,13 +200,10 @@ class CallGraph:
             found = functions_of(self.holds.lookup(self.holds.member(place, base, member)))
             added += sum(self.add(place, function, arguments, f"->{member}", call) for function in found)
             self.note_blind(place, f"->{member}", found)
-        for call in self.facts.calls:
-            if self.facts.is_local(call.place, call.name):
-                found = functions_of(self.holds.values(call.place, [call.name]))
-                added += sum(
-                    self.add(call.place, function, call.arguments, f"*{call.name}", call) for function in found
-                )
-                self.note_blind(call.place, f"*{call.name}", found)
+        for call in self.by_variable:
+            found = functions_of(self.holds.values(call.place, [call.name]))
+            added += sum(self.add(call.place, function, call.arguments, f"*{call.name}", call) for function in found)
+            self.note_blind(call.place, f"*{call.name}", found)
         for expression, call in self.by_expression:
             found = functions_of(self.holds.values(call.place, expression.callee))
             if not found and self.is_cast(expression):

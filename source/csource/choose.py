@@ -15,6 +15,11 @@ from .tree_index import TreeIndex, grep
 # A module with more files than this isn't taken whole because another one calls it.
 MOST_FILES = 60
 
+# So many libraries may stand between a module and one with work items that is called: dm-thin, persistent-data, dm-bufio.
+MOST_LIBRARIES = 2
+# So many folders from the top of the tree are a part of the kernel, as drivers/md.
+PARTS = 2
+
 # Of some variables, the C files that name each.
 Users = Callable[[list[str]], dict[str, list[str]]]
 
@@ -59,7 +64,7 @@ class Chooser:
         found.add(self.includes.all_beside(found.files), "header")
         return found
 
-    def whole(self, file: str) -> Iterable[str]:
+    def whole(self, file: str) -> tuple[str, ...]:
         """The module of a file; the file alone, where that is no driver, or large."""
         module = self.kbuild.module_of(file)
         is_folder = (self.tree / module.name).is_dir()
@@ -93,27 +98,56 @@ class Chooser:
         return users
 
     def add_plugged_in(self, found: Chosen) -> None:
-        """Modules of the same folder that hand this one a table of a struct which its own headers define."""
+        """Modules of the same folder that hand this one a table of a struct which its own headers define.
+
+        Such a module calls what this one exports. One that doesn't has its table for a library that both stand on.
+        """
         headers = [file for file in self.includes.all_beside(found.module.files) if file.endswith(".h")]
         structs = {struct for file in headers for struct in self.summary(file).structs_of_functions}
-        folders = {file.rpartition("/")[0] for file in found.module.files}
+        exported = self.exported_by(found.module)
+        folders = {file.rpartition("/")[0] for file in found.module.files} if exported else set()
         for path in (path for folder in sorted(folders) for path in sorted((self.tree / folder).glob("*.c"))):
             file = str(path.relative_to(self.tree))
             struct = has_table_of(path.read_text(errors="replace"), structs) if file not in found.why else ""
-            if struct:
+            if struct and any(not exported.isdisjoint(self.summary(part).calls) for part in self.whole(file)):
                 found.add(self.whole(file), f"has a table of {struct}")
 
+    def exported_by(self, module: Module) -> set[str]:
+        """The names that the files of a module export."""
+        return {name for name, file in self.index.exports.items() if file in module.files}
+
     def add_below(self, found: Chosen, own: list[str]) -> None:
-        """Modules with work items that export a function which these files call."""
-        defined = {name for file in own for name in self.summary(file).defines}
-        called = {name for file in own for name in self.summary(file).calls} - defined
+        """Modules with work items that export a function which these files call, or which a library between calls."""
+        for whole, why in self.below(own, MOST_LIBRARIES):
+            found.add(whole, why)
+
+    def below(self, files: Iterable[str], libraries: int) -> Iterator[tuple[tuple[str, ...], str]]:
+        """Each such module, with its reason. Before it come those that lead there, which have no item themselves."""
+        for whole, name in self.called_modules(files).items():
+            if any(part in self.with_items for part in whole):
+                yield whole, f"has {name}"
+            elif libraries and self.is_library(whole[0], files):
+                further = list(self.below(whole, libraries - 1))
+                if further:
+                    yield whole, f"has {name}"
+                    yield from further
+
+    def called_modules(self, files: Iterable[str]) -> dict[tuple[str, ...], str]:
+        """The modules that export a function which some files call, each with the first one."""
+        defined = {name for file in files for name in self.summary(file).defines}
+        called = {name for file in files for name in self.summary(file).calls} - defined
+        found: dict[tuple[str, ...], str] = {}
         for name in sorted(called):
             file = self.index.exports.get(name)
-            if file is None or file in found.why or self.layers.is_apart(file):
-                continue
-            whole = self.whole(file)
-            if any(part in self.with_items for part in whole):
-                found.add(whole, f"has {name}")
+            if file is not None and file not in files and not self.layers.is_apart(file):
+                found.setdefault(self.whole(file), name)
+        return found
+
+    def is_library(self, file: str, users: Iterable[str]) -> bool:
+        """Whether a file is in a module of its own, in the same part of the kernel as its users."""
+        parts = {tuple(user.split("/")[:PARTS]) for user in users}
+        is_module = not (self.tree / self.kbuild.module_of(file).name).is_dir()
+        return is_module and file.count("/") >= PARTS and tuple(file.split("/")[:PARTS]) in parts
 
     def add_layers(self, found: Chosen, own: list[str]) -> None:
         """What layers.txt says of the tables that the files have, and of the functions that they call."""

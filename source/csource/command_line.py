@@ -20,6 +20,8 @@ from .tables import TableError
 from .token_extract import TokenExtractor
 
 DONE, LEFT, USAGE, FAULT = 0, 1, 2, 3
+# The tree, where none is named.
+HERE = pathlib.Path(".")
 # What a shell says of a program that SIGPIPE ended.
 UNREAD = 141
 
@@ -80,8 +82,13 @@ def parser() -> argparse.ArgumentParser:
     )
     one = verbs.add_parser("audit", parents=[shared], epilog=ENDS, help="sites that the declaration doesn't decide")
     one.add_argument("--decl", required=True, metavar="D.wq")
-    one.add_argument("--tree", type=pathlib.Path, default=pathlib.Path("."), metavar="DIR")
+    one.add_argument("--tree", type=pathlib.Path, default=HERE, metavar="DIR")
     one.add_argument("--paths", action="store_true", help="all calls that lead to a site, and to what may end it")
+    one.add_argument(
+        "--each-item",
+        action="store_true",
+        help="a cited site is left for each item that reaches it and has no line of its own for it",
+    )
     scan_command.add_module_option(one)
     one.add_argument("files", **files)
     two = verbs.add_parser("drift", parents=[shared], epilog=ENDS, help="what has changed between two trees")
@@ -93,7 +100,7 @@ def parser() -> argparse.ArgumentParser:
     )
     two.add_argument("files", **files)
     three = verbs.add_parser("draft", parents=[shared], epilog=ENDS, help="a first declaration of some files")
-    three.add_argument("--tree", type=pathlib.Path, default=pathlib.Path("."), metavar="DIR")
+    three.add_argument("--tree", type=pathlib.Path, default=HERE, metavar="DIR")
     three.add_argument(
         "--only",
         nargs="+",
@@ -104,7 +111,7 @@ def parser() -> argparse.ArgumentParser:
     three.add_argument(
         "--assign", metavar="OUT", help="write the workqueues that the files make into OUT, as an assignment"
     )
-    three.add_argument("--force", action="store_true", help="overwrite OUT though it is no former draft")
+    three.add_argument("--force", action="store_true", help="overwrite OUT though it is no former draft, or was changed")
     scan_command.add_module_option(three)
     three.add_argument("files", **drafted)
     scan_command.add_parser(verbs, shared, ENDS)
@@ -128,6 +135,8 @@ def wrong_name(tree: pathlib.Path, name: str) -> Optional[str]:
         return f"{name}: matches no file in {tree}"
     for file in files:
         path = tree / file
+        if os.path.isabs(file) and tree != HERE:
+            return f"{file}: not below {tree}: is it of another tree?"
         if path.is_dir():
             return f"{path}: a folder: write '{file}/*.c'"
         if not path.is_file():
@@ -170,6 +179,7 @@ def run_audit(words: argparse.Namespace, extractor: program.ReadsFacts) -> int:
     found = audit.Audit(
         declaration,
         program.read(words.tree, files, extractor, program.Tables(), words.stacked or declaration.is_stacked),
+        words.each_item,
     )
     extractor.progress.end()
     audit_text.Printer(found, sys.stdout, words.paths).print()
@@ -218,7 +228,7 @@ def run_draft(words: argparse.Namespace, extractor: program.ReadsFacts) -> int:
     if out:
         text = io.StringIO()
         draft_text.print_assignment(found, text)
-        outputs.replace(out, text.getvalue())
+        outputs.replace(out, outputs.with_sum(text.getvalue()))
     return DONE
 
 
@@ -249,10 +259,17 @@ def main() -> NoReturn:
         status = UNREAD
     except (Fault, ExtractError, TableError, OSError, *scan_command.FAULTS) as fault:
         extractor.progress.end()
-        print(f"wqsource: {fault}", file=sys.stderr)
+        print(f"wqsource: {said_of(fault)}", file=sys.stderr)
         status = FAULT
     let_go_of_output()
     sys.exit(status)
+
+
+def said_of(fault: Exception) -> str:
+    """What went wrong; of a file that can't be read or written, its name and why."""
+    if isinstance(fault, OSError) and fault.filename is not None and fault.strerror:
+        return f"{fault.filename}: {fault.strerror[0].lower()}{fault.strerror[1:]}"
+    return str(fault)
 
 
 def end_by_interrupt() -> NoReturn:

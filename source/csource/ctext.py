@@ -3,7 +3,6 @@
 import re
 
 TOKEN = re.compile(r'"(?:\\.|[^"\\])*"|\'(?:\\.|[^\'\\])*\'|->|[A-Za-z_]\w*|\d\w*|\S')
-NAME = re.compile(r"[A-Za-z_]\w*$")
 NOT_CODE = re.compile(r'/\*.*?\*/|//[^\n]*|"(?:\\.|[^"\\\n])*"|^[ \t]*#(?:[^\n]*\\\n)*[^\n]*', re.S | re.M)
 
 Tokens = list[str]
@@ -22,20 +21,20 @@ def blanked(text: str, with_strings: bool = False) -> str:
     return NOT_CODE.sub(blank, text)
 
 
-def is_name(token: str) -> bool:
-    return NAME.match(token) is not None
+is_name = str.isidentifier
+# 1 where a bracket opens, -1 where one closes.
+DEPTHS = {"(": 1, "[": 1, "{": 1, ")": -1, "]": -1, "}": -1}
 
 
 def depth_change(token: str) -> int:
-    """1 where a bracket opens, -1 where one closes."""
-    return 1 if token in ("(", "[", "{") else -1 if token in (")", "]", "}") else 0
+    return DEPTHS.get(token, 0)
 
 
 def closing(words: Tokens, start: int) -> int:
     """words[start] opens a bracket: the index of the one that closes it."""
     depth = 0
     for index in range(start, len(words)):
-        depth += depth_change(words[index])
+        depth += DEPTHS.get(words[index], 0)
         if depth == 0:
             return index
     return len(words) - 1
@@ -45,7 +44,7 @@ def opening(words: Tokens) -> int:
     """The last token closes a bracket: the index of the one that opens it."""
     depth = 0
     for index in range(len(words) - 1, -1, -1):
-        depth += depth_change(words[index])
+        depth += DEPTHS.get(words[index], 0)
         if depth == 0:
             return index
     return 0
@@ -53,25 +52,32 @@ def opening(words: Tokens) -> int:
 
 def arguments(words: Tokens) -> list[Tokens]:
     """The arguments of a call, which stand between commas."""
+    if "," not in words:
+        return [words] if words else []
     found: list[Tokens] = []
     current: Tokens = []
     depth = 0
     for word in words:
-        depth += depth_change(word)
-        if word == "," and depth == 0:
+        if word in DEPTHS:
+            depth += DEPTHS[word]
+        elif word == "," and depth == 0:
             found.append(current)
             current = []
-        else:
-            current.append(word)
+            continue
+        current.append(word)
     return found + [current] if current else found
 
 
 def outer(words: Tokens, wanted: tuple[str, ...]) -> list[int]:
     """Where one of the wanted tokens stands outside brackets."""
-    places, depth = [], 0
+    places: list[int] = []
+    if not any(word in words for word in wanted):
+        return places
+    depth = 0
     for index, word in enumerate(words):
-        depth += depth_change(word)
-        if depth == 0 and word in wanted:
+        if word in DEPTHS:
+            depth += DEPTHS[word]
+        elif depth == 0 and word in wanted:
             places.append(index)
     return places
 
@@ -127,7 +133,7 @@ def alternatives(words: Tokens) -> list[Tokens]:
 
 def is_call(words: Tokens) -> bool:
     """NAME(..), and nothing after it."""
-    return len(words) > 2 and is_name(words[0]) and words[1] == "(" and closing(words, 1) == len(words) - 1
+    return len(words) > 2 and words[1] == "(" and is_name(words[0]) and closing(words, 1) == len(words) - 1
 
 
 def joined(words: Tokens) -> str:

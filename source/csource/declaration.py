@@ -8,6 +8,8 @@ from typing import Iterator, Optional
 from .sites import Key
 
 NO_WAIT = "no wait:"
+# of some items alone: `no wait of ITEM..:`
+NO_WAIT_OF = re.compile(r"no wait of\s+([^:]*[^:\s])\s*:(.*)")
 NO_ITEM = "no item:"
 NOT_THROUGH = "not through:"
 FILES = "files:"
@@ -68,6 +70,19 @@ class Dismissal:
 
 
 @dataclass(frozen=True)
+class Spared:
+    """`# no wait of ITEM..: FILE FUNCTION CALL(ARGUMENT): WHY`: these items don't wait there, though others do."""
+
+    number: int
+    items: tuple[str, ...]
+    key: Key
+    why: str
+
+    def __str__(self) -> str:
+        return f"# no wait of {' '.join(self.items)}: {self.key}: {self.why}"
+
+
+@dataclass(frozen=True)
 class Closed:
     """`# not through: FILE FUNCTION: WHY`: what this function does isn't looked into."""
 
@@ -124,6 +139,7 @@ class Declaration:
     dismissals: list[Dismissal] = field(default_factory=list)
     dismissed_items: list[DismissedItem] = field(default_factory=list)
     closed: list[Closed] = field(default_factory=list)
+    spared: list[Spared] = field(default_factory=list)
     malformed: list[int] = field(default_factory=list)
     without_colon: list[tuple[int, str]] = field(default_factory=list)
     files: list[str] = field(default_factory=list)
@@ -163,6 +179,11 @@ class Declaration:
             return True
         if text.startswith(NO_WAIT):
             match = self.take_dismissal(number, text[len(NO_WAIT) :])
+        elif of := NO_WAIT_OF.fullmatch(text):
+            match = DISMISSAL.fullmatch(of[2])
+            if match:
+                items = tuple(re.split(r"[\s,]+", of[1]))
+                self.spared.append(Spared(number, items, Key(*match.groups()[:4]), match[5]))
         elif text.startswith(NOT_THROUGH):
             match = CLOSED.fullmatch(text[len(NOT_THROUGH) :])
             if match:

@@ -3,14 +3,15 @@
 import collections
 import re
 from dataclasses import dataclass, field
-from typing import NamedTuple, Optional
+from typing import Container, NamedTuple, Optional
 
 from . import ctext
 from .cited import Cited
-from .declaration import Citation, Declaration, Dismissal
+from .declaration import Citation, Closed, Declaration, Dismissal
 from .moved import MOVED, SAME, Mapping
 from .places import FunctionId
 from .program import Program
+from .reach import reached_from
 from .sites import Key, Site
 
 
@@ -45,6 +46,7 @@ class Drift:
             for found in self.cited.located
             if found.file and found.citation not in bad
         ]
+        self.closed, self.new_closed = self.cited.closed(), self.new_cited.closed()
         self.appeared, self.vanished = self.compare_waits()
 
     # Citations
@@ -62,11 +64,14 @@ class Drift:
 
     # Waits
 
-    def waits_of(self, program: Program, cited: Cited, name: str) -> dict[Wait, Site]:
-        """The waits in reach of a declared item. What the declaration dismisses is among them."""
+    def waits_of(
+        self, program: Program, functions: list[FunctionId], closed: Container[FunctionId]
+    ) -> dict[Wait, Site]:
+        """The waits in reach of an item. What `# no wait:` lines dismiss is among them, and what is behind a function
+        that isn't looked into isn't."""
         found: dict[Wait, Site] = {}
-        for function in cited.items[name]:
-            for site in program.sites_of(program.sleeps[function]):
+        for function in functions:
+            for site in program.sites_of(reached_from(program.graph, function, program.may_sleep, closed)):
                 found.setdefault(self.wait(program, site), site)
         return found
 
@@ -85,8 +90,8 @@ class Drift:
         for item in self.declaration.items:
             if not self.cited.items[item.name] or not self.new_cited.items[item.name]:
                 continue
-            before = self.waits_of(self.old, self.cited, item.name)
-            after = self.waits_of(self.new, self.new_cited, item.name)
+            before = self.waits_of(self.old, self.cited.items[item.name], self.closed)
+            after = self.waits_of(self.new, self.new_cited.items[item.name], self.new_closed)
             for wait in after.keys() - before.keys():
                 appeared.setdefault(wait, Change(wait, str(after[wait]))).items.append(item.name)
             for wait in before.keys() - after.keys():
@@ -172,6 +177,11 @@ class Drift:
             if self.has_call(self.old, self.cited, dismissal) and not self.has_call(self.new, self.new_cited, dismissal)
         ]
 
+    def dead_closed(self) -> list[Closed]:
+        """`# not through:` lines of functions that the old tree has and the new one hasn't."""
+        now = {one.number for one in self.new_closed.values()}
+        return [one for one in dict.fromkeys(self.closed.values()) if one.number not in now]
+
     @staticmethod
     def has_call(program: Program, cited: Cited, dismissal: Dismissal) -> bool:
         key = dismissal.key
@@ -194,6 +204,7 @@ class Drift:
             or self.new_items()
             or self.changed_flags()
             or self.dead_decisions()
+            or self.dead_closed()
         )
 
 

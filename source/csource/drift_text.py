@@ -36,6 +36,8 @@ class Printer:
             says.note(self.to, "A wait is gone, or it is made by a name now that waits.txt hasn't.")
         for dismissal in drift.dead_decisions():
             self.say(f"{drift.declaration.path}:{dismissal.number}: dismisses {dismissal.key}, which is gone")
+        for closed in drift.dead_closed():
+            self.say(f"{drift.declaration.path}:{closed.number}: {closed.function} is gone")
         self.print_counts()
 
     def print_lines(self) -> None:

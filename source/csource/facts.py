@@ -143,6 +143,10 @@ class Facts:
         type_before = before if re.fullmatch(r"[A-Za-z_][\w\s*]*", before) else ""
         return re.search(r"\bstatic\b", f"{type_before} {lines[place.line - 1]}") is not None
 
+    def is_macro(self, place: Place) -> bool:
+        """Whether a definition is that of a macro."""
+        return self.lines[place.file][place.line - 1].lstrip().startswith("#")
+
     def take_type(self, place: Place, base: str, member: str, struct: str) -> None:
         if struct not in UNKNOWN_TYPES:
             self.said[place.file, place.function, ctext.joined(ctext.tokens(base)), member] = struct

@@ -31,15 +31,16 @@ class Guards:
 
     def read(self, start: int, end: int, parameters: set[str]) -> None:
         """The conditions between two tokens, which are those of one block."""
+        words, behind = self.words, self.source.behind
         at = start
         while at < end:
-            if self.words[at] == "if" and at + 1 < end and self.words[at + 1] == "(":
+            if words[at] == "if" and at + 1 < end and words[at + 1] == "(":
                 at = self.branches(at, end, parameters)
-            elif self.words[at] == "{":
+            elif words[at] == "{":
                 self.read(at + 1, self.source.closed_by[at], parameters)
-                at = self.source.after(at)
+                at = behind[at]
             else:
-                at = self.source.after(at)
+                at = behind[at]
 
     def branches(self, at: int, end: int, parameters: set[str]) -> int:
         """An `if`. Answers where to go on: behind it."""
@@ -66,8 +67,9 @@ class Guards:
             behind = self.statement_end(self.source.after(at + 1), end)
             is_if = self.words[at] == "if" and behind < end and self.words[behind] == "else"
             return self.statement_end(behind + 1, end) if is_if else behind
-        while at < end and self.words[at] != ";":
-            at = self.source.after(at)
+        words, behind = self.words, self.source.behind
+        while at < end and words[at] != ";":
+            at = behind[at]
         return min(at + 1, end)
 
     def jumps(self, start: int, end: int) -> bool:

@@ -1,5 +1,6 @@
 """The headers that files include, and the types that these define."""
 
+import os
 import pathlib
 import posixpath
 import re
@@ -20,7 +21,7 @@ class Includes:
 
     def is_there(self, file: str) -> bool:
         if file not in self.there:
-            self.there[file] = (self.tree / file).is_file()
+            self.there[file] = os.path.isfile(os.path.join(self.tree, file))
         return self.there[file]
 
     def names_in(self, file: str) -> list[tuple[str, str]]:

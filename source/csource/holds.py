@@ -48,6 +48,8 @@ class Holds:
 
     def cell(self, place: Place, words: Tokens) -> Optional[Cell]:
         """The variable, member or result that an expression reads; None where it is something else."""
+        if len(words) == 1:
+            return self.variable(place, words[0]) if ctext.is_name(words[0]) else None
         words = ctext.bare(words)
         while words and words[-1] == "]":
             words = ctext.bare(words[: ctext.opening(words)])
@@ -65,14 +67,18 @@ class Holds:
                 else None
             )
         if len(words) == 1 and ctext.is_name(words[0]):
-            if self.facts.is_local(place, words[0]):
-                return Variable(place.file, place.function, words[0])
-            return Global(words[0])
+            return self.variable(place, words[0])
         return (
             Result(words[0])
             if len(words) > 2 and ctext.is_name(words[0]) and words[1] == "(" and words[-1] == ")"
             else None
         )
+
+    def variable(self, place: Place, name: str) -> Cell:
+        """A variable of the function at this place, or one outside functions."""
+        if self.facts.is_local(place, name):
+            return Variable(place.file, place.function, name)
+        return Global(name)
 
     def is_wrapped(self, place: Place, base: Tokens) -> bool:
         """Whether this is a delayed_work or its like: its work_struct is the same item."""
@@ -185,8 +191,11 @@ class Holds:
         return self.held[cell] | self.held[Member(UNKNOWN, cell.name)]
 
     def values(self, place: Place, words: Tokens) -> set[Value]:
-        values, cells = self.parts(place, words)
-        return set(values).union(*[self.lookup(cell) for cell in cells])
+        return self.values_of(*self.parts(place, words))
+
+    def values_of(self, values: set[Value], cells: set[Cell]) -> set[Value]:
+        """What an expression may be that names these values and reads these cells."""
+        return values.union(*[self.lookup(cell) for cell in cells])
 
     def objects(self, place: Place, words: Tokens) -> frozenset[Address]:
         """The objects that a pointer may point to; where none is known, what the pointer itself is."""

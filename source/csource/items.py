@@ -1,13 +1,15 @@
 """Work items: which function, set where, queued where and to which workqueue."""
 
 import collections
+import functools
 from dataclasses import dataclass, field
 from typing import NamedTuple, Optional
 
 from . import ctext
-from .cells import Address, Global, Workqueue, functions_of, may_be_same
+from .cells import Address, Function, Global, Workqueue, functions_of, may_be_same
 from .ctext import Tokens
 from .facts import Facts
+from .handed import Given, Queues, handed_on, parameters_among
 from .holds import Holds
 from .places import FunctionId, Place
 from .records import Call
@@ -54,9 +56,13 @@ class Items:
         for call in facts.calls:
             if waits.kind(call.name).name == "item":
                 self.set_item(call)
-        for call in facts.calls:
-            if waits.kind(call.name).name == "queue":
-                self.queue_item(call)
+        calls = [call for call in facts.calls if waits.kind(call.name).name == "queue"]
+        handed = [handed_on(facts, call, self.names_item) for call in calls]
+        wrappers = {call.place.id for call, found in zip(calls, handed) if found}
+        for call, found in zip(calls, handed):
+            functions = facts.resolve(call.place.file, call.name)
+            if not functions or not wrappers.issuperset(functions):
+                self.take_queueing(call, found)
         self.give_names()
 
     def set_item(self, call: Call) -> None:
@@ -88,30 +94,65 @@ class Items:
 
     def workqueues_of(self, call: Call) -> set[str]:
         """The workqueues that a call that queues names: none where they aren't known."""
-        if call.name.startswith("schedule_"):
+        return self.workqueues_in(Queues.of(call))
+
+    def workqueues_in(self, queues: Queues) -> set[str]:
+        if queues.name.startswith("schedule_"):
             return {"system_wq"}
-        if "kblockd" in call.name:
+        if "kblockd" in queues.name:
             return self.kblockd()
-        values = [value for words in call.arguments for value in self.holds.values(call.place, words)]
+        values = [value for place, words in queues.arguments for value in self.holds.values(place, words)]
         return {value.made_at for value in values if isinstance(value, Workqueue)}
 
-    def queue_item(self, call: Call) -> None:
-        workqueues = self.workqueues_of(call)
+    def take_queueing(self, call: Call, handed: list[Queues]) -> None:
+        """A call that queues, and those that hand over what it queues: these name it, as far as they know it."""
+        found: set[FunctionId] = set()
+        for queues in handed:
+            found |= self.queue(queues, set())
+        if not found or call.place.id in self.handed_around:
+            found |= self.queue(Queues.of(call), found)
+        if not found and not self.facts.resolve(call.place.file, call.name) and not self.is_unused(call):
+            self.unknown_queueings.append(call)
+
+    def queue(self, queues: Queues, others: set[FunctionId]) -> set[FunctionId]:
+        """Notes what a call queues, but for some other items. Answers what that is."""
         works: set[Address] = set()
         named = ""
-        for words in call.arguments:
-            hits = {address for address in self.addresses(call.place, words) if self.items_of({address})}
+        for one in queues.arguments:
+            hits = self.items_named(one)
             works |= hits
+            words = one.words
             if not hits and not named and words and ctext.is_name(words[0]) and words[0] not in NO_WORKQUEUE:
                 named = ctext.joined(words)
-        functions = self.queued_by(call.place.id, works)
-        if functions:
-            for function in sorted(functions):
-                self.items[function].queueings.append(
-                    Queueing(call.place, frozenset(workqueues), named, len(functions) > 1)
-                )
-        elif works or not self.facts.resolve(call.place.file, call.name):
-            self.unknown_queueings.append(call)
+        functions = self.queued_by(queues.place.id, works)
+        workqueues = frozenset(self.workqueues_in(queues))
+        for function in sorted(functions - others):
+            self.items[function].queueings.append(Queueing(queues.place, workqueues, named, len(functions) > 1))
+        return functions
+
+    def items_named(self, one: Given) -> set[Address]:
+        """The works of items that an argument names."""
+        return {address for address in self.addresses(one.place, one.words) if self.items_of({address})}
+
+    def names_item(self, one: Given) -> bool:
+        return bool(self.items_named(one))
+
+    def is_unused(self, call: Call) -> bool:
+        """Whether a call queues what its function is handed, and nothing in these files calls that: a macro, say."""
+        function = call.place.id
+        definition = self.facts.definitions.get(function)
+        return (
+            definition is not None
+            and (definition.is_local or function.file.endswith(".h") or self.facts.is_macro(definition.place))
+            and bool(parameters_among(self.facts, Queues.of(call)))
+            and not self.facts.calls_of(function)
+            and function not in self.handed_around
+        )
+
+    @functools.cached_property
+    def handed_around(self) -> set[FunctionId]:
+        """The functions that some variable or member may hold: a pointer may call them."""
+        return {value.id for held in self.holds.held.values() for value in held if isinstance(value, Function)}
 
     def kblockd(self) -> set[str]:
         """The workqueue of kblockd_schedule_work: the call that makes it, if the files have that."""

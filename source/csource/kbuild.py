@@ -1,6 +1,7 @@
 """The modules of a kernel's tree, as its Makefiles have them: which C files are linked together."""
 
 import collections
+import os
 import pathlib
 import posixpath
 import re
@@ -79,6 +80,14 @@ class Kbuild:
         if folder not in self.in_folder:
             self.in_folder[folder] = list(self.find(folder))
         return self.in_folder[folder]
+
+    def all_modules(self) -> Iterator[Module]:
+        """Those of all folders. (It takes a while: it is for a name that there isn't.)"""
+        for folder, folders, files in os.walk(self.tree):
+            folders.sort()
+            if "Makefile" in files or "Kbuild" in files:
+                inside = os.path.relpath(folder, self.tree)
+                yield from self.modules("" if inside == "." else inside)
 
     def find(self, folder: str) -> Iterator[Module]:
         names = ("Kbuild", "Makefile")

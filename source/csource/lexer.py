@@ -1,5 +1,6 @@
 """A C file as tokens: without comments and directives, each with its line, each bracket with the one that closes it."""
 
+import itertools
 import re
 from dataclasses import dataclass, field
 
@@ -12,8 +13,12 @@ TOKEN = re.compile(
     r'"(?:\\.|\\\n|[^"\\\n])*"|\\\n|\'(?:\\.|[^\'\\\n])*\'|->|\.\.\.|<<=|>>=|[-+*/%&|^!=<>]=|&&|\|\||<<|>>|\+\+|--'
     r"|[A-Za-z_]\w*|\d[\w.]*|\n|[^\s]"
 )
+LINE_ENDS = ("\n", "\\\n")
 CLOSES = {"(": ")", "[": "]", "{": "}"}
 OPENS = {")": "(", "]": "[", "}": "{"}
+BRACKETS = frozenset([*CLOSES, *OPENS])
+# So far behind the last token somebody may ask what is behind.
+SPARE = 4
 ALWAYS_FALSE = ("0",)
 
 
@@ -71,44 +76,45 @@ class Source:
     lines: list[int] = field(default_factory=list)
     closed_by: dict[int, int] = field(default_factory=dict)
     opened_by: dict[int, int] = field(default_factory=dict)
+    # the index behind each token, or behind all of what a bracket holds
+    behind: list[int] = field(default_factory=list)
     # lines with a bracket that closes nothing, or that isn't closed
     odd: list[int] = field(default_factory=list)
 
     @staticmethod
     def of(text: str) -> "Source":
         found = Source()
-        add_word, add_line = found.words.append, found.lines.append
-        line = 1
-        for word in TOKEN.findall(without_directives(without_comments(text))):
-            if word == "\n" or word == "\\\n":
-                line += 1
-            else:
-                add_word(word)
-                add_line(line)
-                line += "\n" in word and word.count("\n")
+        words = TOKEN.findall(without_directives(without_comments(text)))
+        ends = [word.count("\n") if "\n" in word else 0 for word in words]
+        lines = itertools.accumulate(ends, initial=1)
+        are_words = [word not in LINE_ENDS for word in words]
+        found.words = list(itertools.compress(words, are_words))
+        found.lines = list(itertools.compress(lines, are_words))
+        found.behind = list(range(1, len(found.words) + 1 + SPARE))
         found.match_brackets()
         return found
 
     def match_brackets(self) -> None:
         """Where each bracket closes. A brace closes what stands open within its own."""
         waiting: list[int] = []
-        for index, word in enumerate(self.words):
+        for index in [index for index, word in enumerate(self.words) if word in BRACKETS]:
+            word = self.words[index]
             if word in CLOSES:
                 waiting.append(index)
-            elif word in OPENS:
-                opens = OPENS[word]
-                if word == "}":
-                    while waiting and self.words[waiting[-1]] != "{":
-                        self.close(waiting.pop(), index, is_odd=True)
-                if waiting and self.words[waiting[-1]] == opens:
-                    self.close(waiting.pop(), index, is_odd=False)
-                else:
-                    self.odd.append(self.lines[index])
+                continue
+            if word == "}":
+                while waiting and self.words[waiting[-1]] != "{":
+                    self.close(waiting.pop(), index, is_odd=True)
+            if waiting and self.words[waiting[-1]] == OPENS[word]:
+                self.close(waiting.pop(), index, is_odd=False)
+            else:
+                self.odd.append(self.lines[index])
         for index in waiting:
             self.close(index, len(self.words) - 1, is_odd=True)
 
     def close(self, opens: int, closes: int, is_odd: bool) -> None:
         self.closed_by[opens] = closes
+        self.behind[opens] = closes + 1
         if is_odd:
             self.odd.append(self.lines[opens])
         else:
@@ -116,14 +122,15 @@ class Source:
 
     def after(self, index: int) -> int:
         """The index behind a token, or behind all of what a bracket holds."""
-        return self.closed_by.get(index, index) + 1
+        return self.behind[index]
 
     def parts(self, start: int, end: int) -> "list[tuple[int, int]]":
         """The ranges between commas outside brackets."""
         found, first, index = [], start, start
+        words, behind = self.words, self.behind
         while index < end:
-            if self.words[index] == ",":
+            if words[index] == ",":
                 found.append((first, index))
                 first = index + 1
-            index = self.after(index)
+            index = behind[index]
         return found + [(first, end)] if first < end else found

@@ -1,13 +1,14 @@
 """The waits of a program's items, each as sure or unsure: what `scan` asks `wqplan` about."""
 
 import collections
+import re
 from dataclasses import dataclass, field
 from typing import Iterator, Optional
 
-from .calls import Edge
+from .calls import DIRECT, Edge
 from .places import FunctionId
 from .program import Ended, Program
-from .reach import path_to
+from .reach import path_to, reached_from
 from .sites import TARGETED, Site
 from .ways import Tables, all_direct, reached_by_item
 
@@ -19,6 +20,17 @@ END_BY_POINTER = "its end is called by a pointer"
 TIMEOUT = "a time passes"
 OWN_KIND = "the own kind"
 CONSTANT = "the arguments exclude it"
+OWN_END = "it would end its own workqueue"
+MADE_HERE = "it was made in the same function"
+LAST_REFERENCE = "the last reference is dropped on the way"
+
+ENDS_WORKQUEUE = "destroy"
+# These call a function if what they are given was the last reference.
+PUTS = re.compile(r"(kref|lockref)_put.*|(refcount|atomic)\w*_dec_and_.*")
+
+
+def keeps_references(edge: Edge) -> bool:
+    return edge.how == DIRECT and not PUTS.fullmatch(edge.call.name)
 
 
 @dataclass(frozen=True)
@@ -79,7 +91,22 @@ class Lines:
         several = {SEVERAL} if len(site.workqueues) > 1 else set()
         for workqueue in sorted(site.workqueues):
             if self.program.items.items_on({workqueue}):
-                yield Wait(item, None, workqueue, "flushwq", site, path, frozenset(doubts | several))
+                why = doubts | several | self.doubts_of_an_end(item, site, workqueue, all_direct(list(path)))
+                yield Wait(item, None, workqueue, "flushwq", site, path, frozenset(why))
+
+    def doubts_of_an_end(self, item: FunctionId, site: Site, workqueue: str, is_direct: bool) -> set[str]:
+        """Of a call that ends a workqueue. On that of the item itself it would hang each time, with memory or without:
+        then somebody else makes it. Where it was just made, nothing is queued yet. Behind the last reference no item is
+        left that holds one."""
+        if ENDS_WORKQUEUE not in site.key.call:
+            return set()
+        found = {OWN_END} if workqueue in self.program.item(item).workqueues else set()
+        made = self.program.workqueues.made.get(workqueue)
+        if made is not None and made.call.place.id == site.id:
+            found.add(MADE_HERE)
+        if is_direct and site.id not in reached_from(self.program.graph, item, keeps_references):
+            found.add(LAST_REFERENCE)
+        return found
 
     def for_targets(self, item: FunctionId, site: Site, path: tuple[Edge, ...], doubts: set[str]) -> Iterator[Wait]:
         several = {SEVERAL} if len(site.targets) > 1 else set()

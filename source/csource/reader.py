@@ -37,8 +37,9 @@ class Reader:
 
     def read(self) -> list[str]:
         start = at = 0
-        while at < len(self.words):
-            word = self.words[at]
+        words, behind = self.words, self.source.behind
+        while at < len(words):
+            word = words[at]
             if word == ";":
                 self.declaration(start, at)
                 start = at = at + 1
@@ -47,7 +48,7 @@ class Reader:
             elif word == "}":
                 start = at = at + 1
             else:
-                at = self.source.after(at)
+                at = behind[at]
         return self.sink.found
 
     def braces(self, start: int, brace: int) -> tuple[int, int]:
@@ -209,6 +210,8 @@ class Reader:
         """Where the name is in TYPE NAME(..);"""
         at = start
         while at < end:
+            if self.words[at] == "(" and self.words[at + 1] == "*":
+                return None  # a pointer to a function
             if self.words[at] == "(":
                 name = self.words[at - 1] if at > start else ""
                 return at - 1 if name and is_word(name) and name not in KEYWORDS and name not in ATTRIBUTES else None
@@ -233,8 +236,9 @@ class Reader:
                 continue
             if number == 0:
                 type_name = struct = sink.type_of(start, at)
-            if type_name:
-                sink.fact("GLB", at, self.words[at], type_name)
+            is_function = self.words[at - 1] == "*" and self.words[at - 2] == "("
+            if type_name or is_function:
+                sink.fact("GLB", at, self.words[at], "function" if is_function else type_name)
             if equals is not None and self.looks_into:
                 self.bodies.initialised(at, struct, equals, last)
 

@@ -1,6 +1,8 @@
 """The verb `scan` of the command line, and `--module` of the others."""
 
 import argparse
+import collections
+import difflib
 import functools
 import pathlib
 import sys
@@ -20,6 +22,9 @@ from .token_extract import TokenExtractor
 from .tree_index import TreeIndex
 
 SILENT, TOLD = 0, 1
+# So many names are offered for one that there isn't, and they have so much of it.
+MOST_HINTS = 3
+LEAST_LIKENESS = 0.75
 
 
 class ScanFault(Exception):
@@ -68,8 +73,24 @@ def chosen_for(tree: pathlib.Path, name: str, extractor: TokenExtractor) -> Chos
     chooser = Chooser(tree, TreeIndex.kept(tree, extractor.cache), Layers(), summary)
     module = chooser.kbuild.named(from_top(tree, name))
     if module is None:
-        raise ScanFault(f"{name}: no module of {tree} has this name: write its folder, `/`, and the name of its object")
+        hint = nearest(from_top(tree, name), [one.name for one in chooser.kbuild.all_modules()])
+        raise ScanFault(
+            f"{name}: no module of {tree} has this name: write its folder, `/`, and the name of its object{hint}"
+        )
     return chooser.choose(module)
+
+
+def nearest(name: str, names: list[str]) -> str:
+    """`: did you mean ..?`, with modules of this name in other folders, or of nearly this name; '' if there are none."""
+    objects = collections.defaultdict(list)
+    for other in dict.fromkeys(names):
+        objects[other.rpartition("/")[2].replace("_", "-")].append(other)
+    folder, _, given = name.removesuffix(".ko").replace("_", "-").rpartition("/")
+    close = difflib.get_close_matches(given, objects, MOST_HINTS, LEAST_LIKENESS)
+    found = [other for one in close for other in objects[one]]
+    # (those of the folder that was named first; then those that are most alike)
+    found.sort(key=lambda other: other.rpartition("/")[0].replace("_", "-") != folder)
+    return f": did you mean {' or '.join(found[:MOST_HINTS])}?" if found else ""
 
 
 def selected(scan: TreeScan, names: list[str]) -> list[Unit]:
@@ -79,7 +100,8 @@ def selected(scan: TreeScan, names: list[str]) -> list[Unit]:
     for name in names:
         same = [unit for unit in units if name in (unit.module.name, unit.module.name.rpartition("/")[0])]
         if not same:
-            raise ScanFault(f"{name}: no module of this name makes a workqueue with a rescuer")
+            hint = nearest(name, [unit.module.name for unit in units])
+            raise ScanFault(f"{name}: no module of this name makes a workqueue with a rescuer{hint}")
         found += same
     return found or units
 

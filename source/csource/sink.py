@@ -14,7 +14,7 @@ class Sink:
     def __init__(self, source: Source) -> None:
         self.source = source
         self.words = source.words
-        self.after = source.after
+        self.behind = source.behind
         self.closed_by = source.closed_by
         self.function = OUTSIDE
         self.found: list[str] = []
@@ -53,7 +53,7 @@ class Sink:
                 return self.declared_name(at, end)
             if is_word(word) and not qualifies(word):
                 found = at
-            at = self.after(at)
+            at = self.behind[at]
         return found if found is not None and found > start else None
 
     def equals(self, start: int, end: int) -> Optional[int]:
@@ -62,5 +62,5 @@ class Sink:
         while at < end:
             if self.words[at] == "=":
                 return at
-            at = self.after(at)
+            at = self.behind[at]
         return None

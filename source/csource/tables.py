@@ -21,13 +21,18 @@ class Names:
     """What fits one of some names, in each of which `*` stands for any letters. The same name is asked about often."""
 
     def __init__(self, names: list[str]) -> None:
-        self.pattern = re.compile("|".join(re.escape(name).replace(r"\*", r"\w*") for name in names) or r"(?!)")
+        self.pattern = re.compile(one_of(names))
         self.known: dict[str, Optional[re.Match[str]]] = {}
 
     def fullmatch(self, name: str) -> Optional[re.Match[str]]:
         if name not in self.known:
             self.known[name] = self.pattern.fullmatch(name)
         return self.known[name]
+
+
+def one_of(names: list[str]) -> str:
+    """A pattern of one of some names."""
+    return "|".join(re.escape(name).replace(r"\*", r"\w*") for name in names) or r"(?!)"
 
 
 def pattern(names: list[str]) -> Names:
@@ -84,7 +89,8 @@ class Waits:
     """waits.txt: the kind of each call."""
 
     def __init__(self, path: pathlib.Path = FOLDER / "waits.txt") -> None:
-        self.rows: list[tuple[Kind, Names]] = []
+        self.kinds: list[Kind] = []
+        rows_of_names: list[str] = []
         self.nowait: set[str] = set()
         groups: dict[str, list[str]] = {word: [] for word in GROUPS}
         self.known: dict[str, Kind] = {}
@@ -94,7 +100,10 @@ class Waits:
             elif word in GROUPS:
                 groups[word] += names
             else:
-                self.rows.append((self.kind_of(path, number, word), pattern(names)))
+                self.kinds.append(self.kind_of(path, number, word))
+                rows_of_names.append(f"({one_of(names)})")
+        # (one group for each row: the first one that fits is found in one go)
+        self.pattern = re.compile("|".join(rows_of_names))
         self.io, self.network = (pattern(groups[word]) for word in GROUPS)
 
     @staticmethod
@@ -106,9 +115,11 @@ class Waits:
 
     def kind(self, call: str) -> Kind:
         """The kind of a call. `NONE` is that of a name in no line."""
-        if call not in self.known:
-            self.known[call] = next((kind for kind, names in self.rows if names.fullmatch(call)), NONE)
-        return self.known[call]
+        found = self.known.get(call)
+        if found is None:
+            match = self.pattern.fullmatch(call)
+            found = self.known[call] = self.kinds[match.lastindex - 1] if match and match.lastindex else NONE
+        return found
 
     def is_plain_io(self, call: str) -> bool:
         """Whether it is I/O that an interrupt ends, if the disk isn't a stacked one."""

@@ -31,12 +31,15 @@ class HeaderTexts(dict[str, str]):
         super().__init__(texts)
         self.tree = tree
         self.headers = headers
+        self.of_headers: dict[str, str] = {}
 
     def values(self) -> Iterator[str]:  # type: ignore[override]
         yield from super().values()
         for header in self.headers:
             if header not in self:
-                yield (self.tree / header).read_text(errors="replace")
+                if header not in self.of_headers:
+                    self.of_headers[header] = (self.tree / header).read_text(errors="replace")
+                yield self.of_headers[header]
 
 
 class NoStructs(Structs):

@@ -26,9 +26,8 @@ ATTRIBUTES = frozenset(
 )
 
 
-def is_word(token: str) -> bool:
-    """Whether a token is a name or a keyword."""
-    return token[0].isalpha() or token[0] == "_"
+# Whether a token is a name or a keyword.
+is_word = str.isidentifier
 
 
 def qualifies(token: str) -> bool:

@@ -1,5 +1,6 @@
 """The workqueues that the files make: their names and flags."""
 
+import itertools
 import pathlib
 import re
 from dataclasses import dataclass
@@ -38,6 +39,10 @@ def makes_ordered(tree: pathlib.Path) -> Optional[bool]:
     return bool(MADE_ORDERED.search(source.read_text(errors="replace"))) if source.is_file() else None
 
 
+# The parameters and the body of a macro.
+Macro = tuple[Tokens, Tokens]
+
+
 @dataclass
 class Made:
     """A call that makes a workqueue, and what its result is assigned to."""
@@ -53,6 +58,7 @@ class Workqueues:
         self.facts = facts
         self.unbound_one = {True: "ordered", False: "max_active 1", None: PERHAPS_ORDERED}[makes_ordered(facts.tree)]
         self.made: dict[str, Made] = {}
+        self.macros: dict[tuple[str, str], Optional[Macro]] = {}
         for call in facts.calls:
             if waits.kind(call.name).name == "workqueue" and not facts.resolve(call.place.file, call.name):
                 self.made.setdefault(facts.call_id(call), Made(call))
@@ -153,11 +159,16 @@ class Workqueues:
             at += 1
         return found
 
-    def macro(self, file: str, name: str) -> Optional[tuple[Tokens, Tokens]]:
-        """The parameters and the body of a macro."""
+    def macro(self, file: str, name: str) -> Optional[Macro]:
+        """A macro of a file, or of another one, or of a header."""
+        if (file, name) not in self.macros:
+            self.macros[file, name] = self.find_macro(file, name)
+        return self.macros[file, name]
+
+    def find_macro(self, file: str, name: str) -> Optional[Macro]:
         define = re.compile(rf"^[ \t]*#[ \t]*define[ \t]+{re.escape(name)}\b(?:\(([^)]*)\))?((?:[^\n]*\\\n)*[^\n]*)", re.M)
-        for text in (self.facts.texts[file], *self.facts.structs.texts.values()):
-            found = define.search(text)
+        for text in itertools.chain([self.facts.texts[file]], self.facts.structs.texts.values()):
+            found = define.search(text) if name in text else None
             if found:
                 body = ctext.blanked(found[2].replace("\\\n", " "), with_strings=True)
                 return [word.strip() for word in (found[1] or "").split(",") if word.strip()], ctext.tokens(body)

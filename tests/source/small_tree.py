@@ -5,6 +5,7 @@ HEAD = """#include <linux/workqueue.h>
 struct {name} {{
 	struct workqueue_struct *wq;
 	struct work_struct a_work, b_work, c_work;
+	struct kref ref;
 	const struct {name}_ops *ops;
 }};
 """
@@ -87,6 +88,70 @@ void through_queue(struct through *x)
 	INIT_WORK(&x->c_work, through_c);
 	queue_work(x->wq, &x->c_work);
 }
+"""
+
+# The last reference ends a workqueue without a rescuer.
+LAST = (
+    BARE.replace("bare", "last")
+    + """
+static void last_free(struct kref *ref)
+{
+	destroy_workqueue(last_slow);
+}
+"""
+)
+
+# A workqueue that is made is ended again, if something fails.
+UNDO = BARE.replace("bare", "undo").replace(
+    "\tqueue_work(undo_slow, &x->c_work);\n", "\tqueue_work(undo_slow, &x->c_work);\n\tdestroy_workqueue(undo_slow);\n"
+)
+
+# A module, a library that it stands on, and what that one stands on; another user of the library.
+LIBRARY_H = """
+struct checks {
+	int (*check)(int block);
+};
+
+int library_get(int block);
+"""
+THIN = """#include "library/library.h"
+
+int thin_read(int block)
+{
+	return library_get(block);
+}
+EXPORT_SYMBOL_GPL(thin_read);
+"""
+LIBRARY = """#include "library.h"
+
+int library_get(int block)
+{
+	return buffer_get(block);
+}
+EXPORT_SYMBOL_GPL(library_get);
+"""
+BUFFER = """
+static void shrink(struct work_struct *work)
+{
+}
+
+int buffer_get(int block)
+{
+	static struct work_struct shrink_work;
+
+	INIT_WORK(&shrink_work, shrink);
+	return block;
+}
+EXPORT_SYMBOL_GPL(buffer_get);
+"""
+OTHER_USER = """#include "library/library.h"
+
+static int other_check(int block)
+{
+	return library_get(block);
+}
+
+static struct checks other_checks = { .check = other_check };
 """
 
 CORE_H = """
@@ -176,7 +241,7 @@ void rdma_init(struct ctrl *ctrl)
 FILES = {
     "Makefile": "VERSION = 6\nPATCHLEVEL = 1\nSUBLEVEL = 0\n",
     "include/linux/workqueue.h": "struct work_struct { int data; };\n",
-    "drivers/block/Makefile": "obj-m += own.o arg.o zero.o ptr.o bare.o cancel.o through.o plain.o\n",
+    "drivers/block/Makefile": "obj-m += own.o arg.o zero.o ptr.o bare.o cancel.o through.o plain.o ends.o last.o undo.o\n",
     # flushes its own workqueue
     "drivers/block/own.c": module("own", "flush_workqueue(x->wq);"),
     # a constant among the arguments excludes the flush, or doesn't
@@ -190,8 +255,19 @@ FILES = {
     "drivers/block/through.c": module(
         "through", "cancel_work_sync(&x->b_work);", "flush_work(&x->c_work);", before=THROUGH
     ),
+    # ends its own workqueue; ends another one with the last reference, or as soon as it is made
+    "drivers/block/ends.c": module("ends", "destroy_workqueue(x->wq);"),
+    "drivers/block/last.c": module("last", "kref_put(&x->ref, last_free);", before=LAST),
+    "drivers/block/undo.c": module("undo", "undo_queue(x);", before=UNDO),
     # no rescuer: no module of a scan
     "drivers/block/plain.c": module("plain", "flush_workqueue(x->wq);", flags="0"),
+    "drivers/md/Makefile": "obj-m += thin.o buffer.o other.o library/\n",
+    "drivers/md/thin.c": THIN,
+    "drivers/md/buffer.c": BUFFER,
+    "drivers/md/other.c": OTHER_USER,
+    "drivers/md/library/Makefile": "obj-m += library.o\n",
+    "drivers/md/library/library.h": LIBRARY_H,
+    "drivers/md/library/library.c": LIBRARY,
     "drivers/nvme/Makefile": "obj-m += core.o tcp.o rdma.o\ncore-y := main.o \\\n\t$(addprefix lib/, more.o)\n",
     "drivers/nvme/core.h": CORE_H,
     "drivers/nvme/main.c": CORE,
@@ -211,6 +287,9 @@ SURE = {
 UNSURE = {
     ("drivers/block/arg", "arg_a", "*", ("the arguments exclude it",)),
     ("drivers/block/ptr", "ptr_a", "ptr_b", ("a call by a pointer",)),
+    ("drivers/block/ends", "ends_a", "*", ("it would end its own workqueue",)),
+    ("drivers/block/undo", "undo_a", "*", ("it was made in the same function",)),
+    ("drivers/block/last", "last_a", "*", ("the last reference is dropped on the way",)),
     ("drivers/nvme/core", "rdma_work", "rdma_reset", ("a call by a pointer",)),
 }
 

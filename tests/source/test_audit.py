@@ -200,6 +200,30 @@ def test_cited_for_other_items_with_the_same_targets(audit):
     assert not those(said, "cited for other items")
 
 
+def test_a_line_that_is_gone_while_others_cite_its_site(audit):
+    """With --each-item it is left for the item without a line, unless a line says that this one doesn't wait there."""
+    items = "item a  # wr_first_work\nitem b  # wr_first_work\nitem read  # wr_read_work\n"
+    site = "wrapper.c wr_first_work wr_wait(&w->read)"
+    both = "flush a read  # done wrapper.c:16 wr_first_work\nflush b read  # done wrapper.c:16 wr_first_work\n"
+    rest = "# no item: wrapper.c wr_second_work: a test\n# no item: wrapper.c wr_written_work: a test\n"
+    gone = both.splitlines(True)[0]
+    for text, status in (
+        (both, 0),
+        (gone, 1),
+        (gone + f"# no wait of b: {site}: a test\n", 0),
+        # another item; one that has a line; another call
+        (gone + f"# no wait of read: {site}: a test\n", 1),
+        (both + f"# no wait of b: {site}: a test\n", 1),
+        (gone + "# no wait of b: wrapper.c wr_first_work wr_wait(&w->written): a test\n", 1),
+        (gone + f"# no wait of b {site}: a test\n", 1),
+    ):
+        assert audit(items + rest + text, "wrapper.c", tree=C_FILES, words=("--each-item",))[1] == status, text
+    said, status = audit(items + rest + gone, "wrapper.c", tree=C_FILES)
+    assert status == 0 and those(said, "cited for other items")
+    said, _ = audit(items + rest + gone, "wrapper.c", tree=C_FILES, words=("--each-item",))
+    assert f"  # no wait of b: {site}: " in said and "1 cited site left for other items." in " ".join(said)
+
+
 def test_a_dismissed_call_counts_though_its_function_was_reached_before(audit):
     """tw_work calls tw_wait itself (twice.c:13), and by tw_helper (twice.c:8): only the second call is dismissed."""
     items = "item tw_work\nitem tw_other\nflush tw_work tw_other  # twice.c:4 tw_wait\n"

@@ -248,6 +248,24 @@ def test_a_dismissal_whose_call_is_gone_is_told(trees, wqsource, tmp_path):
     assert ran.status == 1
 
 
+def test_what_is_not_looked_into_is_not_compared(trees, wqsource, tmp_path):
+    """`# not through:` holds in both trees; a function that is gone is told."""
+    path = trees[1] / "callback.c"
+    path.write_text(path.read_text().replace("\tflush_work(", "\tsubmit_bio_wait(c->bio);\n\tflush_work(", 1))
+    path = trees[1] / "pool.c"
+    path.write_text(path.read_text().replace("pool_wait_work", "pool_late_work"))
+    declaration = tmp_path / "x.wq"
+    declaration.write_text(DECLARATION)
+    ran = wqsource("drift", "--decl", declaration, "--old", trees[0], "--new", trees[1])
+    assert "new wait: callback.c:4 cb_sleeps: submit_bio_wait(c->bio)" in ran.out
+    closed = "# not through: callback.c cb_sleeps: a test\n# not through: pool.c pool_wait_work: a test\n"
+    declaration.write_text(DECLARATION + closed)
+    ran = wqsource("drift", "--decl", declaration, "--old", trees[0], "--new", trees[1])
+    assert "new wait:" not in ran.out and "wait gone:" not in ran.out
+    number = DECLARATION.count("\n") + 2
+    assert f"{declaration}:{number}: pool_wait_work is gone" in re.sub(r"\n +", " ", ran.out)
+
+
 def test_a_line_in_no_function_that_was_parsed(tmp_path, read):
     """A macro makes the function in the new tree: the line is there, and its function isn't known."""
     for name, head in (("old", "static void hd_work(struct work_struct *ws)"), ("new", "HD_CALLBACK(hd_work)[]=")):

@@ -2,6 +2,8 @@
 
 import pytest
 
+from conftest import C_FILES
+
 
 def test_callback_parameter(drafted):
     found = drafted("callback.c")
@@ -112,6 +114,33 @@ def test_the_release_of_another_object(drafted):
 def test_a_c_file_that_is_included(drafted):
     """whole.c sees the static function of part.c; twin_a.c, which doesn't include it, would not."""
     assert drafted("whole.c", "part.c").flushes == {("flush whole_work whole_end", "part.c:4")}
+
+
+def test_a_function_in_a_variable_outside_functions(drafted, wqsource, tmp_path):
+    """hk_hook(h) and (*hk_other)(h) call what was put there; into hk_empty nothing was."""
+    assert drafted("hook.c").open == {
+        ("hook.c:8", "wait_for_completion(&h->done)"): ({"hk_work"}, {"hk_end"}),
+        ("hook.c:13", "flush_work(&h->end_work)"): ({"hk_work"}, {"hk_end"}),
+    }
+    said = wqsource("draft", "--tree", C_FILES, "--cache", tmp_path, "hook.c").out
+    assert "for no function of the files is known to stand there: *hk_empty\n" in said
+
+
+def test_items_that_are_handed_on(read, wqsource, tmp_path):
+    """The callers name what is queued, and some of them to which workqueue. What nobody calls queues nothing."""
+    program = read(C_FILES, ["queuers.c"])
+    found = {
+        (item.function.name, program.workqueues.name(made), queueing.place.line, queueing.is_one_of_several)
+        for item in program.items.items.values()
+        for queueing in item.queueings
+        for made in queueing.workqueues
+    }
+    assert found == {
+        ("qu_first", "qu", 21, False),
+        ("qu_second", "other", 28, False),
+        ("qu_third", "qu", 38, False),
+    }
+    assert program.items.unknown_queueings == []
 
 
 def test_a_wait_in_a_helper(drafted):

@@ -223,6 +223,10 @@ def folder(tmp_path):
         (("audit", "--decl", "none.wq", "rdisk.c"), "none.wq: it declares no item: is this the right file?"),
         (("audit", "--decl", "rdisk.wq", "rdisk.wq"), "rdisk.wq: no C file: its name ends with none of .c .h .S"),
         (("audit", "--decl", "colon.wq", "rdisk.c"), "colon.wq:8: `# no wait` without its colon: write `# no wait: ..`"),
+        (("draft", "--assign", "no/new.assign", "rdisk.c"), "no/new.assign: no is no folder"),
+        (("draft", "--cache", "rdisk.c", "rdisk.c"), "not a directory"),
+        (("audit", "--decl", "nosuch.wq", "rdisk.c"), "nosuch.wq: no such file or directory"),
+        (("audit", "--decl", "rdisk.wq", "--tree", "sub", RDISK / "rdisk.c"), "rdisk.c: not below sub: is it of another"),
         (("drift", "--decl", "rdisk.c", "--old", ".", "--new", ".", "rdisk.c"), "rdisk.c: it declares no item"),
         (("drift", "--decl", "rdisk.wq", "--old", ".", "--new", ".", "no*.c"), "no*.c: matches no file in ."),
     ],
@@ -239,6 +243,22 @@ def test_a_former_draft_is_overwritten(wqsource, folder):
     for words in (("--assign", "new.assign"), ("--assign", "new.assign"), ("--force", "--assign", "mine.assign")):
         assert wqsource("draft", *words, "rdisk.c", cwd=folder).status == 0
     assert lines_of(folder / "mine.assign") == lines_of(folder / "new.assign") != ["wq 0 send"]
+
+
+def test_a_draft_that_was_changed_by_hand(wqsource, folder):
+    """It isn't overwritten, unless --force says so; nor is one of which nothing says whether it was changed."""
+    out = folder / "new.assign"
+    assert wqsource("draft", "--assign", out, "rdisk.c", cwd=folder).status == 0
+    drafted = out.read_text()
+    without_sum = "".join(line for line in drafted.splitlines(True) if not line.startswith("# drafted: "))
+    assert without_sum != drafted
+    for changed in (drafted.replace("wq 0", "wq 1"), drafted + "# read\n", without_sum):
+        out.write_text(changed)
+        ran = wqsource("draft", "--assign", out, "rdisk.c", cwd=folder)
+        assert ran.status == 3 and "a former draft that was changed since; `--force` overwrites it" in ran.err
+        assert ran.out == "" and out.read_text() == changed
+    assert wqsource("draft", "--force", "--assign", out, "rdisk.c", cwd=folder).status == 0
+    assert out.read_text() == drafted
 
 
 # The same text

@@ -36,9 +36,18 @@ READ = {
         # the last reference isn't dropped there
         ("recv_work", "*", "nbd_dev_remove"): False,
     },
+    "drivers/nvme/target/nvmet": {
+        ("nvmet_fc_delete_assoc_work", "*", "nvmet_fc_delete_target_queue"): True,
+        # the workqueue was just made
+        ("nvmet_fc_handle_ls_rqst_work", "*", "nvmet_fc_alloc_target_queue"): False,
+    },
+    "drivers/net/ethernet/amd/xgbe/amd-xgbe": {
+        # the interrupt is masked till an_work has run
+        ("xgbe_an_irq_work", "xgbe_an_state_machine", "xgbe_an_irq_work"): False,
+    },
 }
-# What can't happen and is told all the same. A constant among the arguments excludes the other one.
-FALSE_AND_TOLD = {("recv_work", "*", "nbd_dev_remove")}
+# What can't happen and is told all the same: no state of a device is known.
+FALSE_AND_TOLD = {("xgbe_an_irq_work", "xgbe_an_state_machine", "xgbe_an_irq_work")}
 
 
 @pytest.fixture(scope="module")

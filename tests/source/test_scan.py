@@ -10,7 +10,7 @@ from csource import extract, progress, scan, token_extract, tree_index
 from csource.kbuild import Kbuild
 from csource.survey import Survey, SurveyError
 
-COUNTS = "# 10 calls make a workqueue: 8 with WQ_MEM_RECLAIM, 0 legacy, 2 without; 8 modules."
+COUNTS = "# 15 calls make a workqueue: 11 with WQ_MEM_RECLAIM, 0 legacy, 4 without; 11 modules."
 
 
 @pytest.fixture(scope="module")
@@ -45,6 +45,9 @@ def test_modules(results):
         "drivers/block/bare",
         "drivers/block/cancel",
         "drivers/block/through",
+        "drivers/block/ends",
+        "drivers/block/last",
+        "drivers/block/undo",
         "drivers/nvme/core",
     }
 
@@ -62,7 +65,7 @@ def test_what_depends(results):
 def test_workqueues(results):
     """Those with a rescuer, with their items."""
     found = {(one.name, one.items) for result in results.values() for one in result.workqueues}
-    others = {(name, 2) for name in ("own", "arg", "zero", "ptr", "bare", "cancel")}
+    others = {(name, 2) for name in ("own", "arg", "zero", "ptr", "bare", "cancel", "ends", "last", "undo")}
     assert found == others | {("through", 3), ("ctrl-wq", 3)}
 
 
@@ -86,7 +89,22 @@ def test_the_files_of_a_module(wqsource, tree, tmp_path):
     for name in ("./drivers/nvme/core", "drivers//nvme/core/", tree / "drivers/nvme/core"):
         assert wqsource("draft", "--module", name, "--tree", tree, "--cache", tmp_path) == ran
     ran = wqsource("draft", "--module", "drivers/nvme/nothing", "--tree", tree, "--cache", tmp_path)
-    assert ran.status == 3 and "no module of" in ran.err
+    assert ran.status == 3 and "no module of" in ran.err and "did you mean" not in ran.err
+
+
+@pytest.mark.parametrize("name", ["drivers/nvme/cores", "drivers/nvm/core", "core", "drivers/core.ko"])
+def test_the_nearest_names(wqsource, scanned, tree, tmp_path, name):
+    ran = wqsource("draft", "--module", name, "--tree", tree, "--cache", tmp_path)
+    assert ran.status == 3 and ran.err.endswith(": did you mean drivers/nvme/core?\n")
+    ran = scanned("--module", name)
+    assert ran.status == 3 and ran.err.endswith("with a rescuer: did you mean drivers/nvme/core?\n")
+
+
+def test_a_library(wqsource, tree, tmp_path):
+    """What a module calls is its own, through a library without work items, too; who else calls that isn't."""
+    ran = wqsource("draft", "--module", "drivers/md/thin", "--tree", tree, "--cache", tmp_path)
+    files = re.findall(r"^# files: (.*)", ran.out, re.M)
+    assert files == ["drivers/md/thin.c drivers/md/library/library.c drivers/md/buffer.c drivers/md/library/library.h"]
 
 
 def test_what_is_printed(scanned):
@@ -98,7 +116,7 @@ def test_what_is_printed(scanned):
     assert "drivers/block/own  own  own_a -> all of it  flushwq drivers/block/own.c:" in ran.out
     assert "drivers/block/bare  bare  bare_a -> bare_c on slow  flush drivers/block/bare.c:" in ran.out
     assert (
-        "# depends: 3 flush and flushwq lines in 3 modules (--unsure), 0 others in 0 modules (--unsure=all)" in ran.out
+        "# depends: 6 flush and flushwq lines in 6 modules (--unsure), 0 others in 0 modules (--unsure=all)" in ran.out
     )
     assert "not sure" not in ran.out and "not sure: a call by a pointer" in scanned("--unsure").out
 
@@ -117,7 +135,7 @@ def test_verdicts(scanned, tmp_path, tree):
     assert scanned("--verdicts", verdicts, "--write").status == 1
     text = verdicts.read_text()
     assert (
-        len(re.findall(r"^wait ", text, re.M)) == 8 and len(re.findall(r"^    unread [0-9a-f]{12}$", text, re.M)) == 8
+        len(re.findall(r"^wait ", text, re.M)) == 11 and len(re.findall(r"^    unread [0-9a-f]{12}$", text, re.M)) == 11
     )
     assert "wait own own own_a flushwq * | drivers/block/own.c own_a flush_workqueue(x->wq)\n" in text
     verdicts.write_text("# read by hand\n" + re.sub(r"unread ([0-9a-f]+)", r"can't happen \1: a test", text))
