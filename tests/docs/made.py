@@ -4,7 +4,8 @@
 Usage: tests/docs/made.py [--check]
 
 Without an argument these are written again: in crates/wq_explain the explanations (src/table.rt, words.rt) and the lists of what
-is explained (specs/Explaining.antt); in crates/wqplan what help says of commands (src/help.rt) and of statuses (src/statuses.rt); in
+is explained (specs/Explaining.antt); in crates/wqplan the commands with their
+arguments (src/commands.rt, specs/Commands.antt), and what help says of statuses (src/statuses.rt); in
 crates/wq_findings the words and forms of directives (src/guess.rt, declaration.rt); the rows of the tables of docs/FORMAT.md that have them, its list
 of commands and its sentences that list directives and faults; of man/wqplan.5 DECLARATIONS, the lists of REFUSALS and OTHER
 ANSWERS, and the limits of docs/FORMAT.md in LIMITS; of man/wqplan.1 SYNOPSIS, COMMANDS, the directives, and what ends with 0 and 1;
@@ -419,15 +420,137 @@ def completion(numbers, faults, words, directives, commands):
     return parts
 
 
-def help_texts(commands):
-    """crates/wqplan/src/help.rt with what it says of each command."""
-    parts = Parts("crates/wqplan/src/help.rt")
-    made = ""
-    for row in commands:
-        name, text = f"pub(crate) const {row['command'].upper()}: &str =", f'"{row["help"]}";'
-        is_short = len(name) + 1 + len(text) <= RUST_WIDTH
-        made += f"/// What `{row['command']}` does.\n{name}{' ' if is_short else chr(10) + ' ' * 4}{text}\n\n"
-    parts.replace(r"^/// What `plan` (?:.*\n)*?(?=/// What FILE is\.)", made)
+# The forms of the arguments of commands, as variants of `FileForm` and `TailForm` in crates/wqplan/src/command_line.rt.
+FILE_FORMS = {
+    "": "Nothing",
+    "[FILE]": "Input",
+    "DECL": "One",
+    "DECL CERT": "Two Certificate",
+    "DECL ASSIGN": "Two Assignment",
+    "DECL [ASSIGN]": "OneOrTwo",
+    "DECL ASSIGN RUN": "Three",
+}
+TAIL_FORMS = {"": "Nothing", "[NAME..]": "Names", "[HELPERS]": "Helpers", "[CODE]": "Word"}
+
+
+def form_of(command):
+    """The form of the files of a command, and of what stands behind them."""
+    words = command["arguments"].split()
+    tail = words.pop() if words[-1:] and words[-1] in TAIL_FORMS else ""
+    files = " ".join(words)
+    if files not in FILE_FORMS:
+        sys.exit(f"commands.txt: {command['command']} has arguments of no form that FILE_FORMS in tests/docs/made.py knows")
+    return FILE_FORMS[files], TAIL_FORMS[tail]
+
+
+def verb(command):
+    """The variant of `Verb` for a command."""
+    return command["command"].capitalize()
+
+
+def arms(values):
+    """The arms of a match on `Verb`, for pairs of a variant and a value: one arm for all that have the same value."""
+    alike = {}
+    for name, value in values:
+        alike.setdefault(value, []).append(f"Verb::{name}")
+    made, indent = "", " " * 12
+    for value, names in alike.items():
+        pattern = " | ".join(names)
+        if len(f"{indent}{pattern} =>") > RUST_WIDTH - 2:
+            pattern = f"\n{indent}| ".join(names)
+        line = f"{pattern} => {value},"
+        if len(indent + line.splitlines()[-1]) > RUST_WIDTH:
+            line = f"{pattern} => {{\n{indent}    {value}\n{indent}}}"
+        made += f"{indent}{line}\n"
+    return made
+
+
+def method(name, doc, result, clause, values, lifetime=""):
+    """A method of `Verb` that is a match on it."""
+    head = f"    /// {doc}\n    pub(crate) fn {name}{lifetime}(self) -> {result}"
+    head += f"\n        ensures {{ {clause} }}\n    {{\n" if clause else " {\n"
+    return f"{head}        match self {{\n{arms(values)}        }}\n    }}\n"
+
+
+def commands_source(commands):
+    """crates/wqplan/src/commands.rt: the commands, and which arguments each has."""
+    verbs = [verb(row) for row in commands]
+    forms = [(verb(row), *form_of(row)) for row in commands]
+
+    def of_files(form):
+        word, _, second = form.partition(" ")
+        return f"FileForm::{word}(Second::{second})" if second else f"FileForm::{word}"
+
+    variants = "".join(f"    {name},\n" for name in verbs)
+    listed_verbs = "".join(f"    Verb::{name},\n" for name in verbs)
+    methods = [
+        method("name", "The word by which it is called.", "&'a str", "result.now ≡ command_name self",
+               [(verb(row), f'"{row["command"]}"') for row in commands], "<'a>"),
+        """    /// The command that is called by this word.
+    pub(crate) fn named(name: &str) -> Option<Verb>
+        ensures { result ≡ verb_named name.now }
+    {
+        for verb in VERBS {
+            if verb.name() == name {
+                return Some(verb);
+            }
+        }
+        None
+    }
+""",
+        method("files", "Which files it has.", "FileForm", "result ≡ file_form self",
+               [(name, of_files(files)) for name, files, _ in forms]),
+        method("tail", "What may stand behind its files.", "TailForm", "result ≡ tail_form self",
+               [(name, f"TailForm::{tail}") for name, _, tail in forms]),
+        method("about", "What help says of it.", "&'a str", "", [(verb(row), f'"{row["help"]}"') for row in commands], "<'a>"),
+        method("assignment", "What help says of its assignment.", "&'a str", "",
+               [(verb(row), f'"{row["assign"]}"' if "assign" in row else "help::ASSIGN") for row in commands], "<'a>"),
+        method("statuses", "What long help says of its exit statuses.", "&'a str", "",
+               [(verb(row), f"statuses::{row['command'].upper()}") for row in commands], "<'a>"),
+    ]
+    made = f"""/// A command.
+#[derive(Clone, Copy, Debug, PartialEq, Eq)]
+pub(crate) enum Verb {{
+{variants}}}
+
+/// All commands, in the order in which help lists them.
+pub(crate) const VERBS: [Verb; {len(verbs)}] = [
+{listed_verbs}];
+
+impl Verb {{
+""" + "\n".join(methods) + "}\n"
+    parts = Parts("crates/wqplan/src/commands.rt")
+    parts.replace(r"^/// A command\.\n(?:.*\n)*", made)
+    return parts
+
+
+def commands_specs(commands):
+    """crates/wqplan/specs/Commands.antt: the same as definitions."""
+    verbs = [verb(row) for row in commands]
+    text, line = "", "verbs ="
+    for name in [*verbs, "[]"]:
+        link = f" ∷ {name}" if line.strip() not in ("verbs =", "") else f" {name}"
+        if len(line + link) > SPECS_WIDTH:
+            text, line = f"{text}{line}\n", "   "
+        line += link
+    blocks = [f"abbrev pub verbs : List Verb\n{text}{line}\n"]
+    for name, doc, result, values in (
+            ("command_name", "the word by which a command is called", "Text", [f'codes "{row["command"]}"' for row in commands]),
+            ("file_form", "which files it has", "FileForm", [f"files.{form_of(row)[0]}" for row in commands]),
+            ("tail_form", "what may stand behind its files", "TailForm", [f"tails.{form_of(row)[1]}" for row in commands])):
+        lines = "".join(f"{name} {of} = {value}\n" for of, value in zip(verbs, values))
+        blocks.append(f"-- {doc}\nabbrev pub {name} : Verb → {result}\n{lines}")
+    blocks.insert(2, "-- the command that is called by this word\nabbrev pub verb_named : Text → Option Verb\n"
+                     "verb_named name = find (λ verb. bytes_eq (command_name verb) name) verbs\n")
+    parts = Parts("crates/wqplan/specs/Commands.antt")
+    head = "use Rattle.wqplan.specs.declared.commands.Verb.TheVariants."
+    uses, line = "", f"{head}{{"
+    for name in verbs:
+        if len(f"{line}, {name}}}") > SPECS_WIDTH + 5:
+            uses, line = f"{uses}{line}}}\n", f"{head}{{"
+        line += name if line.endswith("{") else f", {name}"
+    parts.replace(r"(?:^use Rattle\.wqplan\.specs\.declared\.commands\.Verb\.TheVariants\..*\n)+", f"{uses}{line}}}\n")
+    parts.replace(r"(?<=^-- all commands, in their order\n)(?:.*\n)*", "\n".join(blocks))
     return parts
 
 
@@ -497,7 +620,8 @@ def main():
         explanations("crates/wq_explain/src/table.rt", ascending + faults),
         explanations("crates/wq_explain/src/words.rt", words + directives),
         explained(ascending, faults, words + directives),
-        help_texts(commands),
+        commands_source(commands),
+        commands_specs(commands),
         statuses(commands, faults),
         guesses(directives),
         findings(directives),

@@ -22,7 +22,7 @@ cp -- "$repository/docs/tables/directives.txt" "$clone/docs/tables"
 while IFS=: read -r crate _; do
     mkdir -p -- "$clone/crates/$crate"/{src,specs,proofs,must-fail,out}
     echo "$crate" | tee -- "$clone/crates/$crate"/{src/lib.rt,specs/Lib.antt} >"$clone/crates/$crate/proofs/Lib.antt"
-done <"$clone/crates.txt"
+done < <(grep -v "^#" "$clone/crates.txt")
 rm -r -- "$clone/crates/wq_text/proofs"
 mv -- "$clone/crates/wqplan/src/lib.rt" "$clone/crates/wqplan/src/main.rt"
 

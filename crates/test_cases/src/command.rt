@@ -18,18 +18,18 @@ use crate::command::hangs::HANGS;
 use crate::command::plans::PLANS;
 use crate::command::repairs::REPAIRS;
 use crate::command::replays::REPLAYS;
-use std::alloc::{AllocError, Allocator};
+use std::alloc::Allocator;
 use std::io::{Read, Write};
-use wq_changes::Repairing;
+use wq_changes::RepairVoice;
 use wq_circles::CirclesCommand;
 use wq_commands::{
-    CheckCommand, DeadlockCommand, End, Fault, Metered, Outcome, PlanCommand, ReplayCommand, Voice,
-    carry_out, end_of,
+    CheckCommand, DeadlockCommand, End, Fault, Metered, PlanCommand, ReplayCommand, Voice,
+    carry_out,
 };
 use wq_dot::DotCommand;
 use wq_hang_command::HangCommand;
 use wq_repair_command::RepairCommand;
-use wq_voice::{Beside, CertificateKind, Diagnosing};
+use wq_voice::FileNames;
 
 /// The seed of the hashes of names. No answer depends on it.
 pub const SEED: u64 = 0;
@@ -124,42 +124,17 @@ pub struct Readers<R> {
 }
 
 /// What stands for the names of the files of a declaration, of the second text and of a run.
-const NAMES: (&str, &str, &str) = ("d", "c", "r");
+pub(crate) const NAMES: FileNames<'static> = FileNames {
+    declaration: "d",
+    second: "c",
+    run: "r",
+};
 
 /// The items that may move, where only `a` may.
 const ONE: &[&str] = &["a"];
 
 /// The items that may move, where all may.
 const ALL: &[&str] = &[];
-
-/// What is said of the texts of a command, if it isn't `repair`.
-fn voice(command: PlainCommand) -> Diagnosing<'static> {
-    let (declaration, certificate, run) = NAMES;
-    let kind = match command {
-        PlainCommand::Check => CertificateKind::Answer,
-        _ => CertificateKind::Assignment,
-    };
-    let beside = match command {
-        PlainCommand::Plan => Beside::Circle,
-        PlainCommand::Deadlock | PlainCommand::Hang => Beside::Verdict,
-        PlainCommand::Replay => Beside::RunEnd,
-        PlainCommand::Circles => Beside::Components,
-        PlainCommand::OwnCircles => Beside::OwnComponents,
-        PlainCommand::Check
-        | PlainCommand::Repair
-        | PlainCommand::RepairOne
-        | PlainCommand::Dot
-        | PlainCommand::OwnDot => Beside::Other,
-    };
-    Diagnosing {
-        seed: SEED,
-        declaration,
-        kind,
-        certificate,
-        run,
-        beside,
-    }
-}
 
 /// Carries out a command over these readers, as the program does.
 fn carry<C, V, A, R, W, E>(
@@ -171,8 +146,8 @@ fn carry<C, V, A, R, W, E>(
     teller: &mut Metered<E>,
 ) -> Result<End, Fault>
 where
-    C: wq_commands::Command<A, End = Outcome, Stop = AllocError>,
-    V: Voice<A, Outcome>,
+    C: wq_commands::Command<A>,
+    V: Voice<C, A>,
     A: Allocator + Copy,
     R: Read,
     W: Write,
@@ -183,7 +158,9 @@ where
         second,
         third,
     } = readers;
-    end_of(carry_out(alloc, command, voice, first, second, third, writer, teller))
+    carry_out(
+        alloc, SEED, command, voice, first, second, third, writer, teller,
+    )
 }
 
 /// Repairs, where these items may move.
@@ -194,22 +171,9 @@ fn repair<A: Allocator + Copy, R: Read, W: Write, E: Write>(
     writer: &mut Metered<W>,
     teller: &mut Metered<E>,
 ) -> Result<End, Fault> {
-    let seed = SEED;
-    let (declaration, assignment, _) = NAMES;
-    let voice = Repairing {
-        seed,
-        declaration,
-        assignment,
-        names,
-    };
-    carry(
-        alloc,
-        &RepairCommand { seed, names },
-        &voice,
-        readers,
-        writer,
-        teller,
-    )
+    let command = RepairCommand { names };
+    let voice = RepairVoice { files: NAMES };
+    carry(alloc, &command, &voice, readers, writer, teller)
 }
 
 /// Performs a command over as many of these readers as it has texts, and says on `teller` what there is to be said.
@@ -220,45 +184,23 @@ pub fn perform<A: Allocator + Copy, R: Read, W: Write, E: Write>(
     writer: &mut Metered<W>,
     teller: &mut Metered<E>,
 ) -> Result<End, Fault> {
-    let seed = SEED;
-    let voice = &voice(command);
+    let voice = &NAMES;
     match command {
-        PlainCommand::Plan => carry(alloc, &PlanCommand { seed }, voice, readers, writer, teller),
-        PlainCommand::Check => carry(
-            alloc,
-            &CheckCommand { seed },
-            voice,
-            readers,
-            writer,
-            teller,
-        ),
-        PlainCommand::Deadlock => carry(
-            alloc,
-            &DeadlockCommand { seed },
-            voice,
-            readers,
-            writer,
-            teller,
-        ),
-        PlainCommand::Hang => carry(alloc, &HangCommand { seed }, voice, readers, writer, teller),
+        PlainCommand::Plan => carry(alloc, &PlanCommand, voice, readers, writer, teller),
+        PlainCommand::Check => carry(alloc, &CheckCommand, voice, readers, writer, teller),
+        PlainCommand::Deadlock => carry(alloc, &DeadlockCommand, voice, readers, writer, teller),
+        PlainCommand::Hang => carry(alloc, &HangCommand, voice, readers, writer, teller),
         PlainCommand::Repair => repair(alloc, ALL, readers, writer, teller),
         PlainCommand::RepairOne => repair(alloc, ONE, readers, writer, teller),
-        PlainCommand::Replay => carry(
-            alloc,
-            &ReplayCommand { seed },
-            voice,
-            readers,
-            writer,
-            teller,
-        ),
+        PlainCommand::Replay => carry(alloc, &ReplayCommand, voice, readers, writer, teller),
         PlainCommand::Circles | PlainCommand::OwnCircles => {
             let assigned = matches!(command, PlainCommand::Circles);
-            let command = CirclesCommand { seed, assigned };
+            let command = CirclesCommand { assigned };
             carry(alloc, &command, voice, readers, writer, teller)
         }
         PlainCommand::Dot | PlainCommand::OwnDot => {
             let assigned = matches!(command, PlainCommand::Dot);
-            let command = DotCommand { seed, assigned };
+            let command = DotCommand { assigned };
             carry(alloc, &command, voice, readers, writer, teller)
         }
     }

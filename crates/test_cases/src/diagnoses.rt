@@ -3,14 +3,14 @@
 //! Each was written by hand from "Diagnoses" in docs/FORMAT.md; tests/cli/diagnoses has many more. A call takes the
 //! time of reading the texts and of seeking the fault in them.
 
-use crate::command::SEED;
+use crate::command::{NAMES, SEED};
 use crate::declarations::{PLAN_OF_TWO, TWO};
 use std::alloc::{AllocError, Allocator};
 use wq_commands::{
-    CheckCommand, Command, DeadlockCommand, Outcome, PlanCommand, ReplayCommand, Texts, Voice,
+    CheckCommand, Command, DeadlockCommand, PlanCommand, ReplayCommand, Stop, Texts, Voice,
+    read_declaration,
 };
 use wq_diagnosis::{Source, of_failed, of_no_item, of_too_many};
-use wq_voice::{Beside, CertificateKind, Diagnosing};
 
 /// The assignment that a run is made under.
 const ONE_WORKQUEUE: &str = "wq 0 send log\n";
@@ -339,27 +339,37 @@ impl Saying {
 }
 
 /// What is said beside the answer of a command to these texts.
-fn say_of<C, A>(
+fn say_of<C, V, A>(
     alloc: A,
     command: &C,
-    kind: CertificateKind,
-    beside: Beside,
+    voice: &V,
     texts: &Texts<A>,
 ) -> Result<Option<Vec<u8, A>>, AllocError>
 where
-    C: Command<A, End = Outcome, Stop = AllocError>,
+    C: Command<A>,
+    V: Voice<C, A>,
     A: Allocator + Copy,
 {
-    let (outcome, _) = command.answer(alloc, texts)?;
-    let voice = Diagnosing {
-        seed: SEED,
-        declaration: "d",
-        kind,
-        certificate: "c",
-        run: "r",
-        beside,
-    };
-    voice.say(alloc, texts, &outcome)
+    match read_declaration(alloc, SEED, texts.first()) {
+        Ok(declared) => {
+            let answered = command.answer(alloc, &declared, texts)?;
+            voice.say(alloc, SEED, command, &declared, texts, &answered.found)
+        }
+        Err(Stop::Refused { code, line }) => voice.refuse(alloc, SEED, texts, code, line),
+        Err(Stop::OutOfMemory) => Err(AllocError),
+    }
+}
+
+/// What is said of a declaration without an item; nothing where it is refused.
+fn say_no_item<A: Allocator + Copy>(
+    alloc: A,
+    declaration: Source<'_>,
+) -> Result<Option<Vec<u8, A>>, AllocError> {
+    match read_declaration(alloc, SEED, declaration.text) {
+        Ok(declared) => of_no_item(alloc, &declared, declaration.file),
+        Err(Stop::Refused { .. }) => Ok(None),
+        Err(Stop::OutOfMemory) => Err(AllocError),
+    }
 }
 
 /// A copy of these bytes.
@@ -386,42 +396,26 @@ fn run_texts<A: Allocator + Copy>(alloc: A, case: &Said) -> Result<Texts<A>, All
 
 /// Asks what is said. Nothing where nothing is.
 pub fn say<A: Allocator + Copy>(alloc: A, case: &Said) -> Result<Option<Vec<u8, A>>, AllocError> {
-    let seed = SEED;
-    let answer = CertificateKind::Answer;
-    let assignment = CertificateKind::Assignment;
     let text = case.declaration.as_bytes();
     let declaration = Source { file: "d", text };
     match case.saying {
         Saying::OfPlan => {
             let texts = two_texts(alloc, case)?;
-            say_of(
-                alloc,
-                &PlanCommand { seed },
-                assignment,
-                Beside::Circle,
-                &texts,
-            )
+            say_of(alloc, &PlanCommand, &NAMES, &texts)
         }
         Saying::OfCheck => {
             let texts = two_texts(alloc, case)?;
-            say_of(alloc, &CheckCommand { seed }, answer, Beside::Other, &texts)
+            say_of(alloc, &CheckCommand, &NAMES, &texts)
         }
         Saying::OfDeadlock => {
             let texts = two_texts(alloc, case)?;
-            let command = DeadlockCommand { seed };
-            say_of(alloc, &command, assignment, Beside::Verdict, &texts)
+            say_of(alloc, &DeadlockCommand, &NAMES, &texts)
         }
         Saying::OfReplay => {
             let texts = run_texts(alloc, case)?;
-            say_of(
-                alloc,
-                &ReplayCommand { seed },
-                assignment,
-                Beside::RunEnd,
-                &texts,
-            )
+            say_of(alloc, &ReplayCommand, &NAMES, &texts)
         }
-        Saying::OfNoItem => of_no_item(alloc, SEED, declaration),
+        Saying::OfNoItem => say_no_item(alloc, declaration),
         Saying::OfTooMany => Ok(Some(of_too_many(alloc, declaration)?)),
         Saying::OfFailed => {
             let file = case.certificate;

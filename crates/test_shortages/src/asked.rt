@@ -9,8 +9,8 @@ use std::thread::Threads;
 use test_cases::{Case, PlainCommand, RunCase, SEED, perform};
 use wq_commands::{End, Fault};
 use wq_explain::{Explained, explain_cmd};
-use wq_run::{CommandFault, carry_out_run, end_of_run};
-use wq_voice::{Beside, Diagnosing};
+use wq_run::{CommandFault, RunCommand, carry_out_run, end_of_run};
+use wq_voice::FileNames;
 
 /// What is asked for.
 #[derive(Clone, Copy)]
@@ -105,12 +105,17 @@ fn run<R: Threads + Wait + Sync, A: Allocator + Copy + Send + Sync>(
         writer,
         teller,
     } = devices;
-    let voice = Diagnosing::one(SEED, "d", Beside::Other);
+    let command = RunCommand { helpers: 2 };
+    let voice = FileNames {
+        declaration: "d",
+        second: "",
+        run: "",
+    };
     let ended = carry_out_run(
         rt,
         alloc,
         SEED,
-        2,
+        &command,
         &voice,
         &mut readers.first,
         writer,

@@ -3,4 +3,3 @@ pub mod Lanes
 pub mod Each
 pub mod Exact
 pub mod Circled
-pub mod Refused

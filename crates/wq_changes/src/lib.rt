@@ -3,16 +3,17 @@
 //!
 //! What the program relies on: exactly the changes are said, each once, with the workqueues that it is about; and the
 //! waits that are said of a change are those of a walk whose run is a shortest of all that end stuck without it. The
-//! form is that of "Changes" in docs/FORMAT.md. A call takes the time and the memory of reading the texts again, of a
-//! repair, and of a search for a shortest run for each of the first changes.
+//! changes are those of the repair that the command found, and printed: none is searched for again. The form is that of
+//! "Changes" in docs/FORMAT.md. A call takes the time and the memory of going through the texts for lines and names,
+//! and of a search for a shortest run for each of the first changes.
 #![tactic(auto)]
 
+mod answer;
 mod change;
 mod circle;
 mod few;
 pub mod laws;
 mod places;
-mod reading;
 mod telling;
 mod unknown;
 mod voice;
@@ -20,4 +21,4 @@ mod without;
 mod words;
 
 pub use change::Change;
-pub use voice::Repairing;
+pub use voice::RepairVoice;

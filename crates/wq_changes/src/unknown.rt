@@ -1,15 +1,14 @@
 //! What is said of a NAME that is that of no item.
 //!
-//! It takes the time of reading the declaration, and of finding the names; and for the first that isn't found, of
-//! searching the declaration for one that is like it.
+//! It takes the time of finding the names; and for the first that isn't found, of searching the text of the declaration
+//! for one that is like it.
 
 ghost use Rattle.std.specs.Prelude.{◌≡◌, ◌++◌, ℕ, Some, IfOk, OnOk, IfSome, map, option_map};
 ghost use Rattle.wq_items.specs.Table.{item_named};
-ghost use Rattle.wq_changes.specs.Voice.{SaysFirstUnknown, SaysNoItem, SaysUnknown, first_unknown, meant_line};
-ghost use Rattle.wq_changes.specs.Voice.{unknown_line};
+ghost use Rattle.wq_changes.specs.Voice.{SaysFirstUnknown, SaysNoItem, first_unknown, meant_line, unknown_line};
 
 use std::alloc::{AllocError, Allocator};
-use wq_commands::{Stop, read_declaration};
+use wq_commands::Declaration;
 use wq_diagnosis::{Source, lines_of, put_line};
 use wq_findings::nearest_item;
 use wq_items::ItemTable;
@@ -109,39 +108,21 @@ fn of_name<A: Allocator + Copy>(
     }
 }
 
-/// What is said of the first name that is that of no item. Nothing if there is none.
-fn of_table<A: Allocator + Copy>(
+/// What is said of the first of these names that is that of no declared item. Nothing if there is none.
+///
+/// The only error is out of memory (20).
+pub(crate) fn say_unknown<A: Allocator + Copy>(
     alloc: A,
     declaration: Source<'_>,
-    table: &ItemTable<'_, A>,
+    declared: &Declaration<'_, A>,
     names: &[&str],
 ) -> Result<Option<Vec<u8, A>>, AllocError>
-    ensures { IfOk result (λ said. SaysFirstUnknown declaration.entry.file.now table.now.names
-        (first_unknown table.now.names (map (λ n. n.now) names.now)) (option_map (λ text. text.items) said)) }
+    ensures { IfOk result (λ said. SaysFirstUnknown declaration.entry.file.now declared.now.table.names
+        (first_unknown declared.now.table.names (map (λ n. n.now) names.now)) (option_map (λ text. text.items) said)) }
 {
+    let table = &declared.table;
     match first_unknown(table, names) {
         Some(name) => Ok(Some(of_name(alloc, declaration, table, name)?)),
         None => Ok(None),
-    }
-}
-
-/// The same of the items of this declaration. Nothing if it is refused.
-pub(crate) fn of_unknown<A: Allocator + Copy>(
-    alloc: A,
-    seed: u64,
-    declaration: Source<'_>,
-    names: &[&str],
-) -> Result<Option<Vec<u8, A>>, AllocError>
-    ensures { IfOk result (λ said. SaysUnknown declaration.entry.file.now declaration.entry.text.now
-        (map (λ n. n.now) names.now) (option_map (λ text. text.items) said)) }
-{
-    match read_declaration(alloc, seed, declaration.text) {
-        Ok(declared) => {
-            let said = of_table(alloc, declaration, &declared.table, names);
-            drop(declared);
-            said
-        }
-        Err(Stop::Refused { .. }) => Ok(None),
-        Err(Stop::OutOfMemory) => Err(AllocError),
     }
 }

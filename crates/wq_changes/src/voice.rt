@@ -3,111 +3,119 @@
 //!
 //! It takes the time and the memory of the diagnosis, or of what is said of the answer.
 
-ghost use Rattle.std.specs.Prelude.{[], IfOk, Some, map, option_map};
-ghost use Rattle.wq_voice.specs.Voice.{SaysWhy};
-ghost use Rattle.wq_changes.specs.Voice.{SaysBeside, SaysOf};
+ghost use Rattle.std.specs.Prelude.{ℕ, IfOk, List, Some, map, option_map};
+ghost use Rattle.wq_diagnosis.specs.Refused.{Diagnoses};
+ghost use Rattle.wq_commands.specs.declared.end.End.{End};
+ghost use Rattle.wq_commands.specs.declared.found.Found.TheVariants.{Read};
+ghost use Rattle.wq_repair_command.specs.Repairing.{RepairsText};
+ghost use Rattle.wq_changes.specs.Voice.{SaysRead, SaysRepair};
 
-use crate::reading::of_repair;
-use crate::unknown::of_unknown;
+use crate::answer::say_answer;
+use crate::unknown::say_unknown;
 use std::alloc::{AllocError, Allocator};
-use wq_commands::{End, Outcome, Texts, Voice, Why};
+use wq_commands::{Declaration, Found, Texts, Voice};
 use wq_diagnosis::Source;
-use wq_voice::{Beside, CertificateKind, Diagnosing};
+use wq_repair_command::{RepairCommand, Repairing};
+use wq_voice::{CertificateKind, FileNames, say_refusal, say_refused_text};
 
 /// Says what a repair changes, or why no change helps.
 #[derive(Clone, Copy, Debug)]
-pub struct Repairing<'a> {
-    /// The names are hashed with this. Nothing that is said depends on it.
-    pub seed: u64,
-    /// The name of the file of the declaration.
-    pub declaration: &'a str,
-    /// The name of the file of the assignment.
-    pub assignment: &'a str,
-    /// The names of the items that may move; all may if there is none.
-    pub names: &'a [&'a str],
+pub struct RepairVoice<'n> {
+    /// The names of the files of the texts.
+    pub files: FileNames<'n>,
 }
 
-/// What is said of an answer that needs no reason.
-fn of_more<A: Allocator + Copy>(
+/// What is said of what `repair` found in the text of the assignment, where the items with these names may move, or all
+/// if there is none.
+fn say_read<A: Allocator + Copy>(
     alloc: A,
-    voice: &Repairing<'_>,
+    files: &FileNames<'_>,
+    names: &[&str],
+    declared: &Declaration<'_, A>,
     texts: &Texts<A>,
-    end: End,
+    read: &Option<Repairing<A>>,
 ) -> Result<Option<Vec<u8, A>>, AllocError>
-    ensures { IfOk result (λ said. SaysBeside voice.now.declaration.now voice.now.assignment.now
-        (map (λ n. n.now) voice.now.names.now) texts.now end (option_map (λ text. text.items) said)) }
+    requires { (end : End) × (out : List ℕ)
+        × RepairsText (map (λ n. n.now) names.now) declared.now texts.now.second (Read read.now) end out }
+    ensures { IfOk result (λ said. SaysRead files.now.declaration.now files.now.second.now
+        (map (λ n. n.now) names.now) declared.now texts.now.second read.now (option_map (λ text. text.items) said)) }
 {
+    // What holds of every declaration.
+    let _groups = &declared.groups;
     let declaration = Source {
-        file: voice.declaration,
+        file: files.declaration,
         text: texts.first(),
     };
-    let assignment = Source {
-        file: voice.assignment,
-        text: texts.second(),
-    };
-    match end {
-        End::Good | End::Bad => of_repair(alloc, voice.seed, declaration, assignment, voice.names),
-        End::Refused => of_unknown(alloc, voice.seed, declaration, voice.names),
+    match read {
+        None => say_unknown(alloc, declaration, declared, names),
+        Some(repairing) => {
+            let assignment = Source {
+                file: files.second,
+                text: texts.second(),
+            };
+            say_answer(alloc, declaration, assignment, declared, repairing)
+        }
     }
 }
 
-/// The diagnosis of the text that is refused, for this reason.
-fn of_reason<A: Allocator + Copy>(
+/// What is said of what `repair` found, or of the text that is refused.
+fn say_repair<A: Allocator + Copy>(
     alloc: A,
-    voice: &Repairing<'_>,
+    files: &FileNames<'_>,
+    names: &[&str],
+    declared: &Declaration<'_, A>,
     texts: &Texts<A>,
-    end: End,
-    why: Why,
+    found: &Found<Option<Repairing<A>>>,
 ) -> Result<Option<Vec<u8, A>>, AllocError>
-    ensures { IfOk result (λ said. SaysWhy voice.now.declaration.now voice.now.assignment.now [] texts.now (Some why)
-        (option_map (λ text. text.items) said)) }
+    requires { (end : End) × (out : List ℕ)
+        × RepairsText (map (λ n. n.now) names.now) declared.now texts.now.second found.now end out }
+    ensures { IfOk result (λ said. SaysRepair files.now.declaration.now files.now.second.now files.now.run.now
+        (map (λ n. n.now) names.now) declared.now texts.now found.now (option_map (λ text. text.items) said)) }
 {
-    let diagnosing = Diagnosing {
-        seed: voice.seed,
-        declaration: voice.declaration,
-        kind: CertificateKind::Assignment,
-        certificate: voice.assignment,
-        run: "",
-        beside: Beside::Other,
-    };
-    let outcome = Outcome {
-        end,
-        why: Some(why),
-    };
-    diagnosing.say(alloc, texts, &outcome)
-}
-
-/// What is said of an answer with this end, for this reason, where there is one.
-fn of_outcome<A: Allocator + Copy>(
-    alloc: A,
-    voice: &Repairing<'_>,
-    texts: &Texts<A>,
-    end: End,
-    why: Option<Why>,
-) -> Result<Option<Vec<u8, A>>, AllocError>
-    ensures { IfOk result (λ said. SaysOf voice.now.declaration.now voice.now.assignment.now
-        (map (λ n. n.now) voice.now.names.now) texts.now end why (option_map (λ text. text.items) said)) }
-{
-    match why {
-        None => of_more(alloc, voice, texts, end),
-        Some(why) => of_reason(alloc, voice, texts, end, why),
+    match found {
+        Found::Refused { which, code, line } => {
+            let kind = CertificateKind::Assignment;
+            say_refused_text(alloc, files, kind, declared, texts, *which, *code, *line)
+        }
+        Found::Read(read) => say_read(alloc, files, names, declared, texts, read),
     }
 }
 
-impl<A: Allocator + Copy> Voice<A, Outcome> for Repairing<'_> {
-    ghost use Rattle.std.specs.Prelude.{map};
-    ghost use Rattle.wq_changes.specs.Voice.{SaysOf};
+impl<A: Allocator + Copy> Voice<RepairCommand<'_>, A> for RepairVoice<'_> {
+    ghost use Rattle.std.specs.Prelude.{Some, map};
+    ghost use Rattle.wq_diagnosis.specs.Refused.{Diagnoses};
+    ghost use Rattle.wq_changes.specs.Voice.{SaysRepair};
 
-    ghost says = { λ voice texts outcome said.
-        SaysOf voice.declaration.now voice.assignment.now (map (λ n. n.now) voice.names.now) texts
-        outcome.end outcome.why said };
+    ghost says = { λ voice command s texts found said.
+        SaysRepair voice.files.declaration.now voice.files.second.now voice.files.run.now
+        (map (λ n. n.now) command.names.now) s texts found said };
+
+    ghost refuses = { λ voice _ r said. Diagnoses voice.files.declaration.now (Some r) said };
 
     fn say(
         &self,
         alloc: A,
+        _seed: u64,
+        command: &RepairCommand<'_>,
+        declared: &Declaration<'_, A>,
         texts: &Texts<A>,
-        outcome: &Outcome,
+        found: &Found<Option<Repairing<A>>>,
     ) -> Result<Option<Vec<u8, A>>, AllocError> {
-        of_outcome(alloc, self, texts, outcome.end, outcome.why)
+        say_repair(alloc, &self.files, command.names, declared, texts, found)
+    }
+
+    fn refuse(
+        &self,
+        alloc: A,
+        seed: u64,
+        texts: &Texts<A>,
+        code: u32,
+        line: u32,
+    ) -> Result<Option<Vec<u8, A>>, AllocError>
+        ensures { IfOk result (λ said.
+            Diagnoses self.now.files.declaration.now (Some (record { code = code; line = line }))
+            (option_map (λ text. text.items) said)) }
+    {
+        say_refusal(alloc, seed, &self.files, texts, code, line)
     }
 }

@@ -1,5 +1,5 @@
 -- Answers: a text has one. It ends as the verdict on the assignment does, and as `plan` does if no assignment is named.
-use Rattle.std.proofs.Common.{◌≡◌, Bool, false, true, ℕ, inl, inr, List, [], Result, Ok, Err, refl, sym, ap, subst, ◌∙◌}
+use Rattle.std.proofs.Common.{◌≡◌, ℕ, inl, inr, List, [], Result, Ok, Err, refl, sym, ap, subst, ◌∙◌}
 use Rattle.std.specs.Prelude.{MatchResult}
 use Rattle.wq_text.specs.Refusal.{Refusal}
 use Rattle.wq_items.specs.Chain.{Circle}
@@ -21,7 +21,6 @@ use Rattle.wq_deadlock.proofs.Renumbered.{not_safe-by, not_safe-deadlocks}
 use Rattle.wq_cert.specs.Ranges.{IsAssignmentOf}
 use Rattle.wq_cert.specs.Texts.{workqueues_of_text, cert_refusal}
 use Rattle.wq_cert.proofs.LanesRead.{AreWorkqueuesOf-workqueues_of_text}
-use Rattle.wq_meter.specs.Shell.{HasOneAnswer}
 use Rattle.wq_commands.specs.declared.end.End.{End}
 use Rattle.wq_commands.specs.declared.end.End.TheVariants.{Good, Bad, Refused}
 use Rattle.wq_commands.specs.Answer.{Answers, declared_waits, PrintsRefusal}
@@ -30,11 +29,10 @@ use Rattle.wq_commands.specs.Declaration.{Declared, declaration}
 use Rattle.wq_commands.specs.Shown.{ShowsDeclared}
 use Rattle.wq_commands.proofs.AnswerLemmas.{IsSound, IsSound-declaration, IsDeclaration-sound}
 use Rattle.wq_commands.proofs.CircleRuns.{IsAssignmentOf-own_lanes}
-use Rattle.wq_commands.proofs.OneOutcome.{SaysAssigned-unique, SaysDeclared-unique, same_outcome}
 use Rattle.wq_commands.proofs.PromiseLemmas.{ShowsAnswer-answers}
 use Rattle.wq_circles.specs.Components.{AreComponents}
 use Rattle.wq_circles.specs.ComponentsText.{circles_text}
-use Rattle.wq_circles.specs.Circling.{PrintsComponents, CirclesAssigned, CirclesDeclared, Circles, CirclesTexts, OwnCircles}
+use Rattle.wq_circles.specs.Circling.{PrintsComponents, CirclesAssigned, CirclesDeclared, Circles, OwnCircles}
 use Rattle.wq_circles.proofs.ForBare.{no_waits}
 use Rattle.wq_circles.proofs.Safe.{AreComponents-unique, IsSafe-none, none-IsSafe, none_or_circle}
 
@@ -56,7 +54,8 @@ neither s ws prints none no_waits = elim prints.some [
   | inr some ↦ some no_waits
 ]
 
-CirclesAssigned-unique : (s : Declared) (a : Workqueues) (end other : End) (out printed : List ℕ) → CirclesAssigned s a end out → CirclesAssigned s a other printed → (end ≡ other) × (out ≡ printed)
+pub CirclesAssigned-unique : (s : Declared) (a : Workqueues) (end other : End) (out printed : List ℕ)
+    → CirclesAssigned s a end out → CirclesAssigned s a other printed → (end ≡ other) × (out ≡ printed)
 CirclesAssigned-unique s a Good Good out printed one two = (refl, one.2 ∙ sym two.2)
 CirclesAssigned-unique s a Good Bad out printed one two = absurd (neither s a two (AreComponents-unique (declared_waits s) a two.components [] two.are one.0) one.1)
 CirclesAssigned-unique s a Good Refused out printed one two = absurd two
@@ -66,7 +65,8 @@ CirclesAssigned-unique s a Bad Bad out printed one two =
 CirclesAssigned-unique s a Bad Refused out printed one two = absurd two
 CirclesAssigned-unique s a Refused other out printed one two = absurd one
 
-CirclesDeclared-unique : (s : Declared) (text : List ℕ) (end other : End) (out printed : List ℕ) → CirclesDeclared s text end out → CirclesDeclared s text other printed → (end ≡ other) × (out ≡ printed)
+pub CirclesDeclared-unique : (s : Declared) (text : List ℕ) (end other : End) (out printed : List ℕ)
+    → CirclesDeclared s text end out → CirclesDeclared s text other printed → (end ≡ other) × (out ≡ printed)
 CirclesDeclared-unique s text end other out printed =
     matched (workqueues_of_text s.table.names s.partition text) (λ a. CirclesAssigned s a end out) (λ a. CirclesAssigned s a other printed) (λ fault. PrintsRefusal (cert_refusal fault) end out) (λ fault. PrintsRefusal (cert_refusal fault) other printed)
     ((end ≡ other) × (out ≡ printed)) (λ a is. CirclesAssigned-unique s a end other out printed) (λ fault. refused_once end other out printed (cert_refusal fault))
@@ -80,14 +80,6 @@ pub OwnCircles-unique : (declared : List ℕ) (end other : End) (out printed : L
 OwnCircles-unique declared end other out printed =
     matched (declaration declared) (λ s. CirclesAssigned s (all_rescued (own_lanes s.partition.groups)) end out) (λ s. CirclesAssigned s (all_rescued (own_lanes s.partition.groups)) other printed) (λ r. PrintsRefusal r end out) (λ r. PrintsRefusal r other printed)
     ((end ≡ other) × (out ≡ printed)) (λ s is. CirclesAssigned-unique s (all_rescued (own_lanes s.partition.groups)) end other out printed) (refused_once end other out printed)
-
-pub CirclesTexts-unique : (assigned : Bool) → HasOneAnswer (CirclesTexts assigned)
-CirclesTexts-unique true texts one other out printed first second =
-    let same = Circles-unique texts.first texts.second one.end other.end out printed first.0 second.0 in
-    (same_outcome one other same.0 (SaysAssigned-unique one.why other.why texts.first texts.second first.1 second.1), same.1)
-CirclesTexts-unique false texts one other out printed first second =
-    let same = OwnCircles-unique texts.first one.end other.end out printed first.0 second.0 in
-    (same_outcome one other same.0 (SaysDeclared-unique one.why other.why texts.first first.1 second.1), same.1)
 
 -- ---- the end of a verdict
 

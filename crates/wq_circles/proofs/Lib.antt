@@ -12,10 +12,11 @@ pub mod OfAssigned
 pub mod OnCircles
 pub mod InOrder
 pub mod Safe
+pub mod Rounds
 mod Answered
 pub mod Promised
 mod Printed
-pub mod Taking
+pub mod Found
 pub mod ForBare
 mod FirstItems
 mod AllRescued

@@ -109,7 +109,7 @@ module _ (d : Declaration) (a : Assignment) (bare : List Bool) (declaration : Is
   -- ---- declared flushes
 
   -- the arc of a flush under this assignment
-  abbrev arc_in : Assignment → WaitArc → WaitArc
+  abbrev pub arc_in : Assignment → WaitArc → WaitArc
   arc_in x b = record { src = b.src; dst = b.dst; head = slice_index (item_lanes x d.group_of) b.dst; place = b.place }
 
   IsArc-arc_in : (x : Assignment) (b : WaitArc) → IsDeclaredFlush d.waits b → IsArc d.waits (item_lanes x d.group_of) (arc_in x b)
@@ -156,7 +156,8 @@ module _ (d : Declaration) (a : Assignment) (bare : List Bool) (declaration : Is
       let lane = lane-below i item in
       IsKept-together d a bare declaration assignment (item_lane a d.group_of i) (slice_index lowest (item_lane a d.group_of i)) (are.is (item_lane a d.group_of i) lane).together kept
 
-  loop-leads : (v : ℕ) (b : WaitArc) → IsLoop d (joined a lowest) bare declaration assigned v b → Leads (HasArc (kept_graph d a bare)) (item_lane a d.group_of b.dst) (item_lane a d.group_of b.src)
+  pub loop-leads : (v : ℕ) (b : WaitArc) → IsLoop d (joined a lowest) bare declaration assigned v b
+      → Leads (HasArc (kept_graph d a bare)) (item_lane a d.group_of b.dst) (item_lane a d.group_of b.src)
   loop-leads v b loop =
       let items = flush-items b loop.arc.declared in
       let tail = kept-lane b.src items.0 (subst (IsKept bare) (sym loop.leaves) loop.kept) in
@@ -164,7 +165,8 @@ module _ (d : Declaration) (a : Assignment) (bare : List Bool) (declaration : Is
       back-leads (item_lane a d.group_of b.src) (item_lane a d.group_of b.dst) (lane-below b.src items.0) (lane-below b.dst items.1) (flush-waits b loop.arc.declared tail head)
       (sym (joined-lane b.src items.0) ∙ loop.leaves ∙ sym loop.comes_back ∙ joined-lane b.dst items.1)
 
-  IsLoop-leads : (b : WaitArc) → IsDeclaredFlush d.waits b → Leads (HasArc (kept_graph d a bare)) (item_lane a d.group_of b.dst) (item_lane a d.group_of b.src)
+  pub IsLoop-leads : (b : WaitArc) → IsDeclaredFlush d.waits b
+      → Leads (HasArc (kept_graph d a bare)) (item_lane a d.group_of b.dst) (item_lane a d.group_of b.src)
       → IsLoop d (joined a lowest) bare declaration assigned (slice_index lowest (item_lane a d.group_of b.src)) (arc_in (joined a lowest) b)
   IsLoop-leads b flush leads =
       let items = flush-items b flush in

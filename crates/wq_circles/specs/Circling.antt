@@ -1,5 +1,5 @@
 -- The answer to a declaration and an assignment: the flushes that are on a circle.
-use Rattle.std.specs.Prelude.{◌≡◌, ◌≢◌, ◌⊎◌, Bool, false, true, ℕ, List, [], MatchResult}
+use Rattle.std.specs.Prelude.{◌≡◌, ◌≢◌, ◌⊎◌, Bool, false, true, ℕ, List, [], map, MatchResult}
 use Rattle.wq_graph.specs.declared.arc.WaitArc.{WaitArc}
 use Rattle.wq_core.specs.Wiring.{own_lanes}
 use Rattle.wq_core.specs.Workqueues.{Workqueues, all_rescued}
@@ -7,12 +7,15 @@ use Rattle.wq_deadlock.specs.Judging.{bare_waits}
 use Rattle.wq_cert.specs.Texts.{workqueues_of_text, cert_refusal}
 use Rattle.wq_meter.specs.Shell.{Given}
 use Rattle.wq_commands.specs.declared.end.End.{End}
-use Rattle.wq_commands.specs.declared.why.Outcome.{Outcome}
 use Rattle.wq_commands.specs.declared.end.End.TheVariants.{Good, Bad, Refused}
+use Rattle.wq_commands.specs.declared.found.Found.{Found}
+use Rattle.wq_commands.specs.declared.found.Found.TheVariants.{Read}
+use Rattle.wq_commands.specs.declared.found.Which.TheVariants.{Certificate as SecondText}
 use Rattle.wq_commands.specs.Answer.{declared_waits, PrintsRefusal}
 use Rattle.wq_commands.specs.Deadlocking.{safe_text}
 use Rattle.wq_commands.specs.Declaration.{Declared, declaration}
-use Rattle.wq_commands.specs.Why.{SaysAssigned, SaysDeclared}
+use Rattle.wq_commands.specs.Found.{AnswersIn}
+use Rattle.wq_circles.specs.declared.circling.Circling.{Circling}
 use Rattle.wq_circles.specs.Components.{AreComponents}
 use Rattle.wq_circles.specs.ComponentsText.{circles_text}
 
@@ -51,10 +54,41 @@ OwnCircles declared end out =
     (λ s. CirclesAssigned s (all_rescued (own_lanes s.partition.groups)) end out)
     (λ r. PrintsRefusal r end out)
 
+-- ---- what is found, and printed
+
+-- what is printed of these components and of these flushes to workqueues without a rescuer: `safe` if there are none of
+-- either
+abbrev pub PrintsCircling : List (List ℕ) → List (List WaitArc) → List WaitArc → End → List ℕ → Type 0
+PrintsCircling names components waits Good out = (components ≡ []) × (waits ≡ []) × (out ≡ safe_text)
+PrintsCircling names components waits Bad out =
+    ((components ≢ []) ⊎ (waits ≢ [])) × (out ≡ circles_text names components waits)
+PrintsCircling names components waits Refused out = ⊥
+
+-- these workqueues are found, with their components and the flushes that lead from one that has a rescuer to one that
+-- has none; and of these the answer is printed
+pub record FindsCircles {A : Type 0} (s : Declared) (ws : Workqueues) (found : Found (Circling A)) (end : End)
+    (out : List ℕ) : Type 0 where
+  pub circling : Circling A
+  pub is : found ≡ Read circling
+  pub workqueues : circling.workqueues ≡ ws
+  pub components : AreComponents (declared_waits s) ws (map (λ l. l.items) circling.components.items)
+  pub waits : circling.waits.items ≡ bare_waits (declared_waits s) ws
+  pub printed : PrintsCircling s.table.names (map (λ l. l.items) circling.components.items) circling.waits.items end out
+
+-- the workqueues with this text
+abbrev pub CirclesText : {A : Type 0} → Declared → List ℕ → Found (Circling A) → End → List ℕ → Type 0
+CirclesText s text =
+    AnswersIn SecondText (workqueues_of_text s.table.names s.partition text) (λ ws. FindsCircles s ws)
+
 -- ---- the command, with an assignment or without one
 
--- its answer, and why
-abbrev pub CirclesTexts : Bool → Given → Outcome → List ℕ → Type 0
-CirclesTexts true texts outcome out =
-    Circles texts.first texts.second outcome.end out × SaysAssigned texts.first texts.second outcome.why
-CirclesTexts false texts outcome out = OwnCircles texts.first outcome.end out × SaysDeclared texts.first outcome.why
+-- what it finds in what is declared and in the texts, and its answer: without an assignment, each group has its own
+-- workqueue, with the group's number
+abbrev pub CirclesTexts : {A : Type 0} → Bool → Declared → Given → Found (Circling A) → End → List ℕ → Type 0
+CirclesTexts true s texts = CirclesText s texts.second
+CirclesTexts false s texts = FindsCircles s (all_rescued (own_lanes s.partition.groups))
+
+-- its answer to the texts
+abbrev pub AnswersCircles : Bool → Given → End → List ℕ → Type 0
+AnswersCircles true texts end out = Circles texts.first texts.second end out
+AnswersCircles false texts end out = OwnCircles texts.first end out

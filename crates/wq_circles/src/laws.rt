@@ -5,7 +5,7 @@
 //! of it which leads to which. The last two are about the lowest-numbered vertices of a wait graph.
 
 ghost use Rattle.std.specs.Prelude.{◌≡◌, ◌≤◌, ◌↔◌, Bool, ℕ, ◌<◌, List, length, slice_index, ◌≢◌, [], ◌∷◌, false, map};
-ghost use Rattle.std.specs.Prelude.{AllPairs};
+ghost use Rattle.std.specs.Prelude.{AllPairs, Contains};
 ghost use Rattle.std.specs.List.{All, list_any};
 ghost use Rattle.std.specs.List.Sorted.{IsStrictlyIncreasing};
 ghost use Rattle.wq_text.specs.Lines.{lines_of};
@@ -19,18 +19,24 @@ ghost use Rattle.wq_core.specs.Wiring.{RescuedWaits};
 ghost use Rattle.wq_core.specs.Workqueues.{Workqueues, wiring_of};
 ghost use Rattle.wq_core.specs.Deadlock.{IsSafe};
 ghost use Rattle.wq_deadlock.specs.Judging.{AreFirst, IsHang, bare_waits};
+ghost use Rattle.wq_hang.specs.Walk.{IsRoundOn};
+ghost use Rattle.wq_hang.specs.declared.hop.Hop.{Hop};
 ghost use Rattle.wq_cert.specs.Lines.{cert_lines};
 ghost use Rattle.wq_cert.specs.Reading.{is_bare_line};
-ghost use Rattle.wq_meter.specs.Shell.{HasOneAnswer};
 ghost use Rattle.wq_commands.specs.declared.end.End.{End};
+ghost use Rattle.wq_commands.specs.declared.found.Found.{Found};
 ghost use Rattle.wq_commands.specs.Answer.{Answers};
 ghost use Rattle.wq_commands.specs.Deadlocking.{Judges};
+ghost use Rattle.wq_commands.specs.Shell.{HasOneAnswer};
+ghost use Rattle.wq_circles.specs.declared.circling.Circling.{Circling};
 ghost use Rattle.wq_circles.specs.Leading.{AreLowest, AreTogether, Leads};
 ghost use Rattle.wq_circles.specs.AllRescued.{CirclesAllRescued};
 ghost use Rattle.wq_circles.specs.Circling.{Circles, CirclesTexts, OwnCircles};
 ghost use Rattle.wq_circles.specs.CirclesPromise.{AreForBare, KeepsCircles, KeepsOwnCircles};
 ghost use Rattle.wq_circles.specs.Components.{AreComponents};
 ghost use Rattle.wq_circles.specs.Flushes.{IsInComponents, AreInOneComponent, IsDeclaredFlush, IsBefore};
+
+use std::alloc::Allocator;
 
 /// A flush is in a component exactly where the workqueue of its target leads to that of its item, by way of workqueues
 /// that have a rescuer. Nothing but declared flushes is in a component.
@@ -72,6 +78,16 @@ pub fn components_are_in_order()
         AllPairs (IsBefore (RescuedWaits (wiring_of d ws)) (item_lane ws.assignment d.group_of)) components }
 {}
 
+/// Each component has a round of waits on the workqueues of its flushes' items. So of each it can be said how its
+/// workqueues hang.
+pub fn a_component_has_a_round()
+    ensures { (d : Declaration) (ws : Workqueues) (components : List (List WaitArc)) (arcs : List WaitArc)
+        (lanes : List ℕ) → IsDeclaration d →
+        IsAssignment d.groups ws.assignment → AreComponents d ws components → Contains components arcs →
+        ((b : WaitArc) → Contains arcs b → Contains lanes (item_lane ws.assignment d.group_of b.src)) →
+        (hops : List Hop) × IsRoundOn (wiring_of d ws) lanes hops }
+{}
+
 /// There is no component, and no flush leads from a workqueue that has a rescuer to one that has none, exactly where
 /// no run ends stuck.
 pub fn no_component_is_safe()
@@ -88,8 +104,8 @@ pub fn components_are_the_only_ones()
 {}
 
 /// A declaration and an assignment, or a declaration alone, have at most one answer: one end, and one text that is
-/// printed. There is one reason for what is said besides, so `what_is_said_changes_no_answer` holds of the command.
-pub fn circles_have_one_answer()
+/// printed. So `what_is_said_changes_no_answer` holds of the command.
+pub fn circles_have_one_answer<A: Allocator>()
     ensures end { (declared text : List ℕ) (end other : End) (out printed : List ℕ) →
         Circles declared text end out → Circles declared text other printed → end ≡ other }
     ensures out { (declared text : List ℕ) (end other : End) (out printed : List ℕ) →
@@ -98,7 +114,8 @@ pub fn circles_have_one_answer()
         OwnCircles declared end out → OwnCircles declared other printed → end ≡ other }
     ensures own_out { (declared : List ℕ) (end other : End) (out printed : List ℕ) →
         OwnCircles declared end out → OwnCircles declared other printed → out ≡ printed }
-    ensures command { (assigned : Bool) → HasOneAnswer (CirclesTexts assigned) }
+    ensures command { (assigned : Bool) → HasOneAnswer
+        (λ s texts (found : Found (Circling A)) end out. CirclesTexts assigned s texts found end out) }
 {}
 
 /// An answer keeps its promise. Where `safe` is printed, no run ends stuck. Else some run deadlocks, and exactly those

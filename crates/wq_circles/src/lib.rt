@@ -4,9 +4,10 @@
 //! What the layer above relies on: the bytes written are the answer text to the bytes read. A flush is printed
 //! exactly where the workqueue of its target leads to that of its item by way of workqueues that have a rescuer, or
 //! where it leads from a workqueue that has a rescuer to one that has none. And `safe` is printed exactly where no
-//! run ends stuck. The rule is that of "The command `circles`" in docs/FORMAT.md. It takes the time of reading the
-//! texts, of two wait graphs, of two searches through the first one (one along the arcs and one against them, each in
-//! time and memory in the number of vertices and arcs), and of writing the answer.
+//! run ends stuck. The workqueues, their components and the flushes to no rescuer are one value, `Circling`: of it the
+//! answer is printed, and more can be said. The rule is that of "The command `circles`" in docs/FORMAT.md. It takes the
+//! time of reading the assignment, of two wait graphs, of two searches through the first one (one along the arcs and
+//! one against them, each in time and memory in the number of vertices and arcs), and of writing the answer.
 #![tactic(auto)]
 
 mod circles;
@@ -21,4 +22,5 @@ mod together;
 mod walk;
 
 pub use circles::CirclesCommand;
+pub use circling::Circling;
 pub use joining::components;

@@ -20,5 +20,7 @@ pub mod Refusals
 pub mod CheckAnswers
 pub mod ReplayAnswers
 pub mod LineLemmas
-pub mod OneOutcome
+pub mod FoundLemmas
 mod StopLemmas
+mod SameTexts
+mod Telling

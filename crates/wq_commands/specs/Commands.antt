@@ -1,20 +1,30 @@
--- The commands as functions of the bytes of their texts: how each ends, what it answers, and why.
-use Rattle.std.specs.Prelude.{Bool, true, false, ℕ, List, Some, None, Result, Ok, Err}
+-- The commands as functions of what is declared and of the texts behind it: what each finds, how it ends, and what it
+-- answers.
+use Rattle.std.specs.Prelude.{◌≡◌, Bool, true, false, ℕ, List, Some, None, Result}
 use Rattle.wq_meter.specs.Shell.{Given}
-use Rattle.wq_meter.specs.declared.fault.Fault.{Fault}
-use Rattle.wq_meter.specs.declared.fault.Fault.TheVariants.{Memory}
-use Rattle.wq_meter.specs.declared.shell.Stopped.{Stopped}
-use Rattle.wq_meter.specs.declared.shell.Stopped.TheVariants.{Faulted, Unanswered}
 use Rattle.wq_meter.specs.declared.texts.Limits.{Limits}
-use Rattle.wq_cert.specs.Texts.{max_certificate}
+use Rattle.wq_core.specs.declared.step.Step.{Step}
+use Rattle.wq_core.specs.Workqueues.{Workqueues, wiring_of}
+use Rattle.wq_text.specs.LineText.{line_text}
+use Rattle.wq_cert.specs.Certificate.{Certificate}
+use Rattle.wq_cert.specs.Texts.{answer_of, max_certificate, run_of, workqueues_of_text}
+use Rattle.wq_checker.specs.Answers.{AnswersCertificate}
+use Rattle.wq_checker.specs.RunEnds.{EndsAs}
+use Rattle.wq_checker.specs.declared.answer.No.{No}
+use Rattle.wq_checker.specs.declared.answer.Yes.{Yes}
+use Rattle.wq_checker.specs.declared.run.RunEnd.{RunEnd}
+use Rattle.wq_commands.specs.declared.deadlocking.Verdict.{Verdict}
 use Rattle.wq_commands.specs.declared.end.End.{End}
-use Rattle.wq_commands.specs.declared.why.Outcome.{Outcome}
-use Rattle.wq_commands.specs.Answer.{Answers}
-use Rattle.wq_commands.specs.Checking.{Checks}
-use Rattle.wq_commands.specs.Deadlocking.{Judges}
-use Rattle.wq_commands.specs.Declaration.{max_declaration}
-use Rattle.wq_commands.specs.Replaying.{ReplaysRun}
-use Rattle.wq_commands.specs.Why.{SaysAssigned, SaysChecked, SaysDeclared, SaysReplayed}
+use Rattle.wq_commands.specs.declared.found.Found.{Found}
+use Rattle.wq_commands.specs.declared.found.Found.TheVariants.{Read}
+use Rattle.wq_commands.specs.declared.found.Which.TheVariants.{Certificate as SecondText, Run}
+use Rattle.wq_commands.specs.declared.replaying.Replayed.{Replayed}
+use Rattle.wq_commands.specs.Answer.{AnswersDeclared, declared_waits}
+use Rattle.wq_commands.specs.Checking.{PrintsCheck}
+use Rattle.wq_commands.specs.Deadlocking.{JudgesAssigned}
+use Rattle.wq_commands.specs.Declaration.{Declared, max_declaration}
+use Rattle.wq_commands.specs.Found.{AnswersIn}
+use Rattle.wq_commands.specs.Replaying.{replay_end, replay_words}
 
 -- ---- how many texts there are, and how long they may be
 
@@ -35,32 +45,47 @@ abbrev pub one_or_two_texts : Bool → Limits
 one_or_two_texts true = two_texts
 one_or_two_texts false = one_text
 
--- ---- the answers, and why
+-- ---- what is found in what is declared and in the texts behind it, and the answers
 
--- `plan`: the answer to a declaration
-abbrev pub Plans : Given → Outcome → List ℕ → Type 0
-Plans texts outcome out = Answers texts.first outcome.end out × SaysDeclared texts.first outcome.why
+-- `plan`: whether there is a plan
+abbrev pub FindsPlan : Declared → End → End → List ℕ → Type 0
+FindsPlan s found end out = (found ≡ end) × AnswersDeclared s end out
 
--- `check`: the checker's answer to a declaration and a certificate
-abbrev pub ChecksTexts : Given → Outcome → List ℕ → Type 0
-ChecksTexts texts outcome out =
-    Checks texts.first texts.second outcome.end out × SaysChecked texts.first texts.second outcome.why
+-- the checker's answer to a certificate is found, and printed
+abbrev pub FindsCheck : Declared → Certificate → Found (Result Yes No) → End → List ℕ → Type 0
+FindsCheck s c found end out =
+    (answer : Result Yes No) × (found ≡ Read answer) × AnswersCertificate (declared_waits s) c answer
+    × PrintsCheck s.table.names answer end out
 
--- `deadlock`: the verdict on a declaration and an assignment
-abbrev pub JudgesTexts : Given → Outcome → List ℕ → Type 0
-JudgesTexts texts outcome out =
-    Judges texts.first texts.second outcome.end out × SaysAssigned texts.first texts.second outcome.why
+-- `check`: the checker's answer to the text of a certificate
+abbrev pub ChecksText : Declared → List ℕ → Found (Result Yes No) → End → List ℕ → Type 0
+ChecksText s text = AnswersIn SecondText (answer_of s.table.names s.partition text) (λ c. FindsCheck s c)
 
--- `replay`: how a run ends under a declaration and an assignment
-abbrev pub ReplaysTexts : Given → Outcome → List ℕ → Type 0
-ReplaysTexts texts outcome out =
-    ReplaysRun texts.first texts.second texts.third outcome.end out
-    × SaysReplayed texts.first texts.second texts.third outcome.why
+-- these workqueues are found, and the verdict on them, which is printed
+abbrev pub FindsVerdict : {A : Type 0} → Declared → Workqueues → Found (Verdict A) → End → List ℕ → Type 0
+FindsVerdict s ws found end out =
+    (found ≡ Read (record { workqueues = ws; end = end })) × JudgesAssigned s ws end out
 
--- ---- ends
+-- `deadlock`: the verdict on the workqueues with this text
+abbrev pub JudgesText : {A : Type 0} → Declared → List ℕ → Found (Verdict A) → End → List ℕ → Type 0
+JudgesText s text = AnswersIn SecondText (workqueues_of_text s.table.names s.partition text) (λ ws. FindsVerdict s ws)
 
--- the end of a command, or the fault that stopped it; if a command has no answer, memory ran out
-abbrev pub end_or_fault : {S : Type 0} → Result Outcome (Stopped S) → Result End Fault
-end_or_fault (Ok outcome) = Ok outcome.end
-end_or_fault (Err (Faulted fault)) = Err fault
-end_or_fault (Err (Unanswered stop)) = Err Memory
+-- how these steps end is found, and printed
+pub record FindsEnd {A : Type 0} (s : Declared) (ws : Workqueues) (steps : List Step) (found : Found (Replayed A))
+    (end : End) (out : List ℕ) : Type 0 where
+  pub replayed : Replayed A
+  pub is : found ≡ Read replayed
+  pub workqueues : replayed.workqueues ≡ ws
+  pub made : replayed.steps.items ≡ steps
+  pub ends : EndsAs (wiring_of (declared_waits s) ws) steps replayed.end
+  pub status : end ≡ replay_end replayed.end
+  pub printed : out ≡ line_text (replay_words replayed.end)
+
+-- how the run with this text ends on these workqueues
+abbrev pub ReplaysOn : {A : Type 0} → Declared → Workqueues → List ℕ → Found (Replayed A) → End → List ℕ → Type 0
+ReplaysOn s ws text = AnswersIn Run (run_of s.table.names text) (λ steps. FindsEnd s ws steps)
+
+-- `replay`: how the run with the second of these texts ends on the workqueues with the first
+abbrev pub ReplaysTexts : {A : Type 0} → Declared → List ℕ → List ℕ → Found (Replayed A) → End → List ℕ → Type 0
+ReplaysTexts s assigned text =
+    AnswersIn SecondText (workqueues_of_text s.table.names s.partition assigned) (λ ws. ReplaysOn s ws text)

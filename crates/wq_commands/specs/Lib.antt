@@ -16,6 +16,8 @@ pub mod Checking
 pub mod YesIsTrue
 pub mod CheckInput
 pub mod Commands
+pub mod Found
+pub mod Shell
 pub mod Replaying
 pub mod Deadlocking
 pub mod DeadlockInput
@@ -24,6 +26,5 @@ pub mod Assigned
 pub mod End
 pub mod PlanInput
 pub mod Stop
-pub mod Why
 pub mod Numbers
 pub mod AllRescued

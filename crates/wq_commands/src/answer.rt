@@ -1,20 +1,20 @@
-//! The answer to a declaration text, built in full in memory.
+//! The answer to a declaration, built in full in memory.
 //!
 //! It takes time in the length of the text, and for a circle also the time of its
 //! run (`wq_deadlock`). It takes memory in the length of the text.
 
-ghost use Rattle.std.specs.Prelude.{◌≡◌, IfOk, None};
+ghost use Rattle.std.specs.Prelude.{◌≡◌, IfOk};
 ghost use Rattle.wq_core.specs.Wiring.{wiring, own_lanes};
 ghost use Rattle.wq_core.specs.Deadlock.{Deadlocks};
 ghost use Rattle.wq_deadlock.specs.Verdict.{IsDeadlock};
 ghost use Rattle.wq_plan.specs.Solve.{IsPlanned, IsCircled, Solves};
-ghost use Rattle.wq_commands.specs.Answer.{Answers, AnswersDeclared, PrintsCircle, declared_waits, text_of_plan};
-ghost use Rattle.wq_commands.specs.Why.{SaysDeclared};
+ghost use Rattle.wq_commands.specs.Answer.{PrintsCircle, declared_waits, text_of_plan};
+ghost use Rattle.wq_commands.specs.Commands.{FindsPlan};
 
 use crate::arc_ends::ends_of;
-use crate::declaration::{Declaration, read_declaration};
+use crate::declaration::Declaration;
 use crate::end::End;
-use crate::why::Answered;
+use crate::shell::Answered;
 use std::alloc::{AllocError, Allocator};
 use wq_cert::{circle_text, plan_text};
 use wq_core::Step;
@@ -74,51 +74,29 @@ fn print_answer<A: Allocator + Copy>(
     alloc: A,
     declared: &Declaration<'_, A>,
     answer: &Answer<A>,
-) -> Result<Answered<A>, AllocError>
+) -> Result<Answered<A, End>, AllocError>
     requires solved { Solves (declared_waits declared.now) answer.now }
-    ensures answer { IfOk result (λ a. AnswersDeclared declared.now a.end a.text.items) }
-    ensures why { IfOk result (λ a. a.why ≡ None) }
+    ensures { IfOk result (λ a. FindsPlan declared.now a.found a.end a.text.items) }
 {
     match answer {
         Answer::Plan { assignment, chain } => {
             let text = text_of_plan(alloc, declared, assignment, chain)?;
-            Ok(Answered::plain(End::Good, text))
+            Ok(Answered::ended(End::Good, text))
         }
         Answer::Circle { arcs } => {
             let text = text_of_circle(alloc, declared, arcs)?;
-            Ok(Answered::plain(End::Bad, text))
+            Ok(Answered::ended(End::Bad, text))
         }
     }
 }
 
-/// The answer to a declaration.
-fn answer_declared<A: Allocator + Copy>(
+/// The answer to a declaration: its plan, or the circle in which its groups wait.
+pub(crate) fn answer_declared<A: Allocator + Copy>(
     alloc: A,
     declared: &Declaration<'_, A>,
-) -> Result<Answered<A>, AllocError>
-    ensures answer { IfOk result (λ a. AnswersDeclared declared.now a.end a.text.items) }
-    ensures why { IfOk result (λ a. a.why ≡ None) }
+) -> Result<Answered<A, End>, AllocError>
+    ensures { IfOk result (λ a. FindsPlan declared.now a.found a.end a.text.items) }
 {
     let answer = solve(alloc, &declared.table, &declared.groups)?;
     print_answer(alloc, declared, &answer)
-}
-
-/// The answer to the text of a declaration, and its refusal, if it is refused.
-pub(crate) fn answer_text<A: Allocator + Copy>(
-    alloc: A,
-    seed: u64,
-    text: &[u8],
-) -> Result<Answered<A>, AllocError>
-    ensures answer { IfOk result (λ a. Answers text.now a.end a.text.items) }
-    ensures why { IfOk result (λ a. SaysDeclared text.now a.why) }
-{
-    match read_declaration(alloc, seed, text) {
-        Ok(declared) => {
-            let answer = answer_declared(alloc, &declared);
-            // Written as a call, so that the proof has one step for it.
-            drop(declared);
-            answer
-        }
-        Err(stop) => Answered::stopped(alloc, stop),
-    }
 }

@@ -11,42 +11,43 @@ ghost use Rattle.wq_commands.specs.CheckInput.{ChecksInput, KeepsYesOfInput};
 ghost use Rattle.wq_meter.specs.Input.{AfterGiven, HasFailed, HasGiven};
 ghost use Rattle.wq_commands.specs.declared.end.End.{End};
 
-use crate::checking::check;
+use crate::checking::check_declared;
+use crate::declaration::Declaration;
 use crate::end::End;
+use crate::found::Found;
 use crate::limits::TWO_TEXTS;
-use crate::outcome::end_of;
-use crate::why::{Answered, Outcome};
+use crate::shell::{Answered, Command, Finds, Silent, carry_out};
 use std::alloc::{AllocError, Allocator};
 use std::io::{self, Read, Write};
-use wq_meter::{Command, Fault, Limits, Metered, Silent, Texts, carry_out};
+use wq_checker::{No, Yes};
+use wq_meter::{Fault, Limits, Metered, Texts};
 
 /// The command `check`: its texts are a declaration and a certificate.
 #[derive(Clone, Copy, Debug)]
-pub struct CheckCommand {
-    /// The names are hashed with this. No answer depends on it.
-    pub seed: u64,
-}
+pub struct CheckCommand;
 
-impl<A: Allocator + Copy> Command<A> for CheckCommand {
-    ghost use Rattle.wq_commands.specs.Commands.{ChecksTexts, two_texts};
+impl<A: Allocator + Copy> Finds<A> for CheckCommand {
+    ghost use Rattle.wq_commands.specs.Commands.{ChecksText, two_texts};
 
-    type End = Outcome;
-
-    type Stop = AllocError;
+    type Found = Found<Result<Yes, No>>;
 
     ghost limits = { λ _. two_texts };
 
-    ghost answers = { λ _ texts outcome out. ChecksTexts texts outcome out };
+    ghost answers = { λ _ s texts found end out. ChecksText s texts.second found end out };
+}
 
-    ghost stops = { λ _ _ _. Unit {0} };
-
+impl<A: Allocator + Copy> Command<A> for CheckCommand {
     fn limits(&self) -> Limits {
         TWO_TEXTS
     }
 
-    fn answer(&self, alloc: A, texts: &Texts<A>) -> Result<(Outcome, Vec<u8, A>), AllocError> {
-        let Answered { end, text, why } = check(alloc, self.seed, texts.first(), texts.second())?;
-        Ok((Outcome { end, why }, text))
+    fn answer(
+        &self,
+        alloc: A,
+        declared: &Declaration<'_, A>,
+        texts: &Texts<A>,
+    ) -> Result<Answered<A, Found<Result<Yes, No>>>, AllocError> {
+        check_declared(alloc, declared, texts.second())
     }
 }
 
@@ -109,15 +110,15 @@ pub fn check_cmd<D: Read, C: Read, W: Write, A: Allocator + Copy>(
 {
     let mut third = Metered::new(io::empty());
     let mut unsaid = Metered::new(io::sink());
-    let ended = carry_out(
+    carry_out(
         alloc,
-        &CheckCommand { seed },
+        seed,
+        &CheckCommand,
         &Silent,
         declaration,
         certificate,
         &mut third,
         writer,
         &mut unsaid,
-    );
-    end_of(ended)
+    )
 }

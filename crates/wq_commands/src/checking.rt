@@ -8,13 +8,13 @@ ghost use Rattle.wq_cert.specs.Certificate.{certificate};
 ghost use Rattle.wq_checker.specs.Answers.{IsAsked};
 ghost use Rattle.wq_checker.specs.declared.answer.No.TheVariants.{NotFalling};
 ghost use Rattle.wq_commands.specs.Answer.{declared_waits};
-ghost use Rattle.wq_commands.specs.Checking.{yes_words, no_details, no_words, NamesItems, PrintsCheck, AnswersCheck};
-ghost use Rattle.wq_commands.specs.Checking.{ChecksDeclared, Checks};
-ghost use Rattle.wq_commands.specs.Why.{lack, SaysLack, SaysCertificate, SaysChecked};
+ghost use Rattle.wq_commands.specs.Checking.{yes_words, no_details, no_words, NamesItems, PrintsCheck};
+ghost use Rattle.wq_commands.specs.Commands.{ChecksText, FindsCheck};
 
-use crate::declaration::{Declaration, read_declaration};
+use crate::declaration::Declaration;
 use crate::end::End;
-use crate::why::{Answered, Which};
+use crate::found::{Found, Which};
+use crate::shell::Answered;
 use std::alloc::{AllocError, Allocator};
 use wq_cert::{CertAnswer, read_answer};
 use wq_checker::{No, Yes, check_answer};
@@ -117,20 +117,19 @@ fn no_line<A: Allocator + Copy>(
 fn print_check<A: Allocator + Copy>(
     alloc: A,
     table: &ItemTable<'_, A>,
-    answer: Result<Yes, No>,
-) -> Result<Answered<A>, AllocError>
-    requires { IfErr answer (NamesItems table.now.names) }
-    ensures printed { IfOk result (λ a. PrintsCheck table.now.names answer a.end a.text.items) }
-    ensures why { IfOk result (λ a. a.why ≡ lack answer) }
+    answer: &Result<Yes, No>,
+) -> Result<(End, Vec<u8, A>), AllocError>
+    requires { IfErr answer.now (NamesItems table.now.names) }
+    ensures { IfOk result (λ printed. PrintsCheck table.now.names answer.now printed.0 printed.1.items) }
 {
     match answer {
         Ok(yes) => {
-            let text = yes_line(alloc, yes)?;
-            Ok(Answered::plain(End::Good, text))
+            let text = yes_line(alloc, *yes)?;
+            Ok((End::Good, text))
         }
         Err(no) => {
-            let text = no_line(alloc, table, &no)?;
-            Ok(Answered::lacking(text, no))
+            let text = no_line(alloc, table, no)?;
+            Ok((End::Bad, text))
         }
     }
 }
@@ -140,24 +139,27 @@ fn check_certificate<A: Allocator + Copy>(
     alloc: A,
     declared: &Declaration<'_, A>,
     claim: &CertAnswer<A>,
-) -> Result<Answered<A>, AllocError>
+) -> Result<Answered<A, Found<Result<Yes, No>>>, AllocError>
     requires { IsAsked (declared_waits declared.now) (certificate claim.now) }
-    ensures answer { IfOk result (λ a. AnswersCheck declared.now (certificate claim.now) a.end a.text.items) }
-    ensures why { IfOk result (λ a. SaysLack declared.now (certificate claim.now) a.why) }
+    ensures { IfOk result (λ a. FindsCheck declared.now (certificate claim.now) a.found a.end a.text.items) }
 {
     let Declaration { table, groups } = declared;
     let answer = check_answer(alloc, table, groups, claim)?;
-    print_check(alloc, table, answer)
+    let (end, text) = print_check(alloc, table, &answer)?;
+    Ok(Answered {
+        found: Found::Read(answer),
+        end,
+        text,
+    })
 }
 
-/// The answer to the text of a certificate of a declaration.
-fn check_declared<A: Allocator + Copy>(
+/// The checker's answer to the text of a certificate of a declaration.
+pub(crate) fn check_declared<A: Allocator + Copy>(
     alloc: A,
     declared: &Declaration<'_, A>,
     text: &[u8],
-) -> Result<Answered<A>, AllocError>
-    ensures answer { IfOk result (λ a. ChecksDeclared declared.now text.now a.end a.text.items) }
-    ensures why { IfOk result (λ a. SaysCertificate declared.now text.now a.why) }
+) -> Result<Answered<A, Found<Result<Yes, No>>>, AllocError>
+    ensures { IfOk result (λ a. ChecksText declared.now text.now a.found a.end a.text.items) }
 {
     match read_answer(alloc, text, &declared.table, &declared.groups) {
         Ok(claim) => {
@@ -167,26 +169,5 @@ fn check_declared<A: Allocator + Copy>(
             answer
         }
         Err(fault) => Answered::unread(alloc, Which::Certificate, fault),
-    }
-}
-
-/// The checker's answer to the texts of a declaration and a certificate, and beside
-/// it which text is refused, or what the certificate lacks.
-pub(crate) fn check<A: Allocator + Copy>(
-    alloc: A,
-    seed: u64,
-    text: &[u8],
-    certificate: &[u8],
-) -> Result<Answered<A>, AllocError>
-    ensures answer { IfOk result (λ a. Checks text.now certificate.now a.end a.text.items) }
-    ensures why { IfOk result (λ a. SaysChecked text.now certificate.now a.why) }
-{
-    match read_declaration(alloc, seed, text) {
-        Ok(declared) => {
-            let answer = check_declared(alloc, &declared, certificate);
-            drop(declared);
-            answer
-        }
-        Err(stop) => Answered::stopped(alloc, stop),
     }
 }

@@ -11,42 +11,42 @@ ghost use Rattle.wq_commands.specs.DeadlockInput.{JudgesInput};
 ghost use Rattle.wq_meter.specs.Input.{AfterGiven, HasFailed, HasGiven};
 ghost use Rattle.wq_commands.specs.declared.end.End.{End};
 
-use crate::deadlocking::judge;
+use crate::deadlocking::{Verdict, judge_declared};
+use crate::declaration::Declaration;
 use crate::end::End;
+use crate::found::Found;
 use crate::limits::TWO_TEXTS;
-use crate::outcome::end_of;
-use crate::why::{Answered, Outcome};
+use crate::shell::{Answered, Command, Finds, Silent, carry_out};
 use std::alloc::{AllocError, Allocator};
 use std::io::{self, Read, Write};
-use wq_meter::{Command, Fault, Limits, Metered, Silent, Texts, carry_out};
+use wq_meter::{Fault, Limits, Metered, Texts};
 
 /// The command `deadlock`: its texts are a declaration and an assignment.
 #[derive(Clone, Copy, Debug)]
-pub struct DeadlockCommand {
-    /// The names are hashed with this. No answer depends on it.
-    pub seed: u64,
-}
+pub struct DeadlockCommand;
 
-impl<A: Allocator + Copy> Command<A> for DeadlockCommand {
-    ghost use Rattle.wq_commands.specs.Commands.{JudgesTexts, two_texts};
+impl<A: Allocator + Copy> Finds<A> for DeadlockCommand {
+    ghost use Rattle.wq_commands.specs.Commands.{JudgesText, two_texts};
 
-    type End = Outcome;
-
-    type Stop = AllocError;
+    type Found = Found<Verdict<A>>;
 
     ghost limits = { λ _. two_texts };
 
-    ghost answers = { λ _ texts outcome out. JudgesTexts texts outcome out };
+    ghost answers = { λ _ s texts found end out. JudgesText s texts.second found end out };
+}
 
-    ghost stops = { λ _ _ _. Unit {0} };
-
+impl<A: Allocator + Copy> Command<A> for DeadlockCommand {
     fn limits(&self) -> Limits {
         TWO_TEXTS
     }
 
-    fn answer(&self, alloc: A, texts: &Texts<A>) -> Result<(Outcome, Vec<u8, A>), AllocError> {
-        let Answered { end, text, why } = judge(alloc, self.seed, texts.first(), texts.second())?;
-        Ok((Outcome { end, why }, text))
+    fn answer(
+        &self,
+        alloc: A,
+        declared: &Declaration<'_, A>,
+        texts: &Texts<A>,
+    ) -> Result<Answered<A, Found<Verdict<A>>>, AllocError> {
+        judge_declared(alloc, declared, texts.second())
     }
 }
 
@@ -101,15 +101,15 @@ pub fn deadlock_cmd<D: Read, S: Read, W: Write, A: Allocator + Copy>(
 {
     let mut third = Metered::new(io::empty());
     let mut unsaid = Metered::new(io::sink());
-    let ended = carry_out(
+    carry_out(
         alloc,
-        &DeadlockCommand { seed },
+        seed,
+        &DeadlockCommand,
         &Silent,
         declaration,
         assignment,
         &mut third,
         writer,
         &mut unsaid,
-    );
-    end_of(ended)
+    )
 }

@@ -3,24 +3,30 @@
 //! The rule is that of "Deadlocking runs" in docs/FORMAT.md. It takes the time and the memory of reading the two texts
 //! and of the verdict, whose run has 45,056 steps at most.
 
-ghost use Rattle.std.specs.Prelude.{◌≡◌, IfOk, None};
+ghost use Rattle.std.specs.Prelude.{◌≡◌, IfOk};
 ghost use Rattle.wq_cert.specs.RunText.{run_text};
 ghost use Rattle.wq_deadlock.specs.Judging.{IsHang, IsJudged};
 ghost use Rattle.wq_commands.specs.Answer.{declared_waits};
-ghost use Rattle.wq_commands.specs.Deadlocking.{safe_text, JudgesAssigned, JudgesDeclared, Judges};
-ghost use Rattle.wq_cert.specs.Texts.{workqueues_of_text};
-ghost use Rattle.wq_commands.specs.declared.why.Which.TheVariants.{Certificate};
-ghost use Rattle.wq_commands.specs.Why.{SaysFault, SaysAssigned};
+ghost use Rattle.wq_commands.specs.Commands.{FindsVerdict, JudgesText};
+ghost use Rattle.wq_commands.specs.Deadlocking.{safe_text, JudgesAssigned};
 
 use crate::assigned::Assigned;
-use crate::declaration::{Declaration, read_declaration};
+use crate::declaration::Declaration;
 use crate::end::End;
-use crate::why::{Answered, Which};
+use crate::found::{Found, Which};
+use crate::shell::Answered;
 use std::alloc::{AllocError, Allocator};
 use wq_cert::run_text;
-use wq_core::Step;
+use wq_core::{Step, Workqueues};
 use wq_deadlock::{Judged, judge as judge_workqueues};
 use wq_text::{put, put_end};
+
+/// Workqueues, and the verdict on them: good if they are safe, and bad if they can hang.
+#[derive(Drop)]
+pub struct Verdict<A: Allocator> {
+    pub workqueues: Workqueues<A>,
+    pub end: End,
+}
 
 /// `safe`.
 ///
@@ -51,32 +57,30 @@ fn print_verdict<A: Allocator + Copy>(
     alloc: A,
     assigned: &Assigned<'_, '_, A>,
     judged: &Judged<A>,
-) -> Result<Answered<A>, AllocError>
+) -> Result<(End, Vec<u8, A>), AllocError>
     requires { IsJudged (declared_waits assigned.now.declared) assigned.now.workqueues judged.now }
-    ensures answer { IfOk result (λ a.
-        JudgesAssigned assigned.now.declared assigned.now.workqueues a.end a.text.items) }
-    ensures why { IfOk result (λ a. a.why ≡ None) }
+    ensures { IfOk result (λ printed.
+        JudgesAssigned assigned.now.declared assigned.now.workqueues printed.0 printed.1.items) }
 {
     match judged {
         Judged::Safe => {
             let text = safe_text(alloc)?;
-            Ok(Answered::plain(End::Good, text))
+            Ok((End::Good, text))
         }
         Judged::Deadlock(steps) => {
             let text = deadlock_text(alloc, assigned, steps)?;
-            Ok(Answered::plain(End::Bad, text))
+            Ok((End::Bad, text))
         }
     }
 }
 
-/// The answer to workqueues of the declared groups.
+/// The verdict on workqueues of the declared groups, and what is printed of it.
 fn judge_assigned<A: Allocator + Copy>(
     alloc: A,
     assigned: &Assigned<'_, '_, A>,
-) -> Result<Answered<A>, AllocError>
-    ensures answer { IfOk result (λ a.
-        JudgesAssigned assigned.now.declared assigned.now.workqueues a.end a.text.items) }
-    ensures why { IfOk result (λ a. a.why ≡ None) }
+) -> Result<(End, Vec<u8, A>), AllocError>
+    ensures { IfOk result (λ printed.
+        JudgesAssigned assigned.now.declared assigned.now.workqueues printed.0 printed.1.items) }
 {
     let declared = assigned.declared;
     let judged = judge_workqueues(
@@ -88,43 +92,32 @@ fn judge_assigned<A: Allocator + Copy>(
     print_verdict(alloc, assigned, &judged)
 }
 
-/// The answer to the text of an assignment of the declared groups.
-fn judge_declared<A: Allocator + Copy>(
+/// The answer to workqueues of the declared groups.
+fn find_verdict<A: Allocator + Copy>(
+    alloc: A,
+    assigned: Assigned<'_, '_, A>,
+) -> Result<Answered<A, Found<Verdict<A>>>, AllocError>
+    ensures { IfOk result (λ a. FindsVerdict assigned.entry.declared assigned.entry.workqueues a.found a.end a.text.items) }
+{
+    let (end, text) = judge_assigned(alloc, &assigned)?;
+    let workqueues = assigned.workqueues;
+    Ok(Answered {
+        found: Found::Read(Verdict { workqueues, end }),
+        end,
+        text,
+    })
+}
+
+/// The verdict on the text of an assignment of the declared groups.
+pub(crate) fn judge_declared<A: Allocator + Copy>(
     alloc: A,
     declared: &Declaration<'_, A>,
     text: &[u8],
-) -> Result<Answered<A>, AllocError>
-    ensures answer { IfOk result (λ a. JudgesDeclared declared.now text.now a.end a.text.items) }
-    ensures why { IfOk result (λ a.
-        SaysFault Certificate (workqueues_of_text declared.now.table.names declared.now.partition text.now) a.why) }
+) -> Result<Answered<A, Found<Verdict<A>>>, AllocError>
+    ensures { IfOk result (λ a. JudgesText declared.now text.now a.found a.end a.text.items) }
 {
     match Assigned::read(alloc, declared, text) {
-        Ok(assigned) => {
-            let answer = judge_assigned(alloc, &assigned);
-            // Written as a call, so that the proof has one step for it.
-            drop(assigned);
-            answer
-        }
+        Ok(assigned) => find_verdict(alloc, assigned),
         Err(fault) => Answered::unread(alloc, Which::Certificate, fault),
-    }
-}
-
-/// The verdict on the texts of a declaration and an assignment, and which of them is refused, if one is.
-pub(crate) fn judge<A: Allocator + Copy>(
-    alloc: A,
-    seed: u64,
-    text: &[u8],
-    assigned: &[u8],
-) -> Result<Answered<A>, AllocError>
-    ensures answer { IfOk result (λ a. Judges text.now assigned.now a.end a.text.items) }
-    ensures why { IfOk result (λ a. SaysAssigned text.now assigned.now a.why) }
-{
-    match read_declaration(alloc, seed, text) {
-        Ok(declared) => {
-            let answer = judge_declared(alloc, &declared, assigned);
-            drop(declared);
-            answer
-        }
-        Err(stop) => Answered::stopped(alloc, stop),
     }
 }

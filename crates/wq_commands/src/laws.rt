@@ -3,7 +3,7 @@
 //! The examples are computed by the definitions, so that a reader can compare them with those of the format.
 
 ghost use Rattle.std.specs.Prelude.{◌≡◌, ◌↔◌, false, ℕ, ◌+◌, ◌*◌, ◌<◌, ◌≤◌, ◌⊎◌, List, length, [], take, codes, Ok};
-ghost use Rattle.std.specs.Prelude.{Err, option_map};
+ghost use Rattle.std.specs.Prelude.{Err, Some, option_map};
 ghost use Rattle.std.specs.Result.{result_ok};
 ghost use Rattle.wq_items.specs.Table.{IsTable, flush_count};
 ghost use Rattle.wq_groups.specs.Partition.{IsPartition};
@@ -40,11 +40,20 @@ ghost use Rattle.wq_commands.specs.YesIsTrue.{YesIsTrue};
 ghost use Rattle.wq_commands.specs.Replaying.{replay_words, ReplaysRun};
 ghost use Rattle.wq_commands.specs.Deadlocking.{Judges, safe_text};
 ghost use Rattle.wq_commands.specs.AllRescued.{JudgesAllRescued, ReplaysAllRescued};
-ghost use Rattle.wq_commands.specs.Commands.{Plans, ChecksTexts, JudgesTexts, ReplaysTexts};
-ghost use Rattle.wq_meter.specs.Shell.{HasOneAnswer};
+ghost use Rattle.wq_commands.specs.Commands.{ChecksText, FindsPlan, JudgesText, ReplaysTexts};
+ghost use Rattle.wq_commands.specs.Shell.{AnswersTexts, Call, FindsTexts, HasOneAnswer, IsAnswered, SaysOfTexts};
+ghost use Rattle.wq_commands.specs.declared.deadlocking.Verdict.{Verdict};
+ghost use Rattle.wq_commands.specs.declared.found.Found.{Found};
+ghost use Rattle.wq_commands.specs.declared.replaying.Replayed.{Replayed};
+ghost use Rattle.wq_meter.specs.Meter.{WritesWhole};
+ghost use Rattle.wq_meter.specs.Shell.{AreFrom, Given, GivesIf, Tells};
 ghost use Rattle.wq_commands.specs.Declaration.{Declared, declaration, max_declaration};
 ghost use Rattle.wq_commands.specs.declared.end.End.{End};
 ghost use Rattle.wq_commands.specs.declared.end.End.TheVariants.{Good, Bad, Refused};
+
+use crate::shell::{Command, Voice};
+use std::alloc::Allocator;
+use std::io::{Read, Write};
 
 /// A text has one answer at most: one end, and one text that is printed.
 pub fn a_text_has_one_answer()
@@ -226,13 +235,56 @@ pub fn a_replay_has_an_answer()
     ensures { (text lanes steps : List ℕ) → (end : End) × (out : List ℕ) × ReplaysRun text lanes steps end out }
 {}
 
-/// Each of `plan`, `check`, `deadlock` and `replay` has at most one answer to its texts: one end, one text that is
-/// printed, and one reason for what is said besides. So `what_is_said_changes_no_answer` holds of it.
-pub fn each_command_has_one_answer()
-    ensures plan { HasOneAnswer Plans }
-    ensures check { HasOneAnswer ChecksTexts }
-    ensures deadlock { HasOneAnswer JudgesTexts }
-    ensures replay { HasOneAnswer ReplaysTexts }
+/// Each of `plan`, `check`, `deadlock` and `replay` has at most one answer to its texts: one end, and one text that is
+/// printed. So `what_is_said_changes_no_answer` holds of it.
+pub fn each_command_has_one_answer<A: Allocator>()
+    ensures plan { HasOneAnswer (λ s _ found end out. FindsPlan s found end out) }
+    ensures check { HasOneAnswer (λ s texts found end out. ChecksText s texts.second found end out) }
+    ensures deadlock { HasOneAnswer
+        (λ s texts (found : Found (Verdict A)) end out. JudgesText s texts.second found end out) }
+    ensures replay { HasOneAnswer
+        (λ s texts (found : Found (Replayed A)) end out. ReplaysTexts s texts.second texts.third found end out) }
+{}
+
+/// What is said changes neither the end nor the answer. Of two calls of `carry_out`, each says in its clause `answered`
+/// how it ended. If both carry out the same command, whose readers have the same texts, then they end in the same way
+/// and write the same bytes, whatever the two voices say, and whatever the two second writers do.
+///
+/// The command is one that has one answer at most.
+pub fn what_is_said_changes_no_answer<
+    C: Command<A>,
+    V: Voice<C, A>,
+    U: Voice<C, A>,
+    D: Read,
+    S: Read,
+    T: Read,
+    W: Write,
+    E: Write,
+    F: Write,
+    A: Allocator,
+>()
+    ensures { (command : C) (voice : V) (other_voice : U) (end other_end : End) (texts : Given) (one : Call D S T W E)
+        (other : Call D S T W F) →
+        HasOneAnswer (C.answers command) →
+        FindsTexts D.remaining S.remaining T.remaining (C.limits command) one texts →
+        FindsTexts D.remaining S.remaining T.remaining (C.limits command) other texts →
+        (answered : IsAnswered (C.limits command)
+        (AreFrom (GivesIf D.remaining one.first one.first_left (Some (C.limits command).first))
+        (GivesIf S.remaining one.second one.second_left (C.limits command).second)
+        (GivesIf T.remaining one.third one.third_left (C.limits command).third))
+        (λ given found out. AnswersTexts (C.answers command) given found end out)
+        (WritesWhole W.contents one.writer one.writer_left)
+        (λ given found. Tells E.contents one.teller one.teller_left
+        (SaysOfTexts (V.says voice command) (V.refuses voice) given found))) →
+        (other_answered : IsAnswered (C.limits command)
+        (AreFrom (GivesIf D.remaining other.first other.first_left (Some (C.limits command).first))
+        (GivesIf S.remaining other.second other.second_left (C.limits command).second)
+        (GivesIf T.remaining other.third other.third_left (C.limits command).third))
+        (λ given found out. AnswersTexts (C.answers command) given found other_end out)
+        (WritesWhole W.contents other.writer other.writer_left)
+        (λ given found. Tells F.contents other.teller other.teller_left
+        (SaysOfTexts (U.says other_voice command) (U.refuses other_voice) given found))) →
+        (end ≡ other_end) × (answered.out ≡ other_answered.out) }
 {}
 
 /// What a text declares is a declaration: it has one list of flushes and one group for each item, and at most 16,384

@@ -1,9 +1,10 @@
 //! The commands of the program, over any reader and any writer.
 //!
 //! What the program relies on: the bytes written are the answer text to the bytes read. The commands are those of
-//! docs/FORMAT.md. Each is one function of its texts (`PlanCommand` and its like), which also says why it answers a
-//! refusal or a `no`; `carry_out` reads, asks and writes for all of them. What a run reads and writes is bounded and
-//! counted. A command takes the time of reading its texts, of answering them and of writing the answer.
+//! docs/FORMAT.md. Each is one function of what is declared and of the texts behind it (`PlanCommand` and its like),
+//! which finds a value. `carry_out` reads, asks and writes for all of them, and has more said of what was found. What a
+//! run reads and writes is bounded and counted. A command takes the time of reading its texts, of answering them and of
+//! writing the answer.
 #![tactic(auto)]
 
 mod answer;
@@ -15,29 +16,27 @@ mod deadlock;
 mod deadlocking;
 mod declaration;
 mod end;
+mod found;
 pub mod laws;
 mod limits;
-mod outcome;
 mod plan;
 mod refusal;
 mod replay;
 mod replaying;
-mod why;
+mod shell;
 
 pub use answer::text_of_circle;
 pub use assigned::Assigned;
 pub use check::{CheckCommand, check_cmd};
 pub use deadlock::{DeadlockCommand, deadlock_cmd};
-pub use deadlocking::safe_text;
+pub use deadlocking::{Verdict, safe_text};
 pub use declaration::{Declaration, MAX_DECLARATION, MAX_DECLARATION_LINE, Stop, read_declaration};
 pub use end::End;
+pub use found::{Found, Which};
 pub use limits::{ONE_TEXT, THREE_TEXTS, TWO_TEXTS, one_or_two_texts};
-pub use outcome::end_of;
 pub use plan::{PlanCommand, plan_cmd};
 pub use refusal::{TOO_MANY_LANES, refuse};
 pub use replay::{ReplayCommand, replay_cmd};
-pub use why::{Answered, Outcome, Which, Why};
-pub use wq_meter::{
-    Command, Fault, Limits, Metered, Silent, Stopped, Texts, Voice, carry_out, read_text,
-    write_text,
-};
+pub use replaying::Replayed;
+pub use shell::{Answered, Command, Finds, Silent, Voice, carry_out, respond_refused, tell};
+pub use wq_meter::{Fault, Limits, Metered, Texts, read_text, write_text};

@@ -8,42 +8,41 @@ ghost use Rattle.wq_meter.specs.Meter.{count_after, LosesPrefix, WritesPrefix, W
 ghost use Rattle.wq_commands.specs.PlanInput.{AnswersInput, KeepsPromiseOfInput, ShowsAnswerOfInput};
 ghost use Rattle.wq_commands.specs.declared.end.End.{End};
 
-use crate::answer::answer_text;
+use crate::answer::answer_declared;
+use crate::declaration::Declaration;
 use crate::end::End;
 use crate::limits::ONE_TEXT;
-use crate::outcome::end_of;
-use crate::why::{Answered, Outcome};
+use crate::shell::{Answered, Command, Finds, Silent, carry_out};
 use std::alloc::{AllocError, Allocator};
 use std::io::{self, Read, Write};
-use wq_meter::{Command, Fault, Limits, Metered, Silent, Texts, carry_out};
+use wq_meter::{Fault, Limits, Metered, Texts};
 
 /// The command `plan`: its one text is a declaration.
 #[derive(Clone, Copy, Debug)]
-pub struct PlanCommand {
-    /// The names are hashed with this. No answer depends on it.
-    pub seed: u64,
-}
+pub struct PlanCommand;
 
-impl<A: Allocator + Copy> Command<A> for PlanCommand {
-    ghost use Rattle.wq_commands.specs.Commands.{Plans, one_text};
+impl<A: Allocator + Copy> Finds<A> for PlanCommand {
+    ghost use Rattle.wq_commands.specs.Commands.{FindsPlan, one_text};
 
-    type End = Outcome;
-
-    type Stop = AllocError;
+    type Found = End;
 
     ghost limits = { λ _. one_text };
 
-    ghost answers = { λ _ texts outcome out. Plans texts outcome out };
+    ghost answers = { λ _ s _ found end out. FindsPlan s found end out };
+}
 
-    ghost stops = { λ _ _ _. Unit {0} };
-
+impl<A: Allocator + Copy> Command<A> for PlanCommand {
     fn limits(&self) -> Limits {
         ONE_TEXT
     }
 
-    fn answer(&self, alloc: A, texts: &Texts<A>) -> Result<(Outcome, Vec<u8, A>), AllocError> {
-        let Answered { end, text, why } = answer_text(alloc, self.seed, texts.first())?;
-        Ok((Outcome { end, why }, text))
+    fn answer(
+        &self,
+        alloc: A,
+        declared: &Declaration<'_, A>,
+        _texts: &Texts<A>,
+    ) -> Result<Answered<A, End>, AllocError> {
+        answer_declared(alloc, declared)
     }
 }
 
@@ -99,15 +98,15 @@ pub fn plan_cmd<R: Read, W: Write, A: Allocator + Copy>(
     let mut second = Metered::new(io::empty());
     let mut third = Metered::new(io::empty());
     let mut unsaid = Metered::new(io::sink());
-    let ended = carry_out(
+    carry_out(
         alloc,
-        &PlanCommand { seed },
+        seed,
+        &PlanCommand,
         &Silent,
         reader,
         &mut second,
         &mut third,
         writer,
         &mut unsaid,
-    );
-    end_of(ended)
+    )
 }

@@ -12,48 +12,42 @@ ghost use Rattle.wq_commands.specs.CheckInput.{ReplaysInput};
 ghost use Rattle.wq_meter.specs.Input.{AfterGiven, HasFailed, HasGiven};
 ghost use Rattle.wq_commands.specs.declared.end.End.{End};
 
+use crate::declaration::Declaration;
 use crate::end::End;
+use crate::found::Found;
 use crate::limits::THREE_TEXTS;
-use crate::outcome::end_of;
-use crate::replaying::replay;
-use crate::why::{Answered, Outcome};
+use crate::replaying::{Replayed, replay_declared};
+use crate::shell::{Answered, Command, Finds, Silent, carry_out};
 use std::alloc::{AllocError, Allocator};
 use std::io::{self, Read, Write};
-use wq_meter::{Command, Fault, Limits, Metered, Silent, Texts, carry_out};
+use wq_meter::{Fault, Limits, Metered, Texts};
 
 /// The command `replay`: its texts are a declaration, an assignment and a run.
 #[derive(Clone, Copy, Debug)]
-pub struct ReplayCommand {
-    /// The names are hashed with this. No answer depends on it.
-    pub seed: u64,
-}
+pub struct ReplayCommand;
 
-impl<A: Allocator + Copy> Command<A> for ReplayCommand {
+impl<A: Allocator + Copy> Finds<A> for ReplayCommand {
     ghost use Rattle.wq_commands.specs.Commands.{ReplaysTexts, three_texts};
 
-    type End = Outcome;
-
-    type Stop = AllocError;
+    type Found = Found<Replayed<A>>;
 
     ghost limits = { λ _. three_texts };
 
-    ghost answers = { λ _ texts outcome out. ReplaysTexts texts outcome out };
+    ghost answers = { λ _ s texts found end out. ReplaysTexts s texts.second texts.third found end out };
+}
 
-    ghost stops = { λ _ _ _. Unit {0} };
-
+impl<A: Allocator + Copy> Command<A> for ReplayCommand {
     fn limits(&self) -> Limits {
         THREE_TEXTS
     }
 
-    fn answer(&self, alloc: A, texts: &Texts<A>) -> Result<(Outcome, Vec<u8, A>), AllocError> {
-        let Answered { end, text, why } = replay(
-            alloc,
-            self.seed,
-            texts.first(),
-            texts.second(),
-            texts.third(),
-        )?;
-        Ok((Outcome { end, why }, text))
+    fn answer(
+        &self,
+        alloc: A,
+        declared: &Declaration<'_, A>,
+        texts: &Texts<A>,
+    ) -> Result<Answered<A, Found<Replayed<A>>>, AllocError> {
+        replay_declared(alloc, declared, texts.second(), texts.third())
     }
 }
 
@@ -118,15 +112,15 @@ pub fn replay_cmd<D: Read, S: Read, R: Read, W: Write, A: Allocator + Copy>(
     ensures no_write_failed { result ≢ Err Fault.Write → writer.new.failures ≡ writer.old.failures }
 {
     let mut unsaid = Metered::new(io::sink());
-    let ended = carry_out(
+    carry_out(
         alloc,
-        &ReplayCommand { seed },
+        seed,
+        &ReplayCommand,
         &Silent,
         declaration,
         assignment,
         run,
         writer,
         &mut unsaid,
-    );
-    end_of(ended)
+    )
 }

@@ -3,20 +3,31 @@
 //! It takes the time and the memory of reading the three texts and of making the steps.
 
 ghost use Rattle.std.specs.Prelude.{◌≡◌, ◌∷◌, [], ◌<◌, IfOk, length, codes, decimal};
+ghost use Rattle.wq_core.specs.Workqueues.{wiring_of};
 ghost use Rattle.wq_text.specs.LineText.{line_text};
-ghost use Rattle.wq_commands.specs.Replaying.{replay_words, replay_end, AnswersReplay, ReplaysAssigned};
-ghost use Rattle.wq_commands.specs.Replaying.{ReplaysDeclared, ReplaysRun};
-ghost use Rattle.wq_commands.specs.Why.{unlawful, SaysSteps, SaysRunUnder, SaysRun, SaysReplayed};
+ghost use Rattle.wq_checker.specs.RunEnds.{EndsAs};
+ghost use Rattle.wq_commands.specs.Answer.{declared_waits};
+ghost use Rattle.wq_commands.specs.Commands.{FindsEnd, ReplaysOn, ReplaysTexts};
+ghost use Rattle.wq_commands.specs.Replaying.{replay_words, replay_end};
 
 use crate::assigned::Assigned;
-use crate::declaration::{Declaration, read_declaration};
+use crate::declaration::Declaration;
 use crate::end::End;
-use crate::why::{Answered, Which, Why};
+use crate::found::{Found, Which};
+use crate::shell::Answered;
 use std::alloc::{AllocError, Allocator};
 use wq_cert::read_run;
 use wq_checker::{RunEnd, check_run_on};
-use wq_core::Step;
+use wq_core::{Step, Workqueues};
 use wq_text::{put, put_end, put_number};
+
+/// A run that was made on workqueues, and how it ends.
+#[derive(Drop)]
+pub struct Replayed<A: Allocator> {
+    pub workqueues: Workqueues<A>,
+    pub steps: Vec<Step, A>,
+    pub end: RunEnd,
+}
 
 /// `not lawful N`.
 fn unlawful_text<A: Allocator + Copy>(alloc: A, number: u32) -> Result<Vec<u8, A>, AllocError>
@@ -61,102 +72,80 @@ fn replay_end(end: RunEnd) -> End
     }
 }
 
-/// Which step isn't lawful, if a run ends like this.
-fn unlawful(end: RunEnd) -> Option<Why>
-    ensures { result ≡ unlawful end }
+/// The answer to a run that makes these steps on workqueues of the declared groups.
+fn replay_steps<A: Allocator + Copy>(
+    alloc: A,
+    assigned: Assigned<'_, '_, A>,
+    steps: Vec<Step, A>,
+) -> Result<Answered<A, Found<Replayed<A>>>, AllocError>
+    requires { length steps.items < 4294967295 }
+    ensures { IfOk result (λ a.
+        FindsEnd assigned.entry.declared assigned.entry.workqueues steps.items a.found a.end a.text.items) }
 {
-    match end {
-        RunEnd::Free | RunEnd::Deadlock | RunEnd::Stuck => None,
-        RunEnd::NotLawful(number) => Some(Why::NotLawful(number)),
-    }
+    let end = end_of_steps(alloc, &assigned, steps.as_slice())?;
+    let text = replay_text(alloc, end)?;
+    let workqueues = assigned.workqueues;
+    Ok(Answered {
+        found: Found::Read(Replayed {
+            workqueues,
+            steps,
+            end,
+        }),
+        end: replay_end(end),
+        text,
+    })
 }
 
-/// The answer to a run that makes these steps.
-fn replay_steps<A: Allocator + Copy>(
+/// How these steps end on workqueues of the declared groups.
+fn end_of_steps<A: Allocator + Copy>(
     alloc: A,
     assigned: &Assigned<'_, '_, A>,
     steps: &[Step],
-) -> Result<Answered<A>, AllocError>
+) -> Result<RunEnd, AllocError>
     requires { length steps.now < 4294967295 }
-    ensures answer { IfOk result (λ a.
-        AnswersReplay assigned.now.declared assigned.now.workqueues steps.now a.end a.text.items) }
-    ensures why { IfOk result (λ a. SaysSteps assigned.now.declared assigned.now.workqueues steps.now a.why) }
+    ensures { IfOk result (EndsAs
+        (wiring_of (declared_waits assigned.now.declared) assigned.now.workqueues) steps.now) }
 {
     let declared = assigned.declared;
-    let end = check_run_on(
+    check_run_on(
         alloc,
         &declared.table,
         &declared.groups,
         &assigned.workqueues,
         steps,
-    )?;
-    let text = replay_text(alloc, end)?;
-    Ok(Answered {
-        end: replay_end(end),
-        text,
-        why: unlawful(end),
-    })
+    )
 }
 
 /// The answer to workqueues of the declared groups and the text of a run.
 fn replay_assigned<A: Allocator + Copy>(
     alloc: A,
-    assigned: &Assigned<'_, '_, A>,
+    assigned: Assigned<'_, '_, A>,
     text: &[u8],
-) -> Result<Answered<A>, AllocError>
-    ensures answer { IfOk result (λ a.
-        ReplaysAssigned assigned.now.declared assigned.now.workqueues text.now a.end a.text.items) }
-    ensures why { IfOk result (λ a. SaysRunUnder assigned.now.declared assigned.now.workqueues text.now a.why) }
+) -> Result<Answered<A, Found<Replayed<A>>>, AllocError>
+    ensures { IfOk result (λ a. ReplaysOn assigned.entry.declared assigned.entry.workqueues text.now a.found a.end a.text.items) }
 {
     match read_run(alloc, text, assigned.table()) {
-        Ok(steps) => {
-            let answer = replay_steps(alloc, assigned, steps.as_slice());
+        Ok(steps) => replay_steps(alloc, assigned, steps),
+        Err(fault) => {
+            let answer = Answered::unread(alloc, Which::Run, fault);
             // Written as a call, so that the proof has one step for it.
-            drop(steps);
+            drop(assigned);
             answer
         }
-        Err(fault) => Answered::unread(alloc, Which::Run, fault),
     }
 }
 
 /// The answer to the texts of an assignment of the declared groups and of a run.
-fn replay_declared<A: Allocator + Copy>(
+pub(crate) fn replay_declared<A: Allocator + Copy>(
     alloc: A,
     declared: &Declaration<'_, A>,
     assignment: &[u8],
     text: &[u8],
-) -> Result<Answered<A>, AllocError>
-    ensures answer { IfOk result (λ a. ReplaysDeclared declared.now assignment.now text.now a.end a.text.items) }
-    ensures why { IfOk result (λ a. SaysRun declared.now assignment.now text.now a.why) }
+) -> Result<Answered<A, Found<Replayed<A>>>, AllocError>
+    ensures { IfOk result (λ a. ReplaysTexts declared.now assignment.now text.now a.found a.end a.text.items) }
 {
     match Assigned::read(alloc, declared, assignment) {
-        Ok(assigned) => {
-            let answer = replay_assigned(alloc, &assigned, text);
-            drop(assigned);
-            answer
-        }
+        Ok(assigned) => replay_assigned(alloc, assigned, text),
         Err(fault) => Answered::unread(alloc, Which::Certificate, fault),
-    }
-}
-
-/// How the run in the third text ends, for the declaration and the assignment in the
-/// first two, and which of them is refused, if one is.
-pub(crate) fn replay<A: Allocator + Copy>(
-    alloc: A,
-    seed: u64,
-    text: &[u8],
-    assigned: &[u8],
-    run: &[u8],
-) -> Result<Answered<A>, AllocError>
-    ensures answer { IfOk result (λ a. ReplaysRun text.now assigned.now run.now a.end a.text.items) }
-    ensures why { IfOk result (λ a. SaysReplayed text.now assigned.now run.now a.why) }
-{
-    match read_declaration(alloc, seed, text) {
-        Ok(declared) => {
-            let answer = replay_declared(alloc, &declared, assigned, run);
-            drop(declared);
-            answer
-        }
-        Err(stop) => Answered::stopped(alloc, stop),
     }
 }

@@ -1,15 +1,13 @@
 -- What is said of a step that isn't lawful: the words of each reason, and the lines.
 use Rattle.std.specs.Prelude.{◌≡◌, ℕ, nat_lt, Bool, true, false, cond, List, [], ◌∷◌, ◌++◌, Option, Some, None}
-use Rattle.std.specs.Prelude.{MatchResult, codes, decimal, length, slice_index_or}
+use Rattle.std.specs.Prelude.{codes, decimal, length, slice_index_or}
 use Rattle.wq_items.specs.Table.{targets_of}
 use Rattle.wq_core.specs.declared.entry.Waiting.{Waiting}
 use Rattle.wq_core.specs.declared.step.Step.{Step}
 use Rattle.wq_core.specs.Workqueues.{Workqueues, wiring_of}
-use Rattle.wq_cert.specs.Texts.{workqueues_of_text, run_of}
 use Rattle.wq_checker.specs.RunEnds.{IsFirstUnlawful}
-use Rattle.wq_names.specs.Names.{names_of}
 use Rattle.wq_commands.specs.Answer.{declared_waits}
-use Rattle.wq_commands.specs.Declaration.{Declared, declaration}
+use Rattle.wq_commands.specs.Declaration.{Declared}
 use Rattle.wq_findings.specs.Shown.{place_text}
 use Rattle.wq_diagnosis.specs.declared.unlawful.Unlawful.{Unlawful}
 use Rattle.wq_diagnosis.specs.declared.unlawful.Unlawful.TheVariants as why
@@ -105,19 +103,3 @@ pub record SaysReason (file : List ℕ) (s : Declared) (ws : Workqueues) (names 
 abbrev pub SaysStep : List ℕ → Declared → Workqueues → List (List ℕ) → List Step → ℕ → Option (List ℕ) → Type 0
 SaysStep file s ws names steps n None = ¬ IsFirstUnlawful (wiring_of (declared_waits s) ws) steps n
 SaysStep file s ws names steps n (Some text) = SaysReason file s ws names steps n text
-
--- the same of a run on these workqueues; nothing if it is refused
-abbrev pub SaysStepOn : List ℕ → Declared → Workqueues → List (List ℕ) → List ℕ → ℕ → Option (List ℕ) → Type 0
-SaysStepOn file s ws names run n said =
-    MatchResult (run_of s.table.names run) (λ steps. SaysStep file s ws names steps n said) (λ _. said ≡ None)
-
--- the same of an assignment of a declaration and a run; nothing if one of them is refused
-abbrev pub SaysStepUnder : List ℕ → Declared → List ℕ → List ℕ → ℕ → Option (List ℕ) → Type 0
-SaysStepUnder file s assigned run n said =
-    MatchResult (workqueues_of_text s.table.names s.partition assigned)
-    (λ ws. SaysStepOn file s ws (names_of assigned) run n said) (λ _. said ≡ None)
-
--- the same of a declaration, an assignment and a run; nothing if one of them is refused
-abbrev pub SaysStepOf : List ℕ → List ℕ → List ℕ → List ℕ → ℕ → Option (List ℕ) → Type 0
-SaysStepOf file declared assigned run n said =
-    MatchResult (declaration declared) (λ s. SaysStepUnder file s assigned run n said) (λ _. said ≡ None)

@@ -1,9 +1,9 @@
 -- Which refusal or which `no` a diagnosis is about.
-use Rattle.std.specs.Prelude.{◌≡◌, ℕ, List, [], ◌∷◌, ◌++◌, Option, Some, None, MatchResult, codes, length}
+use Rattle.std.specs.Prelude.{◌≡◌, ◌<◌, ℕ, List, [], ◌∷◌, ◌++◌, Option, Some, None, codes, length}
 use Rattle.wq_text.specs.Refusal.{Refusal}
 use Rattle.wq_checker.specs.declared.answer.No.{No}
 use Rattle.wq_checker.specs.Codes.{no_code}
-use Rattle.wq_commands.specs.Declaration.{declaration}
+use Rattle.wq_commands.specs.Declaration.{Declared}
 use Rattle.wq_diagnosis.specs.Diagnosis.{IsDiagnosis, shown_lines}
 
 -- what is said about a text: nothing if it isn't refused, and else a diagnosis of its refusal
@@ -18,19 +18,12 @@ SaysNo file None said = said ≡ None
 SaysNo file (Some why) said =
     (text : List ℕ) × (line : ℕ) × (said ≡ Some text) × IsDiagnosis file (codes "no") (no_code why) line text
 
--- a declaration without an item
-abbrev pub HasNoItem : List ℕ → Type 0
-HasNoItem text = MatchResult (declaration text) (λ s. length s.table.names ≡ 0) (λ _. ⊥)
-
 -- the line that is said beside the answer to a declaration without an item
 abbrev pub no_item_note : List ℕ → List ℕ
 no_item_note file = shown_lines ((file ++ codes ": note: no item is declared: is this the right file?") ∷ [])
 
--- what is said beside the answer to a text: nothing, or, where it is a declaration without an item, this line
-abbrev pub NotesNoItem : List ℕ → List ℕ → Option (List ℕ) → Type 0
-NotesNoItem file text None = Unit {0}
-NotesNoItem file text (Some said) = (said ≡ no_item_note file) × HasNoItem text
-
--- what is said of a certificate whose declaration is one; nothing is said if the declaration is refused
-abbrev pub SaysIfDeclared : List ℕ → (Option (List ℕ) → Type 0) → Option (List ℕ) → Type 0
-SaysIfDeclared declared Says said = MatchResult (declaration declared) (λ _. Says said) (λ _. said ≡ None)
+-- what is said beside the answer to a declaration that needs no more words: this line if it has no item, and else
+-- nothing
+abbrev pub NotesNoItem : List ℕ → Declared → Option (List ℕ) → Type 0
+NotesNoItem file s None = 0 < length s.table.names
+NotesNoItem file s (Some said) = (said ≡ no_item_note file) × (length s.table.names ≡ 0)

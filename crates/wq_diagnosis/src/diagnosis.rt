@@ -1,22 +1,21 @@
 //! The text of a diagnosis, and the diagnoses of the texts of a command.
 //!
-//! The form is that of "Diagnoses" in docs/FORMAT.md. A call that is told the refusal,
-//! or what a certificate lacks, takes the time and the memory of reading the declaration
-//! and of searching the text for the fault. The others read the texts first to learn it.
+//! The form is that of "Diagnoses" in docs/FORMAT.md. A call takes the time and the memory of searching the text for
+//! the fault; of a declaration that is refused, also those of reading it again, mended.
 
-ghost use Rattle.std.specs.Prelude.{◌≡◌, ◌++◌, ◌∷◌, codes, length, map, option_map, ℕ, IfOk, OnOk, Some, IsTrue};
+ghost use Rattle.std.specs.Prelude.{◌≡◌, ◌++◌, ◌∷◌, codes, length, map, option_map, ℕ, IfOk, OnOk};
 ghost use Rattle.wq_findings.specs.Shown.{place_text};
 ghost use Rattle.wq_diagnosis.specs.Diagnosis.{head, shown_lines, IsDiagnosis};
 ghost use Rattle.wq_checker.specs.Codes.{no_code};
-ghost use Rattle.wq_diagnosis.specs.Refused.{no_item_note, Diagnoses, HasNoItem, NotesNoItem, SaysIfDeclared};
+ghost use Rattle.wq_diagnosis.specs.Refused.{no_item_note, NotesNoItem};
 
 use crate::further::push_further;
 use crate::layout::{column, lines_of, push_excerpt, put_line, put_lines};
 use std::alloc::{AllocError, Allocator};
 use wq_checker::No;
-use wq_commands::{Declaration, Stop, TOO_MANY_LANES, read_declaration};
+use wq_commands::{Declaration, TOO_MANY_LANES};
 use wq_findings::{
-    CertificateKind, Finding, Found, Mark, Refused, What, has_words, in_answer, in_certificate,
+    CertificateKind, Finding, Found, Mark, Refused, What, in_answer, in_certificate,
     in_declaration, line_at, put_place,
 };
 use wq_text::{Line, Text, put};
@@ -296,32 +295,23 @@ fn of_fault<A: Allocator + Copy>(
     diagnosis(alloc, certificate.file, line, refusal, finding)
 }
 
-/// The diagnosis of a certificate of a declaration that is refused for the fault of this number on this line; nothing
-/// where the declaration itself is refused.
+/// The diagnosis of a certificate of this declaration, whose text is that one, that is refused for the fault of this
+/// number on this line.
 ///
-/// The only error is out of memory (20). The names are hashed with `seed`. No answer depends on it.
+/// The only error is out of memory (20).
 pub fn of_refused_certificate<A: Allocator + Copy>(
     alloc: A,
-    seed: u64,
     kind: CertificateKind,
+    declared: &Declaration<'_, A>,
     declaration: &[u8],
     certificate: Source<'_>,
     code: u32,
     line: u32,
-) -> Result<Option<Vec<u8, A>>, AllocError>
-    ensures { IfOk result (λ said. SaysIfDeclared declaration.now
-        (Diagnoses certificate.entry.file.now (Some (record { code = code; line = line })))
-        (option_map (λ text. text.items) said)) }
+) -> Result<Vec<u8, A>, AllocError>
+    ensures { IfOk result (λ said. IsDiagnosis certificate.entry.file.now (codes "refused") code line said.items) }
 {
-    match read_declaration(alloc, seed, declaration) {
-        Ok(declared) => {
-            let refusal = Refusal::new(code, line);
-            let said = of_fault(alloc, kind, &declared, declaration, certificate, refusal)?;
-            Ok(Some(said))
-        }
-        Err(Stop::Refused { .. }) => Ok(None),
-        Err(Stop::OutOfMemory) => Err(AllocError),
-    }
+    let refusal = Refusal::new(code, line);
+    of_fault(alloc, kind, declared, declaration, certificate, refusal)
 }
 
 /// The diagnosis of a declaration whose plan has too many workqueues to run.
@@ -358,38 +348,20 @@ fn no_item_note<A: Allocator + Copy>(alloc: A, file: &str) -> Result<Vec<u8, A>,
     Ok(out)
 }
 
-/// Whether a text is a declaration without an item. A text with a word isn't read.
-fn has_no_item<A: Allocator + Copy>(alloc: A, seed: u64, text: &[u8]) -> Result<bool, AllocError>
-    ensures { IfOk result (λ found. IsTrue found → HasNoItem text.now) }
-{
-    if has_words(&lines_of(text)) {
-        return Ok(false);
-    }
-    match read_declaration(alloc, seed, text) {
-        Ok(declared) => Ok(declared.table.is_empty()),
-        Err(Stop::Refused { .. }) => Ok(false),
-        Err(Stop::OutOfMemory) => Err(AllocError),
-    }
-}
-
-/// Says that a declaration has no item; nothing where it has one, or is refused.
+/// Says in this file that the declaration has no item; nothing where it has one.
 ///
-/// The only error is out of memory (20). Where a line has a word, it takes the time
-/// up to the first such line, and no memory.
-///
-/// The names are hashed with `seed`. No answer depends on it.
+/// The only error is out of memory (20).
 pub fn of_no_item<A: Allocator + Copy>(
     alloc: A,
-    seed: u64,
-    declaration: Source<'_>,
+    declared: &Declaration<'_, A>,
+    file: &str,
 ) -> Result<Option<Vec<u8, A>>, AllocError>
-    ensures { IfOk result (λ said.
-        NotesNoItem declaration.entry.file.now declaration.entry.text.now (option_map (λ text. text.items) said)) }
+    ensures { IfOk result (λ said. NotesNoItem file.now declared.now (option_map (λ text. text.items) said)) }
 {
-    if !has_no_item(alloc, seed, declaration.text)? {
+    if !declared.table.is_empty() {
         return Ok(None);
     }
-    let said = no_item_note(alloc, declaration.file)?;
+    let said = no_item_note(alloc, file)?;
     Ok(Some(said))
 }
 

@@ -12,7 +12,7 @@ ghost use Rattle.wq_diagnosis.specs.Words.{item_words, workqueue_words};
 use crate::unlawful::{Unlawful, named_item, named_workqueue};
 use crate::words::{item_words, put_name, workqueue_of, workqueue_words};
 use std::alloc::{AllocError, Allocator};
-use wq_commands::{Assigned, Declaration};
+use wq_commands::Declaration;
 use wq_core::{Step, Waiting, Workqueues};
 use wq_groups::LaneId;
 use wq_items::ItemId;
@@ -21,19 +21,17 @@ use wq_text::put;
 
 /// The name of the workqueue of an item; no byte where it has none, or where there is no such item.
 fn workqueue_name<'a, A: Allocator + Copy>(
-    assigned: &Assigned<'_, '_, A>,
+    declared: &Declaration<'_, A>,
+    workqueues: &Workqueues<A>,
     names: &[&'a [u8]],
     item: ItemId,
 ) -> &'a [u8]
-    ensures { result.now ≡ workqueue_name assigned.now.declared
-        assigned.now.workqueues (map (λ n. n.now) names.now) item }
+    requires assigned { length workqueues.now.assignment.lane_of_group ≡ declared.now.partition.groups }
+    ensures { result.now ≡ workqueue_name declared.now
+        workqueues.now (map (λ n. n.now) names.now) item }
 {
-    let declared = assigned.declared;
     if item.get() < declared.table.len() {
-        name_at(
-            names,
-            workqueue_of(declared, &assigned.workqueues, item).get(),
-        )
+        name_at(names, workqueue_of(declared, workqueues, item).get())
     } else {
         &[]
     }
@@ -42,18 +40,23 @@ fn workqueue_name<'a, A: Allocator + Copy>(
 /// The whole workqueue of an item.
 fn whole_words<A: Allocator + Copy>(
     alloc: A,
-    assigned: &Assigned<'_, '_, A>,
+    declared: &Declaration<'_, A>,
+    workqueues: &Workqueues<A>,
     names: &[&[u8]],
     item: ItemId,
 ) -> Result<Vec<u8, A>, AllocError>
+    requires assigned { length workqueues.now.assignment.lane_of_group ≡ declared.now.partition.groups }
     ensures { IfOk result (λ words. words.items
-        ≡ whole_words assigned.now.declared assigned.now.workqueues (map (λ n. n.now) names.now) item) }
+        ≡ whole_words declared.now workqueues.now (map (λ n. n.now) names.now) item) }
 {
-    let item_words = item_words(alloc, assigned.declared, item)?;
+    let item_words = item_words(alloc, declared, item)?;
     let mut words = Vec::new(alloc);
     put(&mut words, b"the workqueue of ")?;
     put(&mut words, &item_words)?;
-    put_name(&mut words, workqueue_name(assigned, names, item))?;
+    put_name(
+        &mut words,
+        workqueue_name(declared, workqueues, names, item),
+    )?;
     Ok(words)
 }
 
@@ -155,35 +158,39 @@ fn first_words<A: Allocator + Copy>(
 /// For what an item waits.
 fn waits_words<A: Allocator + Copy>(
     alloc: A,
-    assigned: &Assigned<'_, '_, A>,
+    declared: &Declaration<'_, A>,
+    workqueues: &Workqueues<A>,
     names: &[&[u8]],
     flush: Waiting,
 ) -> Result<Vec<u8, A>, AllocError>
+    requires assigned { length workqueues.now.assignment.lane_of_group ≡ declared.now.partition.groups }
     ensures { IfOk result (λ words. words.items
-        ≡ waits_words assigned.now.declared assigned.now.workqueues (map (λ n. n.now) names.now) flush) }
+        ≡ waits_words declared.now workqueues.now (map (λ n. n.now) names.now) flush) }
 {
     if flush.whole {
-        whole_words(alloc, assigned, names, flush.target)
+        whole_words(alloc, declared, workqueues, names, flush.target)
     } else {
-        item_words(alloc, assigned.declared, flush.target)
+        item_words(alloc, declared, flush.target)
     }
 }
 
 /// That an item runs on a workqueue and waits.
 fn waiting_words<A: Allocator + Copy>(
     alloc: A,
-    assigned: &Assigned<'_, '_, A>,
+    declared: &Declaration<'_, A>,
+    workqueues: &Workqueues<A>,
     names: &[&[u8]],
     q: LaneId,
     item: ItemId,
     flush: Waiting,
 ) -> Result<Vec<u8, A>, AllocError>
+    requires assigned { length workqueues.now.assignment.lane_of_group ≡ declared.now.partition.groups }
     ensures { IfOk result (λ words. words.items
-        ≡ (runner_words assigned.now.declared (map (λ n. n.now) names.now) q item ++ codes ", waits for ")
-        ++ waits_words assigned.now.declared assigned.now.workqueues (map (λ n. n.now) names.now) flush) }
+        ≡ (runner_words declared.now (map (λ n. n.now) names.now) q item ++ codes ", waits for ")
+        ++ waits_words declared.now workqueues.now (map (λ n. n.now) names.now) flush) }
 {
-    let target = waits_words(alloc, assigned, names, flush)?;
-    let mut words = runner_words(alloc, assigned.declared, names, q, item)?;
+    let target = waits_words(alloc, declared, workqueues, names, flush)?;
+    let mut words = runner_words(alloc, declared, names, q, item)?;
     put(&mut words, b", waits for ")?;
     put(&mut words, &target)?;
     Ok(words)
@@ -253,13 +260,15 @@ fn made_words<A: Allocator + Copy>(
 /// That an entry of an item is unfinished, or one on its whole workqueue.
 fn unfinished_words<A: Allocator + Copy>(
     alloc: A,
-    assigned: &Assigned<'_, '_, A>,
+    declared: &Declaration<'_, A>,
+    workqueues: &Workqueues<A>,
     names: &[&[u8]],
     whole: bool,
     item: ItemId,
 ) -> Result<Vec<u8, A>, AllocError>
+    requires assigned { length workqueues.now.assignment.lane_of_group ≡ declared.now.partition.groups }
     ensures { IfOk result (λ words. words.items
-        ≡ unfinished_words assigned.now.declared assigned.now.workqueues (map (λ n. n.now) names.now) whole item) }
+        ≡ unfinished_words declared.now workqueues.now (map (λ n. n.now) names.now) whole item) }
 {
     let mut words = Vec::new(alloc);
     if whole {
@@ -267,11 +276,14 @@ fn unfinished_words<A: Allocator + Copy>(
             &mut words,
             b"an entry from before this wait is unfinished on ",
         )?;
-        put(&mut words, &whole_words(alloc, assigned, names, item)?)?;
+        put(
+            &mut words,
+            &whole_words(alloc, declared, workqueues, names, item)?,
+        )?;
         return Ok(words);
     }
     put(&mut words, b"an entry of ")?;
-    put(&mut words, &item_words(alloc, assigned.declared, item)?)?;
+    put(&mut words, &item_words(alloc, declared, item)?)?;
     put(&mut words, b" from before this wait is unfinished")?;
     Ok(words)
 }
@@ -279,53 +291,45 @@ fn unfinished_words<A: Allocator + Copy>(
 /// Why a step isn't lawful, in words.
 pub(crate) fn reason_words<A: Allocator + Copy>(
     alloc: A,
-    assigned: &Assigned<'_, '_, A>,
+    declared: &Declaration<'_, A>,
+    workqueues: &Workqueues<A>,
     names: &[&[u8]],
     step: Step,
     reason: Unlawful,
 ) -> Result<Vec<u8, A>, AllocError>
+    requires assigned { length workqueues.now.assignment.lane_of_group ≡ declared.now.partition.groups }
     ensures { IfOk result (λ words. words.items
-        ≡ reason_words assigned.now.declared assigned.now.workqueues (map (λ n. n.now) names.now) step reason) }
+        ≡ reason_words declared.now workqueues.now (map (λ n. n.now) names.now) step reason) }
 {
     let q = named_workqueue(step);
     let item = named_item(step);
     match reason {
         Unlawful::NoItem => Vec::from_slice(alloc, b"there is no such item"),
         Unlawful::Pending => {
-            followed(
-                item_words(alloc, assigned.declared, item)?,
-                b" is pending already",
-            )
+            followed(item_words(alloc, declared, item)?, b" is pending already")
         }
-        Unlawful::NotPending => followed(
-            item_words(alloc, assigned.declared, item)?,
-            b" isn't pending",
-        ),
-        Unlawful::Runs(other) => runs_words(alloc, assigned.declared, names, q, other),
+        Unlawful::NotPending => followed(item_words(alloc, declared, item)?, b" isn't pending"),
+        Unlawful::Runs(other) => runs_words(alloc, declared, names, q, other),
         Unlawful::NothingPending => {
-            nothing_words(
-                alloc,
-                &assigned.workqueues,
-                names,
-                q,
-                b"nothing is pending on ",
-            )
+            nothing_words(alloc, workqueues, names, q, b"nothing is pending on ")
         }
-        Unlawful::First(first) => first_words(alloc, assigned.declared, names, q, item, first),
-        Unlawful::NothingRuns => {
-            nothing_words(alloc, &assigned.workqueues, names, q, b"nothing runs on ")
+        Unlawful::First(first) => first_words(alloc, declared, names, q, item, first),
+        Unlawful::NothingRuns => { nothing_words(alloc, workqueues, names, q, b"nothing runs on ") }
+        Unlawful::Waits(other, flush) => {
+            waiting_words(alloc, declared, workqueues, names, q, other, flush)
         }
-        Unlawful::Waits(other, flush) => { waiting_words(alloc, assigned, names, q, other, flush) }
         Unlawful::Undeclared(other, whole) => {
-            undeclared_words(alloc, assigned.declared, names, q, other, whole, item)
+            undeclared_words(alloc, declared, names, q, other, whole, item)
         }
-        Unlawful::AllMade(other) => made_words(alloc, assigned.declared, names, q, other),
+        Unlawful::AllMade(other) => made_words(alloc, declared, names, q, other),
         Unlawful::Awake(other) => {
             followed(
-                runner_words(alloc, assigned.declared, names, q, other)?,
+                runner_words(alloc, declared, names, q, other)?,
                 b", doesn't wait",
             )
         }
-        Unlawful::Unfinished(whole) => { unfinished_words(alloc, assigned, names, whole, item) }
+        Unlawful::Unfinished(whole) => {
+            unfinished_words(alloc, declared, workqueues, names, whole, item)
+        }
     }
 }

@@ -1,17 +1,15 @@
 //! What standard error says of a run with a step that isn't lawful.
 //!
-//! The form is that of "Diagnoses" in docs/FORMAT.md. It takes the time and the
-//! memory of reading the three texts and of making the steps.
+//! The form is that of "Diagnoses" in docs/FORMAT.md. It takes the time of making the steps, and the memory of the
+//! machine that makes them.
 
 ghost use Rattle.std.specs.Prelude.{◌≡◌, ◌∷◌, ◌<◌, ℕ, Ok, IfNone, IfOk, IfSome, length, map, option_map};
 ghost use Rattle.wq_core.specs.Runs.{HasNoHelp};
 ghost use Rattle.wq_core.specs.State.{empty_state};
 ghost use Rattle.wq_checker.specs.RunEnds.{IsFirstUnlawful};
-ghost use Rattle.wq_cert.specs.Texts.{workqueues_of_text};
-ghost use Rattle.wq_names.specs.Names.{names_of};
+ghost use Rattle.wq_cert.specs.Texts.{run_of};
 ghost use Rattle.wq_diagnosis.specs.Diagnosis.{shown_lines};
-ghost use Rattle.wq_diagnosis.specs.Reasons.{IsUnlawfulText, SaysStep, SaysStepOf, SaysStepOn, SaysStepUnder};
-ghost use Rattle.wq_diagnosis.specs.Reasons.{reason_words, unlawful_head};
+ghost use Rattle.wq_diagnosis.specs.Reasons.{IsUnlawfulText, SaysStep, reason_words, unlawful_head};
 ghost use Rattle.wq_diagnosis.specs.Unlawful.{IsFirstFor};
 
 use crate::diagnosis::Source;
@@ -19,11 +17,9 @@ use crate::layout::{lines_of, put_line, put_lines};
 use crate::reasons::reason_words;
 use crate::unlawful::{Unlawful, reason_of};
 use std::alloc::{AllocError, Allocator};
-use wq_cert::{CertError, read_run};
-use wq_commands::{Assigned, Declaration, Stop, read_declaration};
-use wq_core::{Core, Step};
+use wq_commands::Declaration;
+use wq_core::{Core, Step, Workqueues};
 use wq_findings::{Excerpt, Hint, Mark, Marks, put_place};
-use wq_names::workqueue_names;
 use wq_text::{Line, Text, put};
 
 /// The first step that isn't lawful: its number, counted from 1, the step, and why it isn't.
@@ -177,16 +173,18 @@ fn said_of<A: Allocator + Copy>(
 /// What is said of the first of these steps that isn't lawful.
 fn of_first<A: Allocator + Copy>(
     alloc: A,
-    assigned: &Assigned<'_, '_, A>,
+    declared: &Declaration<'_, A>,
+    workqueues: &Workqueues<A>,
     names: &[&[u8]],
     run: Source<'_>,
     first: &UnlawfulStep,
 ) -> Result<Vec<u8, A>, AllocError>
+    requires assigned { length workqueues.now.assignment.lane_of_group ≡ declared.now.partition.groups }
     ensures { IfOk result (λ said. IsUnlawfulText run.entry.file.now
-        (reason_words assigned.now.declared assigned.now.workqueues (map (λ n. n.now) names.now) first.now.step
-        first.now.why) first.now.number said.items) }
+        (reason_words declared.now workqueues.now (map (λ n. n.now) names.now) first.now.step first.now.why)
+        first.now.number said.items) }
 {
-    let what = reason_words(alloc, assigned, names, first.step, first.why)?;
+    let what = reason_words(alloc, declared, workqueues, names, first.step, first.why)?;
     said_of(alloc, run, &what, first.number)
 }
 
@@ -194,120 +192,48 @@ fn of_first<A: Allocator + Copy>(
 /// lawful.
 fn of_steps<A: Allocator + Copy>(
     alloc: A,
-    assigned: &Assigned<'_, '_, A>,
+    declared: &Declaration<'_, A>,
+    workqueues: &Workqueues<A>,
     names: &[&[u8]],
     steps: &[Step],
     run: Source<'_>,
     number: u32,
 ) -> Result<Option<Vec<u8, A>>, AllocError>
+    requires assigned { length workqueues.now.assignment.lane_of_group ≡ declared.now.partition.groups }
     requires few { length steps.now < 4294967295 }
     requires no_help { HasNoHelp steps.now }
-    ensures { IfOk result (λ said. SaysStep run.entry.file.now assigned.now.declared assigned.now.workqueues
+    ensures { IfOk result (λ said. SaysStep run.entry.file.now declared.now workqueues.now
         (map (λ n. n.now) names.now) steps.now number (option_map (λ text. text.items) said)) }
 {
-    let declared = assigned.declared;
-    let mut core = Core::on_workqueues(
-        alloc,
-        &declared.table,
-        &declared.groups,
-        &assigned.workqueues,
-    )?;
+    let Declaration { table, groups } = declared;
+    let mut core = Core::on_workqueues(alloc, table, groups, workqueues)?;
     let Some(first) = find(&mut core, steps) else {
         return Ok(None);
     };
     if first.number != number {
         return Ok(None);
     }
-    let said = of_first(alloc, assigned, names, run, &first)?;
+    let said = of_first(alloc, declared, workqueues, names, run, &first)?;
     Ok(Some(said))
 }
 
-/// What is said of a run on these workqueues: nothing where it is refused, or the step of this number isn't the first
-/// that isn't lawful.
-fn of_run<A: Allocator + Copy>(
-    alloc: A,
-    assigned: &Assigned<'_, '_, A>,
-    names: &[&[u8]],
-    run: Source<'_>,
-    number: u32,
-) -> Result<Option<Vec<u8, A>>, AllocError>
-    ensures { IfOk result (λ said. SaysStepOn run.entry.file.now assigned.now.declared assigned.now.workqueues
-        (map (λ n. n.now) names.now) run.entry.text.now number (option_map (λ text. text.items) said)) }
-{
-    let declared = assigned.declared;
-    match read_run(alloc, run.text, &declared.table) {
-        Ok(steps) => {
-            let said = of_steps(alloc, assigned, names, steps.as_slice(), run, number);
-            drop(steps);
-            said
-        }
-        Err(CertError::OutOfMemory) => Err(AllocError),
-        Err(_) => Ok(None),
-    }
-}
-
-/// The same on the workqueues with this text.
-fn of_named<A: Allocator + Copy>(
-    alloc: A,
-    assigned: &Assigned<'_, '_, A>,
-    assignment: &[u8],
-    run: Source<'_>,
-    number: u32,
-) -> Result<Option<Vec<u8, A>>, AllocError>
-    requires { workqueues_of_text assigned.now.declared.table.names assigned.now.declared.partition assignment.now
-        ≡ Ok assigned.now.workqueues }
-    ensures { IfOk result (λ said. SaysStepOn run.entry.file.now assigned.now.declared assigned.now.workqueues
-        (names_of assignment.now) run.entry.text.now number (option_map (λ text. text.items) said)) }
-{
-    let names = workqueue_names(alloc, assignment)?;
-    of_run(alloc, assigned, &names, run, number)
-}
-
-/// What is said of a run of this declaration: nothing where the assignment or the run is refused, or the step of this
-/// number isn't the first that isn't lawful.
-fn of_declared<A: Allocator + Copy>(
-    alloc: A,
-    declared: &Declaration<'_, A>,
-    assignment: &[u8],
-    run: Source<'_>,
-    number: u32,
-) -> Result<Option<Vec<u8, A>>, AllocError>
-    ensures { IfOk result (λ said. SaysStepUnder run.entry.file.now
-        declared.now assignment.now run.entry.text.now number (option_map (λ text. text.items) said)) }
-{
-    match Assigned::read(alloc, declared, assignment) {
-        Ok(assigned) => {
-            let said = of_named(alloc, &assigned, assignment, run, number);
-            drop(assigned);
-            said
-        }
-        Err(CertError::OutOfMemory) => Err(AllocError),
-        Err(_) => Ok(None),
-    }
-}
-
-/// Says of a run why the step of this number isn't lawful. The first step is 1. Where another step is the first that
-/// isn't lawful, or there is none, or where a text is refused, it says nothing.
+/// Says why the step of this number isn't lawful, of the steps of a run on workqueues with these names. The first step
+/// is 1. Where another step is the first that isn't lawful, or there is none, it says nothing.
 ///
-/// The only error is out of memory (20). The names are hashed with `seed`. No answer depends on it.
+/// The only error is out of memory (20).
 pub fn of_unlawful<A: Allocator + Copy>(
     alloc: A,
-    seed: u64,
-    declaration: &[u8],
-    assignment: &[u8],
+    declared: &Declaration<'_, A>,
+    workqueues: &Workqueues<A>,
+    names: &[&[u8]],
+    steps: &[Step],
     run: Source<'_>,
     number: u32,
 ) -> Result<Option<Vec<u8, A>>, AllocError>
-    ensures { IfOk result (λ said. SaysStepOf run.entry.file.now declaration.now assignment.now
-        run.entry.text.now number (option_map (λ text. text.items) said)) }
+    requires assigned { length workqueues.now.assignment.lane_of_group ≡ declared.now.partition.groups }
+    requires read { run_of declared.now.table.names run.text.now ≡ Ok steps.now }
+    ensures { IfOk result (λ said. SaysStep run.entry.file.now declared.now workqueues.now
+        (map (λ n. n.now) names.now) steps.now number (option_map (λ text. text.items) said)) }
 {
-    match read_declaration(alloc, seed, declaration) {
-        Ok(declared) => {
-            let said = of_declared(alloc, &declared, assignment, run, number);
-            drop(declared);
-            said
-        }
-        Err(Stop::Refused { .. }) => Ok(None),
-        Err(Stop::OutOfMemory) => Err(AllocError),
-    }
+    of_steps(alloc, declared, workqueues, names, steps, run, number)
 }

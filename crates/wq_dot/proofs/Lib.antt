@@ -7,7 +7,7 @@ pub mod Sums
 pub mod Counts
 pub mod Marked
 pub mod Placed
-pub mod Taking
+pub mod Found
 pub mod CommentCounts
 pub mod WithinLimits
 pub mod SharedNames

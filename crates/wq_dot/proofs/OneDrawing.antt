@@ -1,5 +1,5 @@
 -- A declaration has one drawing for the waits of a shortest run that ends stuck, and so has an assignment; and one end for all.
-use Rattle.std.proofs.Common.{◌≡◌, Bool, false, true, inl, inr, ℕ, List, [], length, Result, Ok, Err, refl, sym, ap, subst, ◌∙◌}
+use Rattle.std.proofs.Common.{◌≡◌, inl, inr, ℕ, List, [], length, Result, Ok, Err, sym, ap, subst, ◌∙◌}
 use Rattle.std.specs.Prelude.{MatchResult, codes}
 use Rattle.wq_text.specs.Refusal.{Refusal}
 use Rattle.wq_items.specs.Chain.{HasCircle}
@@ -14,18 +14,18 @@ use Rattle.wq_plan.specs.Plan.{chain_of}
 use Rattle.wq_plan.proofs.Plans.{IsPlan-no_circle, IsPlan-unique}
 use Rattle.wq_cert.specs.declared.fault.CertError.{CertError}
 use Rattle.wq_cert.specs.Texts.{workqueues_of_text, cert_refusal}
-use Rattle.wq_meter.specs.Shell.{HasOneAnswer}
 use Rattle.wq_commands.specs.declared.end.End.{End}
 use Rattle.wq_commands.specs.Answer.{declared_waits, PrintsRefusal}
 use Rattle.wq_commands.specs.Declaration.{Declared, declaration}
-use Rattle.wq_commands.proofs.OneOutcome.{SaysAssigned-unique, SaysDeclared-unique, same_outcome}
 use Rattle.wq_commands.proofs.Refusals.{PrintsRefusal-unique}
 use Rattle.wq_circles.proofs.Safe.{AreComponents-unique}
 use Rattle.wq_dot.specs.declared.look.FlushLook.{FlushLook}
 use Rattle.wq_dot.specs.declared.look.FlushLook.TheVariants.{Bold}
 use Rattle.wq_hang.specs.declared.hop.Hop.{Hop}
 use Rattle.wq_dot.specs.Flushes.{bold_red, marked}
-use Rattle.wq_dot.specs.Dotting.{circles_title, declared_looks, drawing_of, hanging_arcs, hanging_looks, plan_title, DrawsBy, DrawsAssigned, DrawsCircles, DrawsDeclared, DrawsGroups, DrawsOwn, DrawsPlan, DrawsTextsBy, OwnDrawsBy}
+use Rattle.wq_dot.specs.Dotting.{circles_title, declared_looks, drawing_of, hanging_arcs, hanging_looks, plan_title}
+use Rattle.wq_dot.specs.Dotting.{DrawsBy, DrawsAssigned, DrawsCircles, DrawsDeclared, DrawsGroups, DrawsOwn}
+use Rattle.wq_dot.specs.Dotting.{DrawsPlan, OwnDrawsBy}
 use Rattle.wq_dot.specs.Tooltips.{comments_of}
 use Rattle.wq_names.specs.Names.{names_of}
 
@@ -45,7 +45,8 @@ module _ (s : Declared) (comments : List (List ℕ)) where
   not_both : (out : List ℕ) → DrawsPlan s comments out → ¬ HasCircle (GroupWaits (declared_waits s)) s.partition.groups
   not_both out drawn = IsPlan-no_circle (declared_waits s) drawn.assignment drawn.plan
 
-  DrawsGroups-unique : (hops : List Hop) (out printed : List ℕ) → DrawsGroups s comments hops out → DrawsGroups s comments hops printed → out ≡ printed
+  pub DrawsGroups-unique : (hops : List Hop) (out printed : List ℕ) → DrawsGroups s comments hops out
+      → DrawsGroups s comments hops printed → out ≡ printed
   DrawsGroups-unique hops out printed (inl one) (inl two) = DrawsPlan-unique out printed one two
   DrawsGroups-unique hops out printed (inl one) (inr two) = absurd (not_both out one two.0)
   DrawsGroups-unique hops out printed (inr one) (inl two) = absurd (not_both printed two one.0)
@@ -58,7 +59,9 @@ abbrev AreOne : List Hop → List Hop → End → End → List ℕ → List ℕ 
 AreOne hops others end other out printed = (end ≡ other) × (hops ≡ others → out ≡ printed)
 
 module _ (hops others : List Hop) (end other : End) (out printed : List ℕ) where
-  DrawsDeclared-one : (s : Declared) (comments : List (List ℕ)) (text : List ℕ) → DrawsDeclared s comments text hops end out → DrawsDeclared s comments text others other printed → AreOne hops others end other out printed
+  pub DrawsDeclared-one : (s : Declared) (comments : List (List ℕ)) (text : List ℕ)
+      → DrawsDeclared s comments text hops end out → DrawsDeclared s comments text others other printed
+      → AreOne hops others end other out printed
   DrawsDeclared-one s comments text = by (workqueues_of_text s.table.names s.partition text)
     where
       by : (r : Result Workqueues CertError) → MatchResult r (λ ws. DrawsAssigned s comments ws (names_of text) hops end out) (λ fault. PrintsRefusal (cert_refusal fault) end out)
@@ -93,11 +96,3 @@ module _ (hops others : List Hop) (end other : End) (out printed : List ℕ) whe
       by (Err r) one two =
           let refused = PrintsRefusal-unique r end other out printed one two in
           (refused.0, λ _. refused.1)
-
-pub DrawsTextsBy-unique : (hops : List Hop) (assigned : Bool) → HasOneAnswer (DrawsTextsBy hops assigned)
-DrawsTextsBy-unique hops true texts one other out printed first second =
-    let same = DrawsBy-one hops hops one.end other.end out printed texts.first texts.second first.0 second.0 in
-    (same_outcome one other same.0 (SaysAssigned-unique one.why other.why texts.first texts.second first.1 second.1), same.1 refl)
-DrawsTextsBy-unique hops false texts one other out printed first second =
-    let same = OwnDrawsBy-one hops hops one.end other.end out printed texts.first first.0 second.0 in
-    (same_outcome one other same.0 (SaysDeclared-unique one.why other.why texts.first first.1 second.1), same.1 refl)

@@ -2,7 +2,7 @@
 -- Where workqueues can hang, the flushes are bold red in which a shortest run waits that
 -- ends stuck. There may be several such runs: that is the one freedom of an answer.
 use Rattle.std.specs.Prelude.{◌≡◌, ◌⊎◌, ◌==◌, ◌&&◌, not, cond, if◌then◌else◌, Bool, false, true, ℕ, List, [], ◌++◌}
-use Rattle.std.specs.Prelude.{length, codes, decimal, MatchResult}
+use Rattle.std.specs.Prelude.{length, codes, decimal, MatchResult, Ok}
 use Rattle.std.specs.List.{list_any}
 use Rattle.wq_text.specs.LineText.{spaced}
 use Rattle.wq_items.specs.Chain.{HasCircle}
@@ -23,12 +23,15 @@ use Rattle.wq_cert.specs.Texts.{workqueues_of_text, cert_refusal}
 use Rattle.wq_names.specs.Names.{names_of}
 use Rattle.wq_meter.specs.Shell.{Given}
 use Rattle.wq_commands.specs.declared.end.End.{End}
-use Rattle.wq_commands.specs.declared.why.Outcome.{Outcome}
 use Rattle.wq_commands.specs.declared.end.End.TheVariants.{Good}
+use Rattle.wq_commands.specs.declared.found.Found.{Found}
+use Rattle.wq_commands.specs.declared.found.Found.TheVariants.{Read, Refused}
+use Rattle.wq_commands.specs.declared.found.Which.TheVariants.{Certificate as SecondText}
 use Rattle.wq_commands.specs.Answer.{declared_waits, PrintsRefusal}
 use Rattle.wq_commands.specs.Declaration.{Declared, declaration}
-use Rattle.wq_commands.specs.Why.{SaysAssigned, SaysDeclared}
+use Rattle.wq_commands.specs.Found.{AnswersIn}
 use Rattle.wq_circles.specs.Components.{AreComponents}
+use Rattle.wq_dot.specs.declared.dotting.Drawn.{Drawn}
 use Rattle.wq_dot.specs.declared.look.FlushLook.{FlushLook}
 use Rattle.wq_dot.specs.declared.look.FlushLook.TheVariants.{Bold}
 use Rattle.wq_dot.specs.Tooltips.{comments_of}
@@ -201,17 +204,41 @@ Draws declared text end out = (hops : List Hop) × DrawsBy hops declared text en
 abbrev pub OwnDraws : List ℕ → End → List ℕ → Type 0
 OwnDraws declared end out = (hops : List Hop) × OwnDrawsBy hops declared end out
 
+-- ---- what is found, and drawn
+
+-- the waits whose flushes are bold red are found, and this is drawn for them
+abbrev pub FindsDrawing : {A : Type 0} → (List Hop → End → List ℕ → Type 0) → Found (Drawn A) → End → List ℕ → Type 0
+FindsDrawing {A} Draws found end out = (drawn : Drawn A) × (found ≡ Read drawn) × Draws drawn.waits.items end out
+
+-- the workqueues with this text
+abbrev pub DrawsText : {A : Type 0} → Declared → List (List ℕ) → List ℕ → Found (Drawn A) → End → List ℕ → Type 0
+DrawsText s comments text =
+    AnswersIn SecondText (workqueues_of_text s.table.names s.partition text)
+    (λ ws. FindsDrawing (λ hops. DrawsAssigned s comments ws (names_of text) hops))
+
 -- ---- the command, with an assignment or without one
 
--- its answer in which the flushes of these waits are bold red, if something hangs, and why
-abbrev pub DrawsTextsBy : List Hop → Bool → Given → Outcome → List ℕ → Type 0
-DrawsTextsBy hops true texts outcome out =
-    DrawsBy hops texts.first texts.second outcome.end out × SaysAssigned texts.first texts.second outcome.why
-DrawsTextsBy hops false texts outcome out =
-    OwnDrawsBy hops texts.first outcome.end out × SaysDeclared texts.first outcome.why
+-- what it finds in what is declared, with these comments, and in the texts behind it, and its answer
+abbrev pub DrawsCommented : {A : Type 0} → Bool → Declared → List (List ℕ) → Given → Found (Drawn A) → End → List ℕ
+    → Type 0
+DrawsCommented true s comments texts = DrawsText s comments texts.second
+DrawsCommented false s comments texts = FindsDrawing (DrawsOwn s comments)
 
--- its answer, and why
-abbrev pub DrawsTexts : Bool → Given → Outcome → List ℕ → Type 0
-DrawsTexts true texts outcome out =
-    Draws texts.first texts.second outcome.end out × SaysAssigned texts.first texts.second outcome.why
-DrawsTexts false texts outcome out = OwnDraws texts.first outcome.end out × SaysDeclared texts.first outcome.why
+-- what it finds in texts the first of which declares this, and its answer
+abbrev pub DrawsTexts : {A : Type 0} → Bool → Declared → Given → Found (Drawn A) → End → List ℕ → Type 0
+DrawsTexts assigned s texts found end out =
+    declaration texts.first ≡ Ok s → DrawsCommented assigned s (comments_of texts.first) texts found end out
+
+-- if a drawing is found, its bold red flushes are those of these waits
+abbrev pub IsFor : {A : Type 0} → List Hop → Found (Drawn A) → Type 0
+IsFor hops (Read drawn) = drawn.waits.items ≡ hops
+IsFor hops (Refused which code line) = Unit {0}
+
+-- what it finds so, if these are the waits whose flushes are bold red
+abbrev pub DrawsTextsBy : {A : Type 0} → List Hop → Bool → Declared → Given → Found (Drawn A) → End → List ℕ → Type 0
+DrawsTextsBy hops assigned s texts found end out = IsFor hops found × DrawsTexts assigned s texts found end out
+
+-- its answer to the texts
+abbrev pub AnswersDot : Bool → Given → End → List ℕ → Type 0
+AnswersDot true texts end out = Draws texts.first texts.second end out
+AnswersDot false texts end out = OwnDraws texts.first end out

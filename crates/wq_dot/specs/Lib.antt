@@ -7,3 +7,4 @@ pub mod Drawing
 pub mod Laws
 pub mod Flushes
 pub mod Dotting
+pub mod Saying

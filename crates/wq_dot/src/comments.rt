@@ -83,17 +83,17 @@ fn line_comments<'a, A: Allocator + Copy>(
     Ok(comments)
 }
 
-/// The comments of the flushes that a text declares, which is no longer than a declaration may be.
+/// The comments of the flushes that a text declares, if it is no longer than a declaration may be.
 pub(crate) fn comments<A: Allocator + Copy>(
     alloc: A,
     text: &[u8],
 ) -> Result<Vec<&[u8], A>, AllocError>
-    requires { limit_fault max_declaration max_declaration_line text.now ≡ None }
-    ensures { IfOk result (λ comments. map (λ c. c.now) comments.items ≡ comments_of text.now) }
+    ensures { IfOk result (λ comments. limit_fault max_declaration max_declaration_line text.now ≡ None
+        → map (λ c. c.now) comments.items ≡ comments_of text.now) }
 {
     match Text::new(text, MAX_DECLARATION, MAX_DECLARATION_LINE) {
         Ok(text) => line_comments(alloc, text.lines()),
-        // The text is within the limits.
+        // No declaration is so long.
         Err(_) => Ok(Vec::new(alloc)),
     }
 }

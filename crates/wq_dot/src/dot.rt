@@ -1,14 +1,14 @@
-//! The command `dot`: from the bytes of a declaration, and of an assignment where
+//! The command `dot`: from what is declared, and the bytes of an assignment where
 //! one is named, to the bytes of the answer.
 //!
-//! The declaration is read first and the assignment next, both before either is judged. The answer is built in full
-//! before the first byte is written. The rule is that of "The command `dot`" in docs/FORMAT.md. It takes the time of
-//! reading the texts, of the plan or the components, of the search for a shortest run, and of drawing and writing.
+//! The answer is built in full before its first byte is written. The rule is that of "The command `dot`" in
+//! docs/FORMAT.md. It takes the time of reading the assignment, of the plan or the components, of the search for a
+//! shortest run, and of drawing.
 
-use crate::dotting::draw;
+use crate::dotting::{Drawn, draw};
 use std::alloc::{AllocError, Allocator};
-use wq_commands::{Answered, Outcome, one_or_two_texts};
-use wq_meter::{Command, Limits, Texts};
+use wq_commands::{Answered, Command, Declaration, Finds, Found, one_or_two_texts};
+use wq_meter::{Limits, Texts};
 
 /// The command `dot`: its texts are a declaration and, where there is one, an assignment.
 ///
@@ -19,32 +19,32 @@ use wq_meter::{Command, Limits, Texts};
 /// are red and bold as with an assignment. Where a text is refused, the answer is the refusal of the first that is.
 #[derive(Clone, Copy, Debug)]
 pub struct DotCommand {
-    /// The names are hashed with this. No answer depends on it.
-    pub seed: u64,
     /// Whether there is an assignment.
     pub assigned: bool,
 }
 
-impl<A: Allocator + Copy> Command<A> for DotCommand {
+impl<A: Allocator + Copy> Finds<A> for DotCommand {
     ghost use Rattle.wq_commands.specs.Commands.{one_or_two_texts};
     ghost use Rattle.wq_dot.specs.Dotting.{DrawsTexts};
 
-    type End = Outcome;
-
-    type Stop = AllocError;
+    type Found = Found<Drawn<A>>;
 
     ghost limits = { λ command. one_or_two_texts command.assigned };
 
-    ghost answers = { λ command texts outcome out. DrawsTexts command.assigned texts outcome out };
+    ghost answers = { λ command s texts found end out. DrawsTexts command.assigned s texts found end out };
+}
 
-    ghost stops = { λ _ _ _. Unit {0} };
-
+impl<A: Allocator + Copy> Command<A> for DotCommand {
     fn limits(&self) -> Limits {
         one_or_two_texts(self.assigned)
     }
 
-    fn answer(&self, alloc: A, texts: &Texts<A>) -> Result<(Outcome, Vec<u8, A>), AllocError> {
-        let Answered { end, text, why } = draw(alloc, self.seed, self.assigned, texts)?;
-        Ok((Outcome { end, why }, text))
+    fn answer(
+        &self,
+        alloc: A,
+        declared: &Declaration<'_, A>,
+        texts: &Texts<A>,
+    ) -> Result<Answered<A, Found<Drawn<A>>>, AllocError> {
+        draw(alloc, self.assigned, declared, texts)
     }
 }

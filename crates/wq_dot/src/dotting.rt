@@ -1,25 +1,22 @@
 //! The answer to a declaration and an assignment, or to a declaration alone, built in full in memory.
 //!
-//! The rule is that of "The command `dot`" in docs/FORMAT.md. It takes the time and the memory of reading the texts, of
-//! the plan, of the components, of the search for a shortest run and of the drawing.
+//! The rule is that of "The command `dot`" in docs/FORMAT.md. It takes the time and the memory of reading the
+//! assignment, of the plan, of the components, of the search for a shortest run and of the drawing.
 
-ghost use Rattle.std.specs.Prelude.{◌≡◌, [], IfOk, List, None, codes, map};
+ghost use Rattle.std.specs.Prelude.{◌≡◌, [], IfOk, None, codes, map};
 ghost use Rattle.wq_core.specs.Wiring.{own_lanes};
 ghost use Rattle.wq_core.specs.Workqueues.{all_rescued};
 ghost use Rattle.wq_deadlock.specs.Judging.{bare_waits};
 ghost use Rattle.wq_plan.specs.Solve.{IsPlanned, Solves};
-ghost use Rattle.wq_hang.specs.declared.hop.Hop.{Hop};
-ghost use Rattle.wq_cert.specs.Texts.{max_certificate, max_certificate_line, workqueues_of_text};
+ghost use Rattle.wq_cert.specs.Texts.{max_certificate, max_certificate_line};
 ghost use Rattle.wq_names.specs.Names.{names_of};
 ghost use Rattle.wq_text.specs.Limits.{limit_fault};
 ghost use Rattle.wq_commands.specs.Answer.{declared_waits};
-ghost use Rattle.wq_commands.specs.Declaration.{max_declaration, max_declaration_line};
-ghost use Rattle.wq_commands.specs.declared.why.Which.TheVariants.{Certificate};
-ghost use Rattle.wq_commands.specs.Why.{SaysFault, SaysAssigned, SaysDeclared};
+ghost use Rattle.wq_commands.specs.declared.end.End.TheVariants.{Good};
+ghost use Rattle.wq_commands.specs.declared.found.Found.TheVariants.{Read};
 ghost use Rattle.wq_circles.specs.Components.{AreComponents};
-ghost use Rattle.wq_dot.specs.Tooltips.{comments_of};
-ghost use Rattle.wq_dot.specs.Dotting.{AreShortest, DrawsAssigned, DrawsCircles, DrawsDeclared, DrawsGroups, DrawsOwn};
-ghost use Rattle.wq_dot.specs.Dotting.{DrawsPlan, DrawsTexts, Draws, OwnDraws};
+ghost use Rattle.wq_dot.specs.Dotting.{AreShortest, DrawsAssigned, DrawsCircles, DrawsGroups, DrawsOwn, DrawsPlan};
+ghost use Rattle.wq_dot.specs.Dotting.{DrawsCommented, DrawsText, DrawsTexts, FindsDrawing};
 
 use crate::comments::comments;
 use crate::drawing::drawing_text;
@@ -28,7 +25,7 @@ use crate::shortest::shortest_waits;
 use crate::titles::{circles_title, plan_title};
 use std::alloc::{AllocError, Allocator};
 use wq_circles::components;
-use wq_commands::{Answered, Assigned, Declaration, End, Texts, Which, read_declaration};
+use wq_commands::{Answered, Assigned, Declaration, End, Found, Texts, Which};
 use wq_core::Workqueues;
 use wq_deadlock::bare_waits;
 use wq_graph::WaitArc;
@@ -36,6 +33,36 @@ use wq_groups::Assignment;
 use wq_hang::Hop;
 use wq_names::workqueue_names;
 use wq_plan::{Answer, solve};
+
+/// What `dot` finds besides its drawing.
+#[derive(Drop)]
+pub struct Drawn<A: Allocator> {
+    /// The waits whose flushes are bold red: those of a shortest run that ends stuck. There are none where no run does,
+    /// or where a plan is drawn.
+    pub waits: Vec<Hop, A>,
+}
+
+/// A drawing, and what was found for it.
+#[derive(Drop)]
+struct Drawing<A: Allocator> {
+    drawn: Drawn<A>,
+    text: Vec<u8, A>,
+}
+
+impl<A: Allocator> Drawing<A> {
+    /// The answer with this drawing.
+    fn answered(self) -> Answered<A, Found<Drawn<A>>>
+        ensures found { result.found ≡ Read self.drawn }
+        ensures end { result.end ≡ Good }
+        ensures text { result.text ≡ self.text }
+    {
+        Answered {
+            found: Found::Read(self.drawn),
+            end: End::Good,
+            text: self.text,
+        }
+    }
+}
 
 /// The drawing of a plan, with the chain that `solve` gave with it.
 fn draw_plan<A: Allocator + Copy>(
@@ -104,10 +131,9 @@ fn draw_circles<A: Allocator + Copy>(
     comments: &[&[u8]],
     called: &[&[u8]],
     hanging: &[u8],
-) -> Result<Vec<u8, A>, AllocError>
-    ensures { IfOk result (λ text. (hops : List Hop) ×
-        DrawsCircles assigned.now.declared (map (λ c. c.now) comments.now) assigned.now.workqueues
-        (map (λ n. n.now) called.now) hanging.now hops text.items) }
+) -> Result<Drawing<A>, AllocError>
+    ensures { IfOk result (λ d. DrawsCircles assigned.now.declared (map (λ c. c.now) comments.now)
+        assigned.now.workqueues (map (λ n. n.now) called.now) hanging.now d.drawn.waits.items d.text.items) }
 {
     let declared = assigned.declared;
     let Declaration { table, groups } = declared;
@@ -115,7 +141,7 @@ fn draw_circles<A: Allocator + Copy>(
     let components = components(alloc, table, groups, workqueues)?;
     let waits = bare_waits(alloc, table, groups, workqueues)?;
     let hops = shortest_waits(alloc, assigned)?;
-    draw_components(
+    let text = draw_components(
         alloc,
         assigned,
         comments,
@@ -124,7 +150,11 @@ fn draw_circles<A: Allocator + Copy>(
         &components,
         &waits,
         &hops,
-    )
+    )?;
+    Ok(Drawing {
+        drawn: Drawn { waits: hops },
+        text,
+    })
 }
 
 /// The drawing of a plan with this assignment and this chain.
@@ -148,11 +178,10 @@ fn draw_own_lanes<A: Allocator + Copy>(
     alloc: A,
     declared: &Declaration<'_, A>,
     comments: &[&[u8]],
-) -> Result<Vec<u8, A>, AllocError>
-    ensures { IfOk result (λ text. (hops : List Hop) ×
-        DrawsCircles declared.now (map (λ c. c.now) comments.now)
+) -> Result<Drawing<A>, AllocError>
+    ensures { IfOk result (λ d. DrawsCircles declared.now (map (λ c. c.now) comments.now)
         (all_rescued (own_lanes declared.now.partition.groups)) []
-        (codes "every assignment can hang") hops text.items) }
+        (codes "every assignment can hang") d.drawn.waits.items d.text.items) }
 {
     let assigned = Assigned::own_lanes(alloc, declared)?;
     draw_circles(
@@ -170,15 +199,20 @@ fn draw_answer<A: Allocator + Copy>(
     declared: &Declaration<'_, A>,
     comments: &[&[u8]],
     answer: Answer<A>,
-) -> Result<Vec<u8, A>, AllocError>
+) -> Result<Drawing<A>, AllocError>
     requires { Solves (declared_waits declared.now) answer }
-    ensures { IfOk result (λ text. (hops : List Hop) ×
-        DrawsGroups declared.now (map (λ c. c.now) comments.now) hops text.items) }
+    ensures { IfOk result (λ d.
+        DrawsGroups declared.now (map (λ c. c.now) comments.now) d.drawn.waits.items d.text.items) }
 {
     match answer {
-        Answer::Plan { assignment, chain } => draw_planned(
-            alloc, declared, comments, assignment, &chain,
-        ),
+        Answer::Plan { assignment, chain } => {
+            let text = draw_planned(alloc, declared, comments, assignment, &chain)?;
+            let waits = Vec::new(alloc);
+            Ok(Drawing {
+                drawn: Drawn { waits },
+                text,
+            })
+        }
         Answer::Circle { .. } => draw_own_lanes(alloc, declared, comments),
     }
 }
@@ -188,72 +222,54 @@ fn draw_groups<A: Allocator + Copy>(
     alloc: A,
     declared: &Declaration<'_, A>,
     comments: &[&[u8]],
-) -> Result<Vec<u8, A>, AllocError>
-    ensures { IfOk result (λ text. (hops : List Hop) ×
-        DrawsGroups declared.now (map (λ c. c.now) comments.now) hops text.items) }
+) -> Result<Drawing<A>, AllocError>
+    ensures { IfOk result (λ d.
+        DrawsGroups declared.now (map (λ c. c.now) comments.now) d.drawn.waits.items d.text.items) }
 {
     let answer = solve(alloc, &declared.table, &declared.groups)?;
     draw_answer(alloc, declared, comments, answer)
 }
 
-/// The answer to workqueues of a declaration, with these names.
+/// The answer to workqueues of the declared groups, with these names.
 fn draw_assigned<A: Allocator + Copy>(
     alloc: A,
     assigned: &Assigned<'_, '_, A>,
     comments: &[&[u8]],
     called: &[&[u8]],
-) -> Result<Answered<A>, AllocError>
-    ensures answer { IfOk result (λ a. (hops : List Hop) ×
-        DrawsAssigned assigned.now.declared (map (λ c. c.now) comments.now) assigned.now.workqueues
-        (map (λ n. n.now) called.now) hops a.end a.text.items) }
-    ensures why { IfOk result (λ a. a.why ≡ None) }
+) -> Result<Answered<A, Found<Drawn<A>>>, AllocError>
+    ensures { IfOk result (λ a. FindsDrawing
+        (λ hops. DrawsAssigned assigned.now.declared (map (λ c. c.now) comments.now) assigned.now.workqueues
+        (map (λ n. n.now) called.now) hops) a.found a.end a.text.items) }
 {
-    let text = draw_circles(alloc, assigned, comments, called, b"can hang")?;
-    Ok(Answered::plain(End::Good, text))
+    let drawing = draw_circles(alloc, assigned, comments, called, b"can hang")?;
+    Ok(drawing.answered())
 }
 
-/// The answer to workqueues of a declaration, whose names are in this text.
+/// The answer to workqueues of the declared groups, whose names are in this text.
 fn draw_named<A: Allocator + Copy>(
     alloc: A,
     assigned: &Assigned<'_, '_, A>,
     comments: &[&[u8]],
     text: &[u8],
-) -> Result<Answered<A>, AllocError>
+) -> Result<Answered<A, Found<Drawn<A>>>, AllocError>
     requires { limit_fault max_certificate max_certificate_line text.now ≡ None }
-    ensures answer { IfOk result (λ a. (hops : List Hop) ×
-        DrawsAssigned assigned.now.declared (map (λ c. c.now) comments.now) assigned.now.workqueues
-        (names_of text.now) hops a.end a.text.items) }
-    ensures why { IfOk result (λ a. a.why ≡ None) }
+    ensures { IfOk result (λ a. FindsDrawing
+        (λ hops. DrawsAssigned assigned.now.declared (map (λ c. c.now) comments.now) assigned.now.workqueues
+        (names_of text.now) hops) a.found a.end a.text.items) }
 {
     let called = workqueue_names(alloc, text)?;
     draw_assigned(alloc, assigned, comments, &called)
 }
 
-/// The answer to a declaration without an assignment.
-fn draw_unassigned<A: Allocator + Copy>(
-    alloc: A,
-    declared: &Declaration<'_, A>,
-    comments: &[&[u8]],
-) -> Result<Answered<A>, AllocError>
-    ensures answer { IfOk result (λ a. (hops : List Hop) ×
-        DrawsOwn declared.now (map (λ c. c.now) comments.now) hops a.end a.text.items) }
-    ensures why { IfOk result (λ a. a.why ≡ None) }
-{
-    let text = draw_groups(alloc, declared, comments)?;
-    Ok(Answered::plain(End::Good, text))
-}
-
-/// The answer to the text of an assignment of a declaration.
-fn draw_declared<A: Allocator + Copy>(
+/// The answer to the text of an assignment of the declared groups.
+fn draw_text<A: Allocator + Copy>(
     alloc: A,
     declared: &Declaration<'_, A>,
     comments: &[&[u8]],
     text: &[u8],
-) -> Result<Answered<A>, AllocError>
-    ensures answer { IfOk result (λ a. (hops : List Hop) ×
-        DrawsDeclared declared.now (map (λ c. c.now) comments.now) text.now hops a.end a.text.items) }
-    ensures why { IfOk result (λ a.
-        SaysFault Certificate (workqueues_of_text declared.now.table.names declared.now.partition text.now) a.why) }
+) -> Result<Answered<A, Found<Drawn<A>>>, AllocError>
+    ensures { IfOk result (λ a.
+        DrawsText declared.now (map (λ c. c.now) comments.now) text.now a.found a.end a.text.items) }
 {
     match Assigned::read(alloc, declared, text) {
         Ok(assigned) => {
@@ -266,90 +282,46 @@ fn draw_declared<A: Allocator + Copy>(
     }
 }
 
-/// The answer to the text of an assignment of a declaration with this text.
+/// The answer to the declared groups, without an assignment.
+fn draw_unassigned<A: Allocator + Copy>(
+    alloc: A,
+    declared: &Declaration<'_, A>,
+    comments: &[&[u8]],
+) -> Result<Answered<A, Found<Drawn<A>>>, AllocError>
+    ensures { IfOk result (λ a. FindsDrawing
+        (DrawsOwn declared.now (map (λ c. c.now) comments.now)) a.found a.end a.text.items) }
+{
+    let drawing = draw_groups(alloc, declared, comments)?;
+    Ok(drawing.answered())
+}
+
+/// The answer to what is declared, with these comments, and, where there is one, to the text of an assignment.
 fn draw_commented<A: Allocator + Copy>(
     alloc: A,
-    declared: &Declaration<'_, A>,
-    declaration: &[u8],
-    text: &[u8],
-) -> Result<Answered<A>, AllocError>
-    requires { limit_fault max_declaration max_declaration_line declaration.now ≡ None }
-    ensures answer { IfOk result (λ a. (hops : List Hop) ×
-        DrawsDeclared declared.now (comments_of declaration.now) text.now hops a.end a.text.items) }
-    ensures why { IfOk result (λ a.
-        SaysFault Certificate (workqueues_of_text declared.now.table.names declared.now.partition text.now) a.why) }
-{
-    let comments = comments(alloc, declaration)?;
-    draw_declared(alloc, declared, &comments, text)
-}
-
-/// The answer to a declaration with this text, without an assignment.
-fn draw_own_commented<A: Allocator + Copy>(
-    alloc: A,
-    declared: &Declaration<'_, A>,
-    declaration: &[u8],
-) -> Result<Answered<A>, AllocError>
-    requires { limit_fault max_declaration max_declaration_line declaration.now ≡ None }
-    ensures answer { IfOk result (λ a. (hops : List Hop) ×
-        DrawsOwn declared.now (comments_of declaration.now) hops a.end a.text.items) }
-    ensures why { IfOk result (λ a. a.why ≡ None) }
-{
-    let comments = comments(alloc, declaration)?;
-    draw_unassigned(alloc, declared, &comments)
-}
-
-/// The answer to the texts of a declaration and an assignment.
-fn draw_both<A: Allocator + Copy>(
-    alloc: A,
-    seed: u64,
-    text: &[u8],
-    assigned: &[u8],
-) -> Result<Answered<A>, AllocError>
-    ensures answer { IfOk result (λ a. Draws text.now assigned.now a.end a.text.items) }
-    ensures why { IfOk result (λ a. SaysAssigned text.now assigned.now a.why) }
-{
-    match read_declaration(alloc, seed, text) {
-        Ok(declared) => {
-            let answer = draw_commented(alloc, &declared, text, assigned);
-            drop(declared);
-            answer
-        }
-        Err(stop) => Answered::stopped(alloc, stop),
-    }
-}
-
-/// The answer to the text of a declaration alone.
-fn draw_own<A: Allocator + Copy>(
-    alloc: A,
-    seed: u64,
-    text: &[u8],
-) -> Result<Answered<A>, AllocError>
-    ensures answer { IfOk result (λ a. OwnDraws text.now a.end a.text.items) }
-    ensures why { IfOk result (λ a. SaysDeclared text.now a.why) }
-{
-    match read_declaration(alloc, seed, text) {
-        Ok(declared) => {
-            let answer = draw_own_commented(alloc, &declared, text);
-            drop(declared);
-            answer
-        }
-        Err(stop) => Answered::stopped(alloc, stop),
-    }
-}
-
-/// The answer to the texts of a declaration and an assignment, or, without an
-/// assignment, to that of a declaration alone.
-pub(crate) fn draw<A: Allocator + Copy>(
-    alloc: A,
-    seed: u64,
     assigned: bool,
+    declared: &Declaration<'_, A>,
+    comments: &[&[u8]],
     texts: &Texts<A>,
-) -> Result<Answered<A>, AllocError>
-    ensures { IfOk result (λ a. DrawsTexts assigned texts.now (record { end = a.end; why = a.why }) a.text.items) }
+) -> Result<Answered<A, Found<Drawn<A>>>, AllocError>
+    ensures { IfOk result (λ a.
+        DrawsCommented assigned declared.now (map (λ c. c.now) comments.now) texts.now a.found a.end a.text.items) }
 {
     if assigned {
-        draw_both(alloc, seed, texts.first(), texts.second())
+        draw_text(alloc, declared, comments, texts.second())
     } else {
-        draw_own(alloc, seed, texts.first())
+        draw_unassigned(alloc, declared, comments)
     }
+}
+
+/// The answer to what the first of these texts declares and, where there is one, to the text of an assignment.
+pub(crate) fn draw<A: Allocator + Copy>(
+    alloc: A,
+    assigned: bool,
+    declared: &Declaration<'_, A>,
+    texts: &Texts<A>,
+) -> Result<Answered<A, Found<Drawn<A>>>, AllocError>
+    ensures { IfOk result (λ a. DrawsTexts assigned declared.now texts.now a.found a.end a.text.items) }
+{
+    let comments = comments(alloc, texts.first())?;
+    draw_commented(alloc, assigned, declared, &comments, texts)
 }

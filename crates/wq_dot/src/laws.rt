@@ -12,9 +12,11 @@ ghost use Rattle.wq_groups.specs.Assignment.{IsAssignment};
 ghost use Rattle.wq_graph.specs.declared.arc.WaitArc.{WaitArc};
 ghost use Rattle.wq_graph.specs.Graph.{IsArc, arc_of, arcs_by_place};
 ghost use Rattle.wq_core.specs.Workqueues.{Workqueues};
-ghost use Rattle.wq_meter.specs.Shell.{HasOneAnswer};
 ghost use Rattle.wq_commands.specs.declared.end.End.{End};
+ghost use Rattle.wq_commands.specs.declared.found.Found.{Found};
+ghost use Rattle.wq_commands.specs.Shell.{HasOneAnswer};
 ghost use Rattle.wq_commands.specs.Declaration.{Declared, declaration};
+ghost use Rattle.wq_dot.specs.declared.dotting.Drawn.{Drawn};
 ghost use Rattle.wq_dot.specs.declared.look.FlushLook.{FlushLook};
 ghost use Rattle.wq_dot.specs.Drawing.{drawing_lines, is_whole_at};
 ghost use Rattle.wq_dot.specs.Tooltips.{comments_of};
@@ -24,10 +26,12 @@ ghost use Rattle.wq_groups.specs.Declaration.{Declaration, IsDeclaration};
 ghost use Rattle.wq_circles.specs.Components.{AreComponents};
 ghost use Rattle.wq_dot.specs.Dotting.{AreShortest, Draws, DrawsBy, DrawsTextsBy, OwnDraws, OwnDrawsBy};
 
+use std::alloc::Allocator;
+
 /// A declaration and an assignment, or a declaration alone, have at most one end, and at most one text that is printed
 /// for the waits of a shortest run that ends stuck: where there are several such runs, the text says which one is
-/// meant, and nothing else is left open. For these waits there is one reason for what is said besides, too.
-pub fn drawings_have_one_answer()
+/// meant, and nothing else is left open. So the command has one answer for the waits that it finds.
+pub fn drawings_have_one_answer<A: Allocator>()
     ensures end { (declared text : List ℕ) (end other : End) (out printed : List ℕ) →
         Draws declared text end out → Draws declared text other printed → end ≡ other }
     ensures out { (hops : List Hop) (declared text : List ℕ) (end other : End) (out printed : List ℕ) →
@@ -36,7 +40,8 @@ pub fn drawings_have_one_answer()
         OwnDraws declared end out → OwnDraws declared other printed → end ≡ other }
     ensures own_out { (hops : List Hop) (declared : List ℕ) (end other : End) (out printed : List ℕ) →
         OwnDrawsBy hops declared end out → OwnDrawsBy hops declared other printed → out ≡ printed }
-    ensures command { (hops : List Hop) (assigned : Bool) → HasOneAnswer (DrawsTextsBy hops assigned) }
+    ensures command { (hops : List Hop) (assigned : Bool) → HasOneAnswer
+        (λ s texts (found : Found (Drawn A)) end out. DrawsTextsBy hops assigned s texts found end out) }
 {}
 
 /// Each item has exactly one line, whatever the title, the looks, the comments and the names of the workqueues, and

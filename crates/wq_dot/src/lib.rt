@@ -5,10 +5,11 @@
 //! that of the plan, with the flushes that the chain of its plan text follows, or of workqueues, with those that lie on
 //! a circle or lead to one without a rescuer, and among these the ones in which a shortest run waits that ends stuck.
 //! The text for Graphviz is the definition `drawing_text` of the items, the groups, the workqueues and their names, the
-//! title, and the looks and comments of the flushes, byte by byte. The rule is that of "The command `dot`" in
-//! docs/FORMAT.md. It takes the time of reading the texts, of the plan, of the components, of the search for a shortest
-//! run, of the drawing, and of writing it; a drawing takes time and memory in the number of items, groups, workqueues
-//! and flushes, and in the length of its text, and as many comparisons of names as sorting those of the workqueues.
+//! title, and the looks and comments of the flushes, byte by byte. Beside it no more is said than that a text is
+//! refused, or that no item is declared. The rule is that of "The command `dot`" in docs/FORMAT.md. It takes the time
+//! of reading the assignment, of the plan, of the components, of the search for a shortest run, of the drawing, and of
+//! writing it; a drawing takes time and memory in the number of items, groups, workqueues and flushes, and in the
+//! length of its text, and as many comparisons of names as sorting those of the workqueues.
 #![tactic(auto)]
 
 mod arrow;
@@ -22,6 +23,7 @@ mod head;
 mod label;
 pub mod laws;
 mod look;
+mod saying;
 mod shared;
 mod shortest;
 mod titles;
@@ -29,5 +31,6 @@ mod tooltip;
 mod workqueue;
 
 pub use dot::DotCommand;
+pub use dotting::Drawn;
 pub use drawing::drawing_text;
 pub use look::FlushLook;

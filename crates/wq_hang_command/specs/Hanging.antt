@@ -4,19 +4,24 @@ use Rattle.wq_groups.specs.Assignment.{IsAssignment}
 use Rattle.wq_core.specs.declared.step.Step.{Step}
 use Rattle.wq_core.specs.Workqueues.{Workqueues, wiring_of}
 use Rattle.wq_core.specs.Deadlock.{IsSafe}
+use Rattle.wq_hang.specs.declared.answer.Answer.{Answer}
+use Rattle.wq_hang.specs.declared.answer.Answer.TheVariants as answer
 use Rattle.wq_hang.specs.declared.hop.Hop.{Hop}
+use Rattle.wq_hang.specs.Answer.{IsAnswer}
 use Rattle.wq_hang.specs.Shortest.{IsShortestHang}
 use Rattle.wq_hang.specs.Walk.{IsWalk, IsRoundOrFirst, run_of_walk}
 use Rattle.wq_cert.specs.RunText.{run_text}
 use Rattle.wq_cert.specs.Texts.{workqueues_of_text, cert_refusal}
-use Rattle.wq_meter.specs.Shell.{Given}
 use Rattle.wq_commands.specs.declared.end.End.{End}
 use Rattle.wq_commands.specs.declared.end.End.TheVariants.{Good, Bad, Refused}
-use Rattle.wq_commands.specs.declared.why.Outcome.{Outcome}
+use Rattle.wq_commands.specs.declared.found.Found.{Found}
+use Rattle.wq_commands.specs.declared.found.Found.TheVariants.{Read}
+use Rattle.wq_commands.specs.declared.found.Which.TheVariants.{Certificate as SecondText}
 use Rattle.wq_commands.specs.Answer.{declared_waits, PrintsRefusal}
 use Rattle.wq_commands.specs.Deadlocking.{safe_text}
 use Rattle.wq_commands.specs.Declaration.{Declared, declaration}
-use Rattle.wq_commands.specs.Why.{SaysAssigned}
+use Rattle.wq_commands.specs.Found.{AnswersIn}
+use Rattle.wq_hang_command.specs.declared.hanging.Hanging.{Hanging}
 
 -- the steps are printed of a shortest run of these workqueues that ends stuck. It is the run of a walk, and where that
 -- has 4 steps, of the first flush that leads to a bare lane, if there is one
@@ -50,7 +55,23 @@ abbrev pub Hangs : List ℕ → List ℕ → End → List ℕ → Type 0
 Hangs declared text end out =
     MatchResult (declaration declared) (λ s. HangsDeclared s text end out) (λ r. PrintsRefusal r end out)
 
--- the answer of the command, and why
-abbrev pub HangsTexts : Given → Outcome → List ℕ → Type 0
-HangsTexts texts outcome out =
-    Hangs texts.first texts.second outcome.end out × SaysAssigned texts.first texts.second outcome.why
+-- ---- what is found, and printed
+
+-- what is printed of this answer: `safe`, or the steps of its run
+abbrev pub PrintsAnswer : {A : Type 0} → Declared → Answer A → End → List ℕ → Type 0
+PrintsAnswer s answer.Safe end out = (end ≡ Good) × (out ≡ safe_text)
+PrintsAnswer s (answer.Hang hops steps) end out = (end ≡ Bad) × (out ≡ run_text s.table.names steps.items)
+
+-- these workqueues are found, and how they hang soonest: the waits of a walk, and its run; and this run is printed
+pub record FindsHang {A : Type 0} (s : Declared) (ws : Workqueues) (found : Found (Hanging A)) (end : End)
+    (out : List ℕ) : Type 0 where
+  pub hanging : Hanging A
+  pub is : found ≡ Read hanging
+  pub workqueues : hanging.workqueues ≡ ws
+  pub answer : IsAnswer (declared_waits s) ws hanging.answer
+  pub printed : PrintsAnswer s hanging.answer end out
+
+-- `hang`: how the workqueues with this text hang soonest
+abbrev pub HangsText : {A : Type 0} → Declared → List ℕ → Found (Hanging A) → End → List ℕ → Type 0
+HangsText s text =
+    AnswersIn SecondText (workqueues_of_text s.table.names s.partition text) (λ ws. FindsHang s ws)

@@ -1,1 +1,2 @@
 pub mod Hanging
+pub mod Saying

@@ -1,40 +1,39 @@
-//! The command `hang`: from the bytes of a declaration and an assignment to the bytes of the answer.
+//! The command `hang`: from what is declared and the bytes of an assignment to the bytes of the answer.
 //!
-//! The declaration is read first and the assignment next, both before either is judged. The answer is built in full
-//! before the first byte is written. It takes the time of reading the texts, of the search and of writing the answer.
+//! The answer is built in full before its first byte is written. It takes the time of reading the assignment, of the
+//! search and of writing the answer.
 
-use crate::hanging::hang;
+use crate::hanging::{Hanging, hang_declared};
 use std::alloc::{AllocError, Allocator};
-use wq_commands::{Answered, Outcome, TWO_TEXTS};
-use wq_meter::{Command, Limits, Texts};
+use wq_commands::{Answered, Command, Declaration, Finds, Found, TWO_TEXTS};
+use wq_meter::{Limits, Texts};
 
 /// The command `hang`: its texts are a declaration and an assignment.
 #[derive(Clone, Copy, Debug)]
-pub struct HangCommand {
-    /// The names are hashed with this. No answer depends on it.
-    pub seed: u64,
-}
+pub struct HangCommand;
 
-impl<A: Allocator + Copy> Command<A> for HangCommand {
+impl<A: Allocator + Copy> Finds<A> for HangCommand {
     ghost use Rattle.wq_commands.specs.Commands.{two_texts};
-    ghost use Rattle.wq_hang_command.specs.Hanging.{HangsTexts};
+    ghost use Rattle.wq_hang_command.specs.Hanging.{HangsText};
 
-    type End = Outcome;
-
-    type Stop = AllocError;
+    type Found = Found<Hanging<A>>;
 
     ghost limits = { λ _. two_texts };
 
-    ghost answers = { λ _ texts outcome out. HangsTexts texts outcome out };
+    ghost answers = { λ _ s texts found end out. HangsText s texts.second found end out };
+}
 
-    ghost stops = { λ _ _ _. Unit {0} };
-
+impl<A: Allocator + Copy> Command<A> for HangCommand {
     fn limits(&self) -> Limits {
         TWO_TEXTS
     }
 
-    fn answer(&self, alloc: A, texts: &Texts<A>) -> Result<(Outcome, Vec<u8, A>), AllocError> {
-        let Answered { end, text, why } = hang(alloc, self.seed, texts.first(), texts.second())?;
-        Ok((Outcome { end, why }, text))
+    fn answer(
+        &self,
+        alloc: A,
+        declared: &Declaration<'_, A>,
+        texts: &Texts<A>,
+    ) -> Result<Answered<A, Found<Hanging<A>>>, AllocError> {
+        hang_declared(alloc, declared, texts.second())
     }
 }

@@ -1,24 +1,28 @@
 //! The answer to a declaration and an assignment, built in full in memory.
 //!
-//! The rule is that of "The command `hang`" in docs/FORMAT.md. It takes the time and the memory of reading the two
-//! texts and of the search for the shortest run.
+//! The rule is that of "The command `hang`" in docs/FORMAT.md. It takes the time and the memory of reading the
+//! assignment and of the search for the shortest run.
 
-ghost use Rattle.std.specs.Prelude.{◌≡◌, IfOk, None};
+ghost use Rattle.std.specs.Prelude.{◌≡◌, IfOk};
 ghost use Rattle.wq_core.specs.Workqueues.{wiring_of};
 ghost use Rattle.wq_hang.specs.Answer.{IsAnswer};
 ghost use Rattle.wq_hang.specs.Shortest.{IsShortestHang};
 ghost use Rattle.wq_cert.specs.RunText.{run_text};
-ghost use Rattle.wq_cert.specs.Texts.{workqueues_of_text};
 ghost use Rattle.wq_commands.specs.Answer.{declared_waits};
-ghost use Rattle.wq_commands.specs.declared.why.Which.TheVariants.{Certificate};
-ghost use Rattle.wq_commands.specs.Why.{SaysFault, SaysAssigned};
-ghost use Rattle.wq_hang_command.specs.Hanging.{HangsAssigned, HangsDeclared, Hangs};
+ghost use Rattle.wq_hang_command.specs.Hanging.{FindsHang, HangsText, PrintsAnswer};
 
 use std::alloc::{AllocError, Allocator};
 use wq_cert::run_text;
-use wq_commands::{Answered, Assigned, Declaration, End, Which, read_declaration, safe_text};
-use wq_core::Step;
+use wq_commands::{Answered, Assigned, Declaration, End, Found, Which, safe_text};
+use wq_core::{Step, Workqueues};
 use wq_hang::{Answer, hang as shortest_hang};
+
+/// Workqueues, and how they hang soonest, if they can.
+#[derive(Drop)]
+pub struct Hanging<A: Allocator> {
+    pub workqueues: Workqueues<A>,
+    pub answer: Answer<A>,
+}
 
 /// The text of a shortest run that ends stuck.
 fn hang_text<A: Allocator + Copy>(
@@ -37,80 +41,63 @@ fn print_answer<A: Allocator + Copy>(
     alloc: A,
     assigned: &Assigned<'_, '_, A>,
     answer: &Answer<A>,
-) -> Result<Answered<A>, AllocError>
+) -> Result<(End, Vec<u8, A>), AllocError>
     requires { IsAnswer (declared_waits assigned.now.declared) assigned.now.workqueues answer.now }
-    ensures answer { IfOk result (λ a.
-        HangsAssigned assigned.now.declared assigned.now.workqueues a.end a.text.items) }
-    ensures why { IfOk result (λ a. a.why ≡ None) }
+    ensures { IfOk result (λ printed.
+        PrintsAnswer assigned.now.declared answer.now printed.0 printed.1.items) }
 {
     match answer {
         Answer::Safe => {
             let text = safe_text(alloc)?;
-            Ok(Answered::plain(End::Good, text))
+            Ok((End::Good, text))
         }
         Answer::Hang(_, steps) => {
             let text = hang_text(alloc, assigned, steps)?;
-            Ok(Answered::plain(End::Bad, text))
+            Ok((End::Bad, text))
         }
     }
+}
+
+/// How these workqueues of the declared groups hang soonest.
+fn hang_of<A: Allocator + Copy>(
+    alloc: A,
+    assigned: &Assigned<'_, '_, A>,
+) -> Result<Answer<A>, AllocError>
+    ensures { IfOk result (IsAnswer (declared_waits assigned.now.declared) assigned.now.workqueues) }
+{
+    let declared = assigned.declared;
+    let Declaration { table, groups } = declared;
+    shortest_hang(alloc, table, groups, &assigned.workqueues)
 }
 
 /// The answer to workqueues of the declared groups.
 fn hang_assigned<A: Allocator + Copy>(
     alloc: A,
-    assigned: &Assigned<'_, '_, A>,
-) -> Result<Answered<A>, AllocError>
-    ensures answer { IfOk result (λ a.
-        HangsAssigned assigned.now.declared assigned.now.workqueues a.end a.text.items) }
-    ensures why { IfOk result (λ a. a.why ≡ None) }
+    assigned: Assigned<'_, '_, A>,
+) -> Result<Answered<A, Found<Hanging<A>>>, AllocError>
+    ensures { IfOk result (λ a.
+        FindsHang assigned.entry.declared assigned.entry.workqueues a.found a.end a.text.items) }
 {
-    let declared = assigned.declared;
-    let answer = shortest_hang(
-        alloc,
-        &declared.table,
-        &declared.groups,
-        &assigned.workqueues,
-    )?;
-    print_answer(alloc, assigned, &answer)
+    let answer = hang_of(alloc, &assigned)?;
+    let (end, text) = print_answer(alloc, &assigned, &answer)?;
+    let workqueues = assigned.workqueues;
+    Ok(Answered {
+        found: Found::Read(Hanging { workqueues, answer }),
+        end,
+        text,
+    })
 }
 
 /// The answer to the text of an assignment of the declared groups.
-fn hang_declared<A: Allocator + Copy>(
+pub(crate) fn hang_declared<A: Allocator + Copy>(
     alloc: A,
     declared: &Declaration<'_, A>,
     text: &[u8],
-) -> Result<Answered<A>, AllocError>
-    ensures answer { IfOk result (λ a. HangsDeclared declared.now text.now a.end a.text.items) }
-    ensures why { IfOk result (λ a.
-        SaysFault Certificate (workqueues_of_text declared.now.table.names declared.now.partition text.now) a.why) }
+) -> Result<Answered<A, Found<Hanging<A>>>, AllocError>
+    ensures { IfOk result (λ a. HangsText declared.now text.now a.found a.end a.text.items) }
 {
     match Assigned::read(alloc, declared, text) {
-        Ok(assigned) => {
-            let answer = hang_assigned(alloc, &assigned);
-            // Written as a call, so that the proof has one step for it.
-            drop(assigned);
-            answer
-        }
+        Ok(assigned) => hang_assigned(alloc, assigned),
         Err(fault) => Answered::unread(alloc, Which::Certificate, fault),
-    }
-}
-
-/// The answer to the texts of a declaration and an assignment, and which of them is refused, if one is.
-pub(crate) fn hang<A: Allocator + Copy>(
-    alloc: A,
-    seed: u64,
-    text: &[u8],
-    assigned: &[u8],
-) -> Result<Answered<A>, AllocError>
-    ensures answer { IfOk result (λ a. Hangs text.now assigned.now a.end a.text.items) }
-    ensures why { IfOk result (λ a. SaysAssigned text.now assigned.now a.why) }
-{
-    match read_declaration(alloc, seed, text) {
-        Ok(declared) => {
-            let answer = hang_declared(alloc, &declared, assigned);
-            drop(declared);
-            answer
-        }
-        Err(stop) => Answered::stopped(alloc, stop),
     }
 }

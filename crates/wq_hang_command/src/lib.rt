@@ -1,9 +1,12 @@
 //! The command `hang`: the shortest run that ends stuck, where there is one.
 //!
-//! The rule is that of "The command `hang`" in docs/FORMAT.md.
+//! What the program relies on: the run that is printed and the waits that are said are of one value, which has a walk
+//! of waits beside the run of this walk. The rule is that of "The command `hang`" in docs/FORMAT.md.
 #![tactic(auto)]
 
 mod hang;
 mod hanging;
+mod saying;
 
 pub use hang::HangCommand;
+pub use hanging::Hanging;

@@ -1,16 +1,8 @@
 -- The texts that came, and those that the readers had.
 use Rattle.std.proofs.Common.{◌≡◌, ℕ, List, Option, Some, subst, ap, ◌∙◌}
 use Rattle.wq_meter.specs.Meter.{Meter}
-use Rattle.wq_meter.specs.declared.shell.Stopped.{Stopped}
-use Rattle.wq_meter.specs.declared.shell.Stopped.TheVariants.{Faulted, Unanswered}
 use Rattle.wq_meter.specs.declared.texts.Limits.{Limits}
-use Rattle.wq_meter.specs.Shell.{AreFrom, Came, Given, GivesIf, IsAnswered, IsUnanswered, kept}
-use Rattle.wq_meter.specs.Stopped.{IfUnanswered}
-
--- what is said of a reason can be said more weakly
-pub IfUnanswered-weaker : {S : Type 0} (P Q : S → Type 0) → ((s : S) → P s → Q s) → (stopped : Stopped S) → IfUnanswered P stopped → IfUnanswered Q stopped
-IfUnanswered-weaker P Q f (Faulted fault) h = tt
-IfUnanswered-weaker P Q f (Unanswered s) h = f s h
+use Rattle.wq_meter.specs.Shell.{AreFrom, AreKept, Came, Given, GivesIf, kept}
 
 abbrev pub given : List ℕ → List ℕ → List ℕ → Given
 given first second third = record { first = first; second = second; third = third }
@@ -42,16 +34,5 @@ module _ {D S T : Type 0} {first_known : D → Option (List ℕ)} {second_known 
     subst (λ (l : Limits). GivesIf third_known third_old third_new l.third third_came.text) is third_came.gives,
   )
 
-  pub answered : (Answers : Given → List ℕ → Type 0) (IsWritten : List ℕ → Type 0) (Told : Given → Type 0)
-      → (out : List ℕ) → Answers texts out → IsWritten out → Told texts → IsAnswered limits From Answers IsWritten Told
-  answered Answers IsWritten Told out answer written told = record {
-    texts = had;
-    from = from;
-    out = out;
-    answer = subst (λ t. Answers t out) same answer;
-    written = written;
-    told = subst Told same told;
-  }
-
-  pub unanswered : (Stops : Given → Type 0) → Stops texts → IsUnanswered limits From Stops
-  unanswered Stops stops = record { texts = had; from = from; stops = subst Stops same stops }
+  pub kept_of_readers : AreKept limits From texts
+  kept_of_readers = record { had = had; from = from; is = same }

@@ -1,4 +1,4 @@
--- The shell of a command: its texts are taken from readers, answered, and something is said of the answer.
+-- The texts of a command are taken from readers, and something is said of the answer.
 use Rattle.std.specs.Prelude.{◌≡◌, ◌⊎◌, ℕ, ◌+◌, List, [], Option, Some, None, take, refl}
 use Rattle.std.specs.Coded.{Coded, code_by, coded×, coded_ℕ, coded_list}
 use Rattle.wq_meter.specs.Meter.{Meter, WritesPrefix, WritesWhole}
@@ -61,27 +61,19 @@ HasFailedIf old new (Some limit) = HasFailed old new
 abbrev pub AfterIf : {R L : Type 0} → (R → Option (List ℕ)) → Meter R → Meter R → Option ℕ → Meter L → Meter L → Type 0
 AfterIf remaining old new limit later_old later_new = (later_new ≡ later_old) ⊎ HasGivenIf remaining old new limit
 
--- ---- an answer
+-- ---- what was read
 
 -- the texts are those of three readers
 abbrev pub AreFrom : (List ℕ → Type 0) → (List ℕ → Type 0) → (List ℕ → Type 0) → Given → Type 0
 AreFrom First Second Third texts = First texts.first × Second texts.second × Third texts.third
 
--- readers had these texts; this is the answer to what is kept of them; these bytes of it are written, and this is said
-pub record IsAnswered (limits : Limits) (From : Given → Type 0) (Answers : Given → List ℕ → Type 0)
-    (IsWritten : List ℕ → Type 0) (IsTold : Given → Type 0) : Type 0 where
-  pub texts : Given
-  pub from : From texts
-  pub out : List ℕ
-  pub answer : Answers (kept limits texts) out
-  pub written : IsWritten out
-  pub told : IsTold (kept limits texts)
+-- readers had texts, and these are what is kept of them
+pub record AreKept (limits : Limits) (From : Given → Type 0) (texts : Given) : Type 0 where
+  pub had : Given
+  pub from : From had
+  pub is : texts ≡ kept limits had
 
--- readers had these texts, and there is no answer to what is kept of them
-pub record IsUnanswered (limits : Limits) (From : Given → Type 0) (Stops : Given → Type 0) : Type 0 where
-  pub texts : Given
-  pub from : From texts
-  pub stops : Stops (kept limits texts)
+-- ---- what is said
 
 -- this is said: all of it, and no write fails; or a prefix of it, because a write
 -- fails; or nothing, if there is nothing to say
@@ -102,37 +94,3 @@ pub record Came {R : Type 0} (remaining : R → Option (List ℕ)) (old new : Me
   pub gives : GivesIf remaining old new limit text
   pub prefix : bytes ≡ kept_text limit text
   pub none_failed : new.failures ≡ old.failures
-
--- ---- calls, side by side
-
--- the devices of a call, as it found them and as it left them
-pub record Call (D S T W E : Type 0) : Type 0 where
-  pub first : Meter D
-  pub first_left : Meter D
-  pub second : Meter S
-  pub second_left : Meter S
-  pub third : Meter T
-  pub third_left : Meter T
-  pub writer : Meter W
-  pub writer_left : Meter W
-  pub teller : Meter E
-  pub teller_left : Meter E
-
--- a reader is known to have this text; if it isn't asked, the text is empty
-abbrev pub IsTextIf : Option ℕ → Option (List ℕ) → List ℕ → Type 0
-IsTextIf None known text = text ≡ []
-IsTextIf (Some limit) known text = known ≡ Some text
-
--- the readers that a call found are known to have these texts
-abbrev pub FindsTexts : {D S T W E : Type 0} → (D → Option (List ℕ)) → (S → Option (List ℕ)) → (T → Option (List ℕ))
-    → Limits → Call D S T W E → Given → Type 0
-FindsTexts first_known second_known third_known limits call texts =
-    (first_known call.first.device ≡ Some texts.first)
-    × IsTextIf limits.second (second_known call.second.device) texts.second
-    × IsTextIf limits.third (third_known call.third.device) texts.third
-
--- a command has one answer to its texts at most: one end, and one text that is written
-abbrev pub HasOneAnswer : {E : Type 0} → (Given → E → List ℕ → Type 0) → Type 0
-HasOneAnswer {E} Answers =
-    (texts : Given) (end other : E) (out printed : List ℕ) → Answers texts end out → Answers texts other printed
-    → (end ≡ other) × (out ≡ printed)

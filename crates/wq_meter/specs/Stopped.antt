@@ -1,8 +1,8 @@
 -- Why a command didn't end.
 use Rattle.std.specs.Prelude.{ℕ}
 use Rattle.wq_meter.specs.declared.fault.Fault.{Fault}
-use Rattle.wq_meter.specs.declared.shell.Stopped.{Stopped}
-use Rattle.wq_meter.specs.declared.shell.Stopped.TheVariants.{Faulted, Unanswered}
+use Rattle.wq_meter.specs.declared.stopped.Stopped.{Stopped}
+use Rattle.wq_meter.specs.declared.stopped.Stopped.TheVariants.{Faulted, Unanswered}
 
 -- if it has no answer, this holds of the reason
 abbrev pub IfUnanswered : {S : Type 0} → (S → Type 0) → Stopped S → Type 0

@@ -6,15 +6,16 @@
 
 mod fault;
 mod input;
-pub mod laws;
 mod metered;
 mod output;
-mod shell;
+mod reading;
+mod stopped;
 mod texts;
 
 pub use fault::Fault;
 pub use input::read_text;
 pub use metered::Metered;
 pub use output::write_text;
-pub use shell::{Command, Silent, Stopped, Voice, carry_out};
+pub use reading::read_texts;
+pub use stopped::Stopped;
 pub use texts::{Limits, Texts};

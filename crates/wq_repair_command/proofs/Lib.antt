@@ -1,6 +1,7 @@
 pub mod Lines
 pub mod Named
 pub mod Circles
+pub mod FoundRepairs
 pub mod Taking
 pub mod NamedLines
 pub mod TextSize

@@ -1,5 +1,5 @@
 -- The answer to a declaration, an assignment, and the names of the items that may move: repaired workqueues, or what
--- shows that nothing helps.
+-- shows that nothing helps; and what is found for it.
 use Rattle.std.specs.Prelude.{◌≡◌, ◌⊎◌, ℕ, List, Option, Some, None, MatchResult}
 use Rattle.wq_graph.specs.declared.arc.WaitArc.{WaitArc}
 use Rattle.wq_core.specs.declared.step.Step.{Step}
@@ -7,17 +7,21 @@ use Rattle.wq_core.specs.Wiring.{own_lanes}
 use Rattle.wq_core.specs.Workqueues.{Workqueues}
 use Rattle.wq_deadlock.specs.Judging.{AreSafe}
 use Rattle.wq_deadlock.specs.Verdict.{IsDeadlock}
-use Rattle.wq_repair.specs.Repair.{IsRepair, AreNamesTooFew, IsNeededCircle}
+use Rattle.wq_repair.specs.declared.answer.Answer.{Answer}
+use Rattle.wq_repair.specs.declared.answer.Answer.TheVariants as answer
+use Rattle.wq_repair.specs.Repair.{IsAnswer, IsRepair, AreNamesTooFew, IsNeededCircle}
 use Rattle.wq_cert.specs.RunText.{run_text}
 use Rattle.wq_cert.specs.Texts.{workqueues_of_text, cert_refusal}
 use Rattle.wq_names.specs.Names.{names_of}
-use Rattle.wq_meter.specs.Shell.{Given}
 use Rattle.wq_commands.specs.declared.end.End.{End}
 use Rattle.wq_commands.specs.declared.end.End.TheVariants.{Good, Bad, Refused}
-use Rattle.wq_commands.specs.declared.why.Outcome.{Outcome}
+use Rattle.wq_commands.specs.declared.found.Found.{Found}
+use Rattle.wq_commands.specs.declared.found.Found.TheVariants.{Read}
+use Rattle.wq_commands.specs.declared.found.Which.TheVariants.{Certificate}
 use Rattle.wq_commands.specs.Answer.{declared_waits, text_of_circle, PrintsRefusal}
 use Rattle.wq_commands.specs.Declaration.{Declared, declaration}
-use Rattle.wq_commands.specs.Why.{SaysAssigned}
+use Rattle.wq_commands.specs.Found.{AnswersIn}
+use Rattle.wq_repair_command.specs.declared.repairing.Repairing.{Repairing}
 use Rattle.wq_repair_command.specs.AssignmentText.{assignment_text}
 use Rattle.wq_repair_command.specs.Movers.{movers}
 
@@ -77,7 +81,45 @@ abbrev pub Repairs : List (List ℕ) → List ℕ → List ℕ → End → List 
 Repairs names declared text end out =
     MatchResult (declaration declared) (λ s. RepairsDeclared s names text end out) (λ r. PrintsRefusal r end out)
 
--- the answer of the command, and which text is refused, if one is
-abbrev pub RepairsTexts : List (List ℕ) → Given → Outcome → List ℕ → Type 0
-RepairsTexts names texts outcome out =
-    Repairs names texts.first texts.second outcome.end out × SaysAssigned texts.first texts.second outcome.why
+-- ---- what is found, of which the answer is printed
+
+-- this circle is printed, with the run by which all items hang where each group has its own workqueue
+abbrev pub PrintsWithRun : Declared → List WaitArc → List ℕ → Type 0
+PrintsWithRun s circle out =
+    (steps : List Step) × IsDeadlock (declared_waits s) (own_lanes s.partition.groups) steps
+    × (out ≡ text_of_circle s circle steps)
+
+-- of this answer to workqueues is printed: the workqueues themselves, or those that are repaired, each by the name that
+-- it has here; or the run, or the circle, which shows that nothing helps
+abbrev pub PrintsAnswer : {A : Type 0} → Declared → Workqueues → List (List ℕ) → Answer A → End → List ℕ → Type 0
+PrintsAnswer s old called answer.Safe end out =
+    (end ≡ Good) × (out ≡ assignment_text s.table.names s.partition old called)
+PrintsAnswer s old called (answer.Repaired new) end out =
+    (end ≡ Good) × (out ≡ assignment_text s.table.names s.partition new called)
+PrintsAnswer s old called (answer.TooFewNames start steps) end out =
+    (end ≡ Bad) × (out ≡ run_text s.table.names steps.items)
+PrintsAnswer s old called (answer.Circle arcs) end out = (end ≡ Bad) × PrintsWithRun s arcs.items out
+
+-- these workqueues are found, and what can be done about them where these items may move; and of that the answer is
+-- printed, where the workqueues are called so
+pub record FindsRepair {A : Type 0} (s : Declared) (old : Workqueues) (called : List (List ℕ)) (moving : List ℕ)
+    (found : Found (Option (Repairing A))) (end : End) (out : List ℕ) : Type 0 where
+  pub answer : Answer A
+  pub is : found ≡ Read (Some (record { workqueues = old; answer = answer }))
+  pub answers : IsAnswer (declared_waits s) old moving answer
+  pub prints : PrintsAnswer s old called answer end out
+
+-- what is found and answered where these items may move; or nothing is found, since one of the names that were given is
+-- that of no item (8, at no line)
+abbrev pub FindsIfNamed : {A : Type 0} → Declared → Workqueues → List (List ℕ) → Option (List ℕ)
+    → Found (Option (Repairing A)) → End → List ℕ → Type 0
+FindsIfNamed s old called None found end out =
+    (found ≡ Read None) × PrintsRefusal (record { code = 8; line = 0 }) end out
+FindsIfNamed s old called (Some moving) found end out = FindsRepair s old called moving found end out
+
+-- what `repair` finds in the text of an assignment of what is declared, where the items with these names may move, and
+-- what it answers; or its refusal
+abbrev pub RepairsText : {A : Type 0} → List (List ℕ) → Declared → List ℕ → Found (Option (Repairing A)) → End → List ℕ
+    → Type 0
+RepairsText names s text = AnswersIn Certificate (workqueues_of_text s.table.names s.partition text)
+    (λ old. FindsIfNamed s old (names_of text) (movers s.table.names names))

@@ -18,3 +18,4 @@ mod run;
 pub use assignment::assignment_text;
 pub use movers::items_that_may_move;
 pub use repair::RepairCommand;
+pub use repairing::Repairing;

@@ -1,11 +1,10 @@
 -- What stops a command, and `run` in particular.
 use Rattle.std.specs.Prelude.{ℕ, List, codes, Result, Ok, Err}
 use Rattle.wq_meter.specs.declared.fault.Fault.TheVariants.{Memory}
-use Rattle.wq_meter.specs.declared.shell.Stopped.{Stopped}
-use Rattle.wq_meter.specs.declared.shell.Stopped.TheVariants.{Faulted, Unanswered}
+use Rattle.wq_meter.specs.declared.stopped.Stopped.{Stopped}
+use Rattle.wq_meter.specs.declared.stopped.Stopped.TheVariants.{Faulted, Unanswered}
 use Rattle.wq_meter.specs.Fault.{fault_text}
 use Rattle.wq_commands.specs.declared.end.End.{End}
-use Rattle.wq_commands.specs.declared.why.Outcome.{Outcome}
 use Rattle.wq_rescuer.specs.declared.running.RunWhy.{RunWhy}
 use Rattle.wq_rescuer.specs.declared.running.RunWhy.TheVariants.{BodiesDiffer, TooManySeats, OutOfMemory as NoMemory}
 use Rattle.wq_rescuer.specs.declared.running.RunWhy.TheVariants.{NoThread}
@@ -42,7 +41,7 @@ Stops runnable stop.Thread = runnable
 Stops runnable stop.Tally = runnable
 
 -- the end of `run`, or the fault that is reported for what stopped it
-abbrev pub end_or_stop : Result Outcome (Stopped RunStop) → Result End CommandFault
-end_or_stop (Ok outcome) = Ok outcome.end
+abbrev pub end_or_stop : Result End (Stopped RunStop) → Result End CommandFault
+end_or_stop (Ok end) = Ok end
 end_or_stop (Err (Faulted fault)) = Err (Common fault)
 end_or_stop (Err (Unanswered stop)) = Err (fault_of_stop stop)

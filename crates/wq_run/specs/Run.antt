@@ -1,10 +1,10 @@
 -- A run of `run`: a text is taken from a reader, and answered.
-use Rattle.std.specs.Prelude.{ℕ, ◌+◌, List, [], Option, take}
+use Rattle.std.specs.Prelude.{ℕ, ◌+◌, List, [], Option, Result, take}
 use Rattle.wq_meter.specs.Meter.{Meter}
 use Rattle.wq_meter.specs.Input.{GivesText}
 use Rattle.wq_meter.specs.Shell.{Given}
 use Rattle.wq_commands.specs.declared.end.End.{End}
-use Rattle.wq_commands.specs.declared.why.Outcome.{Outcome}
+use Rattle.wq_text.specs.Refusal.{Refusal}
 use Rattle.wq_commands.specs.Declaration.{max_declaration}
 use Rattle.wq_run.specs.Running.{RunsPlan, RunsTexts, IsRunnable}
 
@@ -26,13 +26,15 @@ pub record IsRunnableInput {R : Type 0} (remaining : R → Option (List ℕ)) (o
 abbrev pub only : List ℕ → Given
 only text = record { first = text; second = []; third = [] }
 
--- a reader had a text; this is the answer to it, with this many helpers, and why; these bytes of the answer are
--- written, and this is said of what was read of the text
+-- a reader had a text; this is the answer to it, with this many helpers, and this is what is found in what was read of
+-- it; these bytes of the answer are written, and this is said of what was found
 pub record IsAnsweredByRun {R : Type 0} (helpers : ℕ) (remaining : R → Option (List ℕ)) (old new : Meter R)
-    (outcome : Outcome) (IsWritten : List ℕ → Type 0) (IsTold : Given → Type 0) : Type 0 where
+    (end : End) (IsWritten : List ℕ → Type 0) (IsTold : Given → Result End Refusal → Type 0) : Type 0 where
   pub text : List ℕ
   pub given : GivesText remaining old new max_declaration text
+  pub found : Result End Refusal
   pub out : List ℕ
-  pub answer : RunsTexts helpers (only text) outcome out
+  pub finds : RunsTexts helpers (only (take (max_declaration + 1) text)) found end out
+  pub answer : RunsPlan helpers text end out
   pub written : IsWritten out
-  pub told : IsTold (only (take (max_declaration + 1) text))
+  pub told : IsTold (only (take (max_declaration + 1) text)) found

@@ -1,5 +1,5 @@
 -- The answer of `run` to a declaration text: what is printed, and how it ends.
-use Rattle.std.specs.Prelude.{◌≡◌, ℕ, ◌+◌, ◌*◌, ◌<◌, ◌≤◌, List, [], ◌∷◌, drop, length, true, Option, None, Result}
+use Rattle.std.specs.Prelude.{◌≡◌, ℕ, ◌+◌, ◌*◌, ◌<◌, ◌≤◌, List, [], ◌∷◌, drop, length, true, Option, Some, Result}
 use Rattle.std.specs.Prelude.{MatchResult}
 use Rattle.wq_items.specs.Table.{flush_count}
 use Rattle.wq_groups.specs.Assignment.{Assignment}
@@ -21,12 +21,11 @@ use Rattle.wq_script.specs.Crews.{shared_by_two}
 use Rattle.wq_commands.specs.declared.end.End.{End}
 use Rattle.wq_commands.specs.declared.end.End.TheVariants.{Good, Bad, Refused}
 use Rattle.wq_meter.specs.Shell.{Given}
-use Rattle.wq_commands.specs.declared.why.Outcome.{Outcome}
-use Rattle.wq_commands.specs.declared.why.Which.TheVariants as which
-use Rattle.wq_commands.specs.declared.why.Why.{Why}
-use Rattle.wq_commands.specs.Why.{refused_for}
 use Rattle.wq_commands.specs.Answer.{declared_waits, refusal_text, PrintsRefusal, PrintsCircle}
 use Rattle.wq_commands.specs.Declaration.{Declared, declaration}
+use Rattle.wq_text.specs.Refusal.{Refusal}
+use Rattle.wq_commands.specs.Shell.{AnswersTexts}
+use Rattle.wq_diagnosis.specs.Refused.{Diagnoses, NotesNoItem}
 use Rattle.wq_run.specs.Report.{report_text}
 
 -- how many rows the history has room for: those that one queueing of each item, its flush by a caller and one execution
@@ -99,19 +98,19 @@ pub record HasRuntime (s : Declared) : Type 0 where
 abbrev pub IsRunnable : List ℕ → Type 0
 IsRunnable text = MatchResult (declaration text) HasRuntime (λ r. ⊥)
 
--- ---- the answer, and why
+-- ---- what is found, and the answer
 
--- why what was declared isn't run: the plan has too many workqueues (69)
-abbrev pub run_why : End → Option Why
-run_why Refused = refused_for which.Declaration (record { code = 69; line = 0 })
-run_why _ = None
+-- how `run` ends is found, and what it prints is the answer to the declaration
+abbrev pub FindsRun : ℕ → Declared → End → End → List ℕ → Type 0
+FindsRun helpers s found end out = (found ≡ end) × RunsDeclared helpers s end out
 
--- why a text isn't run: it is refused, or its plan is
-abbrev pub SaysUnrun : List ℕ → End → Option Why → Type 0
-SaysUnrun text end why =
-    MatchResult (declaration text) (λ _. why ≡ run_why end) (λ r. why ≡ refused_for which.Declaration r)
+-- what is found in the first of these texts, with this many helpers, and the answer to it
+abbrev pub RunsTexts : ℕ → Given → Result End Refusal → End → List ℕ → Type 0
+RunsTexts helpers texts found end out = AnswersTexts (λ s _ f e o. FindsRun helpers s f e o) texts found end out
 
--- the answer to the first of these texts, with this many helpers, and why
-abbrev pub RunsTexts : ℕ → Given → Outcome → List ℕ → Type 0
-RunsTexts helpers texts outcome out =
-    RunsPlan helpers texts.first outcome.end out × SaysUnrun texts.first outcome.end outcome.why
+-- ---- what is said
+
+-- that the plan has too many workqueues (69), or that no item is declared, in a file with this name
+abbrev pub SaysRun : List ℕ → Declared → End → Option (List ℕ) → Type 0
+SaysRun first s Refused said = Diagnoses first (Some (record { code = 69; line = 0 })) said
+SaysRun first s end said = NotesNoItem first s said

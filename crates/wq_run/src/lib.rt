@@ -16,9 +16,10 @@ mod outcome;
 mod report;
 mod run;
 mod running;
+mod saying;
 mod serving;
 
 pub use fault::{CommandFault, RunStop};
 pub use outcome::end_of_run;
 pub use report::report_text;
-pub use run::{carry_out_run, run_cmd};
+pub use run::{RunCommand, carry_out_run, run_cmd};

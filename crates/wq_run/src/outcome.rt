@@ -1,20 +1,21 @@
 //! How `run` ended when it was carried out, for callers that need to know no more than its end. It takes constant time.
 
-ghost use Rattle.std.specs.Prelude.{◌≡◌, ◌≢◌, Err, IfOk, IsOkAnd};
+ghost use Rattle.std.specs.Prelude.{◌≡◌, ◌≢◌, Ok, Err, IfOk};
 ghost use Rattle.std.specs.Result.{IsErrAnd};
 ghost use Rattle.wq_meter.specs.declared.fault.Fault.TheVariants.{Memory, Read, Write};
-ghost use Rattle.wq_meter.specs.declared.shell.Stopped.TheVariants.{Faulted, Unanswered};
+ghost use Rattle.wq_meter.specs.declared.stopped.Stopped.TheVariants.{Faulted, Unanswered};
 ghost use Rattle.wq_run.specs.declared.fault.CommandFault.TheVariants.{Common, Thread, Tally};
 ghost use Rattle.wq_run.specs.declared.fault.RunStop.TheVariants as stop;
 ghost use Rattle.wq_run.specs.Fault.{end_or_stop};
 
 use crate::fault::{CommandFault, RunStop};
-use wq_commands::{End, Outcome, Stopped};
+use wq_commands::End;
+use wq_meter::Stopped;
 
 /// The end of `run`, or the fault that stopped it.
-pub fn end_of_run(ended: Result<Outcome, Stopped<RunStop>>) -> Result<End, CommandFault>
+pub fn end_of_run(ended: Result<End, Stopped<RunStop>>) -> Result<End, CommandFault>
     ensures is { result ≡ end_or_stop ended }
-    ensures end { IfOk result (λ end. IsOkAnd ended (λ outcome. outcome.end ≡ end)) }
+    ensures end { IfOk result (λ end. ended ≡ Ok end) }
     ensures memory { result ≡ Err (Common Memory) → IsErrAnd ended (λ stopped. stopped ≢ Faulted Write) }
     ensures read { result ≡ Err (Common Read) → IsErrAnd ended (λ stopped. stopped ≢ Faulted Write) }
     ensures no_thread { result ≡ Err Thread → ended ≡ Err (Unanswered stop.Thread) }
@@ -25,7 +26,7 @@ pub fn end_of_run(ended: Result<Outcome, Stopped<RunStop>>) -> Result<End, Comma
     ensures no_write_failed { result ≢ Err (Common Write) → ended ≢ Err (Faulted Write) }
 {
     match ended {
-        Ok(outcome) => Ok(outcome.end),
+        Ok(end) => Ok(end),
         Err(Stopped::Faulted(fault)) => Err(CommandFault::Common(fault)),
         Err(Stopped::Unanswered(stop)) => Err(CommandFault::from(stop)),
     }

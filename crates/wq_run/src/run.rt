@@ -3,33 +3,54 @@
 //! The answer is built in full before the first byte is written. It takes the time of reading the text, of planning it,
 //! of all executions and of writing the answer.
 
-ghost use Rattle.std.specs.Prelude.{◌≡◌, ◌≢◌, ◌≤◌, ◌+◌, ℕ, List, Err, IfOk, IfErr, OnErr};
+ghost use Rattle.std.specs.Prelude.{◌≡◌, ◌≢◌, ◌≤◌, ◌+◌, ℕ, List, Result, Err, IfOk, IfErr, OnErr};
+ghost use Rattle.wq_text.specs.Refusal.{Refusal};
 ghost use Rattle.wq_core.specs.Wiring.{max_helpers};
 ghost use Rattle.wq_meter.specs.Input.{HasFailed};
 ghost use Rattle.wq_meter.specs.Meter.{count_after, LosesPrefix, WritesPrefix, WritesWhole};
 ghost use Rattle.wq_meter.specs.Shell.{Tells};
-ghost use Rattle.wq_meter.specs.Stopped.{IfFaulted, IfUnanswered};
-ghost use Rattle.wq_meter.specs.declared.shell.Stopped.TheVariants.{Faulted};
+ghost use Rattle.wq_meter.specs.Stopped.{IfUnanswered};
+ghost use Rattle.wq_meter.specs.declared.stopped.Stopped.TheVariants.{Faulted};
+ghost use Rattle.wq_meter.specs.declared.fault.Fault.TheVariants.{Memory, Read as ReadFault, Write as WriteFault};
 ghost use Rattle.wq_commands.specs.Declaration.{max_declaration};
 ghost use Rattle.wq_commands.specs.declared.end.End.{End};
-ghost use Rattle.wq_commands.specs.declared.why.Outcome.{Outcome};
-ghost use Rattle.wq_meter.specs.declared.fault.Fault.TheVariants.{Memory, Read as ReadFault, Write as WriteFault};
+ghost use Rattle.wq_commands.specs.Shell.{SaysOfTexts};
 ghost use Rattle.wq_run.specs.declared.fault.CommandFault.TheVariants.{Common, Thread, Tally};
 ghost use Rattle.wq_run.specs.Fault.{Stops};
 ghost use Rattle.wq_run.specs.Run.{IsAnsweredByRun, RunsInput, IsRunnableInput, only};
-ghost use Rattle.wq_run.specs.Running.{IsRunnable, RunsTexts};
+ghost use Rattle.wq_run.specs.Running.{HasRuntime, IsRunnable, RunsDeclared, RunsTexts};
 
 use crate::fault::{CommandFault, RunStop};
 use crate::outcome::end_of_run;
-use crate::running::answer_run;
+use crate::running::run_declared;
 use std::alloc::Allocator;
 use std::io::{self, Read, Write};
 use std::sync::Wait;
 use std::thread::Threads;
 use wq_commands::{
-    Answered, End, MAX_DECLARATION, Metered, Outcome, Silent, Stopped, Texts, Voice, read_text,
-    write_text,
+    Declaration, End, Finds, MAX_DECLARATION, Silent, Stop, Voice, read_declaration,
+    respond_refused, tell,
 };
+use wq_meter::{Metered, Stopped, Texts, read_text, write_text};
+
+/// The command `run`: its one text is a declaration.
+#[derive(Clone, Copy, Debug)]
+pub struct RunCommand {
+    /// How many helpers each workqueue has that isn't ordered, beside its rescuer, at most 8.
+    pub helpers: u8,
+}
+
+impl<A: Allocator + Copy> Finds<A> for RunCommand {
+    ghost use Rattle.wq_commands.specs.Commands.{one_text};
+    ghost use Rattle.wq_run.specs.Running.{FindsRun};
+
+    /// How it ends: the plan was run, or has too many workqueues to run, or there is none.
+    type Found = End;
+
+    ghost limits = { λ _. one_text };
+
+    ghost answers = { λ command s _ found end out. FindsRun command.helpers s found end out };
+}
 
 /// The texts of a command that has only this one.
 fn only<A: Allocator + Copy>(alloc: A, text: Vec<u8, A>) -> Texts<A>
@@ -38,71 +59,39 @@ fn only<A: Allocator + Copy>(alloc: A, text: Vec<u8, A>) -> Texts<A>
     Texts::new(text, Vec::new(alloc), Vec::new(alloc))
 }
 
-/// How `run` ends on the first of these texts, and why, and the bytes of its answer.
-fn answer_texts<R: Threads + Wait + Sync, A: Allocator + Copy + Send + Sync>(
-    rt: &R,
-    alloc: A,
-    seed: u64,
-    helpers: u8,
-    texts: &Texts<A>,
-) -> Result<(Outcome, Vec<u8, A>), RunStop>
-    requires few_helpers { helpers ≤ max_helpers }
-    ensures answered { IfOk result (λ answer. RunsTexts helpers texts.now answer.0 answer.1.items) }
-    ensures stopped { IfErr result (Stops (IsRunnable texts.now.first)) }
-{
-    let Answered { end, text, why } = answer_run(rt, alloc, seed, helpers, texts.first())?;
-    Ok((Outcome { end, why }, text))
-}
-
-/// Answers these texts, and writes the answer.
+/// Runs the plan of a declaration, and writes the answer.
 fn write_answer<R: Threads + Wait + Sync, W: Write, A: Allocator + Copy + Send + Sync>(
     rt: &R,
     alloc: A,
-    seed: u64,
-    helpers: u8,
-    texts: &Texts<A>,
+    command: &RunCommand,
+    declared: &Declaration<'_, A>,
     writer: &mut Metered<W>,
-) -> Result<Outcome, Stopped<RunStop>>
-    requires few_helpers { helpers ≤ max_helpers }
-    ensures answered { IfOk result (λ outcome. (out : List ℕ) × RunsTexts helpers texts.now outcome out
+) -> Result<End, Stopped<RunStop>>
+    requires few_helpers { command.now.helpers ≤ max_helpers }
+    ensures answered { IfOk result (λ end. (out : List ℕ) × RunsDeclared command.now.helpers declared.now end out
         × WritesWhole W.contents writer.old writer.new out) }
     ensures prefix { result ≡ Err (Faulted WriteFault)
-        → (outcome : Outcome) × (out : List ℕ) × RunsTexts helpers texts.now outcome out
+        → (end : End) × (out : List ℕ) × RunsDeclared command.now.helpers declared.now end out
         × WritesPrefix W.contents writer.old writer.new out }
-    ensures unanswered { IfErr result (IfUnanswered (Stops (IsRunnable texts.now.first))) }
+    ensures unanswered { IfErr result (IfUnanswered (Stops (HasRuntime declared.now))) }
     ensures untouched { IfErr result (λ stopped. stopped ≢ Faulted WriteFault → writer.new ≡ writer.old) }
-    ensures only_writes { IfErr result (IfFaulted (λ fault. fault ≡ WriteFault)) }
+    ensures never_reads { result ≢ Err (Faulted ReadFault) }
     ensures write_failed { result ≡ Err (Faulted WriteFault) → writer.new.failures ≡ count_after writer.old.failures 1 }
     ensures no_write_failed { result ≢ Err (Faulted WriteFault) → writer.new.failures ≡ writer.old.failures }
 {
-    match answer_texts(rt, alloc, seed, helpers, texts) {
-        Ok((outcome, text)) => {
+    match run_declared(rt, alloc, declared, command.helpers) {
+        Ok((end, text)) => {
             write_text(writer, &text)?;
-            Ok(outcome)
+            Ok(end)
         }
         Err(stop) => Err(Stopped::Unanswered(stop)),
     }
 }
 
-/// Says what there is to be said. Where memory runs out, nothing is said, and where a write fails, no more.
-fn tell<V: Voice<A, Outcome>, E: Write, A: Allocator + Copy>(
-    alloc: A,
-    voice: &V,
-    texts: &Texts<A>,
-    outcome: &Outcome,
-    teller: &mut Metered<E>,
-)
-    ensures { Tells E.contents teller.old teller.new (V.says voice.now texts.now outcome.now) }
-{
-    if let Ok(Some(text)) = voice.say(alloc, texts, outcome) {
-        write_text(teller, &text).ok();
-    }
-}
-
-/// Answers these texts, writes the answer, and then says what there is to be said.
-fn respond<
+/// Answers a declaration, and then says what there is to be said.
+fn respond_declared<
     R: Threads + Wait + Sync,
-    V: Voice<A, Outcome>,
+    V: Voice<RunCommand, A>,
     W: Write,
     E: Write,
     A: Allocator + Copy + Send + Sync,
@@ -110,34 +99,92 @@ fn respond<
     rt: &R,
     alloc: A,
     seed: u64,
-    helpers: u8,
+    command: &RunCommand,
     voice: &V,
+    declared: &Declaration<'_, A>,
     texts: &Texts<A>,
     writer: &mut Metered<W>,
     teller: &mut Metered<E>,
-) -> Result<Outcome, Stopped<RunStop>>
-    requires few_helpers { helpers ≤ max_helpers }
-    ensures answered { IfOk result (λ outcome. (out : List ℕ) × RunsTexts helpers texts.now outcome out
+) -> Result<End, Stopped<RunStop>>
+    requires few_helpers { command.now.helpers ≤ max_helpers }
+    ensures answered { IfOk result (λ end. (out : List ℕ) × RunsDeclared command.now.helpers declared.now end out
         × WritesWhole W.contents writer.old writer.new out
-        × Tells E.contents teller.old teller.new (V.says voice.now texts.now outcome)) }
+        × Tells E.contents teller.old teller.new (V.says voice.now command.now declared.now texts.now end)) }
     ensures prefix { result ≡ Err (Faulted WriteFault)
-        → (outcome : Outcome) × (out : List ℕ) × RunsTexts helpers texts.now outcome out
+        → (end : End) × (out : List ℕ) × RunsDeclared command.now.helpers declared.now end out
         × WritesPrefix W.contents writer.old writer.new out }
-    ensures unanswered { IfErr result (IfUnanswered (Stops (IsRunnable texts.now.first))) }
+    ensures unanswered { IfErr result (IfUnanswered (Stops (HasRuntime declared.now))) }
     ensures untouched { IfErr result (λ stopped. stopped ≢ Faulted WriteFault → writer.new ≡ writer.old) }
-    ensures only_writes { IfErr result (IfFaulted (λ fault. fault ≡ WriteFault)) }
+    ensures never_reads { result ≢ Err (Faulted ReadFault) }
     ensures unsaid { OnErr result (teller.new ≡ teller.old) }
     ensures write_failed { result ≡ Err (Faulted WriteFault) → writer.new.failures ≡ count_after writer.old.failures 1 }
     ensures no_write_failed { result ≢ Err (Faulted WriteFault) → writer.new.failures ≡ writer.old.failures }
 {
-    let outcome = write_answer(rt, alloc, seed, helpers, texts, writer)?;
-    tell(alloc, voice, texts, &outcome, teller);
-    Ok(outcome)
+    let end = write_answer(rt, alloc, command, declared, writer)?;
+    tell(
+        voice.say(alloc, seed, command, declared, texts, &end),
+        teller,
+    );
+    Ok(end)
+}
+
+/// Answers these texts, writes the answer, and then says what there is to be said.
+fn respond<
+    R: Threads + Wait + Sync,
+    V: Voice<RunCommand, A>,
+    W: Write,
+    E: Write,
+    A: Allocator + Copy + Send + Sync,
+>(
+    rt: &R,
+    alloc: A,
+    seed: u64,
+    command: &RunCommand,
+    voice: &V,
+    texts: &Texts<A>,
+    writer: &mut Metered<W>,
+    teller: &mut Metered<E>,
+) -> Result<End, Stopped<RunStop>>
+    requires few_helpers { command.now.helpers ≤ max_helpers }
+    ensures answered { IfOk result (λ end. (found : Result End Refusal) × (out : List ℕ)
+        × RunsTexts command.now.helpers texts.now found end out
+        × WritesWhole W.contents writer.old writer.new out
+        × Tells E.contents teller.old teller.new
+        (SaysOfTexts (V.says voice.now command.now) (V.refuses voice.now) texts.now found)) }
+    ensures prefix { result ≡ Err (Faulted WriteFault) → (found : Result End Refusal) × (end : End) × (out : List ℕ)
+        × RunsTexts command.now.helpers texts.now found end out
+        × WritesPrefix W.contents writer.old writer.new out }
+    ensures unanswered { IfErr result (IfUnanswered (Stops (IsRunnable texts.now.first))) }
+    ensures untouched { IfErr result (λ stopped. stopped ≢ Faulted WriteFault → writer.new ≡ writer.old) }
+    ensures never_reads { result ≢ Err (Faulted ReadFault) }
+    ensures unsaid { OnErr result (teller.new ≡ teller.old) }
+    ensures write_failed { result ≡ Err (Faulted WriteFault) → writer.new.failures ≡ count_after writer.old.failures 1 }
+    ensures no_write_failed { result ≢ Err (Faulted WriteFault) → writer.new.failures ≡ writer.old.failures }
+{
+    match read_declaration(alloc, seed, texts.first()) {
+        Ok(declared) => {
+            let ended = respond_declared(
+                rt, alloc, seed, command, voice, &declared, texts, writer, teller,
+            );
+            // Written as a call, so that the proof has one step for it.
+            drop(declared);
+            ended
+        }
+        Err(Stop::Refused { code, line }) => {
+            match respond_refused(
+                alloc, seed, command, voice, texts, code, line, writer, teller,
+            ) {
+                Ok(end) => Ok(end),
+                Err(fault) => Err(Stopped::Faulted(fault)),
+            }
+        }
+        Err(Stop::OutOfMemory) => Err(Stopped::Unanswered(RunStop::OutOfMemory)),
+    }
 }
 
 /// Carries out `run` as `carry_out` does the other commands: reads a declaration to its end, runs its plan, writes the
 /// answer, and then says what there is to be said. `run` is no `Command`: a method of a trait can't start threads that
-/// borrow what its type has. Each workqueue that isn't ordered has this many helpers beside its rescuer, at most 8.
+/// borrow what its type has.
 ///
 /// Of the declaration at most 1,048,577 bytes are read, in at most as many calls. The errors are `Fault::Read`, where
 /// the read failed, `Fault::Memory`, where memory for the text ran out, `Fault::Write`, where a write of the answer
@@ -149,7 +196,7 @@ fn respond<
 /// The names are hashed with `seed`. No answer depends on it.
 pub fn carry_out_run<
     R: Threads + Wait + Sync,
-    V: Voice<A, Outcome>,
+    V: Voice<RunCommand, A>,
     D: Read,
     W: Write,
     E: Write,
@@ -158,26 +205,27 @@ pub fn carry_out_run<
     rt: &R,
     alloc: A,
     seed: u64,
-    helpers: u8,
+    command: &RunCommand,
     voice: &V,
     declaration: &mut Metered<D>,
     writer: &mut Metered<W>,
     teller: &mut Metered<E>,
-) -> Result<Outcome, Stopped<RunStop>>
-    requires few_helpers { helpers ≤ max_helpers }
+) -> Result<End, Stopped<RunStop>>
+    requires few_helpers { command.now.helpers ≤ max_helpers }
 
     // The answer to the text that the reader had is written, and nothing else; then
     // it is said what there is to be said.
-    ensures answered { IfOk result (λ outcome.
-        IsAnsweredByRun helpers D.remaining declaration.old declaration.new outcome
+    ensures answered { IfOk result (λ end.
+        IsAnsweredByRun command.now.helpers D.remaining declaration.old declaration.new end
         (WritesWhole W.contents writer.old writer.new)
-        (λ texts. Tells E.contents teller.old teller.new (V.says voice.now texts outcome))) }
+        (λ texts found. Tells E.contents teller.old teller.new
+        (SaysOfTexts (V.says voice.now command.now) (V.refuses voice.now) texts found))) }
 
     // What a fault leaves.
     ensures prefix { result ≡ Err (Faulted WriteFault)
-        → (outcome : Outcome) × IsAnsweredByRun helpers D.remaining declaration.old declaration.new outcome
+        → (end : End) × IsAnsweredByRun command.now.helpers D.remaining declaration.old declaration.new end
         (WritesPrefix W.contents writer.old writer.new)
-        (λ _. teller.new ≡ teller.old) }
+        (λ _ _. teller.new ≡ teller.old) }
     ensures untouched { IfErr result (λ stopped. stopped ≢ Faulted WriteFault → writer.new ≡ writer.old) }
     ensures unanswered { IfErr result
         (IfUnanswered (Stops (IsRunnableInput D.remaining declaration.old declaration.new))) }
@@ -196,7 +244,7 @@ pub fn carry_out_run<
 {
     let text = read_text(alloc, declaration, MAX_DECLARATION)?;
     let texts = only(alloc, text);
-    let ended = respond(rt, alloc, seed, helpers, voice, &texts, writer, teller);
+    let ended = respond(rt, alloc, seed, command, voice, &texts, writer, teller);
     // Written as a call, so that the proof has one step for it.
     drop(texts);
     ended
@@ -261,7 +309,7 @@ pub fn run_cmd<R: Threads + Wait + Sync, D: Read, W: Write, A: Allocator + Copy 
         rt,
         alloc,
         seed,
-        helpers,
+        &RunCommand { helpers },
         &Silent,
         declaration,
         writer,

@@ -1,4 +1,4 @@
-//! The answer of `run` to a declaration text, built in full in memory: the declaration is planned, and its plan is run.
+//! The answer of `run` to a declaration, built in full in memory: the declaration is planned, and its plan is run.
 //!
 //! The runtime is named here, in the call of the function that makes it and works with it. It takes the time of
 //! planning and of all executions, and memory in the number of rescuers and helpers times that of items, besides the
@@ -14,7 +14,7 @@ ghost use Rattle.wq_held.specs.Errors.{new_code};
 ghost use Rattle.wq_commands.specs.Answer.{declared_waits, PrintsRefusal};
 ghost use Rattle.wq_run.specs.declared.fault.RunStop.TheVariants.{OutOfMemory};
 ghost use Rattle.wq_run.specs.Fault.{Stops};
-ghost use Rattle.wq_run.specs.Running.{RunsPlan, RunsDeclared, HasRuntime, IsRunnable, SaysUnrun, rows_for, run_why};
+ghost use Rattle.wq_run.specs.Running.{RunsDeclared, HasRuntime, rows_for};
 
 use crate::fault::RunStop;
 use crate::serving::serve;
@@ -24,10 +24,7 @@ use std::sync::Wait;
 use std::sync::ledger::Blank;
 use std::thread::Threads;
 use wq_api::{Naming, NewError, WqRuntime};
-use wq_commands::{
-    Answered, Declaration, End, TOO_MANY_LANES, Which, Why, read_declaration, refuse,
-    text_of_circle,
-};
+use wq_commands::{Declaration, End, refuse, text_of_circle};
 use wq_graph::WaitArc;
 use wq_groups::Assignment;
 use wq_items::ItemTable;
@@ -121,8 +118,8 @@ fn print_circle<A: Allocator + Copy>(
     Ok((End::Bad, text))
 }
 
-/// How a run that is given a declaration ends, and what it prints.
-fn run_declared<A: Allocator + Copy + Send + Sync, R: Threads + Wait + Sync>(
+/// How `run` ends that is given a declaration, and what it prints.
+pub(crate) fn run_declared<A: Allocator + Copy + Send + Sync, R: Threads + Wait + Sync>(
     rt: &R,
     alloc: A,
     declared: &Declaration<'_, A>,
@@ -139,67 +136,4 @@ fn run_declared<A: Allocator + Copy + Send + Sync, R: Threads + Wait + Sync>(
     };
     drop(answer);
     printed
-}
-
-/// The answer that ends like this and prints this text: where it is a refusal, the plan has too many workqueues.
-fn explained<A: Allocator + Copy>(end: End, text: Vec<u8, A>) -> Answered<A>
-    ensures end { result.end ≡ end }
-    ensures text { result.text ≡ text }
-    ensures why { result.why ≡ run_why end }
-{
-    match end {
-        End::Good | End::Bad => Answered::plain(end, text),
-        End::Refused => Answered {
-            end,
-            text,
-            why: Some(Why::Refused {
-                which: Which::Declaration,
-                code: TOO_MANY_LANES,
-                line: 0,
-            }),
-        },
-    }
-}
-
-/// The answer to a declaration.
-fn run_explained<A: Allocator + Copy + Send + Sync, R: Threads + Wait + Sync>(
-    rt: &R,
-    alloc: A,
-    declared: &Declaration<'_, A>,
-    helpers: u8,
-) -> Result<Answered<A>, RunStop>
-    requires few_helpers { helpers ≤ max_helpers }
-    ensures ran { IfOk result (λ a. RunsDeclared helpers declared.now a.end a.text.items) }
-    ensures why { IfOk result (λ a. a.why ≡ run_why a.end) }
-    ensures stopped { IfErr result (Stops (HasRuntime declared.now)) }
-{
-    let (end, text) = run_declared(rt, alloc, declared, helpers)?;
-    Ok(explained(end, text))
-}
-
-/// The answer to the text of a declaration, and why it isn't run, where it isn't.
-pub(crate) fn answer_run<A: Allocator + Copy + Send + Sync, R: Threads + Wait + Sync>(
-    rt: &R,
-    alloc: A,
-    seed: u64,
-    helpers: u8,
-    text: &[u8],
-) -> Result<Answered<A>, RunStop>
-    requires few_helpers { helpers ≤ max_helpers }
-    ensures ran { IfOk result (λ a. RunsPlan helpers text.now a.end a.text.items) }
-    ensures why { IfOk result (λ a. SaysUnrun text.now a.end a.why) }
-    ensures stopped { IfErr result (Stops (IsRunnable text.now)) }
-{
-    match read_declaration(alloc, seed, text) {
-        Ok(declared) => {
-            let answer = run_explained(rt, alloc, &declared, helpers);
-            // Written as a call, so that the proof has one step for it.
-            drop(declared);
-            answer
-        }
-        Err(stop) => {
-            let refused = Answered::stopped(alloc, stop)?;
-            Ok(refused)
-        }
-    }
 }

@@ -1,24 +1,16 @@
 -- What is said beside components of workqueues: how those of each can hang, and then by which flush to no rescuer.
-use Rattle.std.specs.Prelude.{◌≡◌, ◌⊎◌, ◌==◌, ◌&&◌, ℕ, Bool, List, [], ◌∷◌, ◌++◌, Option, Some, None, MatchResult}
-use Rattle.std.specs.Prelude.{filter, flat_map}
+use Rattle.std.specs.Prelude.{◌≡◌, ◌⊎◌, ◌==◌, ◌&&◌, ℕ, Bool, false, true, List, [], ◌∷◌, ◌++◌, filter, flat_map}
 use Rattle.std.specs.List.{list_any, range_with_len}
 use Rattle.wq_items.specs.declared.target.Target.{Target}
 use Rattle.wq_items.specs.Table.{targets_of}
 use Rattle.wq_graph.specs.declared.arc.WaitArc.{WaitArc}
-use Rattle.wq_core.specs.Wiring.{own_lanes}
-use Rattle.wq_core.specs.Workqueues.{Workqueues, all_rescued, wiring_of}
-use Rattle.wq_deadlock.specs.Judging.{bare_waits}
+use Rattle.wq_core.specs.Workqueues.{Workqueues, wiring_of}
 use Rattle.wq_hang.specs.declared.hop.Hop.{Hop}
 use Rattle.wq_hang.specs.Walk.{IsLeastRoundOn, IsRoundOn}
-use Rattle.wq_cert.specs.Texts.{workqueues_of_text}
-use Rattle.wq_circles.specs.Components.{AreComponents}
-use Rattle.wq_names.specs.Names.{names_of}
 use Rattle.wq_commands.specs.Answer.{declared_waits}
-use Rattle.wq_commands.specs.Declaration.{Declared, declaration}
+use Rattle.wq_commands.specs.Declaration.{Declared}
 use Rattle.wq_voice.specs.Reasons.{AddsSaid, AreSaid, can_hang, told}
-use Rattle.wq_voice.specs.Waits.{words_of}
 use Rattle.wq_diagnosis.specs.Words.{workqueue_of}
-use Rattle.wq_voice.specs.declared.waits.Wording.TheVariants.{OfGroups, OnWorkqueues}
 
 -- ---- circular waits
 
@@ -69,40 +61,15 @@ first_told words s (a ∷ more) = told can_hang words (hop_of s a ∷ [])
 
 -- ---- both
 
--- how the workqueues of each component can hang is said in this file, in the order of the components; and then, if
--- there are flushes to no rescuer, of which the one of least place is
-pub record GivesReasons (file : List ℕ) (words : Hop → List ℕ) (s : Declared) (ws : Workqueues) (text : List ℕ)
-    : Type 0 where
-  pub components : List (List WaitArc)
-  pub are : AreComponents (declared_waits s) ws components
+-- there is a component, or a flush to no rescuer
+abbrev pub are_some : List (List WaitArc) → List WaitArc → Bool
+are_some [] [] = false
+are_some _ _ = true
+
+-- how the workqueues of each of these components can hang is said in this file, in their order; and then, if there are
+-- flushes to no rescuer, of which the first is
+pub record GivesReasons (file : List ℕ) (words : Hop → List ℕ) (s : Declared) (ws : Workqueues)
+    (components : List (List WaitArc)) (waits : List WaitArc) (text : List ℕ) : Type 0 where
   pub rounds : List (List Hop)
   pub least : AreRounds s ws components rounds
-  pub said : AreSaid file (flat_map (told can_hang words) rounds
-      ++ first_told words s (bare_waits (declared_waits s) ws)) text
-
--- the same of workqueues with this text, if it isn't refused
-abbrev pub GivesReasonsOf : List ℕ → List ℕ → Declared → Option (List ℕ) → Type 0
-GivesReasonsOf first lanes s said =
-    MatchResult (workqueues_of_text s.table.names s.partition lanes)
-    (λ ws. (text : List ℕ)
-    × (said ≡ Some text)
-    × GivesReasons first (λ h. words_of OnWorkqueues s ws (names_of lanes) h) s ws text)
-    (λ _. said ≡ None)
-
--- the same where each group has a workqueue of its own, in words of groups
-abbrev pub GivesReasonsOfGroups : List ℕ → Declared → List ℕ → Type 0
-GivesReasonsOfGroups first s text =
-    let ws = all_rescued (own_lanes s.partition.groups) in
-    GivesReasons first (λ h. words_of OfGroups s ws [] h) s ws text
-
--- the same of the texts of a declaration and of workqueues; nothing if one is refused
-abbrev pub GivesReasonsOfTexts : List ℕ → List ℕ → List ℕ → Option (List ℕ) → Type 0
-GivesReasonsOfTexts first text lanes said =
-    MatchResult (declaration text) (λ s. GivesReasonsOf first lanes s said) (λ _. said ≡ None)
-
--- the same of the text of a declaration alone; nothing if it is refused
-abbrev pub GivesOwnReasons : List ℕ → List ℕ → Option (List ℕ) → Type 0
-GivesOwnReasons first text said =
-    MatchResult (declaration text) (λ s. (own : List ℕ)
-    × (said ≡ Some own)
-    × GivesReasonsOfGroups first s own) (λ _. said ≡ None)
+  pub said : AreSaid file (flat_map (told can_hang words) rounds ++ first_told words s waits) text

@@ -1,13 +1,12 @@
 -- What is said beside `safe`: which items are on workqueues without a rescuer.
-use Rattle.std.specs.Prelude.{◌≡◌, ℕ, List, [], ◌∷◌, ◌++◌, Option, Some, MatchResult, codes, filter, flat_map, length}
+use Rattle.std.specs.Prelude.{◌≡◌, ℕ, List, [], ◌∷◌, ◌++◌, Option, Some, codes, filter, flat_map, length}
 use Rattle.std.specs.Prelude.{map}
 use Rattle.std.specs.List.{range_with_len}
 use Rattle.wq_core.specs.Workqueues.{Workqueues}
 use Rattle.wq_deadlock.specs.Judging.{is_on_bare}
 use Rattle.wq_cert.specs.PlanText.{name_of}
-use Rattle.wq_cert.specs.Texts.{workqueues_of_text}
 use Rattle.wq_names.specs.Names.{names_of}
-use Rattle.wq_commands.specs.Declaration.{Declared, declaration}
+use Rattle.wq_commands.specs.Declaration.{Declared}
 use Rattle.wq_diagnosis.specs.Diagnosis.{shown_lines}
 use Rattle.wq_diagnosis.specs.Refused.{NotesNoItem}
 use Rattle.wq_diagnosis.specs.Words.{workqueue_of, workqueue_words}
@@ -35,18 +34,11 @@ bare_note file items = shown_lines (
 
 -- what is said beside `safe`: this note of such items in the file of the assignment; if there is none, what is said of
 -- a declaration without an item
-abbrev pub NotesItems : List ℕ → List ℕ → List ℕ → List (List ℕ) → Option (List ℕ) → Type 0
-NotesItems first second text [] said = NotesNoItem first text said
-NotesItems first second text (item ∷ items) said = said ≡ Some (bare_note second (item ∷ items))
+abbrev pub NotesItems : List ℕ → List ℕ → Declared → List (List ℕ) → Option (List ℕ) → Type 0
+NotesItems first second s [] said = NotesNoItem first s said
+NotesItems first second s (item ∷ items) said = said ≡ Some (bare_note second (item ∷ items))
 
--- the same of the texts of a declaration and of these workqueues
-abbrev pub NotesBare : List ℕ → List ℕ → List ℕ → List ℕ → Declared → Workqueues → Option (List ℕ) → Type 0
-NotesBare first second text lanes s ws said =
-    NotesItems first second text (map (placed_item s ws (names_of lanes)) (bare_items s ws)) said
-
--- what is said of the texts of a declaration and an assignment; this if one is refused
-abbrev pub SaysIfBoth : List ℕ → List ℕ → (Declared → Workqueues → Type 0) → Type 0 → Type 0
-SaysIfBoth text lanes Says Else =
-    MatchResult (declaration text)
-    (λ s. MatchResult (workqueues_of_text s.table.names s.partition lanes) (λ ws. Says s ws) (λ _. Else))
-    (λ _. Else)
+-- the same of workqueues with this text
+abbrev pub NotesBare : List ℕ → List ℕ → List ℕ → Declared → Workqueues → Option (List ℕ) → Type 0
+NotesBare first second lanes s ws said =
+    NotesItems first second s (map (placed_item s ws (names_of lanes)) (bare_items s ws)) said

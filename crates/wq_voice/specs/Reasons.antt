@@ -10,7 +10,7 @@ use Rattle.wq_hang.specs.Answer.{IsHangOf}
 use Rattle.wq_cert.specs.Texts.{workqueues_of_text}
 use Rattle.wq_names.specs.Names.{names_of}
 use Rattle.wq_commands.specs.Answer.{declared_waits}
-use Rattle.wq_commands.specs.Declaration.{Declared, declaration}
+use Rattle.wq_commands.specs.Declaration.{Declared}
 use Rattle.wq_findings.specs.Shown.{place_text}
 use Rattle.wq_diagnosis.specs.Diagnosis.{IsPlain, shown_lines}
 use Rattle.wq_voice.specs.Waits.{words_of}
@@ -63,25 +63,19 @@ GivesReason file lead words d ws None = IsSafe (wiring_of d ws)
 GivesReason file lead words d ws (Some text) =
     (hops : List Hop) × (steps : List Step) × IsHangOf d ws hops steps × AreSaid file (told lead words hops) text
 
+-- the same of workqueues with this text, in words of workqueues
+abbrev pub GivesReasonOn : List ℕ → List ℕ → Declared → Workqueues → Option (List ℕ) → Type 0
+GivesReasonOn first lanes s ws said =
+    GivesReason first can_hang (λ h. words_of OnWorkqueues s ws (names_of lanes) h) (declared_waits s) ws said
+
 -- the same of the workqueues with this text; nothing if it is refused
 abbrev pub GivesReasonOf : List ℕ → List ℕ → Declared → Option (List ℕ) → Type 0
 GivesReasonOf first lanes s said =
     MatchResult (workqueues_of_text s.table.names s.partition lanes)
-    (λ ws. GivesReason first can_hang (λ h. words_of OnWorkqueues s ws (names_of lanes) h) (declared_waits s) ws said)
-    (λ _. said ≡ None)
+    (λ ws. GivesReasonOn first lanes s ws said) (λ _. said ≡ None)
 
 -- the same where each group has a workqueue of its own, in words of groups
 abbrev pub GivesReasonOfGroups : List ℕ → Declared → Option (List ℕ) → Type 0
 GivesReasonOfGroups first s said =
     let ws = all_rescued (own_lanes s.partition.groups) in
     GivesReason first can_hang_on_any (λ h. words_of OfGroups s ws [] h) (declared_waits s) ws said
-
--- the same of the texts of a declaration and of workqueues; nothing if one is refused
-abbrev pub GivesReasonOfTexts : List ℕ → List ℕ → List ℕ → Option (List ℕ) → Type 0
-GivesReasonOfTexts first text lanes said =
-    MatchResult (declaration text) (λ s. GivesReasonOf first lanes s said) (λ _. said ≡ None)
-
--- the same of the text of a declaration whose groups wait in a circle; nothing if it is refused
-abbrev pub GivesReasonOfCircle : List ℕ → List ℕ → Option (List ℕ) → Type 0
-GivesReasonOfCircle first text said =
-    MatchResult (declaration text) (λ s. GivesReasonOfGroups first s said) (λ _. said ≡ None)

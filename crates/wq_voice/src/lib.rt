@@ -1,32 +1,38 @@
 //! What is said on standard error beside the answer of a command: diagnoses, notes, and how workqueues can hang.
 //!
-//! What the program relies on: what is said of a text that is refused, of a `no` and of a step that isn't lawful is its
-//! diagnosis (wq_diagnosis); the note beside `safe` has each item whose workqueue has no rescuer; and where workqueues
-//! can hang, the waits that are said are those of a walk whose run is a shortest of all that end stuck, one after
-//! another. The forms are those of "Diagnoses" in docs/FORMAT.md. A call takes the time and the memory of reading the
-//! texts again, and of the diagnosis, the note or the search for a shortest run.
+//! What the program relies on: what is said is said of what the command found, and nothing is searched for twice. Of a
+//! text that is refused, of a `no` and of a step that isn't lawful it is the diagnosis (wq_diagnosis); the note beside
+//! `safe` has each item whose workqueue has no rescuer; and where workqueues can hang, the waits that are said are
+//! those of a walk whose run is a shortest of all that end stuck, one after another. `FileNames` is the voice of all
+//! commands: of those below here, and of each command above beside that. The forms are those of "Diagnoses" in
+//! docs/FORMAT.md. A call takes the time and the memory of the diagnosis, of the note, or of the search for a shortest
+//! run.
 #![tactic(auto)]
 
-mod bare_lines;
 mod block;
-mod components;
+mod check;
+mod circles;
+mod deadlock;
+mod file_names;
 mod flush_lines;
 mod groups;
-mod lacking;
 mod note;
+mod plan;
 mod reason;
+mod refused;
+mod replay;
 mod rounds;
 mod safe;
 mod subject;
-mod voice;
 mod waits;
 
 pub use block::said_at;
+pub use file_names::FileNames;
 pub use flush_lines::FlushLines;
-pub use reason::{CAN_HANG, of_subject};
+pub use reason::{CAN_HANG, of_subject, say_hops};
+pub use refused::{say_refusal, say_refused_text};
 pub use rounds::put_round;
-pub use safe::safe_assigned;
+pub use safe::say_safe;
 pub use subject::Subject;
-pub use voice::{Beside, Diagnosing};
 pub use waits::Wording;
-pub use wq_diagnosis::{CertificateKind, item_words, workqueue_words};
+pub use wq_diagnosis::{CertificateKind, item_words, of_no_item, workqueue_words};

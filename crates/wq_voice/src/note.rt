@@ -11,7 +11,7 @@ use std::alloc::{AllocError, Allocator};
 use wq_commands::Declaration;
 use wq_core::Workqueues;
 use wq_deadlock::is_on_bare;
-use wq_diagnosis::{Source, of_no_item, put_line, workqueue_of, workqueue_words};
+use wq_diagnosis::{of_no_item, put_line, workqueue_of, workqueue_words};
 use wq_items::ItemId;
 use wq_text::put;
 
@@ -163,20 +163,20 @@ fn bare_note<A: Allocator + Copy>(
     Ok(out)
 }
 
-/// What is said of these items in the file of the assignment; of none what is said of a declaration without an item.
+/// What is said of these items in the second of these files; of none what is said of a declaration without an item.
 pub(crate) fn of_items<A: Allocator + Copy>(
     alloc: A,
-    seed: u64,
-    declaration: Source<'_>,
-    file: &str,
+    declared: &Declaration<'_, A>,
+    first: &str,
+    second: &str,
     items: &[Vec<u8, A>],
 ) -> Result<Option<Vec<u8, A>>, AllocError>
-    ensures { IfOk result (λ said. NotesItems declaration.entry.file.now file.now declaration.entry.text.now
-        (map (λ words. words.items) items.now) (option_map (λ text. text.items) said)) }
+    ensures { IfOk result (λ said. NotesItems first.now second.now declared.now (map (λ words. words.items) items.now)
+        (option_map (λ text. text.items) said)) }
 {
     if items.is_empty() {
-        return of_no_item(alloc, seed, declaration);
+        return of_no_item(alloc, declared, first);
     }
-    let said = bare_note(alloc, file, items)?;
+    let said = bare_note(alloc, second, items)?;
     Ok(Some(said))
 }

@@ -1,7 +1,10 @@
 mod CommandLemmas
+mod WordLemmas
+mod AskedLemmas
 mod CauseLemmas
 mod EndedLemmas
 mod FileLemmas
 mod NumberLemmas
 mod HelperLemmas
 mod PromiseLemmas
+mod RunLemmas

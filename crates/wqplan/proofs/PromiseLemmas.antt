@@ -1,50 +1,50 @@
 -- What the program promises follows from how it ends.
-use Rattle.std.proofs.Common.{◌≡◌, ℕ, List, Option, Some, None, Result, Ok, Err, subst}
+use Rattle.std.proofs.Common.{◌≡◌, Bool, false, true, ℕ, List, Option, Result, Ok, Err, subst}
 use Rattle.std.specs.Prelude.{IfOk}
+use Rattle.clap.specs.Words.{Text}
 use Rattle.wq_meter.specs.Meter.{Meter, WritesWhole}
+use Rattle.wq_meter.specs.Shell.{Given}
 use Rattle.wq_commands.specs.declared.end.End.{End}
 use Rattle.wq_commands.specs.declared.end.End.TheVariants.{Good}
 use Rattle.wq_commands.specs.Checking.{Checks}
 use Rattle.wq_commands.specs.YesIsTrue.{YesIsTrue}
 use Rattle.wq_commands.proofs.PromiseLemmas.{KeepsPromise-answers, YesIsTrue-checks}
+use Rattle.wq_circles.specs.Circling.{AnswersCircles}
 use Rattle.wq_circles.proofs.Promised.{KeepsCircles-answers, KeepsOwnCircles-answers}
 use Rattle.wq_run.specs.declared.fault.CommandFault.{CommandFault}
-use Rattle.wqplan.specs.CommandLine.{Asked, plans, checks, judges, hangs, repairs, replays, finds, draws, runs}
-use Rattle.wqplan.specs.CommandLine.{explains}
-use Rattle.wqplan.specs.Ended.{EndsAsAsked, EndsCircles, EndsPlan, EndedBy}
-use Rattle.wqplan.specs.Promised.{PromisesAsAsked, PromisesCircles, PromisesPlan}
+use Rattle.wqplan.specs.CommandLine.{Asked, Behind}
+use Rattle.wqplan.specs.Ended.{EndedBy, EndsAsAsked, EndsOn, has_second}
+use Rattle.wqplan.specs.Promised.{Keeps, KeepsAllCircles, PromisesAsAsked}
+use Rattle.wqplan.specs.declared.command_line.Files.{Files}
+use Rattle.wqplan.specs.declared.commands.Verb.{Verb}
+use Rattle.wqplan.specs.declared.commands.Verb.TheVariants.{Check, Circles, Plan}
 
-module _ (Holds : List ℕ → List ℕ → Type 0) (Input : List ℕ → Type 0) (end : End) (out : List ℕ) where
-  of_plan : (file : Option (List ℕ)) → EndsPlan Holds Input file end out → PromisesPlan Holds Input file end out
-  of_plan None h = (h.0, h.1, h.2, KeepsPromise-answers h.0 end out h.2)
-  of_plan (Some file) h = (h.0, h.1, h.2, KeepsPromise-answers h.0 end out h.2)
+module _ (end : End) (out : List ℕ) where
+  of_circles : (assigned : Bool) (texts : Given) → AnswersCircles assigned texts end out
+      → KeepsAllCircles assigned texts end out
+  of_circles false texts h = KeepsOwnCircles-answers texts.first end out h
+  of_circles true texts h = KeepsCircles-answers texts.first texts.second end out h
 
-  of_circles : (declaration : List ℕ) (assignment : Option (List ℕ)) → EndsCircles Holds declaration assignment end out
-      → PromisesCircles Holds declaration assignment end out
-  of_circles declaration None h = (h.0, h.1, h.2, KeepsOwnCircles-answers h.0 end out h.2)
-  of_circles declaration (Some assignment) h = (h.0, h.1, h.2, h.3, h.4, KeepsCircles-answers h.0 h.1 end out h.4)
+  of_check : (text claim : List ℕ) → Checks text claim end out → end ≡ Good → YesIsTrue text claim out
+  of_check text claim h is = YesIsTrue-checks text claim out (subst (λ e. Checks text claim e out) is h)
 
-  yes : (text claim : List ℕ) → Checks text claim end out → end ≡ Good → YesIsTrue text claim out
-  yes text claim h is = YesIsTrue-checks text claim out (subst (λ e. Checks text claim e out) is h)
-
-  pub PromisesAsAsked-ends : (asked : Asked) → EndsAsAsked Holds Input asked end out
-      → PromisesAsAsked Holds Input asked end out
-  PromisesAsAsked-ends (plans file) h = of_plan file h
-  PromisesAsAsked-ends (checks declaration certificate) h = (h.0, h.1, h.2, h.3, h.4, yes h.0 h.1 h.4)
-  PromisesAsAsked-ends (finds declaration assignment) h = of_circles declaration assignment h
-  PromisesAsAsked-ends (judges declaration assignment) h = h
-  PromisesAsAsked-ends (hangs declaration assignment) h = h
-  PromisesAsAsked-ends (repairs declaration assignment names) h = h
-  PromisesAsAsked-ends (replays declaration assignment run) h = h
-  PromisesAsAsked-ends (draws declaration assignment) h = h
-  PromisesAsAsked-ends (runs declaration helpers) h = h
-  PromisesAsAsked-ends (explains code) h = h
+  Keeps-ends : (verb : Verb) (files : Files Text) (behind : Behind) (texts : Given)
+      → EndsOn verb files behind texts end out → Keeps verb files texts end out
+  Keeps-ends Plan files behind texts h = KeepsPromise-answers texts.first end out h
+  Keeps-ends Check files behind texts h = of_check texts.first texts.second h
+  Keeps-ends Circles files behind texts h = of_circles (has_second files) texts h
+  Keeps-ends verb files behind texts h = tt
 
 -- a command that has ended promises this
-module _ {W : Type 0} (contents : W → Option (List ℕ)) (old new : Meter W) (Holds : List ℕ → List ℕ
-    → Type 0) (Input : List ℕ → Type 0) (asked : Asked) where
+module _ {W : Type 0} (contents : W → Option (List ℕ)) (old new : Meter W) (Holds : Text → List ℕ → Type 0)
+    (Input : List ℕ → Type 0) (asked : Asked) where
   pub promised_by : (result : Result End CommandFault) → EndedBy contents old new (EndsAsAsked Holds Input asked) result
       → IfOk result (λ end. (out : List ℕ) × PromisesAsAsked Holds Input asked end out
       × WritesWhole contents old new out)
-  promised_by (Ok end) h = (h.0, PromisesAsAsked-ends Holds Input end h.0 asked h.1, h.2)
+  promised_by (Ok end) h =
+      let ends = h.1 in (
+        h.0,
+        (ends.0, ends.1, ends.2, Keeps-ends end h.0 asked.verb asked.files asked.behind ends.0 ends.2),
+        h.2,
+      )
   promised_by (Err fault) h = tt

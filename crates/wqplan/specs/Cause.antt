@@ -3,12 +3,18 @@ use Rattle.std.specs.Prelude.{◌≡◌, ◌⊎◌, ℕ, ◌+◌, ◌≤◌, Lis
 use Rattle.std.specs.List.{All, Any}
 use Rattle.wq_meter.specs.declared.fault.Fault.TheVariants.{Memory, Read, Write}
 use Rattle.wq_meter.specs.Meter.{LosesPrefix, Meter}
+use Rattle.wq_meter.specs.declared.texts.Limits.{Limits}
 use Rattle.wq_commands.specs.Declaration.{max_declaration}
 use Rattle.wq_commands.specs.declared.end.End.{End}
 use Rattle.wq_run.specs.declared.fault.CommandFault.{CommandFault}
 use Rattle.wq_run.specs.declared.fault.CommandFault.TheVariants.{Common, Tally, Thread}
 use Rattle.clap.specs.Words.{Text}
-use Rattle.wqplan.specs.CommandLine.{Asked, plans, runs, explains, files_of}
+use Rattle.wqplan.specs.declared.command_line.Files.{Files}
+use Rattle.wqplan.specs.declared.command_line.Files.TheVariants.{Unnamed}
+use Rattle.wqplan.specs.declared.commands.Verb.{Verb}
+use Rattle.wqplan.specs.declared.commands.Verb.TheVariants.{Explain, Run}
+use Rattle.wqplan.specs.CommandLine.{Asked, listed}
+use Rattle.wqplan.specs.Ended.{limits_of}
 
 -- the file at this path was opened
 abbrev pub IsOpened : {F : Type 0} → (Text → Option F → Type 0) → Text → Type 0
@@ -43,20 +49,46 @@ EndsAlone (Err (Common Memory)) = Unit {0}
 EndsAlone (Err Thread) = ⊥
 EndsAlone (Err Tally) = ⊥
 
--- the command that is asked for ended like this. A read of a file may always have failed, since no clause sees the
--- reads of a file; a read of standard input failed if `InputFailed` holds. Only `run` starts threads, and `explain`
--- reads nothing
+-- this holds, if a command has no such text
+abbrev pub Unless : Option ℕ → Type 0 → Type 0
+Unless None Holds = Holds
+Unless (Some limit) Holds = Unit {0}
+
+-- a read may have failed: of standard input, where no file is named and the command has one text, if `InputFailed`
+-- holds. A read of anything else may always have failed, since no clause sees it
+abbrev pub MayFail : Type 0 → Limits → Files Text → Type 0
+MayFail InputFailed limits Unnamed = Unless limits.second (Unless limits.third InputFailed)
+MayFail InputFailed limits _ = Unit {0}
+
+-- only `run` starts threads
+abbrev pub MayStart : Verb → Type 0
+MayStart Run = Unit {0}
+MayStart _ = ⊥
+
+-- a command with these files ended like this. `explain` reads nothing
+abbrev pub EndsBy : {F : Type 0} → (Option ℕ → Type 0) → (Text → Option F → Type 0) → Type 0 → Verb → Files Text
+    → Result End CommandFault → Type 0
+EndsBy Seeds Opens InputFailed Explain files result = EndsAlone result
+EndsBy Seeds Opens InputFailed verb files result =
+    EndsReady Seeds Opens (listed files) (MayFail InputFailed (limits_of verb files) files) (MayStart verb) result
+
+-- the command that is asked for ended like this
 abbrev pub IsCaused : {F : Type 0} → (Option ℕ → Type 0) → (Text → Option F → Type 0) → Type 0 → Asked
     → Result End CommandFault → Type 0
-IsCaused Seeds Opens InputFailed (plans None) result = EndsReady Seeds Opens [] InputFailed ⊥ result
-IsCaused Seeds Opens InputFailed (runs declaration helpers) result =
-    EndsReady Seeds Opens (declaration ∷ []) (Unit {0}) (Unit {0}) result
-IsCaused Seeds Opens InputFailed (explains code) result = EndsAlone result
-IsCaused Seeds Opens InputFailed asked result = EndsReady Seeds Opens (files_of asked) (Unit {0}) ⊥ result
+IsCaused Seeds Opens InputFailed asked result = EndsBy Seeds Opens InputFailed asked.verb asked.files result
 
--- what a command takes from standard input: a declaration up to the first byte past its limit, in at most as many
--- calls, if `plan` is asked for without a file, and else nothing
+-- what is taken from standard input where no file is named: a text up to the first byte past this limit, in at most as
+-- many calls; else nothing
+abbrev pub TakesInput : {I : Type 0} → (I → Option (List ℕ)) → Meter I → Meter I → ℕ → Files Text → Type 0
+TakesInput remaining old new limit Unnamed =
+    LosesPrefix remaining old new (limit + 1) × (new.calls ≤ old.calls + (limit + 1))
+TakesInput remaining old new limit _ = new ≡ old
+
+-- what a command takes from standard input: a declaration, where no file is named; `explain` nothing
+abbrev pub ReadsBy : {I : Type 0} → (I → Option (List ℕ)) → Meter I → Meter I → Verb → Files Text → Type 0
+ReadsBy remaining old new Explain files = new ≡ old
+ReadsBy remaining old new verb files = TakesInput remaining old new max_declaration files
+
+-- what the command that is asked for takes from standard input
 abbrev pub ReadsInput : {I : Type 0} → (I → Option (List ℕ)) → Meter I → Meter I → Asked → Type 0
-ReadsInput remaining old new (plans None) = LosesPrefix remaining old new (max_declaration + 1)
-    × (new.calls ≤ old.calls + (max_declaration + 1))
-ReadsInput remaining old new _ = new ≡ old
+ReadsInput remaining old new asked = ReadsBy remaining old new asked.verb asked.files

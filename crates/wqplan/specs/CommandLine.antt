@@ -1,68 +1,75 @@
 -- The command line of the program, in the words of `clap`.
-use Rattle.std.specs.Prelude.{◌≡◌, ◌==◌, ◌+◌, ◌≤◌, ◌⊎◌, ℕ, Bool, not, [], ◌∷◌, List, Option, Some, None, codes, true}
-use Rattle.std.specs.Prelude.{map, option_map, option_to_list, unwrap_or, pos, nat_lt, if◌then◌else◌, Result, Ok, Err}
+use Rattle.std.specs.Prelude.{◌≡◌, ◌==◌, ◌+◌, ◌++◌, ◌≤◌, ◌⊎◌, ℕ, Bool, not, [], ◌∷◌, List, Option, Some, None, true}
+use Rattle.std.specs.Prelude.{map, option_and_then, option_map, unwrap_or, pos, nat_lt, if◌then◌else◌, Result, Ok, Err}
+use Rattle.std.specs.Prelude.{codes, fold}
+use Rattle.std.specs.Borrow.{Bor}
+use Rattle.std.specs.List.{list_all}
 use Rattle.std.specs.Str.Parse.{digits_value, without_leading_plus}
 use Rattle.clap.specs.Lexer.{usize_max}
 use Rattle.clap.specs.Words.{App, IsUnsignedIn, Row, Rule, Text, all_of, first_of, new_app, new_rule, one_of}
 use Rattle.clap.specs.Words.{subcommand_of, with_rule, with_subcommand}
 use Rattle.clap.specs.declared.builder.value_parser.ValueParser.TheVariants.{Signed}
+use Rattle.wqplan.specs.declared.command_line.FileForm.{FileForm}
+use Rattle.wqplan.specs.declared.command_line.FileForm.TheVariants as file_forms
+use Rattle.wqplan.specs.declared.command_line.Files.{Files}
+use Rattle.wqplan.specs.declared.command_line.Files.TheVariants.{Unnamed, One, Two, Three}
 use Rattle.wqplan.specs.declared.command_line.Request.{Request}
-use Rattle.wqplan.specs.declared.command_line.Request.TheVariants.{Plan, Check, Deadlock, Hang, Repair, Replay, Circles}
-use Rattle.wqplan.specs.declared.command_line.Request.TheVariants.{Dot, Run, Explain}
+use Rattle.wqplan.specs.declared.command_line.Second.{Second}
+use Rattle.wqplan.specs.declared.command_line.Second.TheVariants.{Certificate, Assignment}
+use Rattle.wqplan.specs.declared.command_line.Tail.{Tail}
+use Rattle.wqplan.specs.declared.command_line.Tail.TheVariants as tails
+use Rattle.wqplan.specs.declared.command_line.TailForm.{TailForm}
+use Rattle.wqplan.specs.declared.command_line.TailForm.TheVariants as tail_forms
+use Rattle.wqplan.specs.declared.commands.Verb.{Verb}
+use Rattle.wqplan.specs.declared.commands.Verb.TheVariants.{Explain, Run}
+use Rattle.wqplan.specs.Commands.{command_name, file_form, tail_form, verbs}
+
+-- ---- the arguments of a command
 
 -- a positional argument that must be given
 abbrev pub needed : Text → Rule
 needed name = record (new_rule name) { required = true }
 
--- `plan [FILE]`
-abbrev pub plan : App
-plan = with_rule (new_app (codes "plan")) (new_rule (codes "FILE"))
-
--- `check DECL CERT`
-abbrev pub check : App
-check = with_rule (with_rule (new_app (codes "check")) (needed (codes "DECL"))) (needed (codes "CERT"))
-
--- `deadlock DECL ASSIGN`
-abbrev pub deadlock : App
-deadlock = with_rule (with_rule (new_app (codes "deadlock")) (needed (codes "DECL"))) (needed (codes "ASSIGN"))
-
--- `hang DECL ASSIGN`
-abbrev pub hang : App
-hang = with_rule (with_rule (new_app (codes "hang")) (needed (codes "DECL"))) (needed (codes "ASSIGN"))
-
 -- a positional argument that may come any number of times
 abbrev pub many_rule : Text → Rule
 many_rule name = record (new_rule name) { range = Some (record { start_inclusive = 1; end_inclusive = usize_max }) }
-
--- `repair DECL ASSIGN [NAME]..`
-abbrev pub repair : App
-repair = with_rule (with_rule (with_rule (new_app (codes "repair")) (needed (codes "DECL"))) (needed (codes "ASSIGN")))
-    (many_rule (codes "NAME"))
-
--- `replay DECL ASSIGN RUN`
-abbrev pub replay : App
-replay = with_rule (with_rule (with_rule (new_app (codes "replay")) (needed (codes "DECL"))) (needed (codes "ASSIGN")))
-    (needed (codes "RUN"))
-
--- `circles DECL [ASSIGN]`
-abbrev pub circles : App
-circles = with_rule (with_rule (new_app (codes "circles")) (needed (codes "DECL"))) (new_rule (codes "ASSIGN"))
-
--- `dot DECL [ASSIGN]`
-abbrev pub dot : App
-dot = with_rule (with_rule (new_app (codes "dot")) (needed (codes "DECL"))) (new_rule (codes "ASSIGN"))
 
 -- a positional argument that is a number from 0 to this one
 abbrev pub number_rule : Text → ℕ → Rule
 number_rule name most = record (new_rule name) { parser = Some (Signed (pos 0) (pos most)) }
 
--- `run DECL [HELPERS]`
-abbrev pub run : App
-run = with_rule (with_rule (new_app (codes "run")) (needed (codes "DECL"))) (number_rule (codes "HELPERS") 8)
+-- `CERT` or `ASSIGN`
+abbrev pub second_name : Second → Text
+second_name Certificate = codes "CERT"
+second_name Assignment = codes "ASSIGN"
 
--- `explain [CODE]`
-abbrev pub explain : App
-explain = with_rule (new_app (codes "explain")) (new_rule (codes "CODE"))
+-- none; `[FILE]`; `DECL`; `DECL CERT` or `DECL ASSIGN`; `DECL [ASSIGN]`; `DECL ASSIGN RUN`
+abbrev pub file_rules : FileForm → List Rule
+file_rules file_forms.Nothing = []
+file_rules file_forms.Input = new_rule (codes "FILE") ∷ []
+file_rules file_forms.One = needed (codes "DECL") ∷ []
+file_rules (file_forms.Two second) = needed (codes "DECL") ∷ needed (second_name second) ∷ []
+file_rules file_forms.OneOrTwo = needed (codes "DECL") ∷ new_rule (codes "ASSIGN") ∷ []
+file_rules file_forms.Three = needed (codes "DECL") ∷ needed (codes "ASSIGN") ∷ needed (codes "RUN") ∷ []
+
+-- none; `[NAME]..`; `[HELPERS]`; `[CODE]`
+abbrev pub tail_rules : TailForm → List Rule
+tail_rules tail_forms.Nothing = []
+tail_rules tail_forms.Names = many_rule (codes "NAME") ∷ []
+tail_rules tail_forms.Helpers = number_rule (codes "HELPERS") 8 ∷ []
+tail_rules tail_forms.Word = new_rule (codes "CODE") ∷ []
+
+-- a command with arguments more
+abbrev pub with_rules : App → List Rule → App
+with_rules = fold with_rule
+
+-- a command with this name, these files, and this behind them
+abbrev pub formed : Text → FileForm → TailForm → App
+formed name files tail = with_rules (with_rules (new_app name) (file_rules files)) (tail_rules tail)
+
+-- a command of the program
+abbrev pub command : Verb → App
+command verb = formed (command_name verb) (file_form verb) (tail_form verb)
 
 -- the program without its commands: it has a version, and one of its commands must be given
 abbrev pub bare : App
@@ -70,88 +77,130 @@ bare =
     let start = new_app (codes "wqplan") in
     record start { top = record start.top { has_version = true; subcommand_required = true } }
 
+-- a program with one command more
+abbrev pub with_command : App → Verb → App
+with_command app verb = with_subcommand app (command verb).top
+
 -- the program
 abbrev pub wqplan : App
-wqplan =
-    with_subcommand
-    (with_subcommand
-    (with_subcommand
-    (with_subcommand
-    (with_subcommand
-    (with_subcommand (with_subcommand (with_subcommand (with_subcommand (with_subcommand bare plan.top) check.top)
-    deadlock.top) hang.top) repair.top) replay.top) circles.top) dot.top) run.top) explain.top
+wqplan = fold with_command bare verbs
 
--- a command and the paths of its files; for `repair` the names, and for `run` how many helpers there are; or the word
--- that it explains
-pub data Asked : Type 0 where
-  plans : Option Text → Asked
-  checks : Text → Text → Asked
-  judges : Text → Text → Asked
-  hangs : Text → Text → Asked
-  repairs : Text → Text → List Text → Asked
-  replays : Text → Text → Text → Asked
-  finds : Text → Option Text → Asked
-  draws : Text → Option Text → Asked
-  runs : Text → ℕ → Asked
-  explains : Option Text → Asked
+-- ---- what is asked for
+
+-- what stands behind the files: nothing, names, the number of helpers, or the word to explain
+pub data Behind : Type 0 where
+  nothing : Behind
+  names : List Text → Behind
+  helpers : ℕ → Behind
+  word : Option Text → Behind
+
+-- a command, the paths of its files, and what stands behind these
+pub record Asked : Type 0 where
+  pub verb : Verb
+  pub files : Files Text
+  pub behind : Behind
+
+-- the texts behind references
+abbrev pub paths : Files (Bor Text) → Files Text
+paths Unnamed = Unnamed
+paths (One first) = One first.now
+paths (Two first second) = Two first.now second.now
+paths (Three first second third) = Three first.now second.now third.now
+
+-- what stands there in a request
+abbrev pub tail_spelled : Tail → Behind
+tail_spelled tails.Nothing = nothing
+tail_spelled (tails.Names given) = names (map (λ s. s.now) given.items)
+tail_spelled (tails.Helpers count) = helpers count
+tail_spelled (tails.Word given) = word (option_map (λ s. s.now) given)
+
+-- the names that stand there; none where something else does
+abbrev pub names_asked : Behind → List Text
+names_asked (names given) = given
+names_asked _ = []
+
+-- how many helpers are asked for
+abbrev pub helpers_asked : Behind → ℕ
+helpers_asked (helpers count) = count
+helpers_asked _ = 0
+
+-- the word to explain, if there is one
+abbrev pub word_asked : Behind → Option Text
+word_asked (word given) = given
+word_asked _ = None
 
 -- what a request asks for
 abbrev pub spelled : Request → Asked
-spelled (Plan file) = plans (option_map (λ s. s.now) file)
-spelled (Check declaration certificate) = checks declaration.now certificate.now
-spelled (Deadlock declaration assignment) = judges declaration.now assignment.now
-spelled (Hang declaration assignment) = hangs declaration.now assignment.now
-spelled (Repair declaration assignment names) = repairs declaration.now assignment.now (map (λ s. s.now) names.items)
-spelled (Replay declaration assignment steps) = replays declaration.now assignment.now steps.now
-spelled (Circles declaration assignment) = finds declaration.now (option_map (λ s. s.now) assignment)
-spelled (Dot declaration assignment) = draws declaration.now (option_map (λ s. s.now) assignment)
-spelled (Run declaration helpers) = runs declaration.now helpers
-spelled (Explain code) = explains (option_map (λ s. s.now) code)
+spelled request =
+    record { verb = request.verb; files = paths request.files; behind = tail_spelled request.tail }
 
--- the name of the command that is asked for
-abbrev pub command_name : Asked → Text
-command_name (plans file) = codes "plan"
-command_name (checks declaration certificate) = codes "check"
-command_name (judges declaration assignment) = codes "deadlock"
-command_name (hangs declaration assignment) = codes "hang"
-command_name (repairs declaration assignment names) = codes "repair"
-command_name (replays declaration assignment steps) = codes "replay"
-command_name (finds declaration assignment) = codes "circles"
-command_name (draws declaration assignment) = codes "dot"
-command_name (runs declaration helpers) = codes "run"
-command_name (explains code) = codes "explain"
+-- `run`, on these files, with this many helpers
+abbrev pub run_asked : Files Text → ℕ → Asked
+run_asked files count = record { verb = Run; files = files; behind = helpers count }
 
--- the files of a command, in the order in which they are opened
+-- the files, in the order in which they are opened
+abbrev pub listed : Files Text → List Text
+listed Unnamed = []
+listed (One first) = first ∷ []
+listed (Two first second) = first ∷ second ∷ []
+listed (Three first second third) = first ∷ second ∷ third ∷ []
+
+-- the files of a command; `explain` has none
+abbrev pub opened_by : Verb → Files Text → List Text
+opened_by Explain files = []
+opened_by verb files = listed files
+
+-- the files that are opened, in their order
 abbrev pub files_of : Asked → List Text
-files_of (plans file) = option_to_list file
-files_of (checks declaration certificate) = declaration ∷ certificate ∷ []
-files_of (judges declaration assignment) = declaration ∷ assignment ∷ []
-files_of (hangs declaration assignment) = declaration ∷ assignment ∷ []
-files_of (repairs declaration assignment names) = declaration ∷ assignment ∷ []
-files_of (replays declaration assignment run) = declaration ∷ assignment ∷ run ∷ []
-files_of (finds declaration assignment) = declaration ∷ option_to_list assignment
-files_of (draws declaration assignment) = declaration ∷ option_to_list assignment
-files_of (runs declaration helpers) = declaration ∷ []
-files_of (explains code) = []
+files_of asked = opened_by asked.verb asked.files
+
+-- no more than 8 helpers are asked for
+abbrev pub HasFew : Behind → Type 0
+HasFew (helpers count) = count ≤ 8
+HasFew _ = Unit {0}
+
+-- the same of all that is asked for
+abbrev pub HasFewHelpers : Asked → Type 0
+HasFewHelpers asked = HasFew asked.behind
+
+-- ---- what is asked for by matches
+
+-- a file, if there is one
+abbrev pub one_if : Option Text → Files Text
+one_if None = Unnamed
+one_if (Some first) = One first
+
+-- a file, and another one, if there is one
+abbrev pub two_if : Text → Option Text → Files Text
+two_if first None = One first
+two_if first (Some second) = Two first second
+
+-- the files that the matches of a command give
+abbrev pub files_in : FileForm → List Row → Option (Files Text)
+files_in file_forms.Nothing rows = Some Unnamed
+files_in file_forms.Input rows = Some (one_if (first_of (codes "FILE") rows))
+files_in file_forms.One rows = option_map (λ d. One d) (first_of (codes "DECL") rows)
+files_in (file_forms.Two second) rows =
+    option_and_then (λ d. option_map (λ s. Two d s) (first_of (second_name second) rows)) (first_of (codes "DECL") rows)
+files_in file_forms.OneOrTwo rows =
+    option_map (λ d. two_if d (first_of (codes "ASSIGN") rows)) (first_of (codes "DECL") rows)
+files_in file_forms.Three rows =
+    option_and_then (λ d. option_and_then (λ a. option_map (λ r. Three d a r) (first_of (codes "RUN") rows))
+    (first_of (codes "ASSIGN") rows)) (first_of (codes "DECL") rows)
 
 -- the names that the matches give, in their order
 abbrev pub names_of : List Row → List Text
 names_of rows = unwrap_or (all_of (codes "NAME") rows) []
 
--- `repair` is asked for
-abbrev pub IsRepair : Asked → Type 0
-IsRepair (repairs declaration assignment names) = Unit {0}
-IsRepair _ = ⊥
-
 -- a word for the number of helpers is a number from 0 to 8
 abbrev pub IsHelpers : Option Text → Type 0
 IsHelpers None = Unit {0}
-IsHelpers (Some word) = IsUnsignedIn 0 8 word
+IsHelpers (Some text) = IsUnsignedIn 0 8 text
 
 -- the number of helpers that the word says; without a word there are none
 abbrev pub helpers_in : Option Text → ℕ
 helpers_in None = 0
-helpers_in (Some word) = digits_value 10 (without_leading_plus word)
+helpers_in (Some text) = digits_value 10 (without_leading_plus text)
 
 -- the number of helpers where a word was read so: none without a word, and no more than 8
 abbrev pub few_read : {E : Type 0} → Result (Option ℕ) E → Option ℕ
@@ -159,42 +208,32 @@ few_read (Ok None) = Some 0
 few_read (Ok (Some n)) = if nat_lt 8 n then None else Some n
 few_read (Err e) = None
 
--- the matches of the command give it these files, and these names or this number, or this word
+-- what stands behind the files, by the matches of a command
+abbrev pub behind_in : TailForm → List Row → Behind
+behind_in tail_forms.Nothing rows = nothing
+behind_in tail_forms.Names rows = names (names_of rows)
+behind_in tail_forms.Helpers rows = helpers (helpers_in (one_of (codes "HELPERS") rows))
+behind_in tail_forms.Word rows = word (first_of (codes "CODE") rows)
+
+-- where a number of helpers is due, there is one
+abbrev pub IsRead : TailForm → List Row → Type 0
+IsRead tail_forms.Helpers rows = IsHelpers (one_of (codes "HELPERS") rows)
+IsRead _ rows = Unit {0}
+
+-- the matches of the command give it these files, and this behind them
 abbrev pub GivesArguments : List Row → Asked → Type 0
-GivesArguments rows (plans file) = first_of (codes "FILE") rows ≡ file
-GivesArguments rows (checks declaration certificate) =
-    (first_of (codes "DECL") rows ≡ Some declaration) × (first_of (codes "CERT") rows ≡ Some certificate)
-GivesArguments rows (judges declaration assignment) =
-    (first_of (codes "DECL") rows ≡ Some declaration) × (first_of (codes "ASSIGN") rows ≡ Some assignment)
-GivesArguments rows (hangs declaration assignment) =
-    (first_of (codes "DECL") rows ≡ Some declaration) × (first_of (codes "ASSIGN") rows ≡ Some assignment)
-GivesArguments rows (repairs declaration assignment names) =
-    (first_of (codes "DECL") rows ≡ Some declaration) × (first_of (codes "ASSIGN") rows ≡ Some assignment)
-    × (names_of rows ≡ names)
-GivesArguments rows (replays declaration assignment steps) =
-    (first_of (codes "DECL") rows ≡ Some declaration) × (first_of (codes "ASSIGN") rows ≡ Some assignment)
-    × (first_of (codes "RUN") rows ≡ Some steps)
-GivesArguments rows (finds declaration assignment) =
-    (first_of (codes "DECL") rows ≡ Some declaration) × (first_of (codes "ASSIGN") rows ≡ assignment)
-GivesArguments rows (draws declaration assignment) =
-    (first_of (codes "DECL") rows ≡ Some declaration) × (first_of (codes "ASSIGN") rows ≡ assignment)
-GivesArguments rows (runs declaration helpers) =
-    (first_of (codes "DECL") rows ≡ Some declaration) × (helpers_in (one_of (codes "HELPERS") rows) ≡ helpers)
-    × IsHelpers (one_of (codes "HELPERS") rows)
-GivesArguments rows (explains code) = first_of (codes "CODE") rows ≡ code
+GivesArguments rows asked = (files_in (file_form asked.verb) rows ≡ Some asked.files)
+    × (behind_in (tail_form asked.verb) rows ≡ asked.behind) × IsRead (tail_form asked.verb) rows
 
 -- a command that was met, with its matches, asks for this
 abbrev pub AsksFor : Option (Text × List Row) → Asked → Type 0
-AsksFor met wanted = (rows : List Row) × (met ≡ Some (command_name wanted, rows)) × GivesArguments rows wanted
-
--- no more than 8 helpers are asked for
-abbrev pub HasFewHelpers : Asked → Type 0
-HasFewHelpers (runs declaration helpers) = helpers ≤ 8
-HasFewHelpers _ = Unit {0}
+AsksFor met wanted = (rows : List Row) × (met ≡ Some (command_name wanted.verb, rows)) × GivesArguments rows wanted
 
 -- the words ask for this
 abbrev pub Asks : List Text → Asked → Type 0
 Asks words = AsksFor (subcommand_of wqplan words)
+
+-- ---- how it is written
 
 -- the word can't be taken for an option: it doesn't begin with `-` (45)
 abbrev pub is_no_option : Text → Bool
@@ -205,49 +244,35 @@ is_no_option (x ∷ xs) = not (x == 45)
 abbrev pub digit : ℕ → Text
 digit n = (48 + n) ∷ []
 
--- a run with this many helpers is asked for by this declaration's file alone, or by it and the number
-abbrev pub CallsRun : List Text → Text → ℕ → Type 0
-CallsRun words declaration helpers = ((words ≡ declaration ∷ []) × (helpers ≡ 0))
-    ⊎ ((words ≡ declaration ∷ digit helpers ∷ []) × (helpers ≤ 8))
+-- so many files fit a command
+abbrev pub Fits : FileForm → Files Text → Type 0
+Fits file_forms.Nothing Unnamed = Unit {0}
+Fits file_forms.Input Unnamed = Unit {0}
+Fits file_forms.Input (One first) = Unit {0}
+Fits file_forms.One (One first) = Unit {0}
+Fits (file_forms.Two kind) (Two first second) = Unit {0}
+Fits file_forms.OneOrTwo (One first) = Unit {0}
+Fits file_forms.OneOrTwo (Two first second) = Unit {0}
+Fits file_forms.Three (Three first second third) = Unit {0}
+Fits _ _ = ⊥
 
--- the words are the program's name, a command, and after it its files, for `repair` one name at most, for `run` maybe
--- the number of helpers, or the word to explain. No file and no word looks like an option
-abbrev pub Calls : List Text → Asked → Type 0
-Calls words (plans None) = (program : Text) × (words ≡ program ∷ codes "plan" ∷ [])
-Calls words (plans (Some file)) = (program : Text) × (words ≡ program ∷ codes "plan" ∷ file ∷ [])
-    × (is_no_option file ≡ true)
-Calls words (checks declaration certificate) =
-    (program : Text) × (words ≡ program ∷ codes "check" ∷ declaration ∷ certificate ∷ [])
-    × (is_no_option declaration ≡ true) × (is_no_option certificate ≡ true)
-Calls words (judges declaration assignment) = (program : Text)
-    × (words ≡ program ∷ codes "deadlock" ∷ declaration ∷ assignment ∷ [])
-    × (is_no_option declaration ≡ true) × (is_no_option assignment ≡ true)
-Calls words (hangs declaration assignment) = (program : Text)
-    × (words ≡ program ∷ codes "hang" ∷ declaration ∷ assignment ∷ [])
-    × (is_no_option declaration ≡ true) × (is_no_option assignment ≡ true)
-Calls words (repairs declaration assignment []) =
-    (program : Text) × (words ≡ program ∷ codes "repair" ∷ declaration ∷ assignment ∷ [])
-    × (is_no_option declaration ≡ true) × (is_no_option assignment ≡ true)
-Calls words (repairs declaration assignment (name ∷ [])) =
-    (program : Text) × (words ≡ program ∷ codes "repair" ∷ declaration ∷ assignment ∷ name ∷ [])
-    × (is_no_option declaration ≡ true) × (is_no_option assignment ≡ true) × (is_no_option name ≡ true)
-Calls words (repairs declaration assignment (name ∷ other ∷ names)) = ⊥
-Calls words (replays declaration assignment steps) =
-    (program : Text) × (words ≡ program ∷ codes "replay" ∷ declaration ∷ assignment ∷ steps ∷ [])
-    × (is_no_option declaration ≡ true) × (is_no_option assignment ≡ true) × (is_no_option steps ≡ true)
-Calls words (finds declaration None) = (program : Text) × (words ≡ program ∷ codes "circles" ∷ declaration ∷ [])
-    × (is_no_option declaration ≡ true)
-Calls words (finds declaration (Some assignment)) =
-    (program : Text) × (words ≡ program ∷ codes "circles" ∷ declaration ∷ assignment ∷ [])
-    × (is_no_option declaration ≡ true) × (is_no_option assignment ≡ true)
-Calls words (draws declaration None) = (program : Text) × (words ≡ program ∷ codes "dot" ∷ declaration ∷ [])
-    × (is_no_option declaration ≡ true)
-Calls words (draws declaration (Some assignment)) =
-    (program : Text) × (words ≡ program ∷ codes "dot" ∷ declaration ∷ assignment ∷ [])
-    × (is_no_option declaration ≡ true) × (is_no_option assignment ≡ true)
-Calls words (runs declaration helpers) = (program : Text) × (arguments : List Text)
-    × (words ≡ program ∷ codes "run" ∷ arguments) × CallsRun arguments declaration helpers
-    × (is_no_option declaration ≡ true)
-Calls words (explains None) = (program : Text) × (words ≡ program ∷ codes "explain" ∷ [])
-Calls words (explains (Some code)) = (program : Text) × (words ≡ program ∷ codes "explain" ∷ code ∷ [])
-    × (is_no_option code ≡ true)
+-- these words stand behind the files: one name at most, maybe the number of helpers, or the word to explain
+abbrev pub Spells : TailForm → Behind → List Text → Type 0
+Spells tail_forms.Nothing nothing words = words ≡ []
+Spells tail_forms.Names (names []) words = words ≡ []
+Spells tail_forms.Names (names (name ∷ [])) words = words ≡ name ∷ []
+Spells tail_forms.Helpers (helpers count) words =
+    ((words ≡ []) × (count ≡ 0)) ⊎ ((words ≡ digit count ∷ []) × (count ≤ 8))
+Spells tail_forms.Word (word None) words = words ≡ []
+Spells tail_forms.Word (word (Some code)) words = words ≡ code ∷ []
+Spells _ _ words = ⊥
+
+-- the words are the program's name, a command, and after it its files and what stands behind them. None of these looks
+-- like an option
+pub record Calls (words : List Text) (asked : Asked) : Type 0 where
+  pub program : Text
+  pub behind : List Text
+  pub are : words ≡ program ∷ command_name asked.verb ∷ listed asked.files ++ behind
+  pub fit : Fits (file_form asked.verb) asked.files
+  pub spell : Spells (tail_form asked.verb) asked.behind behind
+  pub plain : list_all is_no_option (listed asked.files ++ behind) ≡ true

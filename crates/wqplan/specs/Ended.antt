@@ -1,9 +1,12 @@
 -- How a command ends, and what it prints, in terms of what its files have.
-use Rattle.std.specs.Prelude.{◌≡◌, ℕ, List, [], Option, Some, None, Result, Ok, Err}
+use Rattle.std.specs.Prelude.{◌≡◌, Bool, false, true, ℕ, List, [], Option, Some, None, Result, Ok, Err}
 use Rattle.wq_meter.specs.declared.fault.Fault.{Fault}
 use Rattle.wq_meter.specs.declared.fault.Fault.TheVariants.{Memory, Read, Write}
 use Rattle.wq_meter.specs.Input.{IsInput}
 use Rattle.wq_meter.specs.Meter.{Meter, WritesPrefix, WritesWhole, count_after}
+use Rattle.wq_meter.specs.Shell.{Given}
+use Rattle.wq_meter.specs.declared.texts.Limits.{Limits}
+use Rattle.wq_commands.specs.Commands.{one_or_two_texts, one_text, three_texts, two_texts}
 use Rattle.wq_commands.specs.declared.end.End.{End}
 use Rattle.wq_commands.specs.Answer.{Answers}
 use Rattle.wq_commands.specs.Checking.{Checks}
@@ -11,14 +14,21 @@ use Rattle.wq_commands.specs.Deadlocking.{Judges}
 use Rattle.wq_hang_command.specs.Hanging.{Hangs}
 use Rattle.wq_repair_command.specs.Repairing.{Repairs}
 use Rattle.wq_commands.specs.Replaying.{ReplaysRun}
-use Rattle.wq_circles.specs.Circling.{Circles, OwnCircles}
-use Rattle.wq_dot.specs.Dotting.{Draws, OwnDraws}
+use Rattle.wq_circles.specs.Circling.{AnswersCircles}
+use Rattle.wq_dot.specs.Dotting.{AnswersDot}
 use Rattle.wq_run.specs.declared.fault.CommandFault.{CommandFault}
 use Rattle.wq_run.specs.declared.fault.CommandFault.TheVariants.{Common, Tally, Thread}
 use Rattle.wq_run.specs.Running.{RunsPlan}
 use Rattle.wq_explain.specs.Explaining.{explained_end, explained_text}
-use Rattle.wqplan.specs.CommandLine.{Asked, plans, checks, judges, hangs, repairs, replays, finds, draws, runs}
-use Rattle.wqplan.specs.CommandLine.{explains}
+use Rattle.clap.specs.Words.{Text}
+use Rattle.wqplan.specs.declared.command_line.Files.{Files}
+use Rattle.wqplan.specs.declared.command_line.Files.TheVariants.{One, Unnamed}
+use Rattle.wqplan.specs.declared.commands.Verb.{Verb}
+use Rattle.wqplan.specs.declared.commands.Verb.TheVariants.{Plan, Check, Deadlock, Hang, Repair, Replay}
+use Rattle.wqplan.specs.declared.commands.Verb.TheVariants.{Circles as CirclesVerb}
+use Rattle.wqplan.specs.declared.commands.Verb.TheVariants.{Dot, Run, Explain}
+use Rattle.wqplan.specs.CommandLine.{Asked, Behind, helpers_asked, names_asked, word_asked}
+use Rattle.wqplan.specs.Files.{HaveTexts}
 use Rattle.wqplan.specs.Status.{explain_end}
 
 -- a reader that is asked only if there is a limit had this text
@@ -30,72 +40,52 @@ IsInputIf (Some limit) known text = IsInput known text
 abbrev pub Has : {F : Type 0} → (List ℕ → Option F → Type 0) → (F → Option (List ℕ)) → List ℕ → List ℕ → Type 0
 Has opens remaining path text = (file : _) × opens path (Some file) × IsInput (remaining file) text
 
--- `plan`, of a file or of standard input
-abbrev pub EndsPlan : (List ℕ → List ℕ → Type 0) → (List ℕ → Type 0) → Option (List ℕ) → End → List ℕ → Type 0
-EndsPlan Holds Input None end out = (text : List ℕ) × Input text × Answers text end out
-EndsPlan Holds Input (Some file) end out = (text : List ℕ) × Holds file text × Answers text end out
+-- a second file is named
+abbrev pub has_second : Files Text → Bool
+has_second Unnamed = false
+has_second (One first) = false
+has_second _ = true
 
--- `circles`, with an assignment or without one
-abbrev pub EndsCircles : (List ℕ → List ℕ → Type 0) → List ℕ → Option (List ℕ) → End → List ℕ → Type 0
-EndsCircles Holds declaration None end out = (text : List ℕ) × Holds declaration text × OwnCircles text end out
-EndsCircles Holds declaration (Some assignment) end out =
-    (text lanes : List ℕ) × Holds declaration text × Holds assignment lanes × Circles text lanes end out
+-- how many texts a command reads, and how long they may be
+abbrev pub limits_of : Verb → Files Text → Limits
+limits_of Plan files = one_text
+limits_of Check files = two_texts
+limits_of Deadlock files = two_texts
+limits_of Hang files = two_texts
+limits_of Repair files = two_texts
+limits_of Replay files = three_texts
+limits_of CirclesVerb files = one_or_two_texts (has_second files)
+limits_of Dot files = one_or_two_texts (has_second files)
+limits_of Run files = one_text
+limits_of Explain files = one_text
 
--- `dot`, with an assignment or without one
-abbrev pub EndsDot : (List ℕ → List ℕ → Type 0) → List ℕ → Option (List ℕ) → End → List ℕ → Type 0
-EndsDot Holds declaration None end out = (text : List ℕ) × Holds declaration text × OwnDraws text end out
-EndsDot Holds declaration (Some assignment) end out =
-    (text lanes : List ℕ) × Holds declaration text × Holds assignment lanes × Draws text lanes end out
-
--- `check`
-abbrev pub EndsCheck : (List ℕ → List ℕ → Type 0) → List ℕ → List ℕ → End → List ℕ → Type 0
-EndsCheck Holds declaration certificate end out =
-    (text claim : List ℕ) × Holds declaration text × Holds certificate claim × Checks text claim end out
-
--- `deadlock`
-abbrev pub EndsDeadlock : (List ℕ → List ℕ → Type 0) → List ℕ → List ℕ → End → List ℕ → Type 0
-EndsDeadlock Holds declaration assignment end out =
-    (text lanes : List ℕ) × Holds declaration text × Holds assignment lanes × Judges text lanes end out
-
--- `hang`
-abbrev pub EndsHang : (List ℕ → List ℕ → Type 0) → List ℕ → List ℕ → End → List ℕ → Type 0
-EndsHang Holds declaration assignment end out =
-    (text lanes : List ℕ) × Holds declaration text × Holds assignment lanes × Hangs text lanes end out
-
--- `repair`, where the items with these names may move
-abbrev pub EndsRepair : (List ℕ → List ℕ → Type 0) → List ℕ → List ℕ → List (List ℕ) → End → List ℕ → Type 0
-EndsRepair Holds declaration assignment names end out =
-    (text lanes : List ℕ) × Holds declaration text × Holds assignment lanes × Repairs names text lanes end out
-
--- `replay`
-abbrev pub EndsReplay : (List ℕ → List ℕ → Type 0) → List ℕ → List ℕ → List ℕ → End → List ℕ → Type 0
-EndsReplay Holds declaration assignment run end out =
-    (text lanes steps : List ℕ) × Holds declaration text × Holds assignment lanes × Holds run steps
-    × ReplaysRun text lanes steps end out
-
--- `run`, with this many helpers
-abbrev pub EndsRun : (List ℕ → List ℕ → Type 0) → List ℕ → ℕ → End → List ℕ → Type 0
-EndsRun Holds declaration helpers end out = (text : List ℕ) × Holds declaration text × RunsPlan helpers text end out
-
--- `explain`, which reads no file
-abbrev pub EndsExplain : Option (List ℕ) → End → List ℕ → Type 0
+-- `explain`, which reads no text
+abbrev pub EndsExplain : Option Text → End → List ℕ → Type 0
 EndsExplain code end out = (end ≡ explain_end (explained_end code)) × (out ≡ explained_text code)
+
+-- a command ends like this with this answer to its texts
+abbrev pub EndsOn : Verb → Files Text → Behind → Given → End → List ℕ → Type 0
+EndsOn Plan files behind texts end out = Answers texts.first end out
+EndsOn Check files behind texts end out = Checks texts.first texts.second end out
+EndsOn Deadlock files behind texts end out = Judges texts.first texts.second end out
+EndsOn Hang files behind texts end out = Hangs texts.first texts.second end out
+EndsOn Repair files behind texts end out = Repairs (names_asked behind) texts.first texts.second end out
+EndsOn Replay files behind texts end out = ReplaysRun texts.first texts.second texts.third end out
+EndsOn CirclesVerb files behind texts end out = AnswersCircles (has_second files) texts end out
+EndsOn Dot files behind texts end out = AnswersDot (has_second files) texts end out
+EndsOn Run files behind texts end out = RunsPlan (helpers_asked behind) texts.first end out
+EndsOn Explain files behind texts end out = EndsExplain (word_asked behind) end out
+
+-- these are the texts of the files at these paths, or of standard input; `explain` has none
+abbrev pub HasTexts : (Text → List ℕ → Type 0) → (List ℕ → Type 0) → Verb → Files Text → Given → Type 0
+HasTexts Holds Input Explain files texts = Unit {0}
+HasTexts Holds Input verb files texts = HaveTexts Holds Input (limits_of verb files) files texts
 
 -- the command that is asked for ends like this with this answer, if the files at these paths and standard input have
 -- their texts
 abbrev pub EndsAsAsked : (List ℕ → List ℕ → Type 0) → (List ℕ → Type 0) → Asked → End → List ℕ → Type 0
-EndsAsAsked Holds Input (plans file) end out = EndsPlan Holds Input file end out
-EndsAsAsked Holds Input (checks declaration certificate) end out = EndsCheck Holds declaration certificate end out
-EndsAsAsked Holds Input (judges declaration assignment) end out = EndsDeadlock Holds declaration assignment end out
-EndsAsAsked Holds Input (hangs declaration assignment) end out = EndsHang Holds declaration assignment end out
-EndsAsAsked Holds Input (repairs declaration assignment names) end out =
-    EndsRepair Holds declaration assignment names end out
-EndsAsAsked Holds Input (replays declaration assignment run) end out =
-    EndsReplay Holds declaration assignment run end out
-EndsAsAsked Holds Input (finds declaration assignment) end out = EndsCircles Holds declaration assignment end out
-EndsAsAsked Holds Input (draws declaration assignment) end out = EndsDot Holds declaration assignment end out
-EndsAsAsked Holds Input (runs declaration helpers) end out = EndsRun Holds declaration helpers end out
-EndsAsAsked Holds Input (explains code) end out = EndsExplain code end out
+EndsAsAsked Holds Input asked end out = (texts : Given) × HasTexts Holds Input asked.verb asked.files texts
+    × EndsOn asked.verb asked.files asked.behind texts end out
 
 -- ---- what is written
 

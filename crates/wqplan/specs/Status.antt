@@ -2,10 +2,7 @@
 use Rattle.std.specs.Prelude.{ℕ, Result, Ok, Err}
 use Rattle.wq_meter.specs.declared.fault.Fault.{Fault}
 use Rattle.wq_meter.specs.declared.fault.Fault.TheVariants.{Memory, Write}
-use Rattle.wq_meter.specs.declared.shell.Stopped.{Stopped}
-use Rattle.wq_meter.specs.declared.shell.Stopped.TheVariants.{Faulted, Unanswered}
 use Rattle.wq_commands.specs.declared.end.End.{End}
-use Rattle.wq_commands.specs.declared.why.Outcome.{Outcome}
 use Rattle.wq_run.specs.declared.fault.CommandFault.{CommandFault}
 use Rattle.wq_run.specs.declared.fault.CommandFault.TheVariants.{Common}
 use Rattle.wq_commands.specs.End.{exit_status}
@@ -41,11 +38,10 @@ abbrev pub unheld : CommandFault → CommandFault
 unheld (Common Write) = Common Memory
 unheld fault = fault
 
--- the end of a command, or the fault that stopped it; if a command has no answer, memory ran out
-abbrev pub end_or_common : {S : Type 0} → Result Outcome (Stopped S) → Result End CommandFault
-end_or_common (Ok outcome) = Ok outcome.end
-end_or_common (Err (Faulted fault)) = Err (Common fault)
-end_or_common (Err (Unanswered stop)) = Err (Common Memory)
+-- the end of a command, or the fault that stopped it
+abbrev pub end_or_common : Result End Fault → Result End CommandFault
+end_or_common (Ok end) = Ok end
+end_or_common (Err fault) = Err (Common fault)
 
 -- the same of `explain`
 abbrev pub explained_or_common : Result Explained Fault → Result End CommandFault

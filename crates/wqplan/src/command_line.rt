@@ -1,17 +1,21 @@
 //! The command line: which command its words ask for, and on what.
 //!
-//! It is read by `clap`: one command, and positional arguments alone. The time is linear in the words.
+//! It is read by `clap`: one command, and positional arguments alone: files, and what may stand behind them. The time
+//! is linear in the words.
 
 ghost use Rattle.std.specs.Prelude.{◌≡◌, ◌≤◌, ℕ, List, Option, Some, codes, false, IfOk, IfSome, IsSome, MatchResult};
-ghost use Rattle.std.specs.Prelude.{map};
-ghost use Rattle.clap.specs.Words.{app_of, found_of, kind_of, one_of, rows_of, rule_of, subcommand_rows_of};
+ghost use Rattle.std.specs.Prelude.{map, option_map};
+ghost use Rattle.clap.specs.Words.{app_of, first_of, found_of, kind_of, new_rule, one_of, rows_of, rule_of};
+ghost use Rattle.clap.specs.Words.{subcommand_rows_of};
 ghost use Rattle.clap.specs.declared.error.kind.ErrorKind.TheVariants.{OutOfMemory};
-ghost use Rattle.wqplan.specs.CommandLine.{bare, check, circles, number_rule, many_rule, deadlock, hang, dot, explain};
-ghost use Rattle.wqplan.specs.CommandLine.{needed, plan, repair, replay, run, spelled, wqplan, Asked, Asks, AsksFor};
-ghost use Rattle.wqplan.specs.CommandLine.{Calls, GivesArguments, HasFewHelpers, IsHelpers, IsRepair, few_read};
-ghost use Rattle.wqplan.specs.CommandLine.{helpers_in, names_of, checks, draws, finds, hangs, judges, repairs, replays};
-ghost use Rattle.wqplan.specs.CommandLine.{runs};
+ghost use Rattle.wqplan.specs.Commands.{command_name};
+ghost use Rattle.wqplan.specs.CommandLine.{bare, behind_in, command, file_rules, files_in, few_read, helpers_in};
+ghost use Rattle.wqplan.specs.CommandLine.{many_rule, names_of, needed, number_rule, paths, second_name, spelled};
+ghost use Rattle.wqplan.specs.CommandLine.{tail_rules, tail_spelled, with_rules, wqplan, Asked, Asks, AsksFor, Calls};
+ghost use Rattle.wqplan.specs.CommandLine.{GivesArguments, HasFewHelpers, IsHelpers, IsRead, helpers_asked};
+ghost use Rattle.wqplan.specs.CommandLine.{names_asked, word_asked};
 
+use crate::commands::{VERBS, Verb};
 use crate::world::INPUT;
 use crate::{help, statuses};
 use clap::error::ErrorKind;
@@ -22,103 +26,134 @@ use std::num::ParseIntError;
 use std::rt::Env;
 use std::{env, io};
 
-/// What a command line asks for.
+/// The second file of a command.
+#[derive(Clone, Copy, Debug)]
+pub(crate) enum Second {
+    /// A plan or a circle.
+    Certificate,
+    /// An assignment of items to workqueues.
+    Assignment,
+}
+
+impl Second {
+    /// The name of its argument.
+    fn name<'a>(self) -> &'a str
+        ensures { result.now ≡ second_name self }
+    {
+        match self {
+            Second::Certificate => "CERT",
+            Second::Assignment => "ASSIGN",
+        }
+    }
+}
+
+/// Which files a command has.
+#[derive(Clone, Copy, Debug)]
+pub(crate) enum FileForm {
+    /// None.
+    Nothing,
+    /// A declaration, which is standard input where no file is named.
+    Input,
+    /// A declaration.
+    One,
+    /// A declaration, and this.
+    Two(Second),
+    /// A declaration, and an assignment or none.
+    OneOrTwo,
+    /// A declaration, an assignment and a run.
+    Three,
+}
+
+/// What may stand behind the files of a command.
+#[derive(Clone, Copy, Debug)]
+pub(crate) enum TailForm {
+    /// Nothing.
+    Nothing,
+    /// Names of items.
+    Names,
+    /// A number of helpers, from 0 to 8.
+    Helpers,
+    /// A word.
+    Word,
+}
+
+/// The files of a command, in the order of its arguments: their paths, or what reads them.
 #[derive(Debug, Drop)]
-pub(crate) enum Request<'a> {
-    /// A plan of the declaration in this file, or in standard input.
-    Plan {
-        file: Option<&'a str>,
-    },
-    /// The checker's answer to the certificate in the second file, for the declaration in the first.
-    Check {
-        declaration: &'a str,
-        certificate: &'a str,
-    },
-    /// The verdict on the assignment in the second file, for the declaration in the first.
-    Deadlock {
-        declaration: &'a str,
-        assignment: &'a str,
-    },
-    /// The shortest run that ends stuck under the assignment in the second file, for the declaration in the first.
-    Hang {
-        declaration: &'a str,
-        assignment: &'a str,
-    },
-    /// What to change in the assignment in the second file, for the declaration in the first, so that it is safe. The
-    /// items with these names may move, or all, if there is no name.
-    Repair {
-        declaration: &'a str,
-        assignment: &'a str,
-        names: Vec<&'a str>,
-    },
-    /// How the run in the third file ends under the assignment in the second, for the declaration in the first.
-    Replay {
-        declaration: &'a str,
-        assignment: &'a str,
-        run: &'a str,
-    },
-    /// The flushes of the declaration in the first file that lie on a circle: under the assignment in the second file,
-    /// or where each group has a workqueue of its own.
-    Circles {
-        declaration: &'a str,
-        assignment: Option<&'a str>,
-    },
-    /// A drawing of the declaration in the first file, on the workqueues of the assignment in the second, or else of
-    /// its plan.
-    Dot {
-        declaration: &'a str,
-        assignment: Option<&'a str>,
-    },
-    /// A run of the plan of the declaration in this file, with this many helpers, at most 8, for each workqueue that
-    /// isn't ordered.
-    Run {
-        declaration: &'a str,
-        helpers: u8,
-    },
-    /// The explanation of this number or name, or the list of all that have one.
-    Explain {
-        code: Option<&'a str>,
-    },
+pub(crate) enum Files<T> {
+    /// None is named: what is read is standard input.
+    Unnamed,
+    /// That of a declaration.
+    One(T),
+    /// Those of a declaration, and of a certificate or an assignment.
+    Two(T, T),
+    /// Those of a declaration, an assignment and a run.
+    Three(T, T, T),
+}
+
+/// What stands behind the files of a command.
+#[derive(Debug, Drop)]
+pub(crate) enum Tail<'a> {
+    /// Nothing.
+    Nothing,
+    /// The names of the items that are meant: all, if there is none.
+    Names(Vec<&'a str>),
+    /// How many helpers each workqueue that isn't ordered has, at most 8.
+    Helpers(u8),
+    /// The word that is to be explained, if there is one.
+    Word(Option<&'a str>),
+}
+
+impl<'a> Tail<'a> {
+    /// The names of the items that are meant; none where there are none.
+    pub(crate) fn names(&self) -> &[&'a str]
+        ensures { map (λ n. n.now) result.now ≡ names_asked (tail_spelled self.now) }
+    {
+        match self {
+            Tail::Names(names) => names.as_slice(),
+            Tail::Nothing | Tail::Helpers(_) | Tail::Word(_) => &[],
+        }
+    }
+
+    /// How many helpers there are; none where there is no number.
+    pub(crate) fn helpers(&self) -> u8
+        ensures { result ≡ helpers_asked (tail_spelled self.now) }
+    {
+        match self {
+            Tail::Helpers(helpers) => *helpers,
+            Tail::Nothing | Tail::Names(_) | Tail::Word(_) => 0,
+        }
+    }
+
+    /// The word that is to be explained, if there is one.
+    pub(crate) fn word(&self) -> Option<&'a str>
+        ensures { option_map (λ w. w.now) result ≡ word_asked (tail_spelled self.now) }
+    {
+        match self {
+            Tail::Word(word) => *word,
+            Tail::Nothing | Tail::Names(_) | Tail::Helpers(_) => None,
+        }
+    }
+}
+
+/// What a command line asks for: a command, the paths of its files, and what stands behind these.
+#[derive(Debug, Drop)]
+pub(crate) struct Request<'a> {
+    pub(crate) verb: Verb,
+    pub(crate) files: Files<&'a str>,
+    pub(crate) tail: Tail<'a>,
 }
 
 impl Request<'_> {
     /// Whether it has standard input in the place of more than one file, though it can be read only once.
     pub(crate) fn repeats_input(&self) -> bool {
-        let (first, second, third) = match self {
-            Request::Check {
-                declaration,
-                certificate,
-            } => (*declaration, *certificate, ""),
-            Request::Deadlock {
-                declaration,
-                assignment,
+        match self.files {
+            Files::Unnamed | Files::One(_) => false,
+            Files::Two(first, second) => first == INPUT && second == INPUT,
+            Files::Three(first, second, third) => {
+                (first == INPUT && (second == INPUT || third == INPUT))
+                    || (second == INPUT && third == INPUT)
             }
-            | Request::Hang {
-                declaration,
-                assignment,
-            }
-            | Request::Repair {
-                declaration,
-                assignment,
-                ..
-            } => (*declaration, *assignment, ""),
-            Request::Replay {
-                declaration,
-                assignment,
-                run,
-            } => (*declaration, *assignment, *run),
-            Request::Circles {
-                declaration,
-                assignment,
-            }
-            | Request::Dot {
-                declaration,
-                assignment,
-            } => (*declaration, assignment.unwrap_or(""), ""),
-            Request::Plan { .. } | Request::Run { .. } | Request::Explain { .. } => ("", "", ""),
-        };
-        (first == INPUT && (second == INPUT || third == INPUT))
-            || (second == INPUT && third == INPUT)
+        }
     }
 }
 
@@ -136,57 +171,34 @@ fn file<'a>(alloc: Global, name: &'a str, help: &'a str) -> Arg<'a>
     Arg::new(alloc, name).help(help).required(true)
 }
 
-/// The command `plan`.
-fn plan<'a>(alloc: Global) -> Result<Command<'a>, AllocError>
-    ensures { IfOk result (λ command. app_of command ≡ plan) }
+/// The argument of a declaration.
+fn declaration<'a>(alloc: Global) -> Arg<'a>
+    ensures rule { rule_of result ≡ needed (codes "DECL") }
+    ensures own { result.global ≡ false }
 {
-    let file = Arg::new(alloc, "FILE").help(help::FILE);
-    Command::new(alloc, "plan")
-        .about(help::PLAN)
-        .after_long_help(statuses::PLAN)
-        .arg(file)
+    file(alloc, "DECL", help::DECL)
 }
 
-/// The command `check`.
-fn check<'a>(alloc: Global) -> Result<Command<'a>, AllocError>
-    ensures { IfOk result (λ command. app_of command ≡ check) }
+/// The argument of a certificate or of an assignment.
+fn second_file<'a>(alloc: Global, kind: Second) -> Arg<'a>
+    ensures rule { rule_of result ≡ needed (second_name kind) }
+    ensures own { result.global ≡ false }
 {
-    let declaration = file(alloc, "DECL", help::DECL);
-    let certificate = file(alloc, "CERT", help::CERT);
-    Command::new(alloc, "check")
-        .about(help::CHECK)
-        .after_long_help(statuses::CHECK)
-        .arg(declaration)?
-        .arg(certificate)
+    match kind {
+        Second::Certificate => file(alloc, "CERT", help::CERT),
+        Second::Assignment => file(alloc, "ASSIGN", help::ASSIGN),
+    }
 }
 
-/// The command `deadlock`.
-fn deadlock<'a>(alloc: Global) -> Result<Command<'a>, AllocError>
-    ensures { IfOk result (λ command. app_of command ≡ deadlock) }
+/// An argument that may be missing.
+fn optional<'a>(alloc: Global, name: &'a str, help: &'a str) -> Arg<'a>
+    ensures rule { rule_of result ≡ new_rule name.entry.now }
+    ensures own { result.global ≡ false }
 {
-    let declaration = file(alloc, "DECL", help::DECL);
-    let assignment = file(alloc, "ASSIGN", help::ASSIGN);
-    Command::new(alloc, "deadlock")
-        .about(help::DEADLOCK)
-        .after_long_help(statuses::DEADLOCK)
-        .arg(declaration)?
-        .arg(assignment)
+    Arg::new(alloc, name).help(help)
 }
 
-/// The command `hang`.
-fn hang<'a>(alloc: Global) -> Result<Command<'a>, AllocError>
-    ensures { IfOk result (λ command. app_of command ≡ hang) }
-{
-    let declaration = file(alloc, "DECL", help::DECL);
-    let assignment = file(alloc, "ASSIGN", help::ASSIGN);
-    Command::new(alloc, "hang")
-        .about(help::HANG)
-        .after_long_help(statuses::HANG)
-        .arg(declaration)?
-        .arg(assignment)
-}
-
-/// The argument NAME of `repair`, which may come any number of times.
+/// The argument NAME, which may come any number of times.
 fn names<'a>(alloc: Global) -> Arg<'a>
     ensures rule { rule_of result ≡ many_rule (codes "NAME") }
     ensures own { result.global ≡ false }
@@ -194,63 +206,7 @@ fn names<'a>(alloc: Global) -> Arg<'a>
     Arg::new(alloc, "NAME").help(help::NAME).num_args(1..)
 }
 
-/// The command `repair`.
-fn repair<'a>(alloc: Global) -> Result<Command<'a>, AllocError>
-    ensures { IfOk result (λ command. app_of command ≡ repair) }
-{
-    let declaration = file(alloc, "DECL", help::DECL);
-    let assignment = file(alloc, "ASSIGN", help::ASSIGN);
-    let names = names(alloc);
-    Command::new(alloc, "repair")
-        .about(help::REPAIR)
-        .after_long_help(statuses::REPAIR)
-        .arg(declaration)?
-        .arg(assignment)?
-        .arg(names)
-}
-
-/// The command `replay`.
-fn replay<'a>(alloc: Global) -> Result<Command<'a>, AllocError>
-    ensures { IfOk result (λ command. app_of command ≡ replay) }
-{
-    let declaration = file(alloc, "DECL", help::DECL);
-    let assignment = file(alloc, "ASSIGN", help::ASSIGN);
-    let run = file(alloc, "RUN", help::STEPS);
-    Command::new(alloc, "replay")
-        .about(help::REPLAY)
-        .after_long_help(statuses::REPLAY)
-        .arg(declaration)?
-        .arg(assignment)?
-        .arg(run)
-}
-
-/// The command `circles`.
-fn circles<'a>(alloc: Global) -> Result<Command<'a>, AllocError>
-    ensures { IfOk result (λ command. app_of command ≡ circles) }
-{
-    let declaration = file(alloc, "DECL", help::DECL);
-    let assignment = Arg::new(alloc, "ASSIGN").help(help::ANY_ASSIGN);
-    Command::new(alloc, "circles")
-        .about(help::CIRCLES)
-        .after_long_help(statuses::CIRCLES)
-        .arg(declaration)?
-        .arg(assignment)
-}
-
-/// The command `dot`.
-fn dot<'a>(alloc: Global) -> Result<Command<'a>, AllocError>
-    ensures { IfOk result (λ command. app_of command ≡ dot) }
-{
-    let declaration = file(alloc, "DECL", help::DECL);
-    let assignment = Arg::new(alloc, "ASSIGN").help(help::DRAWN_ASSIGN);
-    Command::new(alloc, "dot")
-        .about(help::DOT)
-        .after_long_help(statuses::DOT)
-        .arg(declaration)?
-        .arg(assignment)
-}
-
-/// The argument HELPERS of `run`.
+/// The argument HELPERS.
 fn helpers<'a>(alloc: Global) -> Arg<'a>
     ensures rule { rule_of result ≡ number_rule (codes "HELPERS") 8 }
     ensures own { result.global ≡ false }
@@ -260,28 +216,57 @@ fn helpers<'a>(alloc: Global) -> Arg<'a>
         .value_parser(value_parser!(u8).range(0..=8))
 }
 
-/// The command `run`.
-fn run<'a>(alloc: Global) -> Result<Command<'a>, AllocError>
-    ensures { IfOk result (λ command. app_of command ≡ run) }
+/// A command with its files, too. `assignment` is what help says of an assignment that may be missing.
+fn with_files<'a>(
+    alloc: Global,
+    command: Command<'a>,
+    form: FileForm,
+    assignment: &'a str,
+) -> Result<Command<'a>, AllocError>
+    ensures { IfOk result (λ r. app_of r ≡ with_rules (app_of command.entry) (file_rules form)) }
 {
-    let declaration = file(alloc, "DECL", help::DECL);
-    let helpers = helpers(alloc);
-    Command::new(alloc, "run")
-        .about(help::RUN)
-        .after_long_help(statuses::RUN)
-        .arg(declaration)?
-        .arg(helpers)
+    match form {
+        FileForm::Nothing => Ok(command),
+        FileForm::Input => command.arg(optional(alloc, "FILE", help::FILE)),
+        FileForm::One => command.arg(declaration(alloc)),
+        FileForm::Two(kind) => command
+            .arg(declaration(alloc))?
+            .arg(second_file(alloc, kind)),
+        FileForm::OneOrTwo => command
+            .arg(declaration(alloc))?
+            .arg(optional(alloc, "ASSIGN", assignment)),
+        FileForm::Three => command
+            .arg(declaration(alloc))?
+            .arg(second_file(alloc, Second::Assignment))?
+            .arg(file(alloc, "RUN", help::STEPS)),
+    }
 }
 
-/// The command `explain`.
-fn explain<'a>(alloc: Global) -> Result<Command<'a>, AllocError>
-    ensures { IfOk result (λ command. app_of command ≡ explain) }
+/// A command with what may stand behind its files, too.
+fn with_tail<'a>(
+    alloc: Global,
+    command: Command<'a>,
+    form: TailForm,
+) -> Result<Command<'a>, AllocError>
+    ensures { IfOk result (λ r. app_of r ≡ with_rules (app_of command.entry) (tail_rules form)) }
 {
-    let code = Arg::new(alloc, "CODE").help(help::CODE);
-    Command::new(alloc, "explain")
-        .about(help::EXPLAIN)
-        .after_long_help(statuses::EXPLAIN)
-        .arg(code)
+    match form {
+        TailForm::Nothing => Ok(command),
+        TailForm::Names => command.arg(names(alloc)),
+        TailForm::Helpers => command.arg(helpers(alloc)),
+        TailForm::Word => command.arg(optional(alloc, "CODE", help::CODE)),
+    }
+}
+
+/// A command of the program.
+fn command<'a>(alloc: Global, verb: Verb) -> Result<Command<'a>, AllocError>
+    ensures { IfOk result (λ built. app_of built ≡ command verb) }
+{
+    let named = Command::new(alloc, verb.name())
+        .about(verb.about())
+        .after_long_help(verb.statuses());
+    let filed = with_files(alloc, named, verb.files(), verb.assignment())?;
+    with_tail(alloc, filed, verb.tail())
 }
 
 /// The program without its commands. One of them is required.
@@ -297,64 +282,52 @@ fn bare<'a>(alloc: Global) -> Command<'a>
 
 /// The program with its commands, as it is read and as help shows it.
 fn program<'a>(alloc: Global) -> Result<Command<'a>, AllocError>
-    ensures { IfOk result (λ command. app_of command ≡ wqplan) }
+    ensures { IfOk result (λ built. app_of built ≡ wqplan) }
 {
-    bare(alloc)
-        .subcommand(plan(alloc)?)?
-        .subcommand(check(alloc)?)?
-        .subcommand(deadlock(alloc)?)?
-        .subcommand(hang(alloc)?)?
-        .subcommand(repair(alloc)?)?
-        .subcommand(replay(alloc)?)?
-        .subcommand(circles(alloc)?)?
-        .subcommand(dot(alloc)?)?
-        .subcommand(run(alloc)?)?
-        .subcommand(explain(alloc)?)
+    let mut program = bare(alloc);
+    for verb in VERBS {
+        program = program.subcommand(command(alloc, verb)?)?;
+    }
+    Ok(program)
 }
 
-/// The request for `check`. Its two files are in all matches that a parse gives.
-fn check_request<'a>(given: &ArgMatches<'a>) -> Option<Request<'a>>
-    ensures asked { IfSome result (λ request.
-        AsksFor (Some (codes "check", rows_of (found_of given.now))) (spelled request)) }
-    ensures all { (declaration certificate : List ℕ)
-        → GivesArguments (rows_of (found_of given.now)) (checks declaration certificate) → IsSome result }
+/// The text that a parse gave this argument.
+fn text_given<'a>(given: &ArgMatches<'a>, name: &str) -> Option<&'a str>
+    ensures { option_map (λ s. s.now) result ≡ first_of name.now (rows_of (found_of given.now)) }
 {
-    let declaration = given.get_str("DECL")?;
-    let certificate = given.get_str("CERT")?;
-    Some(Request::Check {
-        declaration,
-        certificate,
-    })
+    given.get_str(name)
 }
 
-/// The request for `deadlock`. Its two files are in all matches that a parse gives.
-fn deadlock_request<'a>(given: &ArgMatches<'a>) -> Option<Request<'a>>
-    ensures asked { IfSome result (λ request.
-        AsksFor (Some (codes "deadlock", rows_of (found_of given.now))) (spelled request)) }
-    ensures all { (declaration assignment : List ℕ)
-        → GivesArguments (rows_of (found_of given.now)) (judges declaration assignment) → IsSome result }
+/// The files that a parse gave a command. Those that it needs are in all matches that a parse gives.
+fn files_given<'a>(form: FileForm, given: &ArgMatches<'a>) -> Option<Files<&'a str>>
+    ensures { option_map paths result ≡ files_in form (rows_of (found_of given.now)) }
 {
-    let declaration = given.get_str("DECL")?;
-    let assignment = given.get_str("ASSIGN")?;
-    Some(Request::Deadlock {
-        declaration,
-        assignment,
-    })
-}
-
-/// The request for `hang`. Its two files are in all matches that a parse gives.
-fn hang_request<'a>(given: &ArgMatches<'a>) -> Option<Request<'a>>
-    ensures asked { IfSome result (λ request.
-        AsksFor (Some (codes "hang", rows_of (found_of given.now))) (spelled request)) }
-    ensures all { (declaration assignment : List ℕ)
-        → GivesArguments (rows_of (found_of given.now)) (hangs declaration assignment) → IsSome result }
-{
-    let declaration = given.get_str("DECL")?;
-    let assignment = given.get_str("ASSIGN")?;
-    Some(Request::Hang {
-        declaration,
-        assignment,
-    })
+    match form {
+        FileForm::Nothing => Some(Files::Unnamed),
+        FileForm::Input => match text_given(given, "FILE") {
+            Some(file) => Some(Files::One(file)),
+            None => Some(Files::Unnamed),
+        },
+        FileForm::One => Some(Files::One(text_given(given, "DECL")?)),
+        FileForm::Two(kind) => {
+            let declaration = text_given(given, "DECL")?;
+            let second = text_given(given, kind.name())?;
+            Some(Files::Two(declaration, second))
+        }
+        FileForm::OneOrTwo => {
+            let declaration = text_given(given, "DECL")?;
+            match text_given(given, "ASSIGN") {
+                Some(assignment) => Some(Files::Two(declaration, assignment)),
+                None => Some(Files::One(declaration)),
+            }
+        }
+        FileForm::Three => {
+            let declaration = text_given(given, "DECL")?;
+            let assignment = text_given(given, "ASSIGN")?;
+            let run = text_given(given, "RUN")?;
+            Some(Files::Three(declaration, assignment, run))
+        }
+    }
 }
 
 /// These names, in a vector of their own.
@@ -376,77 +349,6 @@ fn names_given<'a>(alloc: Global, given: &ArgMatches<'a>) -> Result<Vec<&'a str>
         Some(names) => copied(alloc, names),
         None => Ok(Vec::new(alloc)),
     }
-}
-
-/// The request for `repair`. Its two files are in all matches that a parse gives.
-fn repair_request<'a>(
-    alloc: Global,
-    given: &ArgMatches<'a>,
-) -> Result<Option<Request<'a>>, AllocError>
-    ensures asked { IfOk result (λ found. IfSome found (λ request.
-        AsksFor (Some (codes "repair", rows_of (found_of given.now))) (spelled request))) }
-    ensures all { IfOk result (λ found. (declaration assignment : List ℕ) (names : List (List ℕ)) →
-        GivesArguments (rows_of (found_of given.now)) (repairs declaration assignment names) → IsSome found) }
-{
-    let Some(declaration) = given.get_str("DECL") else {
-        return Ok(None);
-    };
-    let Some(assignment) = given.get_str("ASSIGN") else {
-        return Ok(None);
-    };
-    let names = names_given(alloc, given)?;
-    Ok(Some(Request::Repair {
-        declaration,
-        assignment,
-        names,
-    }))
-}
-
-/// The request for `replay`. Its three files are in all matches that a parse gives.
-fn replay_request<'a>(given: &ArgMatches<'a>) -> Option<Request<'a>>
-    ensures asked { IfSome result (λ request.
-        AsksFor (Some (codes "replay", rows_of (found_of given.now))) (spelled request)) }
-    ensures all { (declaration assignment run : List ℕ)
-        → GivesArguments (rows_of (found_of given.now)) (replays declaration assignment run) → IsSome result }
-{
-    let declaration = given.get_str("DECL")?;
-    let assignment = given.get_str("ASSIGN")?;
-    let run = given.get_str("RUN")?;
-    Some(Request::Replay {
-        declaration,
-        assignment,
-        run,
-    })
-}
-
-/// The request for `circles`. Its first file is in all matches that a parse gives.
-fn circles_request<'a>(given: &ArgMatches<'a>) -> Option<Request<'a>>
-    ensures asked { IfSome result (λ request.
-        AsksFor (Some (codes "circles", rows_of (found_of given.now))) (spelled request)) }
-    ensures all { (declaration : List ℕ) (assignment : Option (List ℕ))
-        → GivesArguments (rows_of (found_of given.now)) (finds declaration assignment) → IsSome result }
-{
-    let declaration = given.get_str("DECL")?;
-    let assignment = given.get_str("ASSIGN");
-    Some(Request::Circles {
-        declaration,
-        assignment,
-    })
-}
-
-/// The request for `dot`. Its first file is in all matches that a parse gives.
-fn dot_request<'a>(given: &ArgMatches<'a>) -> Option<Request<'a>>
-    ensures asked { IfSome result (λ request.
-        AsksFor (Some (codes "dot", rows_of (found_of given.now))) (spelled request)) }
-    ensures all { (declaration : List ℕ) (assignment : Option (List ℕ))
-        → GivesArguments (rows_of (found_of given.now)) (draws declaration assignment) → IsSome result }
-{
-    let declaration = given.get_str("DECL")?;
-    let assignment = given.get_str("ASSIGN");
-    Some(Request::Dot {
-        declaration,
-        assignment,
-    })
 }
 
 /// The number of helpers that was read, if it is 8 at most; 0 where there was no word for it.
@@ -474,20 +376,46 @@ fn helpers_given<'a>(given: &ArgMatches<'a>) -> Option<u8>
     few_read(given.try_get_one::<u8>("HELPERS"))
 }
 
-/// The request for `run`. Its file, and a number of helpers where it is asked for, are in all matches that a parse
-/// gives.
-fn run_request<'a>(given: &ArgMatches<'a>) -> Option<Request<'a>>
-    ensures asked { IfSome result (λ request.
-        AsksFor (Some (codes "run", rows_of (found_of given.now))) (spelled request)) }
-    ensures all { (declaration : List ℕ) (helpers : ℕ)
-        → GivesArguments (rows_of (found_of given.now)) (runs declaration helpers) → IsSome result }
+/// What a parse gave a command behind its files. It is in all matches that a parse gives.
+fn tail_given<'a>(
+    alloc: Global,
+    form: TailForm,
+    given: &ArgMatches<'a>,
+) -> Result<Option<Tail<'a>>, AllocError>
+    ensures given { IfOk result (λ found. IfSome found (λ tail.
+        behind_in form (rows_of (found_of given.now)) ≡ tail_spelled tail)) }
+    ensures read { IfOk result (λ found. IfSome found (λ tail. IsRead form (rows_of (found_of given.now)))) }
+    ensures all { IfOk result (λ found. IsRead form (rows_of (found_of given.now)) → IsSome found) }
 {
-    let declaration = given.get_str("DECL")?;
-    let helpers = helpers_given(given)?;
-    Some(Request::Run {
-        declaration,
-        helpers,
-    })
+    match form {
+        TailForm::Nothing => Ok(Some(Tail::Nothing)),
+        TailForm::Names => Ok(Some(Tail::Names(names_given(alloc, given)?))),
+        TailForm::Helpers => match helpers_given(given) {
+            Some(helpers) => Ok(Some(Tail::Helpers(helpers))),
+            None => Ok(None),
+        },
+        TailForm::Word => Ok(Some(Tail::Word(text_given(given, "CODE")))),
+    }
+}
+
+/// What a parse asks for that has entered this command. It is in all matches that a parse gives.
+fn request_given<'a>(
+    alloc: Global,
+    verb: Verb,
+    given: &ArgMatches<'a>,
+) -> Result<Option<Request<'a>>, AllocError>
+    ensures asked { IfOk result (λ found. IfSome found (λ request.
+        AsksFor (Some (command_name verb, rows_of (found_of given.now))) (spelled request))) }
+    ensures all { IfOk result (λ found. (wanted : Asked) → wanted.verb ≡ verb
+        → GivesArguments (rows_of (found_of given.now)) wanted → IsSome found) }
+{
+    let Some(files) = files_given(verb.files(), given) else {
+        return Ok(None);
+    };
+    let Some(tail) = tail_given(alloc, verb.tail(), given)? else {
+        return Ok(None);
+    };
+    Ok(Some(Request { verb, files, tail }))
 }
 
 /// The request of the command that a parse has entered. There is none where that is `help`.
@@ -497,48 +425,13 @@ fn entered<'a>(alloc: Global, matches: &ArgMatches<'a>) -> Result<Option<Request
     ensures all { IfOk result (λ found. (wanted : Asked) → AsksFor (subcommand_rows_of matches.now) wanted
         → IsSome found) }
 {
-    if let Some(given) = matches.subcommand_matches("repair") {
-        return repair_request(alloc, given);
-    }
-    Ok(entered_other(matches))
-}
-
-/// The request of the command that a parse has entered. There is none where that is `repair` or `help`.
-fn entered_other<'a>(matches: &ArgMatches<'a>) -> Option<Request<'a>>
-    ensures asked { IfSome result (λ request. AsksFor (subcommand_rows_of matches.now) (spelled request)) }
-    ensures all { (wanted : Asked) → (¬ IsRepair wanted) → AsksFor (subcommand_rows_of matches.now) wanted
-        → IsSome result }
-{
-    if let Some(given) = matches.subcommand_matches("plan") {
-        return Some(Request::Plan {
-            file: given.get_str("FILE"),
-        });
-    }
-    if let Some(given) = matches.subcommand_matches("check") {
-        return check_request(given);
-    }
-    if let Some(given) = matches.subcommand_matches("deadlock") {
-        return deadlock_request(given);
-    }
-    if let Some(given) = matches.subcommand_matches("hang") {
-        return hang_request(given);
-    }
-    if let Some(given) = matches.subcommand_matches("replay") {
-        return replay_request(given);
-    }
-    if let Some(given) = matches.subcommand_matches("circles") {
-        return circles_request(given);
-    }
-    if let Some(given) = matches.subcommand_matches("dot") {
-        return dot_request(given);
-    }
-    if let Some(given) = matches.subcommand_matches("run") {
-        return run_request(given);
-    }
-    let given = matches.subcommand_matches("explain")?;
-    Some(Request::Explain {
-        code: given.get_str("CODE"),
-    })
+    let Some((name, given)) = matches.subcommand() else {
+        return Ok(None);
+    };
+    let Some(verb) = Verb::named(name) else {
+        return Ok(None);
+    };
+    request_given(alloc, verb, given)
 }
 
 /// Parses the words of a command line.

@@ -16,7 +16,8 @@ use clap::Error;
 use clap::error::ErrorKind;
 use std::alloc::{AllocError, Global};
 use std::io;
-use wq_commands::{End, Fault};
+use wq_commands::End;
+use wq_meter::Fault;
 use wq_run::CommandFault;
 
 /// The status where help or the version was printed.

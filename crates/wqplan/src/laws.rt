@@ -11,7 +11,8 @@ ghost use Rattle.wq_commands.specs.declared.end.End.{End};
 ghost use Rattle.wq_run.specs.declared.fault.CommandFault.{CommandFault};
 ghost use Rattle.wq_run.specs.declared.fault.CommandFault.TheVariants.{Common, Tally, Thread};
 ghost use Rattle.wqplan.specs.Cause.{IsCaused};
-ghost use Rattle.wqplan.specs.CommandLine.{Asked, explains, files_of, runs};
+ghost use Rattle.wqplan.specs.declared.commands.Verb.TheVariants.{Explain, Run};
+ghost use Rattle.wqplan.specs.CommandLine.{Asked, files_of};
 ghost use Rattle.wqplan.specs.Numbers.{IsPrintedByProgram};
 ghost use Rattle.wq_explain.specs.Explaining.{number_end};
 ghost use Rattle.wq_explain.specs.declared.explain.Explained.TheVariants.{Known};
@@ -34,7 +35,7 @@ pub fn what_cannot_be_opened_is_not_read<'a, O: World<'a>, I: Read>()
         result ≡ Err (Common ReadFault) }
     ensures seed { (world : O) (old new : Meter I) (asked : Asked) (result : Result End CommandFault) →
         IsCaused (O.seeds world) (O.opens world) (HasFailed old new) asked result →
-        ((code : Option (List ℕ)) → asked ≢ explains code) → ((seed : ℕ) → ¬ O.seeds world (Some seed))
+        asked.verb ≢ Explain → ((seed : ℕ) → ¬ O.seeds world (Some seed))
         → result ≡ Err (Common ReadFault) }
 {}
 
@@ -42,5 +43,5 @@ pub fn what_cannot_be_opened_is_not_read<'a, O: World<'a>, I: Read>()
 pub fn only_run_is_stopped_by_threads<'a, O: World<'a>, I: Read>()
     ensures { (world : O) (old new : Meter I) (asked : Asked) (result : Result End CommandFault) →
         IsCaused (O.seeds world) (O.opens world) (HasFailed old new) asked result →
-        (result ≡ Err Thread) ⊎ (result ≡ Err Tally) → (path : List ℕ) × (helpers : ℕ) × (asked ≡ runs path helpers) }
+        (result ≡ Err Thread) ⊎ (result ≡ Err Tally) → asked.verb ≡ Run }
 {}

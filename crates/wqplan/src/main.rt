@@ -10,11 +10,11 @@
 ghost use Rattle.wqplan.specs.CommandLine.{HasFewHelpers, spelled};
 
 mod command_line;
+mod commands;
 mod ending;
 mod help;
 pub mod laws;
 mod performing;
-mod seeded;
 mod statuses;
 mod world;
 
@@ -26,7 +26,8 @@ use std::rt::Files;
 use std::sync::Wait;
 use std::thread::Threads;
 use world::{NamedReader, Noting, Process, STDIN};
-use wq_commands::{End, Metered};
+use wq_commands::End;
+use wq_meter::Metered;
 use wq_run::CommandFault;
 
 /// Carries out the command that is asked for, over the files and standard input of the process, and over these writers.

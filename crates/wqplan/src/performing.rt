@@ -2,64 +2,54 @@
 //! error.
 //!
 //! A seed is drawn, and the files of a command are opened in the order of its arguments, before any of them is read.
-//! Then `carry_out` reads them, writes the answer, and says what is wrong, where something is; for `run`,
-//! `carry_out_run` does. `carry_out_files`, `carry_out_input` and `run` ask that the seed they are given was drawn:
-//! that of the command, and that of what says more of its answer. The running time is that of the command.
+//! Then `carry_out` reads them, writes the answer, and says what there is to be said of it; for `run`, `carry_out_run`
+//! does. Where no file is named, what is read is standard input. Each function that is given a seed asks that it was
+//! drawn. The running time is that of the command.
 
-ghost use Rattle.std.specs.Prelude.{◌≡◌, ◌≢◌, ◌≤◌, ◌∷◌, ℕ, List, [], Err, IfErr, IfOk, IfSome, None, OnErr, Some};
-ghost use Rattle.std.specs.Prelude.{option_map, option_to_list};
+ghost use Rattle.std.specs.Prelude.{◌≡◌, ◌≢◌, ◌≤◌, ◌+◌, ℕ, List, Result, Err, IfErr, IfOk, IfSome, None, OnErr, Some};
+ghost use Rattle.std.specs.Prelude.{option_map};
 ghost use Rattle.std.specs.List.{Any};
 ghost use Rattle.wq_meter.specs.Input.{HasFailed, IsInput};
-ghost use Rattle.wq_meter.specs.Meter.{count_after, WritesPrefix, WritesWhole};
-ghost use Rattle.wq_meter.specs.Shell.{AreFrom, Given, kept};
-ghost use Rattle.wq_meter.specs.declared.shell.Stopped.TheVariants.{Faulted};
-ghost use Rattle.wq_run.specs.Running.{RunsTexts};
-ghost use Rattle.wqplan.specs.CommandLine.{HasFewHelpers, plans, spelled};
-ghost use Rattle.wqplan.specs.Cause.{EndsAlone, EndsReady, IsCaused, ReadsInput};
-ghost use Rattle.wqplan.specs.Files.{AreOpened, EndsFiles, paths_of};
+ghost use Rattle.wq_meter.specs.Meter.{count_after, LosesPrefix, WritesPrefix, WritesWhole};
+ghost use Rattle.wq_meter.specs.Shell.{AreFrom, Tells};
+ghost use Rattle.wq_commands.specs.Declaration.{max_declaration};
+ghost use Rattle.wq_commands.specs.Shell.{AnswersTexts, IsAnswered, SaysOfTexts};
+ghost use Rattle.wqplan.specs.CommandLine.{HasFewHelpers, listed, paths, run_asked, spelled};
+ghost use Rattle.wqplan.specs.Cause.{EndsAlone, EndsReady, IsCaused, MayFail, ReadsInput, TakesInput};
+ghost use Rattle.wqplan.specs.Files.{AreOpened, EndsIn, HaveTexts, first_if};
 ghost use Rattle.wqplan.specs.Promised.{PromisesAsAsked};
 ghost use Rattle.wqplan.specs.Status.{end_or_common, explained_or_common, unheld};
-ghost use Rattle.wqplan.specs.Ended.{EndedBy, EndsAsAsked, EndsCircles, EndsDot, EndsExplain, EndsPlan, EndsRun, Has};
-ghost use Rattle.wqplan.specs.Ended.{IsInputIf};
+ghost use Rattle.wqplan.specs.Ended.{EndedBy, EndsAsAsked, EndsExplain, Has, IsInputIf, has_second};
+ghost use Rattle.wqplan.specs.Told.{IsToldAsAsked, names_given, names_of_files};
+ghost use Rattle.wqplan.specs.declared.command_line.Files.TheVariants.{Unnamed};
 
-use crate::command_line::Request;
-use crate::seeded::Seeded;
+use crate::command_line::{Files, Request};
+use crate::commands::Verb;
 use crate::world::{STDIN, World, shown_name};
-use std::alloc::{AllocError, Global};
+use std::alloc::Global;
 use std::io::{self, Read, Write};
 use std::sync::Wait;
 use std::thread::Threads;
-use wq_changes::Repairing;
+use wq_changes::RepairVoice;
 use wq_circles::CirclesCommand;
 use wq_commands::{
-    CheckCommand, Command, DeadlockCommand, End, Fault, Metered, Outcome, PlanCommand,
-    ReplayCommand, Stopped, Voice, carry_out,
+    CheckCommand, Command, DeadlockCommand, End, PlanCommand, ReplayCommand, Voice, carry_out,
 };
 use wq_dot::DotCommand;
 use wq_explain::{Explained, explain_cmd};
 use wq_hang_command::HangCommand;
-use wq_meter::write_text;
+use wq_meter::{Fault, Metered, write_text};
 use wq_repair_command::RepairCommand;
-use wq_run::{CommandFault, carry_out_run, end_of_run};
-use wq_voice::{Beside, CertificateKind, Diagnosing};
-
-/// The files of a command, in the order of its arguments: their paths, or what reads them.
-#[derive(Drop)]
-pub(crate) enum Files<T> {
-    /// That of a declaration.
-    One(T),
-    /// Those of a declaration, and of a certificate or an assignment.
-    Two(T, T),
-    /// Those of a declaration, an assignment and a run.
-    Three(T, T, T),
-}
+use wq_run::{CommandFault, RunCommand, carry_out_run, end_of_run};
+use wq_voice::FileNames;
 
 /// Opens files in their order. Nothing where one can't be opened.
-fn open<'a, O: World<'a>>(world: &O, paths: Files<&'a str>) -> Option<Files<O::File>>
-    ensures opened { IfSome result (λ files. AreOpened (O.opens world.now) paths.entry files) }
-    ensures unopened { result ≡ None → Any (λ path. O.opens world.now path None) (paths_of paths.entry) }
+fn open<'a, O: World<'a>>(world: &O, files: &Files<&'a str>) -> Option<Files<O::File>>
+    ensures opened { IfSome result (λ opened. AreOpened (O.opens world.now) (paths files.now) opened) }
+    ensures unopened { result ≡ None → Any (λ path. O.opens world.now path None) (listed (paths files.now)) }
 {
-    match paths {
+    match *files {
+        Files::Unnamed => Some(Files::Unnamed),
         Files::One(first) => Some(Files::One(world.open(first)?)),
         Files::Two(first, second) => Some(Files::Two(world.open(first)?, world.open(second)?)),
         Files::Three(first, second, third) => Some(Files::Three(
@@ -70,49 +60,90 @@ fn open<'a, O: World<'a>>(world: &O, paths: Files<&'a str>) -> Option<Files<O::F
     }
 }
 
+/// The names of these files in a diagnosis.
+fn names_of<'a>(files: &Files<&'a str>) -> FileNames<'a>
+    ensures { names_given result ≡ names_of_files (paths files.now) }
+{
+    match *files {
+        Files::Unnamed => FileNames {
+            declaration: STDIN,
+            second: "",
+            run: "",
+        },
+        Files::One(first) => FileNames {
+            declaration: shown_name(first),
+            second: "",
+            run: "",
+        },
+        Files::Two(first, second) => FileNames {
+            declaration: shown_name(first),
+            second: shown_name(second),
+            run: "",
+        },
+        Files::Three(first, second, third) => FileNames {
+            declaration: shown_name(first),
+            second: shown_name(second),
+            run: shown_name(third),
+        },
+    }
+}
+
 /// Carries out a command on these readers.
 fn carry_out_on<
+    'a,
+    O: World<'a>,
     C: Command<Global>,
-    V: Voice<Global, C::End>,
-    D: Read + Drop,
+    V: Voice<C, Global>,
+    D: Read,
     S: Read + Drop,
     T: Read + Drop,
     W: Write,
     E: Write,
 >(
+    _world: &O,
     alloc: Global,
+    seed: u64,
     command: &C,
     voice: &V,
-    first: D,
+    first: &mut Metered<D>,
     second: S,
     third: T,
     writer: &mut Metered<W>,
     teller: &mut Metered<E>,
-) -> Result<C::End, Stopped<C::Stop>>
-    ensures answered { IfOk result (λ end. (texts : Given) × (out : List ℕ)
-        × AreFrom (IsInput (D.remaining first)) (IsInputIf (C.limits command.now).second (S.remaining second))
-        (IsInputIf (C.limits command.now).third (T.remaining third)) texts
-        × C.answers command.now (kept (C.limits command.now) texts) end out
-        × WritesWhole W.contents writer.old writer.new out) }
-    ensures prefix { result ≡ Err (Faulted Fault.Write) → (end : C.End) × (texts : Given) × (out : List ℕ)
-        × AreFrom (IsInput (D.remaining first)) (IsInputIf (C.limits command.now).second (S.remaining second))
-        (IsInputIf (C.limits command.now).third (T.remaining third)) texts
-        × C.answers command.now (kept (C.limits command.now) texts) end out
-        × WritesPrefix W.contents writer.old writer.new out }
-    ensures untouched { IfErr result (λ stopped. stopped ≢ Faulted Fault.Write → writer.new ≡ writer.old) }
+) -> Result<End, Fault>
+    requires drawn { O.seeds _world.now (Some seed) }
+    ensures answered { IfOk result (λ end. IsAnswered (C.limits command.now)
+        (AreFrom (IsInput (D.remaining first.old.device))
+        (IsInputIf (C.limits command.now).second (S.remaining second))
+        (IsInputIf (C.limits command.now).third (T.remaining third)))
+        (λ texts found out. AnswersTexts (C.answers command.now) texts found end out)
+        (WritesWhole W.contents writer.old writer.new)
+        (λ texts found. Tells E.contents teller.old teller.new
+        (SaysOfTexts (V.says voice.now command.now) (V.refuses voice.now) texts found))) }
+    ensures prefix { result ≡ Err Fault.Write → (end : End) × IsAnswered (C.limits command.now)
+        (AreFrom (IsInput (D.remaining first.old.device))
+        (IsInputIf (C.limits command.now).second (S.remaining second))
+        (IsInputIf (C.limits command.now).third (T.remaining third)))
+        (λ texts found out. AnswersTexts (C.answers command.now) texts found end out)
+        (WritesPrefix W.contents writer.old writer.new)
+        (λ _ _. teller.new ≡ teller.old) }
+    ensures untouched { IfErr result (λ fault. fault ≢ Fault.Write → writer.new ≡ writer.old) }
     ensures unsaid { OnErr result (teller.new ≡ teller.old) }
-    ensures write_failed { result ≡ Err (Faulted Fault.Write)
-        → writer.new.failures ≡ count_after writer.old.failures 1 }
-    ensures no_write_failed { result ≢ Err (Faulted Fault.Write) → writer.new.failures ≡ writer.old.failures }
+    ensures lost { LosesPrefix D.remaining first.old first.new ((C.limits command.now).first + 1) }
+    ensures reads { first.new.calls ≤ first.old.calls + ((C.limits command.now).first + 1) }
+    ensures read_failed { result ≡ Err Fault.Read
+        → MayFail (HasFailed first.old first.new) (C.limits command.now) Unnamed }
+    ensures write_failed { result ≡ Err Fault.Write → writer.new.failures ≡ count_after writer.old.failures 1 }
+    ensures no_write_failed { result ≢ Err Fault.Write → writer.new.failures ≡ writer.old.failures }
 {
-    let mut first = Metered::new(first);
     let mut second = Metered::new(second);
     let mut third = Metered::new(third);
     carry_out(
         alloc,
+        seed,
         command,
         voice,
-        &mut first,
+        first,
         &mut second,
         &mut third,
         writer,
@@ -120,14 +151,13 @@ fn carry_out_on<
     )
 }
 
-/// The end of a command, or the fault that stopped it. Where it has no answer, memory ran out.
-fn end_of(ended: Result<Outcome, Stopped<AllocError>>) -> Result<End, CommandFault>
+/// The end of a command, or the fault that stopped it.
+fn end_of(ended: Result<End, Fault>) -> Result<End, CommandFault>
     ensures { result ≡ end_or_common ended }
 {
     match ended {
-        Ok(outcome) => Ok(outcome.end),
-        Err(Stopped::Faulted(fault)) => Err(CommandFault::Common(fault)),
-        Err(Stopped::Unanswered(AllocError)) => Err(CommandFault::Common(Fault::Memory)),
+        Ok(end) => Ok(end),
+        Err(fault) => Err(CommandFault::Common(fault)),
     }
 }
 
@@ -142,123 +172,125 @@ fn end_of_explain(ended: Result<Explained, Fault>) -> Result<End, CommandFault>
     }
 }
 
-/// Carries out a command on the files at these paths, which are opened before any of them is read. Where one can't be
-/// opened, it is `fault read`.
+/// Carries out a command on the files at these paths, which are opened before any of them is read, or on standard
+/// input. Where a file can't be opened, it is `fault read`.
 fn carry_out_files<
     'a,
     O: World<'a>,
-    C: Command<Global, End = Outcome, Stop = AllocError> + Seeded,
-    V: Voice<Global, Outcome> + Seeded,
-    W: Write,
-    E: Write,
->(
-    world: &O,
-    alloc: Global,
-    command: &C,
-    voice: &V,
-    paths: Files<&'a str>,
-    writer: &mut Metered<W>,
-    teller: &mut Metered<E>,
-) -> Result<End, CommandFault>
-    requires drawn { O.seeds world.now (Some (C.seed command.now)) }
-    requires said { O.seeds world.now (Some (V.seed voice.now)) }
-    ensures ended { EndedBy W.contents writer.old writer.new (EndsFiles (Has (O.opens world.now) O.File.Read.remaining)
-        (C.limits command.now) (C.answers command.now) paths.entry) result }
-    ensures caused { EndsReady (O.seeds world.now) (O.opens world.now) (paths_of paths.entry) (Unit {0}) ⊥ result }
-    ensures unsaid { OnErr result (teller.new ≡ teller.old) }
-{
-    let Some(files) = open(world, paths) else {
-        return Err(CommandFault::Common(Fault::Read));
-    };
-    match files {
-        Files::One(first) => {
-            let (second, third) = (io::empty(), io::empty());
-            end_of(carry_out_on(alloc, command, voice, first, second, third, writer, teller))
-        }
-        Files::Two(first, second) => {
-            let third = io::empty();
-            end_of(carry_out_on(alloc, command, voice, first, second, third, writer, teller))
-        }
-        Files::Three(first, second, third) => end_of(carry_out_on(
-            alloc, command, voice, first, second, third, writer, teller,
-        )),
-    }
-}
-
-/// Carries out `plan` on standard input.
-fn carry_out_input<
-    'a,
-    O: World<'a>,
-    V: Voice<Global, Outcome> + Seeded,
+    C: Command<Global>,
+    V: Voice<C, Global>,
     I: Read,
     W: Write,
     E: Write,
 >(
-    _world: &O,
+    world: &O,
     alloc: Global,
-    command: &PlanCommand,
+    seed: u64,
+    command: &C,
     voice: &V,
+    files: &Files<&'a str>,
     input: &mut Metered<I>,
     writer: &mut Metered<W>,
     teller: &mut Metered<E>,
 ) -> Result<End, CommandFault>
-    requires drawn { O.seeds _world.now (Some command.now.seed) }
-    requires said { O.seeds _world.now (Some (V.seed voice.now)) }
-    ensures ended { EndedBy W.contents writer.old writer.new (EndsPlan (Has (O.opens _world.now) O.File.Read.remaining)
-        (IsInput (I.remaining input.old.device)) None) result }
-    ensures caused { EndsReady (O.seeds _world.now) (O.opens _world.now) [] (HasFailed input.old input.new) ⊥ result }
-    ensures input { ReadsInput I.remaining input.old input.new (plans None) }
+    requires drawn { O.seeds world.now (Some seed) }
+    ensures ended { EndedBy W.contents writer.old writer.new
+        (EndsIn (HaveTexts (Has (O.opens world.now) O.File.Read.remaining)
+        (IsInput (I.remaining input.old.device)) (C.limits command.now) (paths files.now))
+        (C.limits command.now) (C.answers command.now)) result }
+    ensures told { IfOk result (λ end. IsAnswered (C.limits command.now)
+        (HaveTexts (Has (O.opens world.now) O.File.Read.remaining)
+        (IsInput (I.remaining input.old.device)) (C.limits command.now) (paths files.now))
+        (λ texts found out. AnswersTexts (C.answers command.now) texts found end out)
+        (WritesWhole W.contents writer.old writer.new)
+        (λ texts found. Tells E.contents teller.old teller.new
+        (SaysOfTexts (V.says voice.now command.now) (V.refuses voice.now) texts found))) }
+    ensures caused { EndsReady (O.seeds world.now) (O.opens world.now) (listed (paths files.now))
+        (MayFail (HasFailed input.old input.new) (C.limits command.now) (paths files.now)) ⊥ result }
+    ensures input { TakesInput I.remaining input.old input.new (C.limits command.now).first (paths files.now) }
     ensures unsaid { OnErr result (teller.new ≡ teller.old) }
 {
-    let mut second = Metered::new(io::empty());
-    let mut third = Metered::new(io::empty());
-    let ended = carry_out(
-        alloc,
-        command,
-        voice,
-        input,
-        &mut second,
-        &mut third,
-        writer,
-        teller,
-    );
-    end_of(ended)
+    let Some(opened) = open(world, files) else {
+        return Err(CommandFault::Common(Fault::Read));
+    };
+    match opened {
+        Files::Unnamed => {
+            let (second, third) = (io::empty(), io::empty());
+            end_of(carry_out_on(
+                world, alloc, seed, command, voice, input, second, third, writer, teller,
+            ))
+        }
+        Files::One(first) => {
+            let (second, third) = (io::empty(), io::empty());
+            let mut first = Metered::new(first);
+            end_of(carry_out_on(
+                world, alloc, seed, command, voice, &mut first, second, third, writer, teller,
+            ))
+        }
+        Files::Two(first, second) => {
+            let third = io::empty();
+            let mut first = Metered::new(first);
+            end_of(carry_out_on(
+                world, alloc, seed, command, voice, &mut first, second, third, writer, teller,
+            ))
+        }
+        Files::Three(first, second, third) => {
+            let mut first = Metered::new(first);
+            end_of(carry_out_on(
+                world, alloc, seed, command, voice, &mut first, second, third, writer, teller,
+            ))
+        }
+    }
 }
 
-/// Carries out `run` on the file at this path, with this many helpers. Where it can't be opened, it is `fault read`.
-fn run<
-    'a,
-    O: World<'a>,
-    R: Threads + Wait + Sync,
-    V: Voice<Global, Outcome> + Seeded,
-    W: Write,
-    E: Write,
->(
+/// What reads the first of these files, if there is one. All others are closed.
+fn first_if<T: Drop>(files: Files<T>) -> Option<T>
+    ensures { result ≡ first_if files }
+{
+    match files {
+        Files::Unnamed => None,
+        Files::One(first) => Some(first),
+        Files::Two(first, _) => Some(first),
+        Files::Three(first, _, _) => Some(first),
+    }
+}
+
+/// Carries out `run` on the first of these files, or on standard input. Where one can't be opened, it is `fault read`.
+fn run<'a, O: World<'a>, R: Threads + Wait + Sync, I: Read, W: Write, E: Write>(
     world: &O,
     rt: &R,
     alloc: Global,
     seed: u64,
-    helpers: u8,
-    voice: &V,
-    declaration: &'a str,
+    command: &RunCommand,
+    files: &Files<&'a str>,
+    input: &mut Metered<I>,
     writer: &mut Metered<W>,
     teller: &mut Metered<E>,
 ) -> Result<End, CommandFault>
-    requires few_helpers { helpers ≤ 8 }
+    requires few_helpers { command.now.helpers ≤ 8 }
     requires drawn { O.seeds world.now (Some seed) }
-    requires said { O.seeds world.now (Some (V.seed voice.now)) }
-    ensures ended { EndedBy W.contents writer.old writer.new (EndsRun (Has (O.opens world.now) O.File.Read.remaining)
-        declaration.now helpers) result }
-    ensures caused { EndsReady (O.seeds world.now) (O.opens world.now) (declaration.now ∷ []) (Unit {0}) (Unit {0})
-        result }
+    ensures ended { EndedBy W.contents writer.old writer.new
+        (EndsAsAsked (Has (O.opens world.now) O.File.Read.remaining) (IsInput (I.remaining input.old.device))
+        (run_asked (paths files.now) command.now.helpers)) result }
+    ensures told { IfOk result (λ end. IsToldAsAsked Global (Has (O.opens world.now) O.File.Read.remaining)
+        (IsInput (I.remaining input.old.device)) (run_asked (paths files.now) command.now.helpers) end
+        (WritesWhole W.contents writer.old writer.new) (Tells E.contents teller.old teller.new)) }
+    ensures caused { IsCaused (O.seeds world.now) (O.opens world.now) (HasFailed input.old input.new)
+        (run_asked (paths files.now) command.now.helpers) result }
+    ensures input { TakesInput I.remaining input.old input.new max_declaration (paths files.now) }
     ensures unsaid { OnErr result (teller.new ≡ teller.old) }
 {
-    let Some(declared) = world.open(declaration) else {
+    let voice = names_of(files);
+    let Some(readers) = open(world, files) else {
         return Err(CommandFault::Common(Fault::Read));
     };
-    let mut input = Metered::new(declared);
-    let ended = carry_out_run(rt, alloc, seed, helpers, voice, &mut input, writer, teller);
-    end_of_run(ended)
+    match first_if(readers) {
+        Some(first) => {
+            let mut first = Metered::new(first);
+            end_of_run(carry_out_run(rt, alloc, seed, command, &voice, &mut first, writer, teller))
+        }
+        None => end_of_run(carry_out_run(rt, alloc, seed, command, &voice, input, writer, teller)),
+    }
 }
 
 /// Prints what a number or a name means, or, without a word, the list of all that have an explanation. A word without
@@ -275,132 +307,13 @@ fn explain<W: Write>(
     end_of_explain(ended)
 }
 
-/// Who says more of an answer to the declaration and the assignment in these files.
-fn assignment_voice<'a>(
-    seed: u64,
-    declaration: &'a str,
-    assignment: &'a str,
-    beside: Beside,
-) -> Diagnosing<'a>
-    ensures { result.seed ≡ seed }
+/// Whether a second file is named.
+fn has_second(files: &Files<&str>) -> bool
+    ensures { result ≡ has_second (paths files.now) }
 {
-    Diagnosing::two(
-        seed,
-        shown_name(declaration),
-        CertificateKind::Assignment,
-        shown_name(assignment),
-        beside,
-    )
-}
-
-/// Carries out `plan` on the file at this path, or, without a path, on standard input.
-fn plan<'a, O: World<'a>, I: Read, W: Write, E: Write>(
-    world: &O,
-    alloc: Global,
-    seed: u64,
-    file: Option<&'a str>,
-    input: &mut Metered<I>,
-    writer: &mut Metered<W>,
-    teller: &mut Metered<E>,
-) -> Result<End, CommandFault>
-    requires drawn { O.seeds world.now (Some seed) }
-    ensures ended { EndedBy W.contents writer.old writer.new (EndsPlan (Has (O.opens world.now) O.File.Read.remaining)
-        (IsInput (I.remaining input.old.device)) (option_map (λ s. s.now) file.entry)) result }
-    ensures caused { IsCaused (O.seeds world.now) (O.opens world.now) (HasFailed input.old input.new)
-        (plans (option_map (λ s. s.now) file.entry)) result }
-    ensures input { ReadsInput I.remaining input.old input.new (plans (option_map (λ s. s.now) file.entry)) }
-    ensures unsaid { OnErr result (teller.new ≡ teller.old) }
-{
-    let command = PlanCommand { seed };
-    match file {
-        Some(file) => {
-            let voice = Diagnosing::one(seed, shown_name(file), Beside::Circle);
-            let files = Files::One(file);
-            carry_out_files(world, alloc, &command, &voice, files, writer, teller)
-        }
-        None => {
-            let voice = Diagnosing::one(seed, STDIN, Beside::Circle);
-            carry_out_input(world, alloc, &command, &voice, input, writer, teller)
-        }
-    }
-}
-
-/// Carries out `circles` on the file of a declaration, and that of an assignment, if there is one.
-fn circles<'a, O: World<'a>, W: Write, E: Write>(
-    world: &O,
-    alloc: Global,
-    seed: u64,
-    declaration: &'a str,
-    assignment: Option<&'a str>,
-    writer: &mut Metered<W>,
-    teller: &mut Metered<E>,
-) -> Result<End, CommandFault>
-    requires drawn { O.seeds world.now (Some seed) }
-    ensures ended { EndedBy W.contents writer.old writer.new
-        (EndsCircles (Has (O.opens world.now) O.File.Read.remaining)
-        declaration.now (option_map (λ s. s.now) assignment.entry)) result }
-    ensures caused { EndsReady (O.seeds world.now) (O.opens world.now)
-        (declaration.now ∷ option_to_list (option_map (λ s. s.now) assignment.entry)) (Unit {0}) ⊥ result }
-    ensures unsaid { OnErr result (teller.new ≡ teller.old) }
-{
-    match assignment {
-        Some(assignment) => {
-            let command = CirclesCommand {
-                seed,
-                assigned: true,
-            };
-            let voice = assignment_voice(seed, declaration, assignment, Beside::Components);
-            let files = Files::Two(declaration, assignment);
-            carry_out_files(world, alloc, &command, &voice, files, writer, teller)
-        }
-        None => {
-            let command = CirclesCommand {
-                seed,
-                assigned: false,
-            };
-            let voice = Diagnosing::one(seed, shown_name(declaration), Beside::OwnComponents);
-            let files = Files::One(declaration);
-            carry_out_files(world, alloc, &command, &voice, files, writer, teller)
-        }
-    }
-}
-
-/// Carries out `dot` on the file of a declaration, and that of an assignment, if there is one.
-fn dot<'a, O: World<'a>, W: Write, E: Write>(
-    world: &O,
-    alloc: Global,
-    seed: u64,
-    declaration: &'a str,
-    assignment: Option<&'a str>,
-    writer: &mut Metered<W>,
-    teller: &mut Metered<E>,
-) -> Result<End, CommandFault>
-    requires drawn { O.seeds world.now (Some seed) }
-    ensures ended { EndedBy W.contents writer.old writer.new (EndsDot (Has (O.opens world.now) O.File.Read.remaining)
-        declaration.now (option_map (λ s. s.now) assignment.entry)) result }
-    ensures caused { EndsReady (O.seeds world.now) (O.opens world.now)
-        (declaration.now ∷ option_to_list (option_map (λ s. s.now) assignment.entry)) (Unit {0}) ⊥ result }
-    ensures unsaid { OnErr result (teller.new ≡ teller.old) }
-{
-    match assignment {
-        Some(assignment) => {
-            let command = DotCommand {
-                seed,
-                assigned: true,
-            };
-            let voice = assignment_voice(seed, declaration, assignment, Beside::Other);
-            let files = Files::Two(declaration, assignment);
-            carry_out_files(world, alloc, &command, &voice, files, writer, teller)
-        }
-        None => {
-            let command = DotCommand {
-                seed,
-                assigned: false,
-            };
-            let voice = Diagnosing::one(seed, shown_name(declaration), Beside::Other);
-            let files = Files::One(declaration);
-            carry_out_files(world, alloc, &command, &voice, files, writer, teller)
-        }
+    match files {
+        Files::Unnamed | Files::One(_) => false,
+        Files::Two(..) | Files::Three(..) => true,
     }
 }
 
@@ -420,105 +333,107 @@ fn carry_out_seeded<'a, O: World<'a>, R: Threads + Wait + Sync, I: Read, W: Writ
     ensures ended { EndedBy W.contents writer.old writer.new
         (EndsAsAsked (Has (O.opens world.now) O.File.Read.remaining) (IsInput (I.remaining input.old.device))
         (spelled request.entry)) result }
+    ensures told { IfOk result (λ end. IsToldAsAsked Global (Has (O.opens world.now) O.File.Read.remaining)
+        (IsInput (I.remaining input.old.device)) (spelled request.entry) end
+        (WritesWhole W.contents writer.old writer.new) (Tells E.contents teller.old teller.new)) }
     ensures caused { IsCaused (O.seeds world.now) (O.opens world.now) (HasFailed input.old input.new)
         (spelled request.entry) result }
     ensures input { ReadsInput I.remaining input.old input.new (spelled request.entry) }
     ensures unsaid { OnErr result (teller.new ≡ teller.old) }
 {
-    match request {
-        Request::Plan { file } => plan(world, alloc, seed, file, input, writer, teller),
-        Request::Check {
-            declaration,
-            certificate,
-        } => {
-            let command = CheckCommand { seed };
-            let voice = Diagnosing::two(
-                seed,
-                shown_name(declaration),
-                CertificateKind::Answer,
-                shown_name(certificate),
-                Beside::Other,
-            );
-            let files = Files::Two(declaration, certificate);
-            carry_out_files(world, alloc, &command, &voice, files, writer, teller)
-        }
-        Request::Deadlock {
-            declaration,
-            assignment,
-        } => {
-            let command = DeadlockCommand { seed };
-            let voice = assignment_voice(seed, declaration, assignment, Beside::Verdict);
-            let files = Files::Two(declaration, assignment);
-            carry_out_files(world, alloc, &command, &voice, files, writer, teller)
-        }
-        Request::Hang {
-            declaration,
-            assignment,
-        } => {
-            let command = HangCommand { seed };
-            let voice = assignment_voice(seed, declaration, assignment, Beside::Verdict);
-            let files = Files::Two(declaration, assignment);
-            carry_out_files(world, alloc, &command, &voice, files, writer, teller)
-        }
-        Request::Repair {
-            declaration,
-            assignment,
-            names,
-        } => {
-            let names = names.as_slice();
-            let command = RepairCommand { seed, names };
-            let voice = Repairing {
-                seed,
-                declaration: shown_name(declaration),
-                assignment: shown_name(assignment),
-                names,
+    let verb = request.verb;
+    let files = &request.files;
+    let names = names_of(files);
+    match verb {
+        Verb::Plan => carry_out_files(
+            world,
+            alloc,
+            seed,
+            &PlanCommand,
+            &names,
+            files,
+            input,
+            writer,
+            teller,
+        ),
+        Verb::Check => carry_out_files(
+            world,
+            alloc,
+            seed,
+            &CheckCommand,
+            &names,
+            files,
+            input,
+            writer,
+            teller,
+        ),
+        Verb::Deadlock => carry_out_files(
+            world,
+            alloc,
+            seed,
+            &DeadlockCommand,
+            &names,
+            files,
+            input,
+            writer,
+            teller,
+        ),
+        Verb::Hang => carry_out_files(
+            world,
+            alloc,
+            seed,
+            &HangCommand,
+            &names,
+            files,
+            input,
+            writer,
+            teller,
+        ),
+        Verb::Repair => {
+            let command = RepairCommand {
+                names: request.tail.names(),
             };
-            let files = Files::Two(declaration, assignment);
-            carry_out_files(world, alloc, &command, &voice, files, writer, teller)
-        }
-        Request::Replay {
-            declaration,
-            assignment,
-            run,
-        } => {
-            let command = ReplayCommand { seed };
-            let voice = Diagnosing {
-                seed,
-                declaration: shown_name(declaration),
-                kind: CertificateKind::Assignment,
-                certificate: shown_name(assignment),
-                run: shown_name(run),
-                beside: Beside::RunEnd,
-            };
-            let files = Files::Three(declaration, assignment, run);
-            carry_out_files(world, alloc, &command, &voice, files, writer, teller)
-        }
-        Request::Circles {
-            declaration,
-            assignment,
-        } => circles(world, alloc, seed, declaration, assignment, writer, teller),
-        Request::Dot {
-            declaration,
-            assignment,
-        } => dot(world, alloc, seed, declaration, assignment, writer, teller),
-        Request::Run {
-            declaration,
-            helpers,
-        } => {
-            let voice = Diagnosing::one(seed, shown_name(declaration), Beside::Other);
-            run(
-                world,
-                rt,
-                alloc,
-                seed,
-                helpers,
-                &voice,
-                declaration,
-                writer,
-                teller,
+            let voice = RepairVoice { files: names };
+            carry_out_files(
+                world, alloc, seed, &command, &voice, files, input, writer, teller,
             )
         }
-        Request::Explain { code } => explain(alloc, code, writer),
+        Verb::Replay => carry_out_files(
+            world,
+            alloc,
+            seed,
+            &ReplayCommand,
+            &names,
+            files,
+            input,
+            writer,
+            teller,
+        ),
+        Verb::Circles => {
+            let command = CirclesCommand {
+                assigned: has_second(files),
+            };
+            carry_out_files(
+                world, alloc, seed, &command, &names, files, input, writer, teller,
+            )
+        }
+        Verb::Dot => {
+            let command = DotCommand {
+                assigned: has_second(files),
+            };
+            carry_out_files(
+                world, alloc, seed, &command, &names, files, input, writer, teller,
+            )
+        }
+        Verb::Run => {
+            let command = RunCommand {
+                helpers: request.tail.helpers(),
+            };
+            run(
+                world, rt, alloc, seed, &command, files, input, writer, teller,
+            )
+        }
+        Verb::Explain => explain(alloc, request.tail.word(), writer),
     }
 }
 
@@ -537,13 +452,16 @@ fn carry_out_asked<'a, O: World<'a>, R: Threads + Wait + Sync, I: Read, W: Write
     ensures ended { EndedBy W.contents writer.old writer.new
         (EndsAsAsked (Has (O.opens world.now) O.File.Read.remaining) (IsInput (I.remaining input.old.device))
         (spelled request.entry)) result }
+    ensures told { IfOk result (λ end. IsToldAsAsked Global (Has (O.opens world.now) O.File.Read.remaining)
+        (IsInput (I.remaining input.old.device)) (spelled request.entry) end
+        (WritesWhole W.contents writer.old writer.new) (Tells E.contents teller.old teller.new)) }
     ensures caused { IsCaused (O.seeds world.now) (O.opens world.now) (HasFailed input.old input.new)
         (spelled request.entry) result }
     ensures input { ReadsInput I.remaining input.old input.new (spelled request.entry) }
     ensures unsaid { OnErr result (teller.new ≡ teller.old) }
 {
-    if let Request::Explain { code } = request {
-        return explain(alloc, code, writer);
+    if request.verb == Verb::Explain {
+        return explain(alloc, request.tail.word(), writer);
     }
     let Some(seed) = world.seed() else {
         return Err(CommandFault::Common(Fault::Read));
@@ -576,6 +494,12 @@ pub(crate) fn perform<'a, O: World<'a>, R: Threads + Wait + Sync, I: Read, W: Wr
         × PromisesAsAsked (Has (O.opens world.now) O.File.Read.remaining) (IsInput (I.remaining input.old.device))
         (spelled request.entry) end out
         × WritesWhole W.contents writer.old writer.new out) }
+
+    // What is said is said of this answer, with the names of these files: of what was found, of which the answer is
+    // printed, or of the text that is refused.
+    ensures told { IfOk result (λ end. IsToldAsAsked Global (Has (O.opens world.now) O.File.Read.remaining)
+        (IsInput (I.remaining input.old.device)) (spelled request.entry) end
+        (WritesWhole W.contents writer.old writer.new) (Tells E.contents teller.old teller.new)) }
 
     ensures caused { IsCaused (O.seeds world.now) (O.opens world.now) (HasFailed input.old input.new)
         (spelled request.entry) result }
@@ -610,6 +534,18 @@ pub(crate) fn perform_above<
         × PromisesAsAsked (Has (O.opens world.now) O.File.Read.remaining) (IsInput (I.remaining input.old.device))
         (spelled request.entry) end out
         × WritesWhole W.contents writer.old writer.new out) }
+
+    // What is said is said of this answer, even where a write of the answer, which comes after it, fails. After any
+    // other fault nothing is said.
+    ensures told { IfOk result (λ end. IsToldAsAsked Global (Has (O.opens world.now) O.File.Read.remaining)
+        (IsInput (I.remaining input.old.device)) (spelled request.entry) end
+        (WritesWhole W.contents writer.old writer.new) (Tells E.contents teller.old teller.new)) }
+    ensures told_first { result ≡ Err (CommandFault.Common Fault.Write)
+        → (end : End) × IsToldAsAsked Global (Has (O.opens world.now) O.File.Read.remaining)
+        (IsInput (I.remaining input.old.device)) (spelled request.entry) end
+        (WritesPrefix W.contents writer.old writer.new) (Tells E.contents teller.old teller.new) }
+    ensures unsaid { IfErr result (λ fault. fault ≢ CommandFault.Common Fault.Write → teller.new ≡ teller.old) }
+
     ensures caused { IsCaused (O.seeds world.now) (O.opens world.now) (HasFailed input.old input.new)
         (spelled request.entry) result }
     ensures input { ReadsInput I.remaining input.old input.new (spelled request.entry) }

@@ -6,8 +6,10 @@
 //! names it and says why, before the line of the fault. An opening takes the time of one system call, and so do a read
 //! and a seed.
 
+ghost use Rattle.std.specs.Prelude.{◌≡◌};
 ghost use Rattle.std.specs.Io.{ReadsAtMost};
 ghost use Rattle.std.specs.Io.KnownBytes.{ReadConsumes};
+ghost use Rattle.wqplan.specs.Told.{shown_name};
 
 use std::alloc::Global;
 use std::io::{self, ErrorKind, Read, Write};
@@ -101,7 +103,9 @@ impl<F: Read, I: Read> Read for Opened<F, I> {
 }
 
 /// The name of the file at this path in a diagnosis.
-pub(crate) fn shown_name(path: &str) -> &str {
+pub(crate) fn shown_name(path: &str) -> &str
+    ensures { result.now ≡ shown_name path.now }
+{
     if path == INPUT { STDIN } else { path }
 }
 

@@ -1,12 +1,8 @@
-use Rattle.std.proofs.Common.{◌==◌, ◌⊎◌, inl, inr, ℕ, List, [], map, sym, ap, ap₂, subst, ◌∙◌, arith}
+use Rattle.std.proofs.Common.{◌==◌, ◌⊎◌, inl, inr, ℕ, List, [], map, sym, ap, ◌∙◌, arith}
 use Rattle.std.specs.Prelude.{◌≢◌}
 use Rattle.std.proofs.lemmas.List.{length-map}
 use Rattle.wq_items.specs.Table.{Table}
 use Rattle.wq_graph.specs.declared.arc.WaitArc.{WaitArc}
-use Rattle.wq_deadlock.specs.Judging.{bare_waits}
-use Rattle.wq_commands.specs.declared.end.End.{End}
-use Rattle.wq_commands.specs.Answer.{declared_waits}
-use Rattle.wq_circles.specs.Circling.{CirclesAssigned}
 use Rattle.wq_circles.specs.ComponentsText.{circles_text}
 use Rattle.wq_circles.proofs.OfAssigned.{few_components, between_items, not_empty, waits_between_items}
 use Rattle.wq_circles.proofs.circling.print_components.Goals as goal
@@ -29,25 +25,21 @@ pub circles_text-requires-clause-waits : goal.circles_text-requires-clause-waits
 circles_text-requires-clause-waits g c =
     rw (c.table.ensures.is, c.requires.waits) (waits_between_items c.args.assigned.now c.table.ensures.assigned)
 
-pub returns-clause-answer : goal.returns-clause-answer
-returns-clause-answer g c =
+pub returns : goal.returns
+returns g c =
     let s = c.args.assigned.now.declared in
-    let ws = c.args.assigned.now.workqueues in
     let components : List (List WaitArc) = map (λ v. v.items) c.args.components.now in
-    let waits = bare_waits (declared_waits s) ws in
+    let waits = c.args.waits.now in
     let some : (components ≢ []) ⊎ (waits ≢ []) = elim c.else-is_empty.branch [
       | else-is_empty-via-then-is_empty+else-is_empty-2 w ↦
-          inr
-          (subst (λ (l : List WaitArc). l ≢ []) c.requires.waits
-          (not_empty c.args.waits.now (sym w.if-is_empty-2.false ∙ w.is_empty-then-is_empty.ensures)))
+          inr (not_empty waits (sym w.if-is_empty-2.false ∙ w.is_empty-then-is_empty.ensures))
       | else-is_empty-via-else-is_empty w ↦
           inl
           (not_empty components
           (sym w.if-is_empty.false ∙ c.is_empty.ensures
           ∙ ap (λ (n : ℕ). n == 0) (sym (length-map c.args.components.now (λ v. v.items)))))
-    ] in
-    let text =
-    ap (λ v. v.items) c.plain-2.ensures.text ∙ c.in_ok-text-2.ensures
-    ∙ ap₂ (λ (t : Table) (l : List WaitArc). circles_text t.names components l) c.table.ensures.is c.requires.waits in
-    subst (λ (end : End). CirclesAssigned s ws end c.plain-2.result.text.items) (sym c.plain-2.ensures.end)
-    (record { components = components; some = some; are = c.requires.found; text = text })
+    ] in (
+      some,
+      c.in_ok-text-2.ensures
+          ∙ ap (λ (t : Table). circles_text t.names components waits) c.table.ensures.is,
+    )

@@ -1,65 +1,80 @@
 use Rattle.std.proofs.Common.{◌≡◌, ℕ, ◌<◌, List, length, map, Some, sym, ap, subst, ◌∙◌, arith}
 use Rattle.std.specs.List.{All}
 use Rattle.std.proofs.lemmas.Result.{IfOk-weaker}
+use Rattle.wq_items.specs.Table.{Table}
 use Rattle.wq_core.specs.declared.step.Step.{Step}
 use Rattle.wq_core.specs.Runs.{HasNoHelp}
 use Rattle.wq_core.specs.Wiring.{own_lanes}
 use Rattle.wq_cert.specs.CircleText.{circle_text}
 use Rattle.wq_cert.specs.RunText.{step_item}
 use Rattle.wq_commands.specs.Answer.{ends_of}
-use Rattle.wq_commands.specs.Declaration.{Declared}
-use Rattle.wq_commands.proofs.AnswerLemmas.{IsSound}
+use Rattle.wq_commands.specs.Declaration.{Declared, IsSound}
+use Rattle.wq_commands.proofs.AnswerLemmas.{ArePrintable}
 use Rattle.wq_commands.proofs.CircleRuns.{IsAssignmentOf-own_lanes}
 use Rattle.wq_commands.proofs.NamedSteps.{step_item-deadlock, length-deadlock}
 use Rattle.wq_repair_command.proofs.Circles.{Deadlocks-needed, ArePrintable-needed}
 use Rattle.wq_repair_command.proofs.circle.text_of_circle.Goals as goal
 
-pub run_of_groups-requires-clause-unsafe_groups : goal.run_of_groups-requires-clause-unsafe_groups
-run_of_groups-requires-clause-unsafe_groups g c =
-    let s : Declared = record { table = c.args.table.now; partition = c.args.groups.now } in
-    let sound : IsSound s = record { table = c.len-items.ensures.table; partition = c.len-groups.ensures.partition; one_group_each = c.requires.grouped } in
-    Deadlocks-needed s sound c.args.workqueues.now c.args.arcs.now c.requires.circle
+pub run_of_groups-requires : goal.run_of_groups-requires
+run_of_groups-requires g c =
+    let sound : IsSound c.args.declared.now = subst IsSound c.declared.view_is c.declared.invariant in
+    Deadlocks-needed c.args.declared.now sound c.requires.needed.0 c.args.arcs.now c.requires.needed.1
 
 pub circle_text-requires-clause-few : goal.circle_text-requires-clause-few
 circle_text-requires-clause-few g c =
-    let s : Declared = record { table = c.args.table.now; partition = c.args.groups.now } in
-    let sound : IsSound s = record { table = c.len-items.ensures.table; partition = c.len-groups.ensures.partition; one_group_each = c.requires.grouped } in
-    omega (arith, (ArePrintable-needed s sound c.args.workqueues.now c.args.arcs.now c.requires.circle _ (c.deref.ensures.value ∙ c.in_ok-ends.ensures)).few)
+    let s = c.args.declared.now in
+    let sound : IsSound s = subst IsSound c.declared.view_is c.declared.invariant in
+    let printable = ArePrintable-needed s sound c.requires.needed.0 c.args.arcs.now c.requires.needed.1 _
+    (c.deref.ensures.value ∙ c.in_ok-ends.ensures) in
+    omega (arith, printable.few)
 
 pub circle_text-requires-clause-items : goal.circle_text-requires-clause-items
 circle_text-requires-clause-items g c =
-    let s : Declared = record { table = c.args.table.now; partition = c.args.groups.now } in
-    let sound : IsSound s = record { table = c.len-items.ensures.table; partition = c.len-groups.ensures.partition; one_group_each = c.requires.grouped } in
-    (ArePrintable-needed s sound c.args.workqueues.now c.args.arcs.now c.requires.circle _ (c.deref.ensures.value ∙ c.in_ok-ends.ensures)).items
+    let s = c.args.declared.now in
+    let sound : IsSound s = subst IsSound c.declared.view_is c.declared.invariant in
+    let same : c.declared.inside.table ≡ s.table = ap (λ (d : Declared). d.table) c.declared.view_is in
+    (subst (λ (t : Table). ArePrintable t c.deref.result.now) (sym same)
+    (ArePrintable-needed s sound c.requires.needed.0 c.args.arcs.now c.requires.needed.1 _
+    (c.deref.ensures.value ∙ c.in_ok-ends.ensures))).items
 
 pub circle_text-requires-clause-few_steps : goal.circle_text-requires-clause-few_steps
 circle_text-requires-clause-few_steps g c =
-    let s : Declared = record { table = c.args.table.now; partition = c.args.groups.now } in
-    let sound : IsSound s = record { table = c.len-items.ensures.table; partition = c.len-groups.ensures.partition; one_group_each = c.requires.grouped } in
-    omega (arith, ap length c.as_slice.ensures.value, length-deadlock s sound (own_lanes s.partition.groups) (IsAssignmentOf-own_lanes s sound) c.in_ok-steps.steps.items c.in_ok-steps.ensures.deadlocks)
+    let s = c.args.declared.now in
+    let sound : IsSound s = subst IsSound c.declared.view_is c.declared.invariant in
+    omega (
+      arith,
+      ap length c.as_slice.ensures.value,
+      length-deadlock s sound (own_lanes s.partition.groups)
+          (IsAssignmentOf-own_lanes s sound) c.in_ok-steps.steps.items c.in_ok-steps.ensures.deadlocks,
+    )
 
 pub circle_text-requires-clause-step_items : goal.circle_text-requires-clause-step_items
 circle_text-requires-clause-step_items g c =
-    let s : Declared = record { table = c.args.table.now; partition = c.args.groups.now } in
-    let sound : IsSound s = record { table = c.len-items.ensures.table; partition = c.len-groups.ensures.partition; one_group_each = c.requires.grouped } in
-    subst (All (λ (step : Step). step_item step < length s.table.names)) (sym c.as_slice.ensures.value) (step_item-deadlock s sound (own_lanes s.partition.groups) (IsAssignmentOf-own_lanes s sound) c.in_ok-steps.steps.items c.in_ok-steps.ensures.deadlocks)
+    let s = c.args.declared.now in
+    let sound : IsSound s = subst IsSound c.declared.view_is c.declared.invariant in
+    let same : c.declared.inside.table ≡ s.table = ap (λ (d : Declared). d.table) c.declared.view_is in
+    subst (λ (t : Table). All (λ (step : Step). step_item step < length t.names) c.as_slice.result.now) (sym same)
+    (subst (All (λ (step : Step). step_item step < length s.table.names)) (sym c.as_slice.ensures.value)
+    (step_item-deadlock s sound (own_lanes s.partition.groups)
+    (IsAssignmentOf-own_lanes s sound) c.in_ok-steps.steps.items c.in_ok-steps.ensures.deadlocks))
 
 pub circle_text-requires-clause-no_help : goal.circle_text-requires-clause-no_help
-circle_text-requires-clause-no_help g c = subst HasNoHelp (sym c.as_slice.ensures.value) c.in_ok-steps.ensures.deadlocks.no_help
+circle_text-requires-clause-no_help g c =
+    subst HasNoHelp (sym c.as_slice.ensures.value) c.in_ok-steps.ensures.deadlocks.no_help
 
 pub returns : goal.returns
 returns g c =
-    let s : Declared = record { table = c.args.table.now; partition = c.args.groups.now } in
+    let s = c.args.declared.now in
     let circle = c.args.arcs.now in
     let steps = c.in_ok-steps.steps.items in
     let ends : c.deref.result.now ≡ map ends_of circle = c.deref.ensures.value ∙ c.in_ok-ends.ensures in
-    IfOk-weaker c.circle_text.result _ _ (λ text printed. record {
-      circle = circle;
-      needed = c.requires.circle;
-      steps = steps;
-      run = c.in_ok-steps.ensures;
-      text =
-          printed
+    let same : c.declared.inside.table ≡ s.table = ap (λ (d : Declared). d.table) c.declared.view_is in
+    IfOk-weaker c.circle_text.result _ _ (λ text printed. (
+      steps,
+      c.in_ok-steps.ensures,
+      printed
+          ∙ ap (λ (t : Table). circle_text t.names c.deref.result.now (Some c.as_slice.result.now)) same
           ∙ ap (λ (arcs : List (ℕ × ℕ)). circle_text s.table.names arcs (Some c.as_slice.result.now)) ends
-          ∙ ap (λ (run : List Step). circle_text s.table.names (map ends_of circle) (Some run)) c.as_slice.ensures.value;
-    }) c.circle_text.ensures
+          ∙ ap (λ (run : List Step). circle_text s.table.names (map ends_of circle) (Some run))
+          c.as_slice.ensures.value,
+    )) c.circle_text.ensures

@@ -1,7 +1,6 @@
 use Rattle.std.proofs.Common.{◌≡◌, ◌++◌, [], ℕ, List, Some, map, sym, ap, subst, ◌∙◌, arith}
 use Rattle.std.specs.Prelude.{codes, slice_get}
 use Rattle.std.proofs.lemmas.Option.{get_or_from_slice_get}
-use Rattle.wq_items.specs.Table.{Table}
 use Rattle.wq_cert.specs.PlanText.{name_of}
 use Rattle.wq_commands.specs.Declaration.{Declared, IsSound}
 use Rattle.wq_diagnosis.specs.Words.{workqueue_words}

@@ -1,33 +1,14 @@
-use Rattle.std.proofs.Common.{◌<◌, List, length, sym, subst}
-use Rattle.std.specs.List.{All}
-use Rattle.wq_groups.specs.Declaration.{IsDeclaration, declaration_of}
-use Rattle.wq_groups.proofs.Declarations.{IsDeclaration-of}
+use Rattle.std.proofs.Common.{List, subst, sym}
+use Rattle.wq_groups.specs.Declaration.{declaration_of}
 use Rattle.wq_hang.specs.declared.hop.Hop.{Hop}
 use Rattle.wq_hang.specs.Answer.{IsHangOf}
-use Rattle.wq_commands.specs.Declaration.{IsSound}
-use Rattle.wq_voice.proofs.Walked.{hang_items, hang_targets}
 use Rattle.wq_voice.proofs.reason.of_answer.Goals as goal
 
-pub put_walk-requires-clause-items : goal.put_walk-requires-clause-items
-put_walk-requires-clause-items g c =
-    let t = c.args.subject.now.declared.now.table in
-    let p = c.args.subject.now.declared.now.partition in
+pub of_hops-requires-clause-hang : goal.of_hops-requires-clause-hang
+of_hops-requires-clause-hang g c =
+    let s = c.args.subject.now.declared.now in
+    let d = declaration_of s.table s.partition in
     let ws = c.args.subject.now.workqueues.now in
-    let sound : IsSound c.args.subject.now.declared.now = subst IsSound c.declared.view_is c.declared.invariant in
-    let declaration : IsDeclaration (declaration_of t p) = IsDeclaration-of t p sound.table sound.partition
-    sound.one_group_each in
-    let hang : IsHangOf (declaration_of t p) ws c.in-Hang.hops.items c.in-Hang.field-1.items = rw c.in-Hang.is at c.requires.answer in
-    subst (λ (hops : List Hop). All (λ (h : Hop). h.item < length p.group_of) hops) (sym c.deref.ensures.value)
-    (hang_items (declaration_of t p) ws declaration c.in-Hang.hops.items c.in-Hang.field-1.items hang)
-
-pub put_walk-requires-clause-targets : goal.put_walk-requires-clause-targets
-put_walk-requires-clause-targets g c =
-    let t = c.args.subject.now.declared.now.table in
-    let p = c.args.subject.now.declared.now.partition in
-    let ws = c.args.subject.now.workqueues.now in
-    let sound : IsSound c.args.subject.now.declared.now = subst IsSound c.declared.view_is c.declared.invariant in
-    let declaration : IsDeclaration (declaration_of t p) = IsDeclaration-of t p sound.table sound.partition
-    sound.one_group_each in
-    let hang : IsHangOf (declaration_of t p) ws c.in-Hang.hops.items c.in-Hang.field-1.items = rw c.in-Hang.is at c.requires.answer in
-    subst (λ (hops : List Hop). All (λ (h : Hop). h.flush.item < length p.group_of) hops) (sym c.deref.ensures.value)
-    (hang_targets (declaration_of t p) ws declaration c.in-Hang.hops.items c.in-Hang.field-1.items hang)
+    let steps = c.in-Hang.field-1.items in
+    let hang : IsHangOf d ws c.in-Hang.hops.items steps = rw c.in-Hang.is at c.requires.answer in
+    (steps, subst (λ (hops : List Hop). IsHangOf d ws hops steps) (sym c.deref.ensures.value) hang)

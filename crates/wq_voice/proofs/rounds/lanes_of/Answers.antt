@@ -1,6 +1,4 @@
-use Rattle.std.proofs.Common.{◌≡◌, ◌++◌, ◌∷◌, [], ℕ, List, sym, ap, ◌∙◌, arith}
-use Rattle.std.specs.Prelude.{filter}
-use Rattle.std.specs.List.{range_with_len}
+use Rattle.std.proofs.Common.{◌++◌, ◌∷◌, [], ℕ, sym, ap, ◌∙◌}
 use Rattle.wq_commands.specs.Declaration.{Declared}
 use Rattle.wq_voice.specs.Components.{begins_on}
 use Rattle.wq_voice.proofs.BareNotes.{kept, left}

@@ -2,7 +2,8 @@ use Rattle.std.proofs.Common.{true, ap, sym, subst, map, ◌≡◌, ◌∙◌}
 use Rattle.clap.specs.Words.{App, app_of, is_simple, kind_of, subcommand_of, subcommand_rows_of, takes}
 use Rattle.clap.specs.declared.error.kind.ErrorKind.TheVariants.{OutOfMemory}
 use Rattle.wqplan.specs.CommandLine.{wqplan, spelled, AsksFor}
-use Rattle.wqplan.proofs.CommandLemmas.{wqplan_is_simple, takes_Calls, Asks_Calls, AsksFor-unique, failed_with}
+use Rattle.wqplan.proofs.CommandLemmas.{AsksFor-unique, failed_with}
+use Rattle.wqplan.proofs.WordLemmas.{Asks_Calls, takes_Calls, wqplan_is_simple}
 use Rattle.wqplan.proofs.CommandLemmas.{few_helpers, if_some, no_some}
 use Rattle.wqplan.proofs.command_line.parse.Goals as goal
 

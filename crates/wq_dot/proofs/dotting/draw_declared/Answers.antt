@@ -1,9 +1,0 @@
-use Rattle.wq_cert.specs.Reading.{lanes_reading}
-use Rattle.wq_cert.proofs.ReadRanges.{IsReadSo-text_reading}
-use Rattle.wq_dot.proofs.dotting.draw_declared.Goals as goal
-
-pub draw_named-answer-requires : goal.draw_named-answer-requires
-draw_named-answer-requires g c =
-    let s = c.args.declared.now in
-    (IsReadSo-text_reading (lanes_reading s.table.names s.partition) c.args.text.now c.in-Ok.assigned.workqueues
-    c.in-Ok.ensures.workqueues).within

@@ -1,7 +1,0 @@
-use Rattle.wq_hang_command.proofs.hanging.hang.Goals as goal
-
-pub returns-in-Ok-clause-answer : goal.returns-in-Ok-clause-answer
-returns-in-Ok-clause-answer g c = rw c.in-Ok.ensures.declaration c.hang_declared-answer.ensures.answer
-
-pub returns-in-Ok-clause-why : goal.returns-in-Ok-clause-why
-returns-in-Ok-clause-why g c = rw c.in-Ok.ensures.declaration c.hang_declared-answer.ensures.why

@@ -1,0 +1,110 @@
+//! What is said beside the answer of `hang`: beside `safe`, which items are on workqueues without a rescuer; beside a
+//! run, the waits of the walk whose run it is.
+//!
+//! Nothing is searched for: the answer has the walk beside its run. A call takes the time and the memory of the words.
+
+ghost use Rattle.std.specs.Prelude.{◌≡◌, ℕ, IfOk, List, Ok, length, option_map};
+ghost use Rattle.wq_hang.specs.Answer.{IsAnswer};
+ghost use Rattle.wq_cert.specs.Texts.{workqueues_of_text};
+ghost use Rattle.wq_commands.specs.Answer.{declared_waits};
+ghost use Rattle.wq_commands.specs.declared.end.End.{End};
+ghost use Rattle.wq_hang_command.specs.Hanging.{HangsText};
+ghost use Rattle.wq_hang_command.specs.Saying.{SaysHang, SaysHangOf};
+
+use crate::hang::HangCommand;
+use crate::hanging::Hanging;
+use std::alloc::{AllocError, Allocator};
+use wq_commands::{Declaration, Found, Texts, Voice};
+use wq_diagnosis::Source;
+use wq_hang::Answer;
+use wq_voice::{CertificateKind, FileNames, say_hops, say_refusal, say_refused_text, say_safe};
+
+/// What is said of this answer to workqueues whose text is the second.
+fn say_answer<A: Allocator + Copy>(
+    alloc: A,
+    names: &FileNames<'_>,
+    declared: &Declaration<'_, A>,
+    texts: &Texts<A>,
+    hanging: &Hanging<A>,
+) -> Result<Option<Vec<u8, A>>, AllocError>
+    requires read { workqueues_of_text declared.now.table.names declared.now.partition texts.now.second
+        ≡ Ok hanging.now.workqueues }
+    requires assigned { length hanging.now.workqueues.assignment.lane_of_group ≡ declared.now.partition.groups }
+    requires answer { IsAnswer (declared_waits declared.now) hanging.now.workqueues hanging.now.answer }
+    ensures { IfOk result (λ said. SaysHang names.now.declaration.now names.now.second.now texts.now.second
+        declared.now hanging.now.workqueues hanging.now.answer (option_map (λ text. text.items) said)) }
+{
+    let assignment = Source {
+        file: names.second,
+        text: texts.second(),
+    };
+    let workqueues = &hanging.workqueues;
+    match &hanging.answer {
+        Answer::Safe => say_safe(alloc, names.declaration, assignment, declared, workqueues),
+        Answer::Hang(hops, _) => {
+            let declaration = Source {
+                file: names.declaration,
+                text: texts.first(),
+            };
+            let said = say_hops(alloc, declaration, assignment, declared, workqueues, hops)?;
+            Ok(Some(said))
+        }
+    }
+}
+
+/// What is said of what `hang` found.
+fn say_hang<A: Allocator + Copy>(
+    alloc: A,
+    names: &FileNames<'_>,
+    declared: &Declaration<'_, A>,
+    texts: &Texts<A>,
+    found: &Found<Hanging<A>>,
+) -> Result<Option<Vec<u8, A>>, AllocError>
+    requires { (end : End) × (out : List ℕ) × HangsText declared.now texts.now.second found.now end out }
+    ensures { IfOk result (λ said. SaysHangOf names.now.declaration.now names.now.second.now names.now.run.now
+        declared.now texts.now found.now (option_map (λ text. text.items) said)) }
+{
+    // What holds of every declaration.
+    let _groups = &declared.groups;
+    match found {
+        Found::Refused { which, code, line } => {
+            let kind = CertificateKind::Assignment;
+            say_refused_text(alloc, names, kind, declared, texts, *which, *code, *line)
+        }
+        Found::Read(hanging) => say_answer(alloc, names, declared, texts, hanging),
+    }
+}
+
+impl<A: Allocator + Copy> Voice<HangCommand, A> for FileNames<'_> {
+    ghost use Rattle.std.specs.Prelude.{Some};
+    ghost use Rattle.wq_diagnosis.specs.Refused.{Diagnoses};
+    ghost use Rattle.wq_hang_command.specs.Saying.{SaysHangOf};
+
+    ghost says = { λ names _ s texts found said.
+        SaysHangOf names.declaration.now names.second.now names.run.now s texts found said };
+
+    ghost refuses = { λ names _ r said. Diagnoses names.declaration.now (Some r) said };
+
+    fn say(
+        &self,
+        alloc: A,
+        _seed: u64,
+        _command: &HangCommand,
+        declared: &Declaration<'_, A>,
+        texts: &Texts<A>,
+        found: &Found<Hanging<A>>,
+    ) -> Result<Option<Vec<u8, A>>, AllocError> {
+        say_hang(alloc, self, declared, texts, found)
+    }
+
+    fn refuse(
+        &self,
+        alloc: A,
+        seed: u64,
+        texts: &Texts<A>,
+        code: u32,
+        line: u32,
+    ) -> Result<Option<Vec<u8, A>>, AllocError> {
+        say_refusal(alloc, seed, self, texts, code, line)
+    }
+}

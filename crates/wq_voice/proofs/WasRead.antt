@@ -1,0 +1,48 @@
+-- What was found in a text that was read: workqueues of the declared groups, and steps.
+use Rattle.std.proofs.Common.{◌≡◌, ℕ, List, length, Ok, sym, ap, ◌∙◌}
+use Rattle.wq_cert.specs.Texts.{run_of, workqueues_of_text}
+use Rattle.wq_cert.proofs.LanesRead.{AreWorkqueuesOf-workqueues_of_text}
+use Rattle.wq_core.specs.declared.step.Step.{Step}
+use Rattle.wq_core.specs.Workqueues.{Workqueues}
+use Rattle.wq_circles.proofs.Found.{AnswersIn-read}
+use Rattle.wq_commands.specs.declared.deadlocking.Verdict.{Verdict}
+use Rattle.wq_commands.specs.declared.end.End.{End}
+use Rattle.wq_commands.specs.declared.found.Found.TheVariants.{Read}
+use Rattle.wq_commands.specs.declared.found.Which.TheVariants.{Certificate as SecondText, Run}
+use Rattle.wq_commands.specs.declared.replaying.Replayed.{Replayed}
+use Rattle.wq_commands.specs.Commands.{FindsEnd, FindsVerdict, JudgesText, ReplaysOn, ReplaysTexts}
+use Rattle.wq_commands.specs.Declaration.{Declared, IsSound}
+
+-- each declared group is on one of the workqueues that were read
+pub assigned_read : (s : Declared) (text : List ℕ) (ws : Workqueues) → IsSound s
+    → workqueues_of_text s.table.names s.partition text ≡ Ok ws
+    → length ws.assignment.lane_of_group ≡ s.partition.groups
+assigned_read s text ws sound is =
+    let are = AreWorkqueuesOf-workqueues_of_text s.table.names s.partition sound.partition (sym sound.one_group_each)
+    text ws is in
+    are.assignment.assignment.one_each
+
+-- these are the workqueues that the verdict is on
+pub JudgesText-read : {A : Type 0} (s : Declared) (text : List ℕ) (v : Verdict A) (end : End) (out : List ℕ)
+    → JudgesText s text (Read v) end out → workqueues_of_text s.table.names s.partition text ≡ Ok v.workqueues
+JudgesText-read {A} s text v end out judged =
+    let (ws, read, finds) = AnswersIn-read SecondText (workqueues_of_text s.table.names s.partition text)
+    (λ ws. FindsVerdict s ws) v end out judged in
+    let found : Verdict A = record { workqueues = ws; end = end } in
+    let same : v ≡ found = (let is = finds.0 in cc) in
+    read ∙ ap (λ (x : Verdict A). Ok x.workqueues) (sym same)
+
+-- these are the workqueues that the run was made on, and its steps
+pub ReplaysTexts-read : {A : Type 0} (s : Declared) (lanes text : List ℕ) (r : Replayed A) (end : End) (out : List ℕ)
+    → ReplaysTexts s lanes text (Read r) end out
+    → (workqueues_of_text s.table.names s.partition lanes ≡ Ok r.workqueues)
+    × (run_of s.table.names text ≡ Ok r.steps.items)
+ReplaysTexts-read {A} s lanes text r end out replayed =
+    let (ws, read, on) = AnswersIn-read SecondText (workqueues_of_text s.table.names s.partition lanes)
+    (λ ws. ReplaysOn s ws text) r end out replayed in
+    let (steps, run, finds) = AnswersIn-read Run (run_of s.table.names text) (λ steps. FindsEnd s ws steps) r end out
+    on in
+    let same : finds.replayed ≡ r = (let is = finds.is in cc) in
+    let workqueues : r.workqueues ≡ ws = ap (λ (x : Replayed A). x.workqueues) (sym same) ∙ finds.workqueues in
+    let made : r.steps.items ≡ steps = ap (λ (x : Replayed A). x.steps.items) (sym same) ∙ finds.made in
+    (read ∙ ap (λ (w : Workqueues). Ok w) (sym workqueues), run ∙ ap (λ (l : List Step). Ok l) (sym made))

@@ -1,0 +1,22 @@
+use Rattle.std.proofs.Common.{◌≡◌, ℕ, List, map, ap, subst, ◌∙◌}
+use Rattle.std.specs.Prelude.{IfOk, option_map}
+use Rattle.wq_names.specs.Names.{names_of}
+use Rattle.wq_commands.specs.Answer.{declared_waits}
+use Rattle.wq_voice.specs.Reasons.{can_hang, GivesReason}
+use Rattle.wq_voice.specs.Waits.{words_of}
+use Rattle.wq_voice.specs.declared.waits.Wording.TheVariants.{OnWorkqueues}
+use Rattle.wq_diagnosis.proofs.ReadTexts.{limits-read}
+use Rattle.wq_voice.proofs.reason.say_reason.Goals as goal
+
+pub returns : goal.returns
+returns g c =
+    let s = c.args.declared.now in
+    let ws = c.args.workqueues.now in
+    let text = c.args.assignment.text.now in
+    let names : map (λ n. n.now) c.deref.result.now ≡ names_of text =
+    ap (λ ns. map (λ n. n.now) ns) c.deref.ensures.value
+    ∙ c.in_ok-names.ensures (limits-read s.table.names s.partition text ws c.requires.read) in
+    subst (λ (ns : List (List ℕ)). IfOk c.of_subject.result
+    (λ said. GivesReason c.args.declaration.file.now can_hang (λ h. words_of OnWorkqueues s ws ns h) (declared_waits s)
+    ws (option_map (λ v. v.items) said)))
+    names c.of_subject.ensures

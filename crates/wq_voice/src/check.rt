@@ -1,0 +1,138 @@
+//! What is said beside the answer of `check`: of a certificate to which it says no the diagnosis of what it lacks; and
+//! behind that of a plan with a flush that doesn't fall how the plan's workqueues can hang.
+//!
+//! Where flushes don't fall, workqueues may be safe nevertheless, if their numbers alone are wrong. A call takes the
+//! time and the memory of the diagnosis; behind it, of reading the plan's workqueues, and of the search for a shortest
+//! run.
+
+ghost use Rattle.std.specs.Prelude.{◌≡◌, ◌++◌, [], IfOk, Some, length, option_map, unwrap_or};
+ghost use Rattle.wq_voice.specs.Voice.{SaysAnswer, SaysCheck, SaysLacking};
+
+use crate::file_names::FileNames;
+use crate::reason::of_declared;
+use crate::refused::{say_refusal, say_refused_text};
+use std::alloc::{AllocError, Allocator};
+use wq_checker::{No, Yes};
+use wq_commands::{CheckCommand, Declaration, Found, Texts, Voice};
+use wq_diagnosis::{CertificateKind, Source, of_lack, of_no_item};
+use wq_text::put;
+
+/// A text, and behind it another one, where there is one.
+fn followed<A: Allocator + Copy>(
+    text: Vec<u8, A>,
+    more: Option<Vec<u8, A>>,
+) -> Result<Vec<u8, A>, AllocError>
+    ensures { IfOk result (λ both. both.items ≡ text.items ++ unwrap_or (option_map (λ more. more.items) more) []) }
+{
+    let mut both = text;
+    if let Some(more) = more {
+        put(&mut both, &more)?;
+    }
+    Ok(both)
+}
+
+/// What is said of a certificate of this declaration to which the checker answered this no.
+fn of_lacking<'a, A: Allocator + Copy>(
+    alloc: A,
+    declaration: Source<'a>,
+    certificate: Source<'a>,
+    declared: &Declaration<'a, A>,
+    no: &No,
+) -> Result<Vec<u8, A>, AllocError>
+    ensures { IfOk result (λ said.
+        SaysLacking declaration.entry.file.now certificate.entry.file.now certificate.entry.text.now
+        declared.now no.now (Some said.items)) }
+{
+    let diagnosis = of_lack(alloc, declared, certificate, no)?;
+    match no {
+        No::NotFalling { .. } => {
+            let reason = of_declared(alloc, declaration, certificate, declared)?;
+            followed(diagnosis, reason)
+        }
+        No::LengthDiffers | No::ChainBroken { .. } | No::CircleBroken { .. } | No::RunBroken => {
+            Ok(diagnosis)
+        }
+    }
+}
+
+/// What is said beside the answer to a certificate of this declaration.
+fn say_answer<A: Allocator + Copy>(
+    alloc: A,
+    names: &FileNames<'_>,
+    declared: &Declaration<'_, A>,
+    texts: &Texts<A>,
+    answer: &Result<Yes, No>,
+) -> Result<Option<Vec<u8, A>>, AllocError>
+    ensures { IfOk result (λ said. SaysAnswer names.now.declaration.now names.now.second.now declared.now
+        texts.now.second answer.now (option_map (λ text. text.items) said)) }
+{
+    match answer {
+        Ok(_) => of_no_item(alloc, declared, names.declaration),
+        Err(no) => {
+            let declaration = Source {
+                file: names.declaration,
+                text: texts.first(),
+            };
+            let certificate = Source {
+                file: names.second,
+                text: texts.second(),
+            };
+            let said = of_lacking(alloc, declaration, certificate, declared, no)?;
+            Ok(Some(said))
+        }
+    }
+}
+
+/// What is said of what `check` found.
+fn say_check<A: Allocator + Copy>(
+    alloc: A,
+    names: &FileNames<'_>,
+    declared: &Declaration<'_, A>,
+    texts: &Texts<A>,
+    found: &Found<Result<Yes, No>>,
+) -> Result<Option<Vec<u8, A>>, AllocError>
+    ensures { IfOk result (λ said. SaysCheck names.now.declaration.now names.now.second.now names.now.run.now
+        declared.now texts.now found.now (option_map (λ text. text.items) said)) }
+{
+    match found {
+        Found::Refused { which, code, line } => {
+            let kind = CertificateKind::Answer;
+            say_refused_text(alloc, names, kind, declared, texts, *which, *code, *line)
+        }
+        Found::Read(answer) => say_answer(alloc, names, declared, texts, answer),
+    }
+}
+
+impl<A: Allocator + Copy> Voice<CheckCommand, A> for FileNames<'_> {
+    ghost use Rattle.std.specs.Prelude.{Some};
+    ghost use Rattle.wq_diagnosis.specs.Refused.{Diagnoses};
+    ghost use Rattle.wq_voice.specs.Voice.{SaysCheck};
+
+    ghost says = { λ names _ s texts found said.
+        SaysCheck names.declaration.now names.second.now names.run.now s texts found said };
+
+    ghost refuses = { λ names _ r said. Diagnoses names.declaration.now (Some r) said };
+
+    fn say(
+        &self,
+        alloc: A,
+        _seed: u64,
+        _command: &CheckCommand,
+        declared: &Declaration<'_, A>,
+        texts: &Texts<A>,
+        found: &Found<Result<Yes, No>>,
+    ) -> Result<Option<Vec<u8, A>>, AllocError> {
+        say_check(alloc, self, declared, texts, found)
+    }
+
+    fn refuse(
+        &self,
+        alloc: A,
+        seed: u64,
+        texts: &Texts<A>,
+        code: u32,
+        line: u32,
+    ) -> Result<Option<Vec<u8, A>>, AllocError> {
+        say_refusal(alloc, seed, self, texts, code, line)
+    }
+}

@@ -1,0 +1,337 @@
+//! What is said beside the answer of `circles`: beside components, how the workqueues of each can hang, and then by
+//! which flush to no rescuer; beside `safe`, which items are on workqueues without a rescuer.
+//!
+//! The rule is that of "Reasons" in docs/FORMAT.md. A call takes the time and the memory of the words, and of a search
+//! from each item on a component.
+
+ghost use Rattle.std.specs.Prelude.{◌≡◌, ◌<◌, [], ℕ, IfOk, List, OnOk, Ok, length, map, option_map};
+ghost use Rattle.wq_deadlock.specs.Judging.{bare_waits};
+ghost use Rattle.wq_cert.specs.Texts.{workqueues_of_text};
+ghost use Rattle.wq_names.specs.Names.{names_of};
+ghost use Rattle.wq_circles.specs.Circling.{CirclesTexts};
+ghost use Rattle.wq_circles.specs.Components.{AreComponents};
+ghost use Rattle.wq_circles.specs.ComponentsText.{AreBetween};
+ghost use Rattle.wq_commands.specs.Answer.{declared_waits};
+ghost use Rattle.wq_commands.specs.declared.end.End.{End};
+ghost use Rattle.wq_voice.specs.Components.{are_some, first_told, hop_of, is_of_whole, GivesReasons};
+ghost use Rattle.wq_voice.specs.Reasons.{AddsSaid};
+ghost use Rattle.wq_voice.specs.Voice.{SaysCircles, SaysCirclesOf, SaysCircling, SaysOwnCircles};
+ghost use Rattle.wq_commands.specs.declared.found.Found.TheVariants.{Read};
+ghost use Rattle.wq_voice.specs.Waits.{words_of};
+ghost use Rattle.wq_voice.specs.declared.waits.Wording.TheVariants.{OfGroups, OnWorkqueues};
+
+use crate::file_names::FileNames;
+use crate::flush_lines::FlushLines;
+use crate::reason::CAN_HANG;
+use crate::refused::{say_refusal, say_refused_text};
+use crate::rounds::put_rounds;
+use crate::safe::say_safe;
+use crate::subject::{Subject, put_walk};
+use crate::waits::Wording;
+use std::alloc::{AllocError, Allocator};
+use wq_circles::{CirclesCommand, Circling};
+use wq_commands::{Declaration, Found, Texts, Voice};
+use wq_diagnosis::{CertificateKind, Source, of_no_item};
+use wq_graph::WaitArc;
+use wq_hang::{Hop, Rounds};
+use wq_items::{ItemId, ItemTable, Target};
+use wq_names::workqueue_names;
+
+/// Whether the flush at this place, which the item declares, is of a whole workqueue.
+fn is_of_whole<A: Allocator + Copy>(table: &ItemTable<'_, A>, item: ItemId, place: u32) -> bool
+    requires { item < length table.now.names }
+    ensures { result ≡ is_of_whole table.now.waits item place }
+{
+    table
+        .waits(item)
+        .iter()
+        .any(|flush| flush.place == place && flush.whole)
+}
+
+/// The wait in a flush that leads to no rescuer.
+fn hop_of<A: Allocator + Copy>(declared: &Declaration<'_, A>, arc: &WaitArc) -> Hop
+    requires { arc.now.src < length declared.now.table.names }
+    ensures { result ≡ hop_of declared.now arc.now }
+{
+    Hop {
+        item: arc.src,
+        flush: Target {
+            item: arc.dst,
+            place: arc.place,
+            whole: is_of_whole(&declared.table, arc.src, arc.place),
+        },
+        next: arc.dst,
+    }
+}
+
+/// Adds what is said of the first of these flushes, which lead to no rescuer, where there is one.
+fn put_first<A: Allocator + Copy>(
+    alloc: A,
+    out: &mut Vec<u8, A>,
+    subject: &Subject<'_, '_, '_, '_, A>,
+    waits: &[WaitArc],
+) -> Result<(), AllocError>
+    requires between { AreBetween (length subject.now.declared.now.partition.group_of) waits.now }
+    requires assigned { length subject.now.workqueues.now.assignment.lane_of_group
+        ≡ subject.now.declared.now.partition.groups }
+    ensures { OnOk result (AddsSaid subject.now.declaration.file.now (first_told (λ h. words_of subject.now.wording
+        subject.now.declared.now subject.now.workqueues.now (map (λ n. n.now) subject.now.names.now) h)
+        subject.now.declared.now waits.now) out.old.items out.new.items) }
+{
+    match waits {
+        [] => Ok(()),
+        [first, ..] => {
+            let declared = subject.declared;
+            // What holds of every declaration.
+            let _groups = &declared.groups;
+            let hop = hop_of(declared, first);
+            put_walk(alloc, out, subject, CAN_HANG, &[hop])
+        }
+    }
+}
+
+/// What is said of these components, and of these flushes to no rescuer.
+fn of_components<A: Allocator + Copy>(
+    alloc: A,
+    subject: &Subject<'_, '_, '_, '_, A>,
+    components: &[Vec<WaitArc, A>],
+    waits: &[WaitArc],
+) -> Result<Vec<u8, A>, AllocError>
+    requires assigned { length subject.now.workqueues.now.assignment.lane_of_group
+        ≡ subject.now.declared.now.partition.groups }
+    requires are { AreComponents
+        (declared_waits subject.now.declared.now) subject.now.workqueues.now
+        (map (λ l. l.items) components.now) }
+    requires waits { waits.now
+        ≡ bare_waits
+        (declared_waits subject.now.declared.now) subject.now.workqueues.now }
+    ensures { IfOk result (λ said. GivesReasons subject.now.declaration.file.now (λ h. words_of subject.now.wording
+        subject.now.declared.now subject.now.workqueues.now (map (λ n. n.now) subject.now.names.now) h)
+        subject.now.declared.now subject.now.workqueues.now (map (λ l. l.items) components.now) waits.now
+        said.items) }
+{
+    // What holds of every assignment.
+    let _lanes = subject.workqueues.assignment().lanes();
+    let declared = subject.declared;
+    let Declaration { table, groups } = declared;
+    let mut rounds = Rounds::new(alloc, table, groups, subject.workqueues)?;
+    let mut said = Vec::new(alloc);
+    put_rounds(alloc, &mut said, subject, &mut rounds, components)?;
+    put_first(alloc, &mut said, subject, waits)?;
+    Ok(said)
+}
+
+/// How these workqueues, whose text is that one, can hang, by components.
+fn of_read<'a, A: Allocator + Copy>(
+    alloc: A,
+    declaration: Source<'a>,
+    assignment: Source<'a>,
+    declared: &Declaration<'a, A>,
+    circling: &Circling<A>,
+) -> Result<Vec<u8, A>, AllocError>
+    requires read { workqueues_of_text declared.now.table.names declared.now.partition assignment.text.now
+        ≡ Ok circling.now.workqueues }
+    requires assigned { length circling.now.workqueues.assignment.lane_of_group ≡ declared.now.partition.groups }
+    requires components { AreComponents (declared_waits declared.now) circling.now.workqueues
+        (map (λ l. l.items) circling.now.components.items) }
+    requires waits { circling.now.waits.items ≡ bare_waits (declared_waits declared.now) circling.now.workqueues }
+    ensures { IfOk result (λ said. GivesReasons declaration.entry.file.now (λ h. words_of OnWorkqueues
+        declared.now circling.now.workqueues (names_of assignment.entry.text.now) h)
+        declared.now circling.now.workqueues (map (λ l. l.items) circling.now.components.items)
+        circling.now.waits.items said.items) }
+{
+    let names = workqueue_names(alloc, assignment.text)?;
+    let flushes = FlushLines::new(alloc, declaration.text)?;
+    let subject = Subject {
+        declaration,
+        assignment,
+        wording: Wording::OnWorkqueues,
+        declared,
+        workqueues: &circling.workqueues,
+        flushes: &flushes,
+        names: &names,
+    };
+    of_components(alloc, &subject, &circling.components, &circling.waits)
+}
+
+/// How these groups can hang, by components, where each has a workqueue of its own.
+fn of_own<'a, A: Allocator + Copy>(
+    alloc: A,
+    declaration: Source<'a>,
+    declared: &Declaration<'a, A>,
+    circling: &Circling<A>,
+) -> Result<Vec<u8, A>, AllocError>
+    requires assigned { length circling.now.workqueues.assignment.lane_of_group ≡ declared.now.partition.groups }
+    requires components { AreComponents (declared_waits declared.now) circling.now.workqueues
+        (map (λ l. l.items) circling.now.components.items) }
+    requires waits { circling.now.waits.items ≡ bare_waits (declared_waits declared.now) circling.now.workqueues }
+    ensures { IfOk result (λ said. GivesReasons declaration.entry.file.now (λ h. words_of OfGroups
+        declared.now circling.now.workqueues [] h)
+        declared.now circling.now.workqueues (map (λ l. l.items) circling.now.components.items)
+        circling.now.waits.items said.items) }
+{
+    let flushes = FlushLines::new(alloc, declaration.text)?;
+    let subject = Subject {
+        declaration,
+        assignment: Source {
+            file: "",
+            text: b"",
+        },
+        wording: Wording::OfGroups,
+        declared,
+        workqueues: &circling.workqueues,
+        flushes: &flushes,
+        names: &[],
+    };
+    of_components(alloc, &subject, &circling.components, &circling.waits)
+}
+
+/// Whether there is a component, or a flush to no rescuer.
+fn are_some<A: Allocator>(components: &[Vec<WaitArc, A>], waits: &[WaitArc]) -> bool
+    ensures { result ≡ are_some (map (λ l. l.items) components.now) waits.now }
+{
+    if components.is_empty() {
+        return !waits.is_empty();
+    }
+    true
+}
+
+/// What is said of these components and flushes to no rescuer, on workqueues whose text is the second.
+fn say_read<A: Allocator + Copy>(
+    alloc: A,
+    names: &FileNames<'_>,
+    declared: &Declaration<'_, A>,
+    texts: &Texts<A>,
+    circling: &Circling<A>,
+) -> Result<Option<Vec<u8, A>>, AllocError>
+    requires read { workqueues_of_text declared.now.table.names declared.now.partition texts.now.second
+        ≡ Ok circling.now.workqueues }
+    requires assigned { length circling.now.workqueues.assignment.lane_of_group ≡ declared.now.partition.groups }
+    requires components { AreComponents (declared_waits declared.now) circling.now.workqueues
+        (map (λ l. l.items) circling.now.components.items) }
+    requires waits { circling.now.waits.items ≡ bare_waits (declared_waits declared.now) circling.now.workqueues }
+    ensures { IfOk result (λ said. SaysCircles names.now.declaration.now names.now.second.now texts.now.second
+        declared.now circling.now.workqueues (map (λ l. l.items) circling.now.components.items) circling.now.waits.items
+        (option_map (λ text. text.items) said)) }
+{
+    let assignment = Source {
+        file: names.second,
+        text: texts.second(),
+    };
+    if !are_some(&circling.components, &circling.waits) {
+        let workqueues = &circling.workqueues;
+        return say_safe(alloc, names.declaration, assignment, declared, workqueues);
+    }
+    let declaration = Source {
+        file: names.declaration,
+        text: texts.first(),
+    };
+    let said = of_read(alloc, declaration, assignment, declared, circling)?;
+    Ok(Some(said))
+}
+
+/// What is said of these components, where each group has a workqueue of its own.
+fn say_own<A: Allocator + Copy>(
+    alloc: A,
+    names: &FileNames<'_>,
+    declared: &Declaration<'_, A>,
+    texts: &Texts<A>,
+    circling: &Circling<A>,
+) -> Result<Option<Vec<u8, A>>, AllocError>
+    requires assigned { length circling.now.workqueues.assignment.lane_of_group ≡ declared.now.partition.groups }
+    requires components { AreComponents (declared_waits declared.now) circling.now.workqueues
+        (map (λ l. l.items) circling.now.components.items) }
+    requires waits { circling.now.waits.items ≡ bare_waits (declared_waits declared.now) circling.now.workqueues }
+    ensures { IfOk result (λ said. SaysOwnCircles names.now.declaration.now declared.now
+        circling.now.workqueues (map (λ l. l.items) circling.now.components.items) circling.now.waits.items
+        (option_map (λ text. text.items) said)) }
+{
+    if !are_some(&circling.components, &circling.waits) {
+        return of_no_item(alloc, declared, names.declaration);
+    }
+    let declaration = Source {
+        file: names.declaration,
+        text: texts.first(),
+    };
+    let said = of_own(alloc, declaration, declared, circling)?;
+    Ok(Some(said))
+}
+
+/// What is said of what `circles` found, with an assignment or without one.
+fn say_circling<A: Allocator + Copy>(
+    alloc: A,
+    names: &FileNames<'_>,
+    assigned: bool,
+    declared: &Declaration<'_, A>,
+    texts: &Texts<A>,
+    circling: &Circling<A>,
+) -> Result<Option<Vec<u8, A>>, AllocError>
+    requires { (end : End) × (out : List ℕ)
+        × CirclesTexts assigned declared.now texts.now (Read circling.now) end out }
+    ensures { IfOk result (λ said. SaysCircling names.now.declaration.now names.now.second.now assigned
+        declared.now texts.now circling.now (option_map (λ text. text.items) said)) }
+{
+    // What holds of every declaration.
+    let _groups = &declared.groups;
+    if assigned {
+        say_read(alloc, names, declared, texts, circling)
+    } else {
+        say_own(alloc, names, declared, texts, circling)
+    }
+}
+
+/// What is said of what `circles` found, or of the text that is refused.
+fn say_circles<A: Allocator + Copy>(
+    alloc: A,
+    names: &FileNames<'_>,
+    assigned: bool,
+    declared: &Declaration<'_, A>,
+    texts: &Texts<A>,
+    found: &Found<Circling<A>>,
+) -> Result<Option<Vec<u8, A>>, AllocError>
+    requires { (end : End) × (out : List ℕ) × CirclesTexts assigned declared.now texts.now found.now end out }
+    ensures { IfOk result (λ said. SaysCirclesOf names.now.declaration.now names.now.second.now names.now.run.now
+        assigned declared.now texts.now found.now (option_map (λ text. text.items) said)) }
+{
+    match found {
+        Found::Refused { which, code, line } => {
+            let kind = CertificateKind::Assignment;
+            say_refused_text(alloc, names, kind, declared, texts, *which, *code, *line)
+        }
+        Found::Read(circling) => say_circling(alloc, names, assigned, declared, texts, circling),
+    }
+}
+
+impl<A: Allocator + Copy> Voice<CirclesCommand, A> for FileNames<'_> {
+    ghost use Rattle.std.specs.Prelude.{Some};
+    ghost use Rattle.wq_diagnosis.specs.Refused.{Diagnoses};
+    ghost use Rattle.wq_voice.specs.Voice.{SaysCirclesOf};
+
+    ghost says = { λ names command s texts found said.
+        SaysCirclesOf names.declaration.now names.second.now names.run.now command.assigned s texts found said };
+
+    ghost refuses = { λ names _ r said. Diagnoses names.declaration.now (Some r) said };
+
+    fn say(
+        &self,
+        alloc: A,
+        _seed: u64,
+        command: &CirclesCommand,
+        declared: &Declaration<'_, A>,
+        texts: &Texts<A>,
+        found: &Found<Circling<A>>,
+    ) -> Result<Option<Vec<u8, A>>, AllocError> {
+        say_circles(alloc, self, command.assigned, declared, texts, found)
+    }
+
+    fn refuse(
+        &self,
+        alloc: A,
+        seed: u64,
+        texts: &Texts<A>,
+        code: u32,
+        line: u32,
+    ) -> Result<Option<Vec<u8, A>>, AllocError> {
+        say_refusal(alloc, seed, self, texts, code, line)
+    }
+}

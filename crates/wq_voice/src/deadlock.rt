@@ -1,0 +1,108 @@
+//! What is said beside the verdict of `deadlock`: beside `safe`, which items are on workqueues without a rescuer;
+//! beside a run, how the workqueues hang soonest.
+//!
+//! A call takes the time and the memory of the words and, beside a run, of the search for a shortest one.
+
+ghost use Rattle.std.specs.Prelude.{◌≡◌, ℕ, IfOk, List, Ok, length, option_map};
+ghost use Rattle.wq_cert.specs.Texts.{workqueues_of_text};
+ghost use Rattle.wq_commands.specs.Commands.{JudgesText};
+ghost use Rattle.wq_commands.specs.declared.end.End.{End};
+ghost use Rattle.wq_voice.specs.Voice.{SaysVerdict, SaysVerdictOf};
+
+use crate::file_names::FileNames;
+use crate::reason::say_reason;
+use crate::refused::{say_refusal, say_refused_text};
+use crate::safe::say_safe;
+use std::alloc::{AllocError, Allocator};
+use wq_commands::{DeadlockCommand, Declaration, End, Found, Texts, Verdict, Voice};
+use wq_diagnosis::{CertificateKind, Source};
+
+/// What is said of this verdict on workqueues, whose text is the second.
+fn say_verdict<A: Allocator + Copy>(
+    alloc: A,
+    names: &FileNames<'_>,
+    declared: &Declaration<'_, A>,
+    texts: &Texts<A>,
+    verdict: &Verdict<A>,
+) -> Result<Option<Vec<u8, A>>, AllocError>
+    requires read { workqueues_of_text declared.now.table.names declared.now.partition texts.now.second
+        ≡ Ok verdict.now.workqueues }
+    requires assigned { length verdict.now.workqueues.assignment.lane_of_group ≡ declared.now.partition.groups }
+    ensures { IfOk result (λ said. SaysVerdict names.now.declaration.now names.now.second.now texts.now.second
+        declared.now verdict.now.workqueues verdict.now.end (option_map (λ text. text.items) said)) }
+{
+    let assignment = Source {
+        file: names.second,
+        text: texts.second(),
+    };
+    let workqueues = &verdict.workqueues;
+    match verdict.end {
+        End::Bad => {
+            let declaration = Source {
+                file: names.declaration,
+                text: texts.first(),
+            };
+            say_reason(alloc, declaration, assignment, declared, workqueues)
+        }
+        End::Good | End::Refused => {
+            say_safe(alloc, names.declaration, assignment, declared, workqueues)
+        }
+    }
+}
+
+/// What is said of what `deadlock` found.
+fn say_deadlock<A: Allocator + Copy>(
+    alloc: A,
+    names: &FileNames<'_>,
+    declared: &Declaration<'_, A>,
+    texts: &Texts<A>,
+    found: &Found<Verdict<A>>,
+) -> Result<Option<Vec<u8, A>>, AllocError>
+    requires { (end : End) × (out : List ℕ) × JudgesText declared.now texts.now.second found.now end out }
+    ensures { IfOk result (λ said. SaysVerdictOf names.now.declaration.now names.now.second.now names.now.run.now
+        declared.now texts.now found.now (option_map (λ text. text.items) said)) }
+{
+    // What holds of every declaration.
+    let _groups = &declared.groups;
+    match found {
+        Found::Refused { which, code, line } => {
+            let kind = CertificateKind::Assignment;
+            say_refused_text(alloc, names, kind, declared, texts, *which, *code, *line)
+        }
+        Found::Read(verdict) => say_verdict(alloc, names, declared, texts, verdict),
+    }
+}
+
+impl<A: Allocator + Copy> Voice<DeadlockCommand, A> for FileNames<'_> {
+    ghost use Rattle.std.specs.Prelude.{Some};
+    ghost use Rattle.wq_diagnosis.specs.Refused.{Diagnoses};
+    ghost use Rattle.wq_voice.specs.Voice.{SaysVerdictOf};
+
+    ghost says = { λ names _ s texts found said.
+        SaysVerdictOf names.declaration.now names.second.now names.run.now s texts found said };
+
+    ghost refuses = { λ names _ r said. Diagnoses names.declaration.now (Some r) said };
+
+    fn say(
+        &self,
+        alloc: A,
+        _seed: u64,
+        _command: &DeadlockCommand,
+        declared: &Declaration<'_, A>,
+        texts: &Texts<A>,
+        found: &Found<Verdict<A>>,
+    ) -> Result<Option<Vec<u8, A>>, AllocError> {
+        say_deadlock(alloc, self, declared, texts, found)
+    }
+
+    fn refuse(
+        &self,
+        alloc: A,
+        seed: u64,
+        texts: &Texts<A>,
+        code: u32,
+        line: u32,
+    ) -> Result<Option<Vec<u8, A>>, AllocError> {
+        say_refusal(alloc, seed, self, texts, code, line)
+    }
+}

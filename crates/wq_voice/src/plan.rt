@@ -1,0 +1,70 @@
+//! What is said beside the answer of `plan`: beside a circle, how its groups can hang on any workqueues.
+//!
+//! A call takes the time and the memory of the search for a shortest run.
+
+ghost use Rattle.std.specs.Prelude.{IfOk, option_map};
+ghost use Rattle.wq_voice.specs.Voice.{SaysPlan};
+
+use crate::file_names::FileNames;
+use crate::reason::of_groups;
+use crate::refused::say_refusal;
+use std::alloc::{AllocError, Allocator};
+use wq_commands::{Declaration, End, PlanCommand, Texts, Voice};
+use wq_diagnosis::{Source, of_no_item};
+
+/// What is said of a declaration to which `plan` has an answer with this end.
+fn say_plan<A: Allocator + Copy>(
+    alloc: A,
+    names: &FileNames<'_>,
+    declared: &Declaration<'_, A>,
+    texts: &Texts<A>,
+    end: End,
+) -> Result<Option<Vec<u8, A>>, AllocError>
+    ensures { IfOk result (λ said. SaysPlan names.now.declaration.now declared.now end
+        (option_map (λ text. text.items) said)) }
+{
+    match end {
+        End::Bad => {
+            let declaration = Source {
+                file: names.declaration,
+                text: texts.first(),
+            };
+            of_groups(alloc, declaration, declared)
+        }
+        End::Good | End::Refused => of_no_item(alloc, declared, names.declaration),
+    }
+}
+
+impl<A: Allocator + Copy> Voice<PlanCommand, A> for FileNames<'_> {
+    ghost use Rattle.std.specs.Prelude.{Some};
+    ghost use Rattle.wq_diagnosis.specs.Refused.{Diagnoses};
+    ghost use Rattle.wq_voice.specs.Voice.{SaysPlan};
+
+    ghost says = { λ names _ s _ end said.
+        SaysPlan names.declaration.now s end said };
+
+    ghost refuses = { λ names _ r said. Diagnoses names.declaration.now (Some r) said };
+
+    fn say(
+        &self,
+        alloc: A,
+        _seed: u64,
+        _command: &PlanCommand,
+        declared: &Declaration<'_, A>,
+        texts: &Texts<A>,
+        found: &End,
+    ) -> Result<Option<Vec<u8, A>>, AllocError> {
+        say_plan(alloc, self, declared, texts, *found)
+    }
+
+    fn refuse(
+        &self,
+        alloc: A,
+        seed: u64,
+        texts: &Texts<A>,
+        code: u32,
+        line: u32,
+    ) -> Result<Option<Vec<u8, A>>, AllocError> {
+        say_refusal(alloc, seed, self, texts, code, line)
+    }
+}

@@ -1,0 +1,148 @@
+//! What is said beside the answer of `replay`: why the first step that isn't lawful isn't; or, beside a run that ends
+//! stuck, how the workqueues hang soonest.
+//!
+//! A call takes the time and the memory of making the steps again up to that one, or of the search for a shortest run.
+
+ghost use Rattle.std.specs.Prelude.{◌≡◌, ℕ, IfOk, List, Ok, length, option_map};
+ghost use Rattle.wq_cert.specs.Texts.{run_of, workqueues_of_text};
+ghost use Rattle.wq_names.specs.Names.{names_of};
+ghost use Rattle.wq_commands.specs.Commands.{ReplaysTexts};
+ghost use Rattle.wq_commands.specs.declared.end.End.{End};
+ghost use Rattle.wq_diagnosis.specs.Reasons.{SaysStep};
+ghost use Rattle.wq_voice.specs.Voice.{SaysEnd, SaysEndOf};
+
+use crate::file_names::FileNames;
+use crate::reason::say_reason;
+use crate::refused::{say_refusal, say_refused_text};
+use std::alloc::{AllocError, Allocator};
+use wq_checker::RunEnd;
+use wq_commands::{Declaration, Found, ReplayCommand, Replayed, Texts, Voice};
+use wq_core::{Step, Workqueues};
+use wq_diagnosis::{CertificateKind, Source, of_no_item, of_unlawful};
+use wq_names::workqueue_names;
+
+/// Why the step of this number, on workqueues whose text is that one, isn't lawful.
+fn say_unlawful<A: Allocator + Copy>(
+    alloc: A,
+    declared: &Declaration<'_, A>,
+    workqueues: &Workqueues<A>,
+    assignment: &[u8],
+    steps: &[Step],
+    run: Source<'_>,
+    number: u32,
+) -> Result<Option<Vec<u8, A>>, AllocError>
+    requires read { workqueues_of_text declared.now.table.names declared.now.partition assignment.now
+        ≡ Ok workqueues.now }
+    requires assigned { length workqueues.now.assignment.lane_of_group ≡ declared.now.partition.groups }
+    requires run { run_of declared.now.table.names run.text.now ≡ Ok steps.now }
+    ensures { IfOk result (λ said. SaysStep run.entry.file.now declared.now workqueues.now
+        (names_of assignment.now) steps.now number (option_map (λ text. text.items) said)) }
+{
+    let names = workqueue_names(alloc, assignment)?;
+    of_unlawful(alloc, declared, workqueues, &names, steps, run, number)
+}
+
+/// What is said of a run that was made, of workqueues whose text is the second and of steps whose text is the third.
+fn say_replayed<A: Allocator + Copy>(
+    alloc: A,
+    names: &FileNames<'_>,
+    declared: &Declaration<'_, A>,
+    texts: &Texts<A>,
+    replayed: &Replayed<A>,
+) -> Result<Option<Vec<u8, A>>, AllocError>
+    requires read { workqueues_of_text declared.now.table.names declared.now.partition texts.now.second
+        ≡ Ok replayed.now.workqueues }
+    requires assigned { length replayed.now.workqueues.assignment.lane_of_group ≡ declared.now.partition.groups }
+    requires run { run_of declared.now.table.names texts.now.third ≡ Ok replayed.now.steps.items }
+    ensures { IfOk result (λ said. SaysEnd names.now.declaration.now names.now.run.now texts.now.second declared.now
+        replayed.now.workqueues replayed.now.steps.items replayed.now.end (option_map (λ text. text.items) said)) }
+{
+    let workqueues = &replayed.workqueues;
+    match replayed.end {
+        RunEnd::Free => of_no_item(alloc, declared, names.declaration),
+        RunEnd::Deadlock | RunEnd::Stuck => {
+            let declaration = Source {
+                file: names.declaration,
+                text: texts.first(),
+            };
+            let assignment = Source {
+                file: names.second,
+                text: texts.second(),
+            };
+            say_reason(alloc, declaration, assignment, declared, workqueues)
+        }
+        RunEnd::NotLawful(number) => {
+            let run = Source {
+                file: names.run,
+                text: texts.third(),
+            };
+            say_unlawful(
+                alloc,
+                declared,
+                workqueues,
+                texts.second(),
+                &replayed.steps,
+                run,
+                number,
+            )
+        }
+    }
+}
+
+/// What is said of what `replay` found.
+fn say_replay<A: Allocator + Copy>(
+    alloc: A,
+    names: &FileNames<'_>,
+    declared: &Declaration<'_, A>,
+    texts: &Texts<A>,
+    found: &Found<Replayed<A>>,
+) -> Result<Option<Vec<u8, A>>, AllocError>
+    requires { (end : End) × (out : List ℕ)
+        × ReplaysTexts declared.now texts.now.second texts.now.third found.now end out }
+    ensures { IfOk result (λ said. SaysEndOf names.now.declaration.now names.now.second.now names.now.run.now
+        declared.now texts.now found.now (option_map (λ text. text.items) said)) }
+{
+    // What holds of every declaration.
+    let _groups = &declared.groups;
+    match found {
+        Found::Refused { which, code, line } => {
+            let kind = CertificateKind::Assignment;
+            say_refused_text(alloc, names, kind, declared, texts, *which, *code, *line)
+        }
+        Found::Read(replayed) => say_replayed(alloc, names, declared, texts, replayed),
+    }
+}
+
+impl<A: Allocator + Copy> Voice<ReplayCommand, A> for FileNames<'_> {
+    ghost use Rattle.std.specs.Prelude.{Some};
+    ghost use Rattle.wq_diagnosis.specs.Refused.{Diagnoses};
+    ghost use Rattle.wq_voice.specs.Voice.{SaysEndOf};
+
+    ghost says = { λ names _ s texts found said.
+        SaysEndOf names.declaration.now names.second.now names.run.now s texts found said };
+
+    ghost refuses = { λ names _ r said. Diagnoses names.declaration.now (Some r) said };
+
+    fn say(
+        &self,
+        alloc: A,
+        _seed: u64,
+        _command: &ReplayCommand,
+        declared: &Declaration<'_, A>,
+        texts: &Texts<A>,
+        found: &Found<Replayed<A>>,
+    ) -> Result<Option<Vec<u8, A>>, AllocError> {
+        say_replay(alloc, self, declared, texts, found)
+    }
+
+    fn refuse(
+        &self,
+        alloc: A,
+        seed: u64,
+        texts: &Texts<A>,
+        code: u32,
+        line: u32,
+    ) -> Result<Option<Vec<u8, A>>, AllocError> {
+        say_refusal(alloc, seed, self, texts, code, line)
+    }
+}

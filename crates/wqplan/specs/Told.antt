@@ -1,0 +1,105 @@
+-- What the program says on standard error of the answer that it prints.
+use Rattle.std.specs.Prelude.{◌≡◌, Bool, ℕ, List, [], Option, Some, None, Result, codes, if◌then◌else◌}
+use Rattle.std.specs.Str.{bytes_eq}
+use Rattle.clap.specs.Words.{Text}
+use Rattle.wq_text.specs.Refusal.{Refusal}
+use Rattle.wq_meter.specs.Shell.{Given, kept}
+use Rattle.wq_commands.specs.declared.end.End.{End}
+use Rattle.wq_commands.specs.Commands.{ChecksText, FindsPlan, JudgesText, ReplaysTexts}
+use Rattle.wq_commands.specs.Declaration.{Declared}
+use Rattle.wq_commands.specs.Shell.{AnswersTexts, SaysOfTexts}
+use Rattle.wq_circles.specs.Circling.{CirclesTexts}
+use Rattle.wq_dot.specs.Dotting.{DrawsTexts}
+use Rattle.wq_dot.specs.Saying.{SaysDot}
+use Rattle.wq_hang_command.specs.Hanging.{HangsText}
+use Rattle.wq_hang_command.specs.Saying.{SaysHangOf}
+use Rattle.wq_repair_command.specs.Repairing.{RepairsText}
+use Rattle.wq_changes.specs.Voice.{SaysRepair}
+use Rattle.wq_run.specs.Running.{FindsRun, SaysRun}
+use Rattle.wq_diagnosis.specs.Refused.{Diagnoses}
+use Rattle.wq_voice.specs.declared.file_names.FileNames.{FileNames}
+use Rattle.wq_voice.specs.Voice.{SaysCheck, SaysCirclesOf, SaysEndOf, SaysPlan, SaysVerdictOf}
+use Rattle.wqplan.specs.declared.command_line.Files.{Files}
+use Rattle.wqplan.specs.declared.command_line.Files.TheVariants.{One, Three, Two, Unnamed}
+use Rattle.wqplan.specs.declared.commands.Verb.{Verb}
+use Rattle.wqplan.specs.declared.commands.Verb.TheVariants.{Plan, Check, Deadlock, Hang, Repair, Replay, Circles, Dot}
+use Rattle.wqplan.specs.declared.commands.Verb.TheVariants.{Run, Explain}
+use Rattle.wqplan.specs.CommandLine.{Asked, Behind, helpers_asked, names_asked}
+use Rattle.wqplan.specs.Ended.{EndsOn, HasTexts, has_second, limits_of}
+
+-- ---- the names of files
+
+-- the name of a file in a diagnosis: its path, but `-` is standard input
+abbrev pub shown_name : Text → Text
+shown_name path = if bytes_eq path (codes "-") then codes "<stdin>" else path
+
+-- the names of the files of a declaration, of the second text, and of a run; empty, where there is none
+pub record Names : Type 0 where
+  pub declaration : Text
+  pub second : Text
+  pub run : Text
+
+-- those that a voice was given
+abbrev pub names_given : FileNames → Names
+names_given names = record { declaration = names.declaration.now; second = names.second.now; run = names.run.now }
+
+-- those of the files that are named
+abbrev pub names_of_files : Files Text → Names
+names_of_files Unnamed = record { declaration = codes "<stdin>"; second = []; run = [] }
+names_of_files (One first) = record { declaration = shown_name first; second = []; run = [] }
+names_of_files (Two first second) =
+    record { declaration = shown_name first; second = shown_name second; run = [] }
+names_of_files (Three first second third) =
+    record { declaration = shown_name first; second = shown_name second; run = shown_name third }
+
+-- ---- what is said
+
+-- of texts this is found and answered, and of what was found this is said, or of the refusal of the declaration in the
+-- file of this name
+abbrev pub IsSaidOf : {F : Type 0} → Text → (Declared → Given → F → End → List ℕ → Type 0)
+    → (Declared → Given → F → Option (List ℕ) → Type 0) → Given → End → List ℕ → Option (List ℕ) → Type 0
+IsSaidOf {F} first Answers Says texts end out said = (found : Result F Refusal)
+    × AnswersTexts Answers texts found end out
+    × SaysOfTexts Says (λ _ r words. Diagnoses first (Some r) words) texts found said
+
+-- what is said of the answer of a command to these texts, which it found with vectors that have such an allocator;
+-- `explain` says nothing
+abbrev pub SaysOn : Type 0 → Names → Verb → Files Text → Behind → Given → End → List ℕ → Option (List ℕ) → Type 0
+SaysOn A n Plan files behind = IsSaidOf n.declaration (λ s _ found end out. FindsPlan s found end out)
+    (λ s _ end said. SaysPlan n.declaration s end said)
+SaysOn A n Check files behind = IsSaidOf n.declaration (λ s t found end out. ChecksText s t.second found end out)
+    (λ s t found said. SaysCheck n.declaration n.second n.run s t found said)
+SaysOn A n Deadlock files behind = IsSaidOf n.declaration
+    (λ s t found end out. JudgesText {A = A} s t.second found end out)
+    (λ s t found said. SaysVerdictOf n.declaration n.second n.run s t found said)
+SaysOn A n Hang files behind = IsSaidOf n.declaration
+    (λ s t found end out. HangsText {A = A} s t.second found end out)
+    (λ s t found said. SaysHangOf n.declaration n.second n.run s t found said)
+SaysOn A n Repair files behind = IsSaidOf n.declaration
+    (λ s t found end out. RepairsText {A = A} (names_asked behind) s t.second found end out)
+    (λ s t found said. SaysRepair n.declaration n.second n.run (names_asked behind) s t found said)
+SaysOn A n Replay files behind = IsSaidOf n.declaration
+    (λ s t found end out. ReplaysTexts {A = A} s t.second t.third found end out)
+    (λ s t found said. SaysEndOf n.declaration n.second n.run s t found said)
+SaysOn A n Circles files behind = IsSaidOf n.declaration
+    (λ s t found end out. CirclesTexts {A = A} (has_second files) s t found end out)
+    (λ s t found said. SaysCirclesOf n.declaration n.second n.run (has_second files) s t found said)
+SaysOn A n Dot files behind = IsSaidOf n.declaration
+    (λ s t found end out. DrawsTexts {A = A} (has_second files) s t found end out)
+    (λ s t found said. SaysDot n.declaration n.second n.run s found said)
+SaysOn A n Run files behind = IsSaidOf n.declaration
+    (λ s _ found end out. FindsRun (helpers_asked behind) s found end out)
+    (λ s _ end said. SaysRun n.declaration s end said)
+SaysOn A n Explain files behind = λ texts end out said. said ≡ None
+
+-- the command that is asked for ends like this with this answer to the texts of its files; the answer is written, and
+-- this is told of it, with the names of these files
+pub record IsToldAsAsked (A : Type 0) (Holds : List ℕ → List ℕ → Type 0) (Input : List ℕ → Type 0) (asked : Asked)
+    (end : End) (IsWritten : List ℕ → Type 0) (IsTold : (Option (List ℕ) → Type 0) → Type 0) : Type 0 where
+  pub texts : Given
+  pub have : HasTexts Holds Input asked.verb asked.files texts
+  pub out : List ℕ
+  pub answer : EndsOn asked.verb asked.files asked.behind texts end out
+  pub written : IsWritten out
+  pub told : IsTold (SaysOn A (names_of_files asked.files) asked.verb asked.files asked.behind
+      (kept (limits_of asked.verb asked.files) texts) end out)
