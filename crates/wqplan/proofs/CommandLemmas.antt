@@ -1,19 +1,18 @@
 -- The command that a parse of the program's words entered, and the arguments that it was given.
-use Rattle.std.proofs.Common.{refl, ap, ap₂, sym, subst, arith, ℕ, zero, suc, ◌≤◌, inl, inr, Result, Ok, Err}
-use Rattle.std.proofs.Common.{IsErrAnd, MatchResult, ◌∙◌, codes, Bool, true, false, cond, not, ◌==◌, ◌&&◌, [], ◌∷◌}
-use Rattle.std.proofs.Common.{List, Option, Some, None, ◌≡◌, ◌++◌, ◌<◌, ◌+◌, length, drop, slice_index_or}
-use Rattle.std.specs.Prelude.{find, fold}
-use Rattle.std.specs.Prelude.{IfSome, IsSome, IsSomeAnd, option_map, pos, unwrap_or}
+use Rattle.std.proofs.Common.{refl, ap, sym, subst, arith, ℕ, zero, suc, ◌≤◌, Result, Ok, Err}
+use Rattle.std.proofs.Common.{IsErrAnd, MatchResult, ◌∙◌, codes, Bool, true, false, not, ◌&&◌, [], ◌∷◌}
+use Rattle.std.proofs.Common.{List, Option, Some, None, ◌≡◌, ◌<◌, ◌+◌, length, drop, slice_index_or}
+use Rattle.std.specs.Prelude.{find}
+use Rattle.std.specs.Prelude.{IfSome, IsSome, IsSomeAnd, option_map, unwrap_or}
 use Rattle.std.specs.Str.{bytes_eq}
 use Rattle.std.specs.Borrow.{Bor}
-use Rattle.clap.specs.Words.{App, Row, Text, first_value, one_of, rows_of}
+use Rattle.clap.specs.Words.{Row, Text, one_of, rows_of}
 use Rattle.clap.specs.declared.builder.range.ValueRange.{ValueRange}
 use Rattle.clap.specs.declared.parser.matches.Found.{Found}
 use Rattle.clap.specs.Matches.{matched_of, raw_values}
-use Rattle.clap.proofs.WalkLemmas.{first_value-rows, raw_values-rows}
-use Rattle.clap.specs.Lexer.{long_of, short_of, usize_max, without_minus}
+use Rattle.clap.proofs.WalkLemmas.{raw_values-rows}
+use Rattle.clap.specs.Lexer.{usize_max}
 use Rattle.std.proofs.lemmas.Slice.Eq.{bytes_eq-Decides}
-use Rattle.wqplan.specs.declared.command_line.FileForm.{FileForm}
 use Rattle.wqplan.specs.declared.command_line.Files.{Files}
 use Rattle.wqplan.specs.declared.command_line.TailForm.{TailForm}
 use Rattle.wqplan.specs.declared.command_line.TailForm.TheVariants as tail_forms

@@ -3,7 +3,7 @@ use Rattle.std.proofs.Common.{◌≡◌, ◌≢◌, ℕ, List, Option, Result, O
 use Rattle.std.specs.Prelude.{IfErr, IfOk}
 use Rattle.wq_text.specs.Refusal.{Refusal}
 use Rattle.wq_meter.specs.Meter.{Meter, WritesPrefix, WritesWhole, count_after}
-use Rattle.wq_meter.specs.Shell.{Given, kept}
+use Rattle.wq_meter.specs.Shell.{Given}
 use Rattle.wq_meter.specs.declared.fault.Fault.{Fault}
 use Rattle.wq_meter.specs.declared.fault.Fault.TheVariants.{Memory, Read, Write}
 use Rattle.wq_meter.specs.declared.stopped.Stopped.{Stopped}

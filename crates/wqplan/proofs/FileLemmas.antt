@@ -167,7 +167,7 @@ unnamed (Three first second third) is = let never : ⊥ = cc in absurd never
 
 -- ---- what is read of them
 
--- what isn't touched gives nothing
+-- a reader that isn't touched gives and loses nothing
 none_consumed : (known : Option (List ℕ)) → Consumes known known []
 none_consumed None = tt
 none_consumed (Some xs) = refl
@@ -181,6 +181,7 @@ nothing_lost remaining m most = record {
   counted = omega arith;
 }
 
+-- so nothing is taken from it
 pub none_taken : {I : Type 0} (remaining : I → Option (List ℕ)) (m : Meter I) (limit : ℕ) (paths : Files Text)
     → TakesInput remaining m m limit paths
 none_taken remaining m limit Unnamed = (nothing_lost remaining m (limit + 1), omega arith)

@@ -1,5 +1,5 @@
 -- `run` was carried out on its files: so it ended, and so much is said of it.
-use Rattle.std.proofs.Common.{◌≡◌, ◌≢◌, ◌+◌, ℕ, List, Option, Some, Result, Ok, Err, subst, sym, take}
+use Rattle.std.proofs.Common.{◌≡◌, ◌≢◌, ◌+◌, ℕ, List, Option, Some, Result, Err, subst, sym, take}
 use Rattle.std.proofs.lemmas.Result.{IfOk-weaker}
 use Rattle.std.specs.Prelude.{IfErr, IfOk}
 use Rattle.clap.specs.Words.{Text}
@@ -67,8 +67,8 @@ module _ (Holds : Text → List ℕ → Type 0) (Input : List ℕ → Type 0) (f
     run_ended answered prefix =
         run_ended_by contents old new (EndsAsAsked Holds Input (run_asked files count)) ended result is
         (IfOk-weaker ended Answered
-        (λ end. (out : List ℕ) × EndsAsAsked Holds Input (run_asked files count) end out × WritesWhole contents old new
-        out)
+        (λ end. (out : List ℕ) × EndsAsAsked Holds Input (run_asked files count) end out × WritesWhole contents old
+        new out)
         (λ end h. (h.out, ends end h, h.written)) answered)
         (λ failed. let h = prefix failed in (h.0, h.1.out, ends h.0 h.1, h.1.written))
 
@@ -129,8 +129,8 @@ module _ (Holds : Text → List ℕ → Type 0) (Input : List ℕ → Type 0) (f
       told = Tells-weaker told teller told_by
           (SaysOn A (names_of_files files) Run files (helpers count) (kept one_text h.texts) end h.out)
           (SaysOn A (names_of_files files) Run files behind (kept one_text h.texts) end h.out)
-          (λ said s. subst (λ m. SaysOn A (names_of_files files) Run files (helpers m) (kept one_text h.texts) end h.out
-          said)
+          (λ said s. subst (λ m. SaysOn A (names_of_files files) Run files (helpers m) (kept one_text h.texts) end
+          h.out said)
           same s) h.told;
     }
 

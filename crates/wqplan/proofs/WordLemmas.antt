@@ -1,7 +1,7 @@
 -- The words of the program's commands, as `clap` reads them.
-use Rattle.std.proofs.Common.{refl, ap, ap₂, sym, subst, arith, ℕ, zero, suc, ◌≤◌, inl, inr, ◌∙◌, codes, Bool, true}
+use Rattle.std.proofs.Common.{refl, ap, ap₂, sym, subst, arith, ℕ, zero, suc, ◌≤◌, inl, inr, ◌∙◌, Bool, true}
 use Rattle.std.proofs.Common.{false}
-use Rattle.std.proofs.Common.{not, ◌==◌, ◌&&◌, [], ◌∷◌, List, Option, Some, None, ◌≡◌, ◌++◌}
+use Rattle.std.proofs.Common.{not, ◌==◌, ◌&&◌, [], ◌∷◌, List, Some, None, ◌≡◌, ◌++◌}
 use Rattle.std.specs.Prelude.{fold, is_some, pos}
 use Rattle.std.specs.List.{list_all}
 use Rattle.std.specs.Str.{bytes_eq}
@@ -10,7 +10,7 @@ use Rattle.clap.specs.Simple.{Shape, built, built_leaf, entered, inherited, mark
 use Rattle.clap.specs.Simple.{names_of as labels_of}
 use Rattle.clap.specs.Takes.{default_passes, entered_passes, is_valid, level_passes, settle_passes, walk_passes}
 use Rattle.clap.specs.ValueTests.{accepts}
-use Rattle.clap.specs.Walk.{Names, Walk, Waiting, finished, nothing_held, rows_after, walked}
+use Rattle.clap.specs.Walk.{Names, Walk, finished, nothing_held, rows_after, walked}
 use Rattle.clap.specs.Walk.Waiting.{idle}
 use Rattle.clap.specs.Words.{Text, is_simple, subcommand_of, takes}
 use Rattle.clap.specs.declared.builder.value_parser.ValueParser.TheVariants.{Signed, Unsigned}

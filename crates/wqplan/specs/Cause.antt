@@ -1,5 +1,5 @@
 -- What a command needs before it reads, and what follows from how it ends.
-use Rattle.std.specs.Prelude.{◌≡◌, ◌⊎◌, ℕ, ◌+◌, ◌≤◌, List, [], ◌∷◌, Option, Some, None, Result, Ok, Err}
+use Rattle.std.specs.Prelude.{◌≡◌, ◌⊎◌, ℕ, ◌+◌, ◌≤◌, List, Option, Some, None, Result, Ok, Err}
 use Rattle.std.specs.List.{All, Any}
 use Rattle.wq_meter.specs.declared.fault.Fault.TheVariants.{Memory, Read, Write}
 use Rattle.wq_meter.specs.Meter.{LosesPrefix, Meter}

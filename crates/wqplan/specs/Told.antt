@@ -1,5 +1,5 @@
 -- What the program says on standard error of the answer that it prints.
-use Rattle.std.specs.Prelude.{◌≡◌, Bool, ℕ, List, [], Option, Some, None, Result, codes, if◌then◌else◌}
+use Rattle.std.specs.Prelude.{◌≡◌, ℕ, List, [], Option, Some, None, Result, codes, if◌then◌else◌}
 use Rattle.std.specs.Str.{bytes_eq}
 use Rattle.clap.specs.Words.{Text}
 use Rattle.wq_text.specs.Refusal.{Refusal}

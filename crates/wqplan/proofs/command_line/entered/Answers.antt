@@ -1,8 +1,7 @@
-use Rattle.std.proofs.Common.{rules, ap, sym, subst, List, Some, ◌≡◌, ◌∙◌}
+use Rattle.std.proofs.Common.{rules, sym, subst, List, ◌∙◌}
 use Rattle.std.specs.Prelude.{IfSome}
 use Rattle.std.proofs.lemmas.Result.{IfOk-weaker}
 use Rattle.clap.specs.Words.{Row, Text, found_of, rows_of, subcommand_rows_of}
-use Rattle.wqplan.specs.Commands.{command_name}
 use Rattle.wqplan.specs.CommandLine.{AsksFor, spelled}
 use Rattle.wqplan.proofs.CommandLemmas.{asks_verb, met_verb, option_map_twice, unnamed}
 use Rattle.wqplan.proofs.command_line.entered.Goals as goal

@@ -1,4 +1,4 @@
-use Rattle.std.proofs.Common.{refl, ap, ap₂, sym, slice_index_or, ◌≡◌, ◌∙◌}
+use Rattle.std.proofs.Common.{refl, ap, ap₂, sym, slice_index_or, ◌∙◌}
 use Rattle.std.proofs.lemmas.List.Sums.{fold_more}
 use Rattle.clap.specs.Words.{App, with_subcommand}
 use Rattle.wqplan.specs.declared.commands.Verb.TheVariants.{Plan}

@@ -70,8 +70,8 @@ returns-in-One-clause-ended g c =
     let opened = subst (AreOpened Opens files) c.in-One.is c.in-Some.ensures.opened in
     let is = ap (λ m. m.device) c.new-first.ensures in
     let on = c.carry_out_on-in-One in
-    let f = from_one Opens g.O.File.Read.remaining Input limits files c.in-One.first c.new-first.result.device opened is
-    (Some []) (Some []) in
+    let f = from_one Opens g.O.File.Read.remaining Input limits files c.in-One.first c.new-first.result.device
+    opened is (Some []) (Some []) in
     ended_by g.W.Write.contents c.args.writer.now on.new.writer limits _ (g.C.Finds.answers c.args.command.now) _ _
     on.result c.end_of-in-One.result c.end_of-in-One.ensures
     (IfOk-weaker on.result _ _ (λ end h. IsAnswered-from f h) on.ensures.answered)
@@ -87,8 +87,8 @@ returns-in-One-clause-told g c =
     let opened = subst (AreOpened Opens files) c.in-One.is c.in-Some.ensures.opened in
     let is = ap (λ m. m.device) c.new-first.ensures in
     let on = c.carry_out_on-in-One in
-    let f = from_one Opens g.O.File.Read.remaining Input limits files c.in-One.first c.new-first.result.device opened is
-    (Some []) (Some []) in
+    let f = from_one Opens g.O.File.Read.remaining Input limits files c.in-One.first c.new-first.result.device
+    opened is (Some []) (Some []) in
     of_end on.result c.end_of-in-One.result c.end_of-in-One.ensures _
     (IfOk-weaker on.result _ _ (λ end h. IsAnswered-from f h) on.ensures.answered)
 
@@ -194,9 +194,11 @@ returns-in-Three-clause-caused g c =
     let opened = subst (AreOpened Opens files) c.in-Three.is c.in-Some.ensures.opened in
     let limits = g.C.Finds.limits c.args.command.now in
     let Failed = HasFailed c.args.input.now c.args.input.now in
-    caused_by (g.O.World.seeds c.args.world.now) Opens (listed files)
-    ((_, c.requires.drawn), all_opened Opens files (Three c.in-Three.first c.in-Three.second c.in-Three.third) opened)
-    (MayFail Failed limits files)
+    caused_by (g.O.World.seeds c.args.world.now) Opens (listed files) (
+      (_, c.requires.drawn),
+      all_opened Opens files (Three c.in-Three.first c.in-Three.second c.in-Three.third)
+          opened,
+    ) (MayFail Failed limits files)
     c.carry_out_on-in-Three.result c.end_of-in-Three.result c.end_of-in-Three.ensures
     (λ failed. may_fail Failed limits files (some_named Opens files
     (Three c.in-Three.first c.in-Three.second c.in-Three.third) opened tt))

@@ -1,5 +1,5 @@
 -- In each arm: the command ended on its files, and this was told of it, as of what is asked for.
-use Rattle.std.proofs.Common.{◌≡◌, ◌≤◌, List, Option, ap, map, refl, subst, sym, ℕ}
+use Rattle.std.proofs.Common.{◌≡◌, ◌≤◌, List, Option, map, refl, subst, sym, ℕ}
 use Rattle.std.specs.Borrow.{Bor}
 use Rattle.std.specs.declared.alloc.Global.{Global}
 use Rattle.wq_meter.specs.Input.{HasFailed, IsInput}
@@ -28,9 +28,9 @@ use Rattle.wqplan.specs.Cause.{EndsReady, IsCaused, MayFail, ReadsBy, TakesInput
 use Rattle.wqplan.specs.CommandLine.{listed, paths, tail_spelled}
 use Rattle.wqplan.specs.Ended.{EndedBy, EndsExplain, Has, has_second}
 use Rattle.wqplan.specs.Files.{HaveTexts}
-use Rattle.wqplan.specs.Told.{IsSaidOf, SaysOn, names_given, names_of_files}
-use Rattle.wqplan.specs.declared.commands.Verb.TheVariants.{Check, Circles, Deadlock, Dot, Explain, Hang, Plan, Repair}
-use Rattle.wqplan.specs.declared.commands.Verb.TheVariants.{Replay, Run}
+use Rattle.wqplan.specs.Told.{IsSaidOf, names_given, names_of_files}
+use Rattle.wqplan.specs.declared.commands.Verb.TheVariants.{Check, Circles, Deadlock, Dot, Hang, Plan, Repair}
+use Rattle.wqplan.specs.declared.commands.Verb.TheVariants.{Replay}
 use Rattle.wqplan.proofs.AskedLemmas.{ended_as, explain_ended, explain_told, few_helpers, first_limit, told_as}
 use Rattle.wqplan.proofs.RunLemmas.{asked_ended, asked_told}
 use Rattle.wqplan.proofs.performing.carry_out_seeded.Goals as goal
@@ -45,8 +45,8 @@ run-requires-sync-R g c κs within = (
   (
     (refl, tt),
     (
-      subst (λ n. n ≤ 8) (sym c.helpers.ensures) (few_helpers (tail_spelled c.args.request.tail)
-          c.requires.few_helpers),
+      subst (λ n. n ≤ 8) (sym c.helpers.ensures)
+          (few_helpers (tail_spelled c.args.request.tail) c.requires.few_helpers),
       c.requires.drawn,
     ),
   ),
@@ -77,8 +77,8 @@ returns-in-Plan-clause-told g c =
     g.W.Write.contents c.args.writer.now on.new.writer c.args.request.verb c.in-Plan.is on.result Global
     (λ n s _ f said. SaysPlan n.declaration s f said)
     (λ t end out said h. h)
-    (names_given c.names_of-names.result) c.names_of-names.ensures g.E.Write.contents c.args.teller.now on.new.teller
-    on.ensures.told
+    (names_given c.names_of-names.result) c.names_of-names.ensures g.E.Write.contents c.args.teller.now
+    on.new.teller on.ensures.told
 
 pub returns-in-Plan-clause-caused : goal.returns-in-Plan-clause-caused
 returns-in-Plan-clause-caused g c =
@@ -123,8 +123,8 @@ returns-in-Check-clause-told g c =
     g.W.Write.contents c.args.writer.now on.new.writer c.args.request.verb c.in-Check.is on.result Global
     (λ n s t f said. SaysCheck n.declaration n.second n.run s t f said)
     (λ t end out said h. h)
-    (names_given c.names_of-names.result) c.names_of-names.ensures g.E.Write.contents c.args.teller.now on.new.teller
-    on.ensures.told
+    (names_given c.names_of-names.result) c.names_of-names.ensures g.E.Write.contents c.args.teller.now
+    on.new.teller on.ensures.told
 
 pub returns-in-Check-clause-caused : goal.returns-in-Check-clause-caused
 returns-in-Check-clause-caused g c =
@@ -169,8 +169,8 @@ returns-in-Deadlock-clause-told g c =
     g.W.Write.contents c.args.writer.now on.new.writer c.args.request.verb c.in-Deadlock.is on.result Global
     (λ n s t f said. SaysVerdictOf n.declaration n.second n.run s t f said)
     (λ t end out said h. h)
-    (names_given c.names_of-names.result) c.names_of-names.ensures g.E.Write.contents c.args.teller.now on.new.teller
-    on.ensures.told
+    (names_given c.names_of-names.result) c.names_of-names.ensures g.E.Write.contents c.args.teller.now
+    on.new.teller on.ensures.told
 
 pub returns-in-Deadlock-clause-caused : goal.returns-in-Deadlock-clause-caused
 returns-in-Deadlock-clause-caused g c =
@@ -215,8 +215,8 @@ returns-in-Hang-clause-told g c =
     g.W.Write.contents c.args.writer.now on.new.writer c.args.request.verb c.in-Hang.is on.result Global
     (λ n s t f said. SaysHangOf n.declaration n.second n.run s t f said)
     (λ t end out said h. h)
-    (names_given c.names_of-names.result) c.names_of-names.ensures g.E.Write.contents c.args.teller.now on.new.teller
-    on.ensures.told
+    (names_given c.names_of-names.result) c.names_of-names.ensures g.E.Write.contents c.args.teller.now
+    on.new.teller on.ensures.told
 
 pub returns-in-Hang-clause-caused : goal.returns-in-Hang-clause-caused
 returns-in-Hang-clause-caused g c =
@@ -243,8 +243,8 @@ returns-in-Repair-clause-ended g c =
     let files = paths c.args.request.files in
     let behind = tail_spelled c.args.request.tail in
     let on = c.carry_out_files-in-Repair in
-    ended_as H I Repair files behind two_texts (λ s t (f : Found (Option (Repairing Global))) e o. RepairsText
-    (given c.names.result) s t.second f e o)
+    ended_as H I Repair files behind two_texts
+    (λ s t (f : Found (Option (Repairing Global))) e o. RepairsText (given c.names.result) s t.second f e o)
     (λ t h. h)
     (λ t found end out h. subst (λ (l : List (List ℕ)). Repairs l t.first t.second end out) c.names.ensures
     (Repairs-kept (given c.names.result) t found end out h))
@@ -257,8 +257,8 @@ returns-in-Repair-clause-told g c =
     let files = paths c.args.request.files in
     let behind = tail_spelled c.args.request.tail in
     let on = c.carry_out_files-in-Repair in
-    told_as H I Repair files behind two_texts (λ s t (f : Found (Option (Repairing Global))) e o. RepairsText
-    (given c.names.result) s t.second f e o)
+    told_as H I Repair files behind two_texts
+    (λ s t (f : Found (Option (Repairing Global))) e o. RepairsText (given c.names.result) s t.second f e o)
     (λ t h. h)
     (λ t found end out h. subst (λ (l : List (List ℕ)). Repairs l t.first t.second end out) c.names.ensures
     (Repairs-kept (given c.names.result) t found end out h))
@@ -266,11 +266,11 @@ returns-in-Repair-clause-told g c =
     (λ n s t f said. SaysRepair n.declaration n.second n.run (given c.names.result) s t f said)
     (λ t end out said h. subst (λ (l : List (List ℕ)). IsSaidOf (names_of_files files).declaration
     (λ s t (f : Found (Option (Repairing Global))) e o. RepairsText l s t.second f e o)
-    (λ s t f w. SaysRepair (names_of_files files).declaration (names_of_files files).second (names_of_files files).run l
-    s t f w)
+    (λ s t f w. SaysRepair (names_of_files files).declaration (names_of_files files).second
+    (names_of_files files).run l s t f w)
     (kept two_texts t) end out said) c.names.ensures h)
-    (names_given c.names_of-names.result) c.names_of-names.ensures g.E.Write.contents c.args.teller.now on.new.teller
-    on.ensures.told
+    (names_given c.names_of-names.result) c.names_of-names.ensures g.E.Write.contents c.args.teller.now
+    on.new.teller on.ensures.told
 
 pub returns-in-Repair-clause-caused : goal.returns-in-Repair-clause-caused
 returns-in-Repair-clause-caused g c =
@@ -297,8 +297,8 @@ returns-in-Replay-clause-ended g c =
     let files = paths c.args.request.files in
     let behind = tail_spelled c.args.request.tail in
     let on = c.carry_out_files-in-Replay in
-    ended_as H I Replay files behind three_texts (λ s t (f : Found (Replayed Global)) e o. ReplaysTexts s t.second
-    t.third f e o)
+    ended_as H I Replay files behind three_texts
+    (λ s t (f : Found (Replayed Global)) e o. ReplaysTexts s t.second t.third f e o)
     (λ t h. h)
     (λ t found end out h. replay-kept t end out found h)
     g.W.Write.contents c.args.writer.now on.new.writer c.args.request.verb c.in-Replay.is on.result on.ensures.ended
@@ -310,15 +310,15 @@ returns-in-Replay-clause-told g c =
     let files = paths c.args.request.files in
     let behind = tail_spelled c.args.request.tail in
     let on = c.carry_out_files-in-Replay in
-    told_as H I Replay files behind three_texts (λ s t (f : Found (Replayed Global)) e o. ReplaysTexts s t.second
-    t.third f e o)
+    told_as H I Replay files behind three_texts
+    (λ s t (f : Found (Replayed Global)) e o. ReplaysTexts s t.second t.third f e o)
     (λ t h. h)
     (λ t found end out h. replay-kept t end out found h)
     g.W.Write.contents c.args.writer.now on.new.writer c.args.request.verb c.in-Replay.is on.result Global
     (λ n s t f said. SaysEndOf n.declaration n.second n.run s t f said)
     (λ t end out said h. h)
-    (names_given c.names_of-names.result) c.names_of-names.ensures g.E.Write.contents c.args.teller.now on.new.teller
-    on.ensures.told
+    (names_given c.names_of-names.result) c.names_of-names.ensures g.E.Write.contents c.args.teller.now
+    on.new.teller on.ensures.told
 
 pub returns-in-Replay-clause-caused : goal.returns-in-Replay-clause-caused
 returns-in-Replay-clause-caused g c =
@@ -369,8 +369,8 @@ returns-in-Circles-clause-told g c =
     (λ t end out said h. subst (λ b. IsSaidOf (names_of_files files).declaration (CirclesTexts {A = Global} b)
     (λ s t f w. SaysCirclesOf (names_of_files files).declaration (names_of_files files).second
     (names_of_files files).run b s t f w) (kept (one_or_two_texts b) t) end out said) same h)
-    (names_given c.names_of-names.result) c.names_of-names.ensures g.E.Write.contents c.args.teller.now on.new.teller
-    on.ensures.told
+    (names_given c.names_of-names.result) c.names_of-names.ensures g.E.Write.contents c.args.teller.now
+    on.new.teller on.ensures.told
 
 pub returns-in-Circles-clause-caused : goal.returns-in-Circles-clause-caused
 returns-in-Circles-clause-caused g c =
@@ -422,10 +422,10 @@ returns-in-Dot-clause-told g c =
     g.W.Write.contents c.args.writer.now on.new.writer c.args.request.verb c.in-Dot.is on.result Global
     (λ n s _ f said. SaysDot n.declaration n.second n.run s f said)
     (λ t end out said h. subst (λ b. IsSaidOf (names_of_files files).declaration (DrawsTexts {A = Global} b)
-    (λ s _ f w. SaysDot (names_of_files files).declaration (names_of_files files).second (names_of_files files).run s f
-    w) (kept (one_or_two_texts b) t) end out said) same h)
-    (names_given c.names_of-names.result) c.names_of-names.ensures g.E.Write.contents c.args.teller.now on.new.teller
-    on.ensures.told
+    (λ s _ f w. SaysDot (names_of_files files).declaration (names_of_files files).second (names_of_files files).run
+    s f w) (kept (one_or_two_texts b) t) end out said) same h)
+    (names_given c.names_of-names.result) c.names_of-names.ensures g.E.Write.contents c.args.teller.now
+    on.new.teller on.ensures.told
 
 pub returns-in-Dot-clause-caused : goal.returns-in-Dot-clause-caused
 returns-in-Dot-clause-caused g c =

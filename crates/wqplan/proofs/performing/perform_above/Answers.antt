@@ -1,11 +1,9 @@
-use Rattle.std.proofs.Common.{◌≡◌, ◌≢◌, ◌++◌, ℕ, List, Option, Some, Err, Result, ap, subst, sym, ◌∙◌}
-use Rattle.std.specs.Prelude.{OnErr}
-use Rattle.wq_meter.specs.Meter.{Meter, WritesPrefix, WritesWhole}
+use Rattle.std.proofs.Common.{◌≡◌, ◌≢◌, ◌++◌, ℕ, List, ap, subst, ◌∙◌}
+use Rattle.wq_meter.specs.Meter.{WritesPrefix, WritesWhole}
 use Rattle.wq_meter.specs.declared.fault.Fault.TheVariants.{Memory, Read, Write}
 use Rattle.wq_run.specs.declared.fault.CommandFault.{CommandFault}
 use Rattle.wq_run.specs.declared.fault.CommandFault.TheVariants.{Common, Tally, Thread}
 use Rattle.wqplan.specs.Status.{unheld}
-use Rattle.wqplan.specs.Told.{IsToldAsAsked}
 use Rattle.wqplan.proofs.AskedLemmas.{IsToldAsAsked-written}
 use Rattle.wqplan.proofs.performing.perform_above.Goals as goal
 

@@ -1,25 +1,16 @@
-use Rattle.std.proofs.Common.{Some, ap, subst, sym, ◌∙◌}
+use Rattle.std.proofs.Common.{ap, subst, sym, ◌∙◌}
 use Rattle.std.specs.declared.alloc.Global.{Global}
-use Rattle.wq_run.specs.Run.{only}
 use Rattle.wq_meter.specs.Input.{HasFailed, IsInput}
 use Rattle.wq_commands.specs.Commands.{one_text}
 use Rattle.wq_commands.specs.Declaration.{max_declaration}
 use Rattle.wqplan.specs.Cause.{MayFail, TakesInput}
 use Rattle.wqplan.specs.CommandLine.{listed, paths}
 use Rattle.wqplan.specs.Ended.{Has}
-use Rattle.wqplan.specs.Files.{AreOpened, HaveTexts, first_if}
+use Rattle.wqplan.specs.Files.{AreOpened}
 use Rattle.wqplan.specs.Told.{names_given}
-use Rattle.wqplan.specs.declared.command_line.Files.TheVariants.{Unnamed}
 use Rattle.wqplan.proofs.CauseLemmas.{run_caused_by}
-use Rattle.wqplan.proofs.FileLemmas.{
-  AreNamed-first,
-  all_opened,
-  have_input,
-  have_only,
-  may_fail,
-  none_named,
-  none_taken,
-}
+use Rattle.wqplan.proofs.FileLemmas.{AreNamed-first, all_opened, have_input, have_only}
+use Rattle.wqplan.proofs.FileLemmas.{may_fail, none_named, none_taken}
 use Rattle.wqplan.proofs.FileLemmas.{some_named, unnamed}
 use Rattle.wqplan.proofs.RunLemmas.{run_ended, run_told}
 use Rattle.wqplan.proofs.performing.run.Goals as goal
@@ -114,8 +105,8 @@ returns-in-None-clause-told g c =
     c.args.input.now c.carry_out_run-in-None.new.declaration
     (λ text given. have_input Opens g.O.File.Read.remaining Input text files c.in-Some.readers opened none given)
     g.W.Write.contents c.args.writer.now on.new.writer g.E.Write.contents c.args.teller.now on.new.teller
-    on.result c.end_of_run-in-None.result c.end_of_run-in-None.ensures.is (names_given c.names_of-voice.result) Global
-    c.names_of-voice.ensures
+    on.result c.end_of_run-in-None.result c.end_of_run-in-None.ensures.is (names_given c.names_of-voice.result)
+    Global c.names_of-voice.ensures
     on.ensures.answered
 
 pub returns-in-None-clause-caused : goal.returns-in-None-clause-caused
