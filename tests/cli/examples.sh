@@ -418,7 +418,7 @@ counts dm-thin 5 4 5 3
 answers dm-thin 'plan 3' shrink_work.other do_worker shrink_work.pool
 plan_is_least dm-thin
 hangs 'dm-thin: the kernel' dm-thin.wq dm-thin.assign
-why 'dm-thin: the kernel' dm-thin.wq dm-thin.assign '`do_worker` `shrink_work.pool`'
+why 'dm-thin: the kernel' dm-thin.wq dm-thin.assign '`do_worker` `shrink_work.pool` `shrink_work.other`'
 repairs 'dm-thin: the kernel' dm-thin.wq dm-thin.assign 'shrink_work.pool 1 2'
 
 # qla2xxx: an acknowledgement waits for the end of a session; and with the logout that this end waits for, there is a circle.
