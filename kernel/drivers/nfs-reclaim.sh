@@ -37,36 +37,60 @@ memory() {
     done </proc/meminfo
 }
 
-# Processes that begin when somebody opens /go.NAME.
-$busybox mkfifo /go.up /go.hog
-(
-    read -r nothing </go.up
-    exec $busybox ifconfig lo 127.0.0.1 up
-) &
+# waits NAME: whether the thread of this name sleeps in the return of a delegation.
+waits() {
+    for task in /proc/[0-9]*; do
+        read -r name <"$task/comm" 2>/dev/null || continue
+        [ "$name" = "$1" ] || continue
+        while read -r line; do
+            case $line in
+                *_nfs4_proc_delegreturn*) return 0 ;;
+            esac
+        done <"$task/stack"
+    done
+    return 1
+}
+
+# tell: whether those who free memory and make threads wait for the server.
+tell() {
+    for thread in kswapd0 kthreadd; do
+        if waits $thread; then
+            echo "$thread: HANGS"
+            failed "$thread waits for the server"
+        else
+            echo "$thread: goes on"
+        fi
+    done
+}
+
+# Processes that are there before: one that takes all memory, one that asks for many workers, and one that has the network
+# again after half a minute, whatever the others do.
+$busybox mkfifo /go.hog /go.busy
 (
     read -r nothing </go.hog
     exec $busybox tail /dev/zero
 ) &
 hog=$!
-
+(
+    read -r nothing </go.busy
+    wqjudge blockers
+) &
 $busybox ifconfig lo down
+(
+    wait_for 30
+    exec $busybox ifconfig lo 127.0.0.1 up
+) &
 free=$(memory MemFree)
-echo "free: $free MB"
 $busybox dd if=/dev/zero of=/fill/it bs=1M count=$((free - 14)) 2>/dev/null
-echo "free: $(memory MemFree) MB, available: $(memory MemAvailable) MB"
-wqjudge blockers
+echo "of $free MB that were free $(memory MemFree) MB are left"
 exec 7>/go.hog 7>&-
+wait_for 1
+exec 7>/go.busy 7>&-
 wait_for 8
-echo "while memory is short:"
-while read -r line; do
-    case $line in
-        MemFree* | MemAvail* | Slab* | SReclaim*) echo "$line" ;;
-    esac
-done </proc/meminfo
+echo "while memory is short, and the network is down:"
+tell
 stacks kthreadd 'kswapd*' 'rpciod*' 'kworker/R-rpcio*'
-ended $hog && echo "the hog is over"
-exec 7>/go.up 7>&-
-wait_for 8
+ended $hog && echo "the hog was killed"
+wait_for 40
 echo "with the network again:"
-stacks kthreadd 'kswapd*' 'rpciod*' 'kworker/R-rpcio*'
-ended $hog && echo "the hog is over"
+tell

@@ -418,8 +418,19 @@ counts dm-thin 5 4 5 3
 answers dm-thin 'plan 3' shrink_work.other do_worker shrink_work.pool
 plan_is_least dm-thin
 hangs 'dm-thin: the kernel' dm-thin.wq dm-thin.assign
-why 'dm-thin: the kernel' dm-thin.wq dm-thin.assign '`do_worker` `shrink_work.pool`'
+why 'dm-thin: the kernel' dm-thin.wq dm-thin.assign '`do_worker` `shrink_work.pool` `shrink_work.other`'
 repairs 'dm-thin: the kernel' dm-thin.wq dm-thin.assign 'shrink_work.pool 1 2'
+
+# qla2xxx: an acknowledgement waits for the end of a session; and with the logout that this end waits for, there is a circle.
+counts qla2xxx 3 2 3 1
+answers qla2xxx 'plan 2' iocb_work del_work
+plan_is_least qla2xxx
+hangs 'qla2xxx: the kernel' qla2xxx.wq qla2xxx.assign
+why 'qla2xxx: the kernel' qla2xxx.wq qla2xxx.assign '`iocb_work` `(del|free)_work`'
+repairs 'qla2xxx: the kernel' qla2xxx.wq qla2xxx.assign 'iocb_work 0 1'
+{ cat qla2xxx.wq && echo 'flush free_work iocb_work'; } >qla2xxx.logout.wq
+run plan qla2xxx.logout.wq
+begins 'qla2xxx: plan, with the logout' 1 'circle 2'
 
 # md: one workqueue for all arrays, which hangs where an array has arrays for disks; one for each array doesn't. The kernel's own
 # order of the first hang is a run too, and stuck as soon as the upper array waits.
@@ -625,6 +636,7 @@ done <<'end'
 4 nvme-auth nvme-auth
 4 nvme-multipath nvme-multipath
 7 dm-thin dm-thin
+4 qla2xxx qla2xxx
 4 nvme-scan nvme-scan
 4 md md
 3 xfs.full xfs
