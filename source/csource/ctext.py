@@ -16,7 +16,9 @@ def blanked(text: str, with_strings: bool = False) -> str:
     """The text with comments, directives and strings, but for those that are wanted, taken out. Lines stay where they are."""
 
     def blank(match: "re.Match[str]") -> str:
-        return match[0] if with_strings and match[0][0] == '"' else re.sub(r"[^\n]", " ", match[0])
+        if with_strings and match[0][0] == '"':
+            return match[0]
+        return "\n".join(" " * len(line) for line in match[0].split("\n"))
 
     return NOT_CODE.sub(blank, text)
 

@@ -63,7 +63,7 @@ def kind_of(call: str, arguments: list[str], text: str) -> str:
     if FLAG in given:
         return NAMED
     for word in re.findall(r"\b[a-z_]\w*\b", given):
-        if re.search(rf"\b{re.escape(word)}\b[^;=]*[|]?=[^;]*{FLAG}", text):
+        if FLAG in text and re.search(rf"\b{re.escape(word)}\b[^;=]*[|]?=[^;]*{FLAG}", text):
             return NAMED
         if word in FLAG_VARIABLES:
             return VARIABLE
