@@ -78,8 +78,8 @@ class Printer:
             self.say(f"{path}:{dismissal.number}: dismisses {dismissal.key}, which isn't in reach")
         for spared in audit.stale_spared:
             self.say(
-                f"{path}:{spared.number}: {spared.key} is no site that other items' lines cite and {' '.join(spared.items)} "
-                "reaches without one"
+                f"{path}:{spared.number}: {spared.key} is no site that other items' lines cite and "
+                f"{' '.join(spared.items)} reaches without one"
             )
         for closed in audit.stale_closed:
             self.say(f"{path}:{closed.number}: {closed.function} isn't called in reach, or isn't in the files")

@@ -15,7 +15,7 @@ from .tree_index import TreeIndex, grep
 # A module with more files than this isn't taken whole because another one calls it.
 MOST_FILES = 60
 
-# So many libraries may stand between a module and one with work items that is called: dm-thin, persistent-data, dm-bufio.
+# So many libraries may stand between a module and one with work items: dm-thin, persistent-data, dm-bufio.
 MOST_LIBRARIES = 2
 # So many folders from the top of the tree are a part of the kernel, as drivers/md.
 PARTS = 2

@@ -111,7 +111,9 @@ def parser() -> argparse.ArgumentParser:
     three.add_argument(
         "--assign", metavar="OUT", help="write the workqueues that the files make into OUT, as an assignment"
     )
-    three.add_argument("--force", action="store_true", help="overwrite OUT though it is no former draft, or was changed")
+    three.add_argument(
+        "--force", action="store_true", help="overwrite OUT though it is no former draft, or was changed by hand"
+    )
     scan_command.add_module_option(three)
     three.add_argument("files", **drafted)
     scan_command.add_parser(verbs, shared, ENDS)

@@ -39,7 +39,7 @@ def with_sum(text: str) -> str:
     """A draft with the sum of its lines in one more line, behind the comments at its head."""
     lines = text.splitlines(keepends=True)
     behind = next((at for at, line in enumerate(lines) if not line.startswith("#")), len(lines))
-    told = f"# drafted: {sum_of(text)}, the sum of the other lines: if one is changed, a new draft won't overwrite them\n"
+    told = f"# drafted: {sum_of(text)}, the sum of the other lines: if one is changed, no new draft overwrites them\n"
     return "".join([*lines[:behind], told, *lines[behind:]])
 
 

@@ -81,7 +81,7 @@ def chosen_for(tree: pathlib.Path, name: str, extractor: TokenExtractor) -> Chos
 
 
 def nearest(name: str, names: list[str]) -> str:
-    """`: did you mean ..?`, with modules of this name in other folders, or of nearly this name; '' if there are none."""
+    """`: did you mean ..?`, with modules of this name in other folders, or of nearly this name; '' without any."""
     objects = collections.defaultdict(list)
     for other in dict.fromkeys(names):
         objects[other.rpartition("/")[2].replace("_", "-")].append(other)

@@ -241,7 +241,8 @@ void rdma_init(struct ctrl *ctrl)
 FILES = {
     "Makefile": "VERSION = 6\nPATCHLEVEL = 1\nSUBLEVEL = 0\n",
     "include/linux/workqueue.h": "struct work_struct { int data; };\n",
-    "drivers/block/Makefile": "obj-m += own.o arg.o zero.o ptr.o bare.o cancel.o through.o plain.o ends.o last.o undo.o\n",
+    "drivers/block/Makefile": "obj-m += own.o arg.o zero.o ptr.o bare.o cancel.o through.o plain.o ends.o last.o\n"
+    "obj-m += undo.o\n",
     # flushes its own workqueue
     "drivers/block/own.c": module("own", "flush_workqueue(x->wq);"),
     # a constant among the arguments excludes the flush, or doesn't

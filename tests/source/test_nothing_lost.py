@@ -226,7 +226,7 @@ def folder(tmp_path):
         (("draft", "--assign", "no/new.assign", "rdisk.c"), "no/new.assign: no is no folder"),
         (("draft", "--cache", "rdisk.c", "rdisk.c"), "not a directory"),
         (("audit", "--decl", "nosuch.wq", "rdisk.c"), "nosuch.wq: no such file or directory"),
-        (("audit", "--decl", "rdisk.wq", "--tree", "sub", RDISK / "rdisk.c"), "rdisk.c: not below sub: is it of another"),
+        (("audit", "--decl", "rdisk.wq", "--tree", "sub", RDISK / "rdisk.c"), "rdisk.c: not below sub: is it of"),
         (("drift", "--decl", "rdisk.c", "--old", ".", "--new", ".", "rdisk.c"), "rdisk.c: it declares no item"),
         (("drift", "--decl", "rdisk.wq", "--old", ".", "--new", ".", "no*.c"), "no*.c: matches no file in ."),
     ],

@@ -65,7 +65,11 @@ IN_DECLARATION = {
     ),
     "a line that is gone": ("flush sd_retry sd_send  # flush sd.c:24 sd_retry\n", "", "left: sd.c:24 sd_retry"),
     "a line that is only offered": ("flush sd_retry sd_send", "#flush sd_retry sd_send", "left: sd.c:24 sd_retry"),
-    "a wrong workqueue": ("sd_send   # queued to sd\n", "sd_send   # queued to sd_log\n", "isn't queued to sd_log, but to sd"),
+    "a wrong workqueue": (
+        "sd_send   # queued to sd\n",
+        "sd_send   # queued to sd_log\n",
+        "isn't queued to sd_log, but to sd",
+    ),
     "a renamed item": ("sd_send", "sd_sent", "item sd_sent: neither its name nor its comment"),
     "another function": ("sd.c:24 sd_retry", "sd.c:24 sd_send", "the line is in sd_retry"),
     "another line": ("sd.c:24", "sd.c:34", "left: sd.c:24 sd_retry"),
@@ -88,7 +92,11 @@ IN_DRIVER = {
         "queue_work(s->log_wq, &s->send_work)",
         "item sd_send: was queued to sd, now to sd_log",
     ),
-    "no rescuer": ('("sd", WQ_MEM_RECLAIM, 0)', '("sd", 0, 0)', "workqueue sd: was WQ_MEM_RECLAIM; is NO WQ_MEM_RECLAIM"),
+    "no rescuer": (
+        '("sd", WQ_MEM_RECLAIM, 0)',
+        '("sd", 0, 0)',
+        "workqueue sd: was WQ_MEM_RECLAIM; is NO WQ_MEM_RECLAIM",
+    ),
     "a renamed work function": ("sd_send(", "sd_submit(", "item sd_send: its work function"),
     "one more wait": (
         "\tcomplete(&s->logged);\n",
