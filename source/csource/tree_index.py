@@ -55,10 +55,12 @@ class TreeIndex:
 
     @staticmethod
     def kept(tree: pathlib.Path, cache: pathlib.Path) -> "TreeIndex":
-        """From the cache, by where the tree is and which version it has."""
+        """From the cache, by where the tree is, since when it is there, and which version it has."""
         makefile = tree / "Makefile"
         version = makefile.read_bytes() if makefile.is_file() else b""
-        name = hashlib.sha256(str(tree.resolve()).encode() + version + LOOKED_FOR.encode()).hexdigest()
+        known = tree.stat()
+        where = f"{tree.resolve()} {known.st_ino} {known.st_mtime_ns}"
+        name = hashlib.sha256(where.encode() + version + LOOKED_FOR.encode()).hexdigest()
         at = cache / f"tree-{name[:32]}"
         if at.is_file():
             return TreeIndex(**json.loads(at.read_text()))

@@ -3,7 +3,7 @@
 # one, or the one that was unpacked here before, or Debian's linux-source-6.1, which is fetched: some 140 MB. Where none can be
 # had, the status is 1, and standard error says so.
 set -u
-folders='block drivers/block drivers/md drivers/nvme drivers/scsi/qla2xxx fs/iomap fs/nfs fs/xfs include mm net/ceph net/sunrpc'
+folders='block drivers/block drivers/md drivers/net/ethernet/amd/xgbe drivers/nvme drivers/scsi/qla2xxx fs/iomap fs/nfs fs/xfs include mm net/ceph net/sunrpc'
 files='Makefile fs/direct-io.c fs/fs-writeback.c fs/inode.c fs/super.c fs/sync.c kernel/workqueue.c'
 
 if [ -n "${LINUX_6_1-}" ]; then

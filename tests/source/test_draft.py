@@ -47,7 +47,7 @@ def test_item_and_flush_lines(wqsource, kernel):
     assert lines[at : at + 6] == [
         "item ti_first  # ti.first_work, queued nowhere in these files",
         "#   set at two_inits.c:15 ti_set",
-        "item ti_second  # ti.second_work, queued to ti at two_inits.c:20 ti_go",
+        "item ti_second  # ti.second_work, queued to ti at two_inits.c:32 ti_start",
         "#   set at two_inits.c:31 ti_start",
         "#   queued by code that no item reaches, from ti_start",
         "",

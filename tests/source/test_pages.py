@@ -60,5 +60,5 @@ def test_modules_and_tables():
 def test_options():
     """What the page says of the command line is there."""
     source = "".join((ROOT / "source" / "csource" / name).read_text() for name in ("command_line.py", "scan_command.py"))
-    for option in set(re.findall(r"`(--\w+)|(--\w+) (?:D|DIR|OUT|FUNCTION)", PAGE)):
+    for option in set(re.findall(r"`(--[\w-]+)|(--[\w-]+) (?:D|DIR|OUT|FUNCTION)", PAGE)):
         assert f'"{option[0] or option[1]}"' in source

@@ -37,7 +37,7 @@ READ = {
         ("recv_work", "*", "nbd_dev_remove"): False,
     },
     "drivers/nvme/target/nvmet": {
-        ("nvmet_fc_delete_assoc_work", "*", "nvmet_fc_delete_target_queue"): True,
+        ("nvmet_fc_delete_assoc_work", "*", "nvmet_fc_delete_target_assoc"): True,
         # the workqueue was just made
         ("nvmet_fc_handle_ls_rqst_work", "*", "nvmet_fc_alloc_target_queue"): False,
     },
