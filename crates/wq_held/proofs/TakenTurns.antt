@@ -21,6 +21,7 @@ use Rattle.wq_held.specs.declared.turn.Turn.TheVariants.{Answers as Answered, Sl
 use Rattle.wq_held.specs.Locked.{slots, HeldView, IsProtected, Holds}
 use Rattle.wq_held.specs.Calls.{counts_after, IsUncounted, WasAnswered, AreThere, BecomesTurn, TakesTurn}
 use Rattle.wq_held.specs.Turns.{IfSleeps, IsGroup, Wakes, WakesEnoughOf}
+use Rattle.wq_held.specs.Receipts.{Answered as Shown, TakesTurnOf, ShowsTurn}
 use Rattle.wq_held.proofs.Locking.{IsProtected-noted}
 
 -- ---- what the rows of an answer are about is there
@@ -231,3 +232,21 @@ turn-wakes w rows old new counts left call (Sleeps among) holds takes = (
       (subst (IsGroup old.book.wiring.lanes (items old.book.wiring)) (sym takes.sleeps)
       (early-group old.book holds.legal call takes.early)),
 )
+
+-- ---- turns that show their answers
+
+pub shown-taken : (old new : HeldView) (call meant : Call) (turn : Turn (Result Reply CallError)) (shown : Turn Shown)
+    → meant ≡ call → ((counts : List ℕ) → TakesTurn old counts call turn new counts) → ShowsTurn meant turn shown
+    → TakesTurnOf old call shown new
+shown-taken old new call meant (Answered answer wake) shown is takes shows =
+    subst (λ (t : Turn Shown). TakesTurnOf old call t new) (sym shows) (is, takes)
+shown-taken old new call meant (Sleeps among) shown is takes shows =
+    subst (λ (t : Turn Shown). TakesTurnOf old call t new) (sym shows) takes
+
+pub shown-wakes : (lanes items_of : ℕ) (old new : HeldView) (meant : Call) (turn : Turn (Result Reply CallError))
+    (shown : Turn Shown) → ShowsTurn meant turn shown → Wakes lanes items_of WakesEnoughOf old new turn
+    → Wakes lanes items_of WakesEnoughOf old new shown
+shown-wakes lanes items_of old new meant (Answered answer wake) shown shows wakes =
+    subst (λ (t : Turn Shown). Wakes lanes items_of WakesEnoughOf old new t) (sym shows) wakes
+shown-wakes lanes items_of old new meant (Sleeps among) shown shows wakes =
+    subst (λ (t : Turn Shown). Wakes lanes items_of WakesEnoughOf old new t) (sym shows) wakes

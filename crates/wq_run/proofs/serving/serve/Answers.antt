@@ -21,7 +21,7 @@ returns-in-Ok-clause-ran g c =
     (λ text h. PrintsRun-closed w.helpers s w c.args.assignment.now g.N.Naming.rows ran.seats.items
     (map runs_of ran.bodies.items) ran.rescued.items ran.finished ran.faults
     h.0 h.1 text.items c.requires.items c.requires.plan c.requires.few c.requires.of_wiring c.requires.of_rows
-    c.in-Ok.ensures.ran called h.2 h.3) c.conclude.ensures.reported
+    c.in-Ok.ensures.ran called c.requires.few_helpers c.in-Ok.ensures.served h.2 h.3) c.conclude.ensures.reported
 
 pub returns-in-Ok-clause-stopped : goal.returns-in-Ok-clause-stopped
 returns-in-Ok-clause-stopped g c =

@@ -1,6 +1,6 @@
 use Rattle.std.proofs.Common.{◌<◌}
 use Rattle.wq_api.proofs.Calls.{seat_wakes}
-use Rattle.wq_api.proofs.turns.HeldTurnsUnitSeatInResultSeatSeatError.take.Goals as goal
+use Rattle.wq_api.proofs.turns.HeldTurnsUnitSeatInResultSeatNoSeat.take.Goals as goal
 
 pub returns-clause-wakes : goal.returns-clause-wakes
 returns-clause-wakes g c =
