@@ -4,10 +4,12 @@
 #
 #     kernel/driver --memory 256M kernel/drivers/nfs-reclaim.sh nfsv4 nfsd
 
-$busybox ifconfig lo 127.0.0.1
-$busybox mkdir /export /mnt /nfsd /fill
-$busybox mount -t tmpfs export /export
+. /shared/nfs.sh
+
+$busybox mkdir /fill
 $busybox mount -t tmpfs -o size=100% fill /fill
+serve
+# (empty ones: an inode that has pages isn't evicted before these are)
 number=0
 files=
 while [ $number -lt 700 ]; do
@@ -15,18 +17,7 @@ while [ $number -lt 700 ]; do
     files="$files $number"
     number=$((number + 1))
 done
-
-# The server, as in nfs.sh.
-$busybox mount -t nfsd nfsd /nfsd
-echo 10 >/nfsd/nfsv4gracetime
-echo '-3 +4 +4.1' >/nfsd/versions
-echo 'tcp 2049' >/nfsd/portlist
-echo 4 >/nfsd/threads
-echo 'nfsd 127.0.0.1 2147483647 here' >/proc/net/rpc/auth.unix.ip/channel
-echo 'here /export 2147483647 9218 65534 65534 0' >/proc/net/rpc/nfsd.export/channel
-echo 'here 1 \x00000000 2147483647 /export' >/proc/net/rpc/nfsd.fh/channel
-wait_for 15
-$busybox mount -t nfs4 -o vers=4.1,addr=127.0.0.1,clientaddr=127.0.0.1 127.0.0.1:/ /mnt
+$busybox mount -t nfs4 -o $nfs_options 127.0.0.1:/ /mnt
 for file in $files; do read -r nothing </mnt/$file; done
 echo "delegations: $($busybox grep -c 'type: deleg' /nfsd/clients/*/states)"
 

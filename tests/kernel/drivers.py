@@ -6,9 +6,8 @@
 On Linux 6.1, unchanged: an NFS mount that ends while a delegation is on its way back (examples/nfs.md), md on md
 (examples/md.md), NVMe whose connection is lost while a partition table is read (examples/nvme-multipath.md), and a thin
 pool that can't write its metadata (examples/dm-thin.md). On Linux 6.12: NVMe whose connection is lost twice
-(examples/nvme-scan.md). While no worker can be created these must hang,
-and the rescuer must sleep where the page says; and the status must be 1, since the script then says `failed`. It takes a
-minute of processor time.
+(examples/nvme-scan.md). While no worker can be created these must hang, and the rescuer must sleep where the page says;
+and the status must be 1, since the script then says `failed`. It takes a minute of processor time.
 
 With --patched also what the pages say of patched drivers, and of each script on the other kernel: that takes some ten
 minutes more the first time, and downloads the sources of two kernels, some 290 MB. It is run before a release.
