@@ -13,6 +13,8 @@ import typing
 
 # The programs take some milliseconds, few of them a second: this is enough on a machine that has much else to do.
 SECONDS_PER_RUN = 60
+# What a user, a terminal that is closed and a system end programs by.
+ENDING = (signal.SIGINT, signal.SIGHUP, signal.SIGTERM)
 
 TookTooLong = subprocess.TimeoutExpired
 
@@ -36,17 +38,30 @@ def run(words, *, timeout=SECONDS_PER_RUN, input=None, capture_output=False, **g
 
 
 @contextlib.contextmanager
+def heeded():
+    """A program that begins meanwhile heeds the signals that end programs, also those that the tests were started to ignore:
+    SIGHUP by nohup, SIGINT by a shell that has them in the background.
+
+    A program inherits what is ignored, but no handler. So what is ignored here has one meanwhile, which does nothing.
+    """
+    ignored = [number for number in ENDING if signal.getsignal(number) is signal.SIG_IGN]
+    for number in ignored:
+        signal.signal(number, lambda *_: None)
+    try:
+        yield
+    finally:
+        for number in ignored:
+            signal.signal(number, signal.SIG_IGN)
+
+
+@contextlib.contextmanager
 def started(words, *, timeout=SECONDS_PER_RUN, **given):
     """A program that runs meanwhile, as a Popen.
 
-    It is ended, with all that it started, when the block ends or it has taken so long. It heeds SIGINT, also if the tests run in
-    the background, where a shell has programs ignore it.
+    It is ended, with all that it started, when the block ends or it has taken so long. It heeds the signals that end programs.
     """
-    before = signal.signal(signal.SIGINT, signal.default_int_handler)
-    try:
+    with heeded():
         running = subprocess.Popen(words, start_new_session=True, **given)
-    finally:
-        signal.signal(signal.SIGINT, before)
 
     def end():
         with contextlib.suppress(ProcessLookupError):
