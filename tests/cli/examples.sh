@@ -343,6 +343,11 @@ grep -vE '^flush .*(timer.system|auth_expired_work) +# cancel' nvmet-tcp.wq >nvm
 hangs 'nvmet-tcp: the kernel, without cancel of what is on system_wq' nvmet-tcp.nosystem.wq nvmet-tcp.assign 20
 run circles nvmet-tcp.nosystem.wq nvmet-tcp.assign
 is 'nvmet-tcp: the same: no flush leads to no rescuer' '' "$(grep norescuer out)"
+cat nvmet-tcp.nosystem.wq nvmet-tcp.module.wq >nvmet-tcp.loads.wq
+{ cat nvmet-tcp.assign && echo 'norescuer 5 call_usermodehelper_exec_work'; } >nvmet-tcp.loads.assign
+hangs 'nvmet-tcp: the kernel, which loads a module' nvmet-tcp.loads.wq nvmet-tcp.loads.assign
+to_no_rescuer 'nvmet-tcp: the kernel, which loads a module' 1 nvmet-tcp.loads.wq nvmet-tcp.loads.assign \
+    nvmet_tcp_io_work call_usermodehelper_exec_work
 rescued nvmet-tcp
 hangs 'nvmet-tcp: the kernel, with rescuers' nvmet-tcp.wq nvmet-tcp.rescued.assign 24
 hangs 'nvmet-tcp: the kernel, without cancel' nvmet-tcp.nocancel.wq nvmet-tcp.assign
@@ -633,6 +638,7 @@ done <<'end'
 4 dm-snapshot dm-snapshot.merged
 4 dm-integrity dm-integrity.merged
 4 nvmet-tcp nvmet-tcp
+4 nvmet-tcp.loads nvmet-tcp.loads
 4 nvme-auth nvme-auth
 4 nvme-multipath nvme-multipath
 7 dm-thin dm-thin
