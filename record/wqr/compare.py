@@ -27,6 +27,7 @@ GRACE_PERIODS = re.compile(r"rcu_gp|rcu_par_gp|kthread_rcu_exp_(par_)?gp_kthread
 IN_A_RESCUER = (
     "a grace period's items need no line: their workqueue has a rescuer (docs/GUIDE.md, section 2, (f) and (j))"
 )
+RCU = re.compile(r"synchronize_rcu(_expedited)?|rcu_barrier")
 IN_A_THREAD = "a grace period's items need no line: they have a thread of their own (docs/GUIDE.md, section 2, (f))"
 
 
@@ -308,7 +309,9 @@ class Comparison:
         for declared in self.declared.waits:
             if declared.source.name in names and is_cited_in(declared.citations, frames):
                 return f"line {declared.number} cites this place for {declared.source.name} -> {declared.target.name}"
-        return f"neither a wait nor dismissed: {item.name} at {' < '.join(map(str, frames[:6]))}"
+        is_rcu = any(RCU.fullmatch(frame.function) for frame in self.drawing.sites.places.chain(wait.stack))
+        what = "a grace period, which needs no line (docs/GUIDE.md, section 2)" if is_rcu else "neither a wait nor dismissed"
+        return f"{what}: {item.name} at {' < '.join(map(str, frames[:6]))}"
 
 
 # Of one record or several -----------------------------------------------------------------------------

@@ -1,6 +1,7 @@
 """What was seen beside what is declared, in histories that are made up."""
 
 import pytest
+from conftest import ROOT
 from made import AT, Made
 from test_causes import A, B, C, OTHER, PROCESS, THIRD, THREAD, WORKER, a_sleeps
 
@@ -8,6 +9,7 @@ from wqr.compare import Class, Comparison, Total
 from wqr.confirmed import made_sure
 from wqr.declared import Declared
 
+EXAMPLES = ROOT / "examples"
 ITEMS = "item a  # a_work, queued to w at x.c:1 queue_here\nitem b  # b_work, queued to v at x.c:2 queue_here\n"
 
 
@@ -45,6 +47,22 @@ def test_a_declared_wait_is_seen():
     assert classes(comparison) == {"DECLARED": ["a_work b_work"]}
     assert not comparison.has_hole
     assert "      line 3: in the same function" in list(comparison.lines())
+
+
+def nvmet_loads_a_module() -> Made:
+    io, starts = "nvmet_tcp_io_work", "call_usermodehelper_exec_work"
+    made = Made().queue(PROCESS, A, io, name="nvmet_tcp_wq").start(WORKER, A, io)
+    made.queue(WORKER, B, starts, wq=2, name="events_unbound", rescuer=0).sleep(WORKER, A, io)
+    return made.start(OTHER, B, starts).wake(OTHER, WORKER).end(OTHER, B, starts).end(WORKER, A, io)
+
+
+@pytest.mark.parametrize(
+    "declarations, wanted", [(["nvmet-tcp"], "HOLE"), (["nvmet-tcp", "nvmet-tcp.module"], "DECLARED")]
+)
+def test_the_process_that_loads_a_module_is_a_hole_of_nvmet_tcp_without_the_lines_for_it(declarations, wanted):
+    text = "".join((EXAMPLES / f"{name}.wq").read_text() for name in declarations)
+    comparison = compared(nvmet_loads_a_module(), text, (EXAMPLES / "nvmet-tcp.assign").read_text())
+    assert classes(comparison) == {wanted: ["nvmet_tcp_io_work call_usermodehelper_exec_work"]}
 
 
 def by_two_ways() -> Made:
@@ -188,6 +206,16 @@ def test_items_that_did_not_run_and_items_beside_them_are_told():
     lines = list(compared(made, ITEMS).lines())
     assert "  never ran: b (line 2)" in lines
     assert "  not declared: c_work, on w, ran once" in lines
+
+
+@pytest.mark.parametrize(
+    "inside, wanted", [("synchronize_rcu", "a grace period, which needs no line"), ("wait_there", "neither a wait nor")]
+)
+def test_a_sleep_for_a_grace_period_is_told_as_that(inside, wanted):
+    made = Made().queue(PROCESS, A, "a_work").start(WORKER, A, "a_work")
+    made.sleep(WORKER, A, "a_work", inside, "wait_here").wake(OTHER, WORKER, in_interrupt=True)
+    lines = list(compared(made, ITEMS).lines())
+    assert lines[lines.index("sleeps that no item ended: 1") + 1].startswith(f"  {wanted}")
 
 
 def test_a_sleep_that_an_interrupt_ended_confirms_its_dismissal():
