@@ -106,6 +106,21 @@ def test_a_record_that_ends_in_mds_hang_tells_its_circle():
     ]
 
 
+def test_a_record_that_ends_in_nfs_hang_tells_its_circle():
+    # What examples/nfs.md says of it: the rescuer of rpciod sleeps in _nfs4_proc_delegreturn, called by
+    # nfs4_delegreturn_release, until a task has run that is queued to rpciod.
+    comparison = compared("nfs-hang", "nfs")
+    (sleeper,) = [one for one in comparison.drawing.hang.open if comparison.declared.of_item(one.item)]
+    stack = [frame.function for frame in comparison.drawing.sites.places.chain(sleeper.sleep.stack)]
+    assert {"_nfs4_proc_delegreturn", "nfs4_delegreturn_release", "rescuer_thread"} <= set(stack)
+    lines = list(comparison.lines())
+    assert "      line 40: rpc_async.put -> rpc_async" in lines
+    assert lines[lines.index("circles: 1") + 1 :] == [
+        "  rpc_async_schedule waits for rpc_async_schedule, which hasn't started: the rescuer of rpciod executes "
+        "rpc_async_schedule"
+    ]
+
+
 def functions(found: list) -> set[tuple[str, str]]:
     return {(one.edge.source.function, one.edge.target.function) for one in found}
 
