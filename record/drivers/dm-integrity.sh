@@ -1,16 +1,19 @@
-# dm-integrity with a journal, and with a bitmap, on RAM disks (examples/dm-integrity.wq).
-# modules: brd rd_nr=2; dm-integrity
+# dm-integrity with a journal, and with a bitmap, on RAM disks (examples/dm-integrity.wq); and both while all tags are
+# computed anew.
+# modules: brd rd_nr=4 rd_size=70000; dm-integrity
 # programs: dmsetup
 
 export DM_DISABLE_UDEV=1
 
-# make MODE DEVICE NAME: formatted, and then as large as it can be.
+# make MODE DEVICE NAME OPTION..: formatted, and then as large as it can be, with options.
 make() {
-    dmsetup create $3 --table "0 1 integrity $2 0 4 $1 1 internal_hash:crc32c"
-    set -- "$@" $(dmsetup status $3)
-    dmsetup remove $3
-    dmsetup create $3 --table "0 $8 integrity $2 0 4 $1 2 internal_hash:crc32c allow_discards" ||
-        dmsetup create $3 --table "0 $8 integrity $2 0 4 $1 1 internal_hash:crc32c"
+    mode=$1 device=$2 name=$3
+    shift 3
+    dmsetup create $name --table "0 1 integrity $device 0 4 $mode 1 internal_hash:crc32c"
+    dmsetup status $name >/tmp/status
+    read -r start length target mismatches sectors rest </tmp/status
+    dmsetup remove $name
+    dmsetup create $name --table "0 $sectors integrity $device 0 4 $mode $((2 + $#)) internal_hash:crc32c allow_discards $*"
 }
 
 # work NAME: readers and writers of the same sectors.
@@ -32,11 +35,28 @@ load() {
     work j
     report journal
     dmsetup remove j
-    make B /dev/ram1 b
-    work b
-    wait_for 11
+    # (a bitmap is cleared often, so that writes have to set its bits again)
+    make B /dev/ram1 b bitmap_flush_interval:100
+    for round in 1 2 3; do
+        work b
+        wait_for 1
+    done
     report bitmap
     dmsetup remove b
+    # Tags are computed for 16 MB at a time, while others write there.
+    make J /dev/ram2 r recalculate
+    for at in 20 36; do dd if=/dev/zero of=/dev/mapper/r bs=16k count=200 seek=$((at * 64)) oflag=direct 2>/dev/null & done
+    wait
+    work r
+    report journal, recalculated
+    dmsetup remove r
+    make B /dev/ram3 s bitmap_flush_interval:100 recalculate
+    for at in 20 36; do dd if=/dev/zero of=/dev/mapper/s bs=16k count=200 seek=$((at * 64)) oflag=direct 2>/dev/null & done
+    wait
+    work s
+    wait_for 1
+    report bitmap, recalculated
+    dmsetup remove s
 }
 
 record load
