@@ -4,6 +4,7 @@
     done                            an item ended the sleep
     before                          an item had completed it already (recorded with --full)
     queued                          an item queued, during the sleep, who ended it
+    socket                          the same of a sleep until something comes in at a socket
     early                           an item woke it, and it went on sleeping at the same place
     through                         a thread ended the sleep, and was itself woken by an item during the sleep
     lock                            an item had the lock, or who had it was woken by an item meanwhile
@@ -24,6 +25,9 @@ LOCK = re.compile(
 )
 # The functions in which a call that flushes sleeps.
 FLUSHERS = {"__flush_work", "__flush_workqueue", "drain_workqueue"}
+# Who sleeps here waits for what comes in at a socket. An item that sends there has the socket's lock, and when it lets that
+# go it hands on what came in meanwhile: it ends the sleep, and isn't what was waited for.
+RECEIVERS = {"sk_wait_data"}
 # In how many of the innermost functions of a stack a lock is looked for: behind them are callers.
 INNERMOST = 14
 
@@ -36,6 +40,7 @@ class How(Enum):
     DONE = "done"
     BEFORE = "before"
     QUEUED = "queued"
+    SOCKET = "socket"
     EARLY = "early"
     THROUGH = "through"
     LOCK = "lock"
@@ -47,7 +52,7 @@ class How(Enum):
 
     @property
     def is_guess(self) -> bool:
-        return self in (How.EARLY, How.THROUGH, How.LOCK)
+        return self in (How.SOCKET, How.EARLY, How.THROUGH, How.LOCK)
 
 
 CALLS = {how.value: how for how in (How.FLUSH, How.CANCEL, How.FLUSHWQ, How.DRAIN)}
@@ -185,7 +190,9 @@ class Causes:
 
     def of_end(self, wait: Wait) -> Iterator[Fact]:
         last = wait.sleeps[-1]
+        receives = self.has(wait.stack, RECEIVERS)
         for how, target, through in self.behind(wait.by, wait.start, wait.end, How.DONE):
+            how = How.SOCKET if receives and how is How.QUEUED else how
             yield self.fact(wait, how, target, last, through)
         named = {id(wait.by.run)}
         for sleep in wait.sleeps[:-1]:

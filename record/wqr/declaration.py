@@ -25,6 +25,7 @@ WORDS = {
     How.DONE: "done",
     How.BEFORE: "done",
     How.QUEUED: "done",
+    How.SOCKET: "done",
     How.EARLY: "done",
     How.THROUGH: "done",
     How.LOCK: "lock",
@@ -98,6 +99,8 @@ class Drawing:
     def remarks(self, edge: Edge, how: How) -> Iterator[str]:
         if how is How.QUEUED:
             yield "it queues who ends the wait"
+        if how is How.SOCKET:
+            yield "it queues who ends the wait, or who only had the socket's lock"
         if how is How.EARLY:
             yield "it woke the waiter, which slept again"
         if how is How.BEFORE:

@@ -19,7 +19,7 @@ NAMES = (
     "a_work b_work c_work d_work wait_here wait_there wake_here queue_here schedule wq_worker_sleeping "
     "process_one_work __flush_work "
     "__flush_workqueue wq_barrier_func __mutex_lock __queue_work xfs_file_fsync "
-    "nvmet_tcp_io_work call_usermodehelper_exec_work synchronize_rcu"
+    "nvmet_tcp_io_work call_usermodehelper_exec_work synchronize_rcu sk_wait_data"
 ).split()
 AT = {name: 0x1000 * (number + 1) for number, name in enumerate(NAMES)}
 SYMBOLS = "".join(f"{at:016x} t {name}\n" for name, at in AT.items())

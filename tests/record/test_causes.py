@@ -33,6 +33,14 @@ def test_who_queues_what_ends_the_wait_is_waited_for_too():
     assert made.flushes() == ["flush a_work b_work", "flush a_work c_work"]
 
 
+def test_who_queues_what_wakes_a_reader_of_a_socket_is_not_sure():
+    # (the item that woke it may only have had the socket's lock)
+    made = Made().queue(PROCESS, A, "a_work").start(WORKER, A, "a_work").sleep(WORKER, A, "a_work", "sk_wait_data")
+    made.queue(PROCESS, C, "c_work", wq=3).start(THIRD, C, "c_work").queue(THIRD, B, "b_work", wq=2)
+    made.start(OTHER, B, "b_work").wake(OTHER, WORKER)
+    assert made.flushes() == ["# flush? a_work c_work", "flush a_work b_work"]
+
+
 def test_who_queued_before_the_wait_is_not_waited_for():
     made = Made().queue(PROCESS, B, "b_work", wq=2).start(OTHER, B, "b_work").queue(OTHER, C, "c_work", wq=3)
     made.queue(PROCESS, A, "a_work").start(WORKER, A, "a_work").sleep(WORKER, A, "a_work").end(OTHER, B, "b_work")
