@@ -53,14 +53,14 @@ for file in 0 1 2 3; do cat $at/mnt/$file >/dev/null; done
 [ "$(grep -c 'type: deleg' $at/nfsd/clients/*/states)" -ge 4 ] || missing "there are no delegations"
 echo 0 >/sys/module/nfsv4/parameters/delegation_watermark
 
-# Two processes that begin when somebody opens a pipe, since none can be made later.
+# Two processes that begin when somebody opens a pipe, since none can be made later. (So umount may start no helper.)
 rm -f $at/go $at/go.other
 mkfifo $at/go $at/go.other
 (
     exec 9<$at/mnt/0
     read -r nothing <$at/go
     exec 9<&-
-    exec umount $at/mnt
+    exec umount -i $at/mnt
 ) &
 umount=$!
 (
