@@ -35,8 +35,8 @@
 set -uo pipefail
 
 # The scripts: part, name, and the files of tests/ that are run in turn, each with its words. The name of a program stands for
-# its path. The order is that of the gate, which has its own words for `edits`, and leaves out `stress`: long loads in many
-# threads, which are in no part.
+# its path. The order is that of the gate, which has its own words for `edits`, and leaves out what is in no part: `stress`, long
+# loads in many threads, and `longer`, guests for before a release.
 scripts='
 lib      time_limit   lib/time_limit.sh
 docs     definitions  docs/definitions.py | docs/headline_lines.py
@@ -69,6 +69,7 @@ docs     guide        docs/guide.sh WQPLAN EXAMPLE_RDISK
 runtime  book_model   model/book_properties.py | model/drive_books.py TEST_RUNTIME
 edits    edits        edits/edits.py
 -        stress       runtime/loads.py TEST_RUNTIME 20 100000
+-        longer       kernel/drivers.py --patched | kernel/longer.py
 '
 
 # The names, and of each its part and its files; and the names that are asked for.
@@ -240,7 +241,7 @@ else
 fi
 for name in "${names[@]}"; do
     case $name in
-        edits | stress) ;;
+        edits | stress | longer) ;;
         *) counted "$name" script "$name" ;;
     esac
 done

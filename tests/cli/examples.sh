@@ -426,6 +426,26 @@ hangs 'dm-thin: the kernel' dm-thin.wq dm-thin.assign
 why 'dm-thin: the kernel' dm-thin.wq dm-thin.assign '`do_worker` `shrink_work.pool` `shrink_work.other`'
 repairs 'dm-thin: the kernel' dm-thin.wq dm-thin.assign 'shrink_work.pool 1 2'
 
+# nvmet-fc, ext4, srp: an item with a rescuer waits for one without.
+counts nvmet-fc 3 1 3 2
+answers nvmet-fc 'plan 2' del_work defer_work
+plan_is_least nvmet-fc
+hangs 'nvmet-fc: the kernel' nvmet-fc.wq nvmet-fc.assign
+to_no_rescuer 'nvmet-fc: the kernel' 1 nvmet-fc.wq nvmet-fc.assign del_work defer_work
+repairs 'nvmet-fc: the kernel' nvmet-fc.wq nvmet-fc.assign 'rescuer 1'
+counts ext4 3 2 3 3
+answers ext4 'plan 2' buffered_io_work discard_work
+plan_is_least ext4
+hangs 'ext4: the kernel' ext4.wq ext4.assign
+to_no_rescuer 'ext4: the kernel' 2 ext4.wq ext4.assign buffered_io_work discard_work
+repairs 'ext4: the kernel' ext4.wq ext4.assign 'rescuer 2'
+counts srp 3 2 3 2
+answers srp 'plan 2' wb_workfn reconnect_work
+plan_is_least srp
+hangs 'srp: the kernel' srp.wq srp.assign
+to_no_rescuer 'srp: the kernel' 2 srp.wq srp.assign wb_workfn reconnect_work
+repairs 'srp: the kernel' srp.wq srp.assign 'rescuer 1'
+
 # qla2xxx: an acknowledgement waits for the end of a session; and with the logout that this end waits for, there is a circle.
 counts qla2xxx 3 2 3 1
 answers qla2xxx 'plan 2' iocb_work del_work
@@ -644,6 +664,9 @@ done <<'end'
 7 dm-thin dm-thin
 4 qla2xxx qla2xxx
 4 nvme-scan nvme-scan
+4 nvmet-fc nvmet-fc
+4 ext4 ext4
+4 srp srp
 4 md md
 3 xfs.full xfs
 4 xfs xfs
