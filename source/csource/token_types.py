@@ -1,7 +1,7 @@
 """The types of members, variables and functions, as their definitions say them."""
 
 import collections
-from typing import Iterable, Optional
+from typing import Callable, Iterable, Optional
 
 from . import ctext
 from .ctext import Tokens
@@ -101,6 +101,8 @@ class Expressions:
     def __init__(self, types: Types) -> None:
         self.types = types
         self.locals: dict[tuple[str, str, str], str] = {}
+        # what is handed over for a parameter without a type, that of a macro
+        self.handed: Callable[[Place, str, int], Optional[str]] = lambda place, name, steps: None
 
     def declare(self, place: Place, name: str, type_name: str) -> None:
         """A variable of a function; outside functions one of the file."""
@@ -127,6 +129,7 @@ class Expressions:
         if len(words) == 1:
             return (
                 self.locals.get((place.file, place.function, words[0]))
+                or self.handed(place, words[0], steps)
                 or self.locals.get((place.file, "", words[0]))
                 or self.types.variable(words[0])
             )
