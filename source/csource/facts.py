@@ -84,6 +84,9 @@ class Facts:
         for call in self.calls:
             self.calls_in[call.place.id].append(call)
             self.calls_named[call.name].append(call)
+        self.assigned_in: dict[FunctionId, list[tuple[Tokens, Tokens]]] = collections.defaultdict(list)
+        for place, left, right in self.assignments:
+            self.assigned_in[place.id].append((left, right))
         self.take_declared_by_macros()
 
     def find_types(self) -> tuple[Structs, Types]:
