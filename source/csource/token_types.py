@@ -1,6 +1,6 @@
 """The types of members, variables and functions, as their definitions say them."""
 
-import collections
+import json
 from typing import Callable, Iterable, Optional
 
 from . import ctext
@@ -25,10 +25,19 @@ class Types:
     def __init__(self, above: "Optional[Types]" = None) -> None:
         self.above = above
         self.members: dict[str, dict[str, str]] = {}
-        self.having: dict[str, set[str]] = collections.defaultdict(set)
         self.returns: dict[str, str] = {}
         self.globals: dict[str, str] = {}
         self.named: dict[str, str] = {}
+
+    def text(self) -> str:
+        """All of it but what is above, for of_text."""
+        return json.dumps([self.members, self.returns, self.globals, self.named])
+
+    @staticmethod
+    def of_text(text: str) -> "Types":
+        found = Types()
+        found.members, found.returns, found.globals, found.named = json.loads(text)
+        return found
 
     def take_lines(self, lines: Iterable[str]) -> None:
         for line in lines:
@@ -41,7 +50,6 @@ class Types:
         if kind == "STM":
             struct = struct_name(name)
             self.members.setdefault(struct, {}).setdefault(words[5], struct_name(words[6]))
-            self.having[words[5]].add(struct)
         elif kind == "FRT":
             self.returns.setdefault(name, struct_name(words[5]))
         elif kind == "GLB":
@@ -80,11 +88,6 @@ class Types:
         """The names of its members, in the order of the definition."""
         found = self.members.get(struct)
         return list(found) if found is not None else self.above.members_of(struct) if self.above else []
-
-    def structs_with(self, member: str) -> set[str]:
-        """The structs that have a member of this name."""
-        found = self.having.get(member, set())
-        return found | self.above.structs_with(member) if self.above else set(found)
 
     def returned(self, function: str) -> Optional[str]:
         found = self.returns.get(function)

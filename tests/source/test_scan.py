@@ -89,7 +89,8 @@ def test_the_files_of_a_module(wqsource, tree, tmp_path):
     ]
     assert ran.status == 0 and "item rdma_reset " in ran.out
     for name in ("./drivers/nvme/core", "drivers//nvme/core/", tree / "drivers/nvme/core"):
-        assert wqsource("draft", "--module", name, "--tree", tree, "--cache", tmp_path) == ran
+        again = wqsource("draft", "--module", name, "--tree", tree, "--cache", tmp_path)
+        assert (again.status, again.out) == (ran.status, ran.out)
     ran = wqsource("draft", "--module", "drivers/nvme/nothing", "--tree", tree, "--cache", tmp_path)
     assert ran.status == 3 and "no module of" in ran.err and "did you mean" not in ran.err
 
