@@ -1,6 +1,7 @@
 """Which places of the given files a declaration means."""
 
 import fnmatch
+import functools
 import re
 from dataclasses import dataclass
 from typing import Iterator, Optional
@@ -67,6 +68,8 @@ class Cited:
         }
         self.items = self.find_items()
         self.threads = self.find_threads()
+        # (the same call is asked about once for each item that reaches it)
+        self.dismissal_of = functools.cache(self.find_dismissal)
 
     def given(self, name: str) -> list[str]:
         """The given files that a name may mean: it is the end of their path."""
@@ -167,7 +170,7 @@ class Cited:
         lines = [self.words(number) for number in range(1, len(self.declaration.lines) + 1)]
         return {target for words in lines if words[:1] in FLUSHES and words[1:2] == [name] for target in words[2:]}
 
-    def dismissal_of(self, key: Key) -> Optional[Dismissal]:
+    def find_dismissal(self, key: Key) -> Optional[Dismissal]:
         return next((dismissal for dismissal in self.declaration.dismissals if self.matches(dismissal.key, key)), None)
 
     def dismissed_item(self, function: FunctionId) -> Optional[DismissedItem]:

@@ -65,6 +65,8 @@ class Facts:
         self.initialisers: list[Initialiser] = []
         self.returns: list[Return] = []
         self.expression_calls: list[ExpressionCall] = []
+        # (macro, which of its parameters, struct): it declares a variable by this name
+        self.declared_by: list[tuple[str, int, str]] = []
         # what Coccinelle says itself of the struct of a member: (file, function, base, member)
         self.said: dict[tuple[str, str, str, str], str] = {}
         self.locals: set[tuple[str, str, str]] = set()
@@ -82,6 +84,10 @@ class Facts:
         for call in self.calls:
             self.calls_in[call.place.id].append(call)
             self.calls_named[call.name].append(call)
+        self.assigned_in: dict[FunctionId, list[tuple[Tokens, Tokens]]] = collections.defaultdict(list)
+        for place, left, right in self.assignments:
+            self.assigned_in[place.id].append((left, right))
+        self.take_declared_by_macros()
 
     def find_types(self) -> tuple[Structs, Types]:
         """The structs that the files and their headers define, and of which of them an expression is."""
@@ -216,6 +222,31 @@ class Facts:
                 self.calls.append(Call(place, name, arguments))
                 if name in ENTRY and len(arguments) > 1:
                     self.types.macros.setdefault(macro.name, struct_in(arguments[1]))
+            for name, struct in macro.declares:
+                self.declared_by.append((macro.name, macro.parameters.index(name), struct))
+                self.declare_local(place, name, struct)
+
+    def declare_local(self, place: Place, name: str, struct: str) -> None:
+        """A variable of a function, or what a macro declares by the name of its parameter."""
+        self.locals.add((place.file, place.function, name))
+        self.types.declare(place.file, place.function, name, struct)
+
+    def take_declared_by_macros(self) -> None:
+        """What a macro declares is a variable of the function that calls it; of a macro that hands on the name, of who
+        calls that."""
+        waiting, seen = list(self.declared_by), set(self.declared_by)
+        while waiting:
+            macro, at, struct = waiting.pop()
+            for call in self.calls_named.get(macro, ()):
+                name = call.arguments[at] if at < len(call.arguments) else []
+                definition = self.definitions.get(call.place.id)
+                if definition is None or len(name) != 1:
+                    continue
+                self.declare_local(call.place, name[0], struct)
+                if name[0] in definition.parameters and self.is_macro(definition.place):
+                    further = call.place.function, definition.parameters.index(name[0]), struct
+                    waiting += {further} - seen
+                    seen.add(further)
 
     def take_initialised(self) -> None:
         """Facts have an initialised variable as an assignment: what is no global variable is a local one."""

@@ -4,7 +4,7 @@ import os
 import pathlib
 import posixpath
 import re
-from typing import Iterable, Iterator
+from typing import Iterable, Iterator, Optional
 
 INCLUDE = re.compile(r'^[ \t]*#[ \t]*include[ \t]+([<"])([^>"]+)[>"]', re.M)
 # Where a header of the kernel may be, from the top of the tree. (Which architecture it is doesn't matter here.)
@@ -18,6 +18,8 @@ class Includes:
         self.tree = tree
         self.there: dict[str, bool] = {}
         self.named: dict[str, list[tuple[str, str]]] = {}
+        # what a name means in a folder: many headers include the same ones
+        self.meant: dict[tuple[str, str], Optional[str]] = {}
 
     def is_there(self, file: str) -> bool:
         if file not in self.there:
@@ -32,12 +34,18 @@ class Includes:
 
     def of(self, file: str) -> Iterator[str]:
         """The files that one includes, as far as the tree has them."""
+        own = posixpath.dirname(file)
         for _, name in self.names_in(file):
-            for folder in (posixpath.dirname(file), *FOLDERS):
-                found = posixpath.normpath(posixpath.join(folder, name))
-                if self.is_there(found):
-                    yield found
-                    break
+            if (own, name) not in self.meant:
+                self.meant[own, name] = self.find(own, name)
+            found = self.meant[own, name]
+            if found is not None:
+                yield found
+
+    def find(self, own: str, name: str) -> Optional[str]:
+        """The file that is included by a name, from a folder."""
+        names = (posixpath.normpath(posixpath.join(folder, name)) for folder in (own, *FOLDERS))
+        return next(filter(self.is_there, names), None)
 
     def beside(self, file: str) -> Iterator[str]:
         """The files that one includes by `"NAME"`, from its own folder."""

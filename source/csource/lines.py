@@ -1,14 +1,15 @@
 """The waits of a program's items, each as sure or unsure: what `scan` asks `wqplan` about."""
 
 import collections
-import re
+import functools
 from dataclasses import dataclass, field
 from typing import Iterator, Optional
 
 from .calls import DIRECT, Edge
 from .places import FunctionId
 from .program import Ended, Program
-from .reach import path_to, reached_from
+from .reach import Reached, path_to, reached_from
+from .references import PUTS, drops_one_it_took, keeps_references
 from .sites import TARGETED, Site
 from .ways import Tables, all_direct, reached_by_item
 
@@ -23,14 +24,9 @@ CONSTANT = "the arguments exclude it"
 OWN_END = "it would end its own workqueue"
 MADE_HERE = "it was made in the same function"
 LAST_REFERENCE = "the last reference is dropped on the way"
+OWN_REFERENCE = "a reference is dropped that was taken there"
 
 ENDS_WORKQUEUE = "destroy"
-# These call a function if what they are given was the last reference.
-PUTS = re.compile(r"(kref|lockref)_put.*|(refcount|atomic)\w*_dec_and_.*")
-
-
-def keeps_references(edge: Edge) -> bool:
-    return edge.how == DIRECT and not PUTS.fullmatch(edge.call.name)
 
 
 @dataclass(frozen=True)
@@ -61,6 +57,7 @@ class Lines:
 
     def __init__(self, program: Program, tables: Tables) -> None:
         self.program = program
+        self.reached_without_own = functools.cache(self.find_without_own)
         self.waits: list[Wait] = []
         self.cancels: list[Wait] = []
         # sites whose end isn't known, of each item
@@ -80,12 +77,24 @@ class Lines:
         doubts = set() if all_direct(list(path)) else {BY_POINTER}
         if "timeout" in site.key.call:
             doubts.add(TIMEOUT)
+        if not doubts and self.is_behind_own_reference(item, site, path):
+            doubts.add(OWN_REFERENCE)
         if site.kind == "flushwq":
             yield from self.for_workqueues(item, site, path, doubts)
         elif site.kind in TARGETED:
             yield from self.for_targets(item, site, path, doubts)
         else:
             yield from self.for_ends(item, site, path, doubts)
+
+    def is_behind_own_reference(self, item: FunctionId, site: Site, path: tuple[Edge, ...]) -> bool:
+        """Whether each way there drops a reference that the function took itself."""
+        return any(PUTS.fullmatch(edge.call.name) for edge in path) and site.id not in self.reached_without_own(item)
+
+    def find_without_own(self, item: FunctionId) -> Reached:
+        """By direct calls that drop no reference which the function took itself."""
+        facts = self.program.facts
+        follows = lambda edge: edge.how == DIRECT and not drops_one_it_took(facts, edge)
+        return reached_from(self.program.graph, item, follows)
 
     def for_workqueues(self, item: FunctionId, site: Site, path: tuple[Edge, ...], doubts: set[str]) -> Iterator[Wait]:
         several = {SEVERAL} if len(site.workqueues) > 1 else set()

@@ -138,10 +138,8 @@ class TreeScan:
     @functools.cached_property
     def include_types(self) -> Types:
         """Those of all headers of include/."""
-        found = Types()
-        for path in sorted((self.tree / "include").rglob("*.h")):
-            found.take_lines(self.extractor.types_of(self.tree, str(path.relative_to(self.tree))))
-        return found
+        headers = sorted((self.tree / "include").rglob("*.h"))
+        return self.extractor.types_together(self.tree, [str(path.relative_to(self.tree)) for path in headers])
 
     def chosen(self, unit: Unit) -> Chosen:
         found = self.chooser.choose(unit.module, lambda _: self.users)

@@ -5,6 +5,7 @@ import os
 import pathlib
 import tempfile
 from dataclasses import dataclass, field
+from typing import Callable
 
 from . import reader
 from .extract import Extractor
@@ -17,6 +18,8 @@ from .token_types import TYPE_KINDS, Types
 HERE = pathlib.Path(__file__).resolve().parent
 READS = ("lexer.py", "words_of_c.py", "sink.py", "reader.py", "bodies.py", "guards.py")
 VERSION = hashlib.sha256(b"\0".join((HERE / name).read_bytes() for name in READS)).hexdigest()
+# Of what is made of the types that the reader says.
+TOGETHER = hashlib.sha256(b"\0".join((HERE / name).read_bytes() for name in (*READS, "token_types.py"))).hexdigest()
 # What Coccinelle's facts of a file lack, the reader's give.
 KEPT_OF_READER = (*TYPE_KINDS, "LOC", "GRD")
 
@@ -62,15 +65,23 @@ class TokenExtractor:
 
     def types(self, tree: pathlib.Path, lines: dict[str, list[str]], headers: list[str]) -> Types:
         """The types that the files define; above them those of all headers that they include."""
-        above = Types()
-        for done, file in enumerate(headers):
-            if file not in lines:
-                self.progress.say(f"reading types: {done} of {len(headers)} files")
-                above.take_lines(self.types_of(tree, file))
-        own = Types(above)
+        own = Types(self.types_together(tree, [file for file in headers if file not in lines]))
         for found in lines.values():
             own.take_lines(found)
         return own
+
+    def types_together(self, tree: pathlib.Path, headers: list[str]) -> Types:
+        """Those that some headers define. They are kept together as well: each call about a driver has the same ones."""
+        digests = [hashlib.sha256((tree / file).read_bytes()).digest() for file in headers]
+        name = hashlib.sha256(b"\0".join([TOGETHER.encode(), *digests])).hexdigest()
+        return Types.of_text(self.cached(name, lambda: self.types_one_by_one(tree, headers).text()))
+
+    def types_one_by_one(self, tree: pathlib.Path, headers: list[str]) -> Types:
+        found = Types()
+        for done, file in enumerate(headers):
+            self.progress.say(f"reading types: {done} of {len(headers)} files")
+            found.take_lines(self.types_of(tree, file))
+        return found
 
     def lines_of(self, tree: pathlib.Path, file: str) -> list[str]:
         return self.kept(tree / file, "facts", reader.facts_of)
@@ -83,14 +94,18 @@ class TokenExtractor:
         """What was made of a file, from the cache if it is there. The name says of what it is."""
         data = source.read_bytes()
         name = hashlib.sha256(b"\0".join((VERSION.encode(), what.encode(), data))).hexdigest()
+        return self.cached(name, lambda: "\n".join(make(data.decode(errors="replace")))).splitlines()
+
+    def cached(self, name: str, make: Callable[[], str]) -> str:
+        """A text of the cache; what `make` answers, if it isn't there yet."""
         at = self.cache / name[:2] / name[2:]
         try:
-            return at.read_text().splitlines()
+            return at.read_text()
         except FileNotFoundError:
             pass
-        lines = make(data.decode(errors="replace"))
+        text = make()
         at.parent.mkdir(parents=True, exist_ok=True)
         with tempfile.NamedTemporaryFile("w", dir=at.parent, delete=False) as half:
-            half.write("\n".join(lines))
+            half.write(text)
         os.replace(half.name, at)
-        return lines
+        return text

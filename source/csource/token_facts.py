@@ -72,7 +72,10 @@ class TokenFacts(Facts):
         self.expressions = Expressions(types)
         self.guards: dict[FunctionId, list[Guard]] = collections.defaultdict(list)
         self.known: dict[tuple[str, str, str, str], Optional[str]] = {}
+        # of the parameters of macros: (file, macro, parameter)
+        self.handed_over: dict[tuple[str, str, str], Optional[str]] = {}
         super().__init__(tree, lines)
+        self.expressions.handed = self.handed
 
     def find_types(self) -> tuple[Structs, TypesOfText]:
         structs = NoStructs(HeaderTexts(self.tree, self.texts, self.headers))
@@ -122,6 +125,24 @@ class TokenFacts(Facts):
 
     def take_initialisers(self, file: str) -> None:
         """INI lines have them."""
+
+    def declare_local(self, place: Place, name: str, struct: str) -> None:
+        self.locals.add((place.file, place.function, name))
+        self.expressions.declare(place, name, struct)
+
+    def handed(self, place: Place, name: str, steps: int) -> Optional[str]:
+        """The struct of a macro's parameter, if all who call the macro hand over one of the same struct."""
+        definition = self.definitions.get(place.id)
+        if definition is None or name not in definition.parameters or not self.is_macro(definition.place):
+            return None
+        key = place.file, place.function, name
+        if key not in self.handed_over:
+            self.handed_over[key] = None  # (a macro may stand in itself)
+            at = definition.parameters.index(name)
+            given = [call for call in self.calls_of(place.id) if at < len(call.arguments)]
+            structs = {self.expressions.struct_of(call.place, call.arguments[at], steps + 1) for call in given}
+            self.handed_over[key] = structs.pop() if len(structs) == 1 else None
+        return self.handed_over[key]
 
     def take_initialised(self) -> None:
         """The reader's LOC lines have every local variable, so none has to be guessed."""

@@ -1,7 +1,7 @@
 """The types of members, variables and functions, as their definitions say them."""
 
-import collections
-from typing import Iterable, Optional
+import json
+from typing import Callable, Iterable, Optional
 
 from . import ctext
 from .ctext import Tokens
@@ -25,10 +25,19 @@ class Types:
     def __init__(self, above: "Optional[Types]" = None) -> None:
         self.above = above
         self.members: dict[str, dict[str, str]] = {}
-        self.having: dict[str, set[str]] = collections.defaultdict(set)
         self.returns: dict[str, str] = {}
         self.globals: dict[str, str] = {}
         self.named: dict[str, str] = {}
+
+    def text(self) -> str:
+        """All of it but what is above, for of_text."""
+        return json.dumps([self.members, self.returns, self.globals, self.named])
+
+    @staticmethod
+    def of_text(text: str) -> "Types":
+        found = Types()
+        found.members, found.returns, found.globals, found.named = json.loads(text)
+        return found
 
     def take_lines(self, lines: Iterable[str]) -> None:
         for line in lines:
@@ -41,7 +50,6 @@ class Types:
         if kind == "STM":
             struct = struct_name(name)
             self.members.setdefault(struct, {}).setdefault(words[5], struct_name(words[6]))
-            self.having[words[5]].add(struct)
         elif kind == "FRT":
             self.returns.setdefault(name, struct_name(words[5]))
         elif kind == "GLB":
@@ -81,11 +89,6 @@ class Types:
         found = self.members.get(struct)
         return list(found) if found is not None else self.above.members_of(struct) if self.above else []
 
-    def structs_with(self, member: str) -> set[str]:
-        """The structs that have a member of this name."""
-        found = self.having.get(member, set())
-        return found | self.above.structs_with(member) if self.above else set(found)
-
     def returned(self, function: str) -> Optional[str]:
         found = self.returns.get(function)
         return self.above.returned(function) if found is None and self.above else found
@@ -101,6 +104,8 @@ class Expressions:
     def __init__(self, types: Types) -> None:
         self.types = types
         self.locals: dict[tuple[str, str, str], str] = {}
+        # what is handed over for a parameter without a type, that of a macro
+        self.handed: Callable[[Place, str, int], Optional[str]] = lambda place, name, steps: None
 
     def declare(self, place: Place, name: str, type_name: str) -> None:
         """A variable of a function; outside functions one of the file."""
@@ -127,6 +132,7 @@ class Expressions:
         if len(words) == 1:
             return (
                 self.locals.get((place.file, place.function, words[0]))
+                or self.handed(place, words[0], steps)
                 or self.locals.get((place.file, "", words[0]))
                 or self.types.variable(words[0])
             )

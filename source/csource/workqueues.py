@@ -201,6 +201,4 @@ class Workqueues:
 
     def assigned_to(self, call: Call, name: str) -> list[Tokens]:
         """What the function assigns to a variable."""
-        return [
-            right for place, left, right in self.facts.assignments if place.id == call.place.id and left == [name]
-        ]
+        return [right for left, right in self.facts.assigned_in[call.place.id] if left == [name]]

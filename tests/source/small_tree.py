@@ -106,6 +106,37 @@ UNDO = BARE.replace("bare", "undo").replace(
     "\tqueue_work(undo_slow, &x->c_work);\n", "\tqueue_work(undo_slow, &x->c_work);\n\tdestroy_workqueue(undo_slow);\n"
 )
 
+# Whoever drops the last reference waits for b: a function that took it itself, and one that didn't.
+REFERENCE = """
+static void NAME_free(struct kref *ref)
+{
+	struct NAME *x = container_of(ref, struct NAME, ref);
+
+	flush_work(&x->b_work);
+}
+
+static struct NAME *NAME_find_get(int index)
+{
+	return NAME_table[index];
+}
+
+static void NAME_put(struct NAME *x)
+{
+	kref_put(&x->ref, NAME_free);
+}
+
+static void NAME_each(void)
+{
+	struct NAME *x;
+	int i;
+
+	for (i = 0; i < 8; i++) {
+		x = NAME_find_get(i);
+		NAME_put(x);
+	}
+}
+"""
+
 # A module, a library that it stands on, and what that one stands on; another user of the library.
 LIBRARY_H = """
 struct checks {
@@ -242,7 +273,7 @@ FILES = {
     "Makefile": "VERSION = 6\nPATCHLEVEL = 1\nSUBLEVEL = 0\n",
     "include/linux/workqueue.h": "struct work_struct { int data; };\n",
     "drivers/block/Makefile": "obj-m += own.o arg.o zero.o ptr.o bare.o cancel.o through.o plain.o ends.o last.o\n"
-    "obj-m += undo.o\n",
+    "obj-m += undo.o took.o gave.o\n",
     # flushes its own workqueue
     "drivers/block/own.c": module("own", "flush_workqueue(x->wq);"),
     # a constant among the arguments excludes the flush, or doesn't
@@ -260,6 +291,9 @@ FILES = {
     "drivers/block/ends.c": module("ends", "destroy_workqueue(x->wq);"),
     "drivers/block/last.c": module("last", "kref_put(&x->ref, last_free);", before=LAST),
     "drivers/block/undo.c": module("undo", "undo_queue(x);", before=UNDO),
+    # drops a reference that it took; and that of a list, too
+    "drivers/block/took.c": module("took", "took_each();", before=REFERENCE.replace("NAME", "took")),
+    "drivers/block/gave.c": module("gave", "gave_each();\n\tgave_put(x);", before=REFERENCE.replace("NAME", "gave")),
     # no rescuer: no module of a scan
     "drivers/block/plain.c": module("plain", "flush_workqueue(x->wq);", flags="0"),
     "drivers/md/Makefile": "obj-m += thin.o buffer.o other.o library/\n",
@@ -282,6 +316,7 @@ SURE = {
     ("drivers/block/own", "own_a", "*", "hangs"),
     ("drivers/block/zero", "zero_a", "*", "hangs"),
     ("drivers/block/bare", "bare_a", "bare_c", "no rescuer"),
+    ("drivers/block/gave", "gave_a", "gave_b", "hangs"),
     ("drivers/block/through", "through_a", "through_c", "hangs"),
     ("drivers/block/through", "through_b", "through_c", "hangs"),
 }
@@ -291,6 +326,7 @@ UNSURE = {
     ("drivers/block/ends", "ends_a", "*", ("it would end its own workqueue",)),
     ("drivers/block/undo", "undo_a", "*", ("it was made in the same function",)),
     ("drivers/block/last", "last_a", "*", ("the last reference is dropped on the way",)),
+    ("drivers/block/took", "took_a", "took_b", ("a reference is dropped that was taken there",)),
     ("drivers/nvme/core", "rdma_work", "rdma_reset", ("a call by a pointer",)),
 }
 

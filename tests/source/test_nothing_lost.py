@@ -137,6 +137,26 @@ def test_declared_by_an_initialiser(drafted, tmp_path):
     assert drafted("w.c", tree=tmp_path).items == {"w_work": {"system_wq"}}
 
 
+def test_a_variable_that_a_macro_declares(drafted, tmp_path):
+    """As HISI_SAS_DECLARE_RST_WORK_ON_STACK: its `work` is that of its struct, and of no other one. The item stands in
+    another macro, which the first one hands the variable."""
+    (tmp_path / "m.h").write_text(
+        "struct rst {\n\tstruct completion *done;\n\tstruct work_struct work;\n};\n\n"
+        "#define RST_INIT(r, c) { \\\n\t.done = &c, \\\n\t.work = __WORK_INITIALIZER(r.work, m_reset), \\\n}\n\n"
+        "#define RST_ON_STACK(x) \\\n\tDECLARE_COMPLETION_ONSTACK(c); \\\n\tstruct rst x = RST_INIT(x, c)\n"
+    )
+    (tmp_path / "m.c").write_text(
+        '#include "m.h"\n\nstruct event {\n\tstruct work_struct work;\n};\n\n'
+        "void m_reset(struct work_struct *work)\n{\n}\n\nstatic void m_event(struct work_struct *work)\n{\n}\n\n"
+        'void m_start(struct m *m)\n{\n\tm->own = alloc_workqueue("own", 0, 0);\n'
+        '\tm->events = alloc_workqueue("events", 0, 0);\n}\n\n'
+        "void m_clear(struct m *m)\n{\n\tRST_ON_STACK(r);\n\n\tqueue_work(m->own, &r.work);\n}\n\n"
+        "void m_tell(struct m *m, struct event *event)\n{\n\tINIT_WORK(&event->work, m_event);\n"
+        "\tqueue_work(m->events, &event->work);\n}\n"
+    )
+    assert drafted("m.c", "m.h", tree=tmp_path).items == {"m_reset": {"own"}, "m_event": {"events"}}
+
+
 LOST = """\
 static void l_work(struct work_struct *work)
 {

@@ -168,3 +168,18 @@ def test_it_needs_no_coccinelle(wqsource, tmp_path):
     """A draft by the reader alone is that by Coccinelle."""
     words = ("draft", "--cache", tmp_path, "--tree", ROOT / "examples" / "rdisk", "rdisk.c")
     assert wqsource(*words).out == wqsource(*words, "--facts", "coccinelle").out
+
+
+def test_types_that_are_kept_together(tmp_path):
+    """Those of headers are the same from the cache, in the same order; of another text they are others."""
+    said = progress.Progress()
+    extractor = token_extract.TokenExtractor(tmp_path / "cache", said, extract.Extractor(tmp_path / "cache", 1, said))
+    (tmp_path / "a.h").write_text("struct a {\n\tint n;\n\tstruct b *z, *y;\n};\n\nextern struct a *the_a;\n")
+    (tmp_path / "b.h").write_text("typedef struct b b_t;\nstruct a *a_of(struct b *b);\nstruct b {\n\tstruct a *a;\n};\n")
+    for _ in ("made", "kept"):
+        types = extractor.types_together(tmp_path, ["a.h", "b.h"])
+        assert types.members == {"a": {"n": "", "z": "b", "y": "b"}, "b": {"a": "a"}}
+        assert list(types.members["a"]) == ["n", "z", "y"]
+        assert (types.returned("a_of"), types.variable("the_a")) == ("a", "a")
+    (tmp_path / "b.h").write_text("struct b {\n\tstruct c *a;\n};\n")
+    assert extractor.types_together(tmp_path, ["a.h", "b.h"]).member("b", "a") == "c"
