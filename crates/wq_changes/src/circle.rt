@@ -7,9 +7,11 @@ ghost use Rattle.wq_circles.specs.ComponentsText.{AreBetween};
 ghost use Rattle.wq_changes.specs.Circles.{TellsCircle};
 
 use std::alloc::{AllocError, Allocator};
-use wq_commands::{Assigned, Declaration};
+use wq_commands::own_workqueues;
+use wq_core::Assigned;
 use wq_diagnosis::Source;
 use wq_graph::WaitArc;
+use wq_groups::Declaration;
 use wq_hang::Rounds;
 use wq_voice::{FlushLines, Subject, Wording, put_round};
 
@@ -24,8 +26,8 @@ pub(crate) fn of_circle<'a, A: Allocator + Copy>(
     ensures { IfOk result (λ text. TellsCircle declaration.entry.file.now
         declared.now circle.now text.items) }
 {
-    let own = Assigned::own_lanes(alloc, declared)?;
-    let workqueues = own.workqueues();
+    let workqueues = own_workqueues(alloc, declared)?;
+    let assigned = Assigned::new(&*declared, &workqueues);
     let flushes = FlushLines::new(alloc, declaration.text)?;
     let subject = Subject {
         declaration,
@@ -34,12 +36,11 @@ pub(crate) fn of_circle<'a, A: Allocator + Copy>(
             text: b"",
         },
         wording: Wording::OfGroups,
-        declared,
-        workqueues,
+        assigned: &assigned,
         flushes: &flushes,
         names: &[],
     };
-    let mut rounds = Rounds::new(alloc, &declared.table, &declared.groups, workqueues)?;
+    let mut rounds = Rounds::new(alloc, &assigned)?;
     let mut text = Vec::new(alloc);
     put_round(alloc, &mut text, &subject, &mut rounds, circle)?;
     Ok(text)

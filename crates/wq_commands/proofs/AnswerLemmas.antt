@@ -37,9 +37,10 @@ use Rattle.wq_plan.proofs.Plans.{length-group_graph, IsPlan-lanes}
 use Rattle.wq_commands.specs.declared.end.End.{End}
 use Rattle.wq_commands.specs.declared.end.End.TheVariants.{Refused}
 use Rattle.wq_commands.specs.Answer.{ends_of}
-use Rattle.wq_commands.specs.Answer.{Answers, AnswersDeclared, refusal_text, declared_waits}
-pub use Rattle.wq_commands.specs.Declaration.{IsSound}
-use Rattle.wq_commands.specs.Declaration.{Declared, max_declaration, max_declaration_line, unless_refused, by_table, by_groups, declaration}
+use Rattle.wq_groups.specs.DeclaredGroups.{declared_waits, Declared}
+use Rattle.wq_commands.specs.Answer.{Answers, AnswersDeclared, refusal_text}
+pub use Rattle.wq_groups.specs.DeclaredGroups.{IsSound}
+use Rattle.wq_commands.specs.Declaration.{max_declaration, max_declaration_line, unless_refused, by_table, by_groups, declaration}
 
 past_faults : {F : Type 0} (refusal : F → Refusal) (fault : Option F) (rest : Result Declared Refusal) (s : Declared)
     → unless_refused refusal fault rest ≡ Ok s → rest ≡ Ok s
@@ -148,8 +149,3 @@ declaration-take bytes = elim (cases_lt (max_declaration + 1) (length bytes)) [
 pub Answers-same : (read text : List ℕ) (end : End) (out : List ℕ) → declaration read ≡ declaration text → Answers read end out → Answers text end out
 Answers-same read text end out same answers =
     subst (λ (d : Result Declared Refusal). MatchResult d (λ s. AnswersDeclared s end out) (λ r. (end ≡ Refused) × (out ≡ refusal_text r))) same answers
-
--- an answer to what a text declares is one to the text
-pub Answers-declared : (text : List ℕ) (s : Declared) (end : End) (out : List ℕ) → declaration text ≡ Ok s → AnswersDeclared s end out → Answers text end out
-Answers-declared text s end out declared answers =
-    subst (λ (d : Result Declared Refusal). MatchResult d (λ u. AnswersDeclared u end out) (λ r. (end ≡ Refused) × (out ≡ refusal_text r))) (sym declared) answers

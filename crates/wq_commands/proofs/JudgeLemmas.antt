@@ -1,5 +1,5 @@
 -- Verdicts on assignments: a text has one, and a run that is printed is replayed to a deadlock.
-use Rattle.std.proofs.Common.{◌≡◌, ℕ, ◌+◌, ◌≤◌, inl, inr, List, [], ◌∷◌, length, Result, Ok, Err, refl, sym, ap, subst, ◌∙◌, arith}
+use Rattle.std.proofs.Common.{◌≡◌, ℕ, ◌≤◌, inl, inr, List, [], ◌∷◌, length, Result, Ok, Err, refl, sym, ap, subst, ◌∙◌, arith}
 use Rattle.std.specs.Prelude.{MatchResult}
 use Rattle.wq_text.specs.Refusal.{Refusal}
 use Rattle.wq_groups.specs.Declaration.{IsDeclaration}
@@ -19,7 +19,7 @@ use Rattle.wq_deadlock.proofs.OnlyRun.{same_run_of}
 use Rattle.wq_deadlock.proofs.Renumbered.{not_safe-by}
 use Rattle.wq_cert.specs.declared.fault.CertError.{CertError}
 use Rattle.wq_text.specs.LineText.{line_text}
-use Rattle.wq_cert.specs.Ranges.{IsAssignmentOf}
+use Rattle.wq_groups.specs.Assignment.{IsAssignmentOf}
 use Rattle.wq_cert.specs.RunText.{run_text}
 use Rattle.wq_cert.specs.Texts.{workqueues_of_text, run_of, cert_refusal}
 use Rattle.wq_cert.proofs.PrintedRuns.{run_of-printed}
@@ -28,9 +28,10 @@ use Rattle.wq_cert.proofs.TextLength.{length-run_text}
 use Rattle.wq_checker.specs.declared.run.RunEnd.TheVariants.{Deadlock}
 use Rattle.wq_commands.specs.declared.end.End.{End}
 use Rattle.wq_commands.specs.declared.end.End.TheVariants.{Good, Bad, Refused}
-use Rattle.wq_commands.specs.Answer.{declared_waits, refusal_text, PrintsRefusal}
+use Rattle.wq_groups.specs.DeclaredGroups.{declared_waits, Declared}
+use Rattle.wq_commands.specs.Answer.{refusal_text, PrintsRefusal}
 use Rattle.wq_commands.specs.Deadlocking.{safe_text, JudgesAssigned, JudgesDeclared, Judges}
-use Rattle.wq_commands.specs.Declaration.{Declared, declaration}
+use Rattle.wq_commands.specs.Declaration.{declaration}
 use Rattle.wq_commands.specs.Replaying.{replay_words, AnswersReplay, ReplaysAssigned, ReplaysDeclared, ReplaysRun}
 use Rattle.wq_commands.proofs.AnswerLemmas.{IsSound, IsSound-declaration, IsDeclaration-sound}
 use Rattle.wq_commands.proofs.CheckLemmas.{MatchResult-ok}

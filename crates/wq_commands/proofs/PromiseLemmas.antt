@@ -44,8 +44,9 @@ use Rattle.wq_checker.proofs.GroupChains.{chain_of_groups}
 use Rattle.wq_checker.proofs.GoodAnswers.{IsChainAlong-good, IsLeast-good, IsCircleAlong-good, Deadlocks-any}
 use Rattle.wq_commands.specs.declared.end.End.{End}
 use Rattle.wq_commands.specs.declared.end.End.TheVariants.{Good, Bad, Refused}
-use Rattle.wq_commands.specs.Answer.{Answers, AnswersDeclared, ends_of, declared_waits, text_of_plan, text_of_circle, refusal_text, PrintsRefusal}
-use Rattle.wq_commands.specs.Declaration.{Declared, declaration}
+use Rattle.wq_groups.specs.DeclaredGroups.{declared_waits, Declared}
+use Rattle.wq_commands.specs.Answer.{Answers, AnswersDeclared, ends_of, text_of_plan, text_of_circle, refusal_text, PrintsRefusal}
+use Rattle.wq_commands.specs.Declaration.{declaration}
 use Rattle.wq_text.specs.LineText.{line_text}
 use Rattle.wq_commands.specs.Checking.{yes_words, PrintsCheck, AnswersCheck, ChecksDeclared, Checks}
 use Rattle.wq_commands.specs.PrintedChecked.{ChecksYesPlan, ChecksYesCircle, ChecksYesOf, ChecksYes}

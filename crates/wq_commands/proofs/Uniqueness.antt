@@ -15,8 +15,9 @@ use Rattle.wq_deadlock.specs.CircleRun.{IsCircleRun}
 use Rattle.wq_deadlock.proofs.OnlyRun.{same_circle_run}
 use Rattle.wq_commands.specs.declared.end.End.{End}
 use Rattle.wq_commands.specs.declared.end.End.TheVariants.{Good, Bad, Refused}
-use Rattle.wq_commands.specs.Answer.{Answers, AnswersDeclared, PrintsPlan, PrintsCircle, refusal_text, declared_waits, text_of_plan, text_of_circle}
-use Rattle.wq_commands.specs.Declaration.{Declared, declaration}
+use Rattle.wq_groups.specs.DeclaredGroups.{declared_waits, Declared}
+use Rattle.wq_commands.specs.Answer.{Answers, AnswersDeclared, PrintsPlan, PrintsCircle, refusal_text, text_of_plan, text_of_circle}
+use Rattle.wq_commands.specs.Declaration.{declaration}
 use Rattle.wq_commands.proofs.AnswerLemmas.{IsSound, IsSound-declaration, IsDeclaration-sound}
 
 -- what has a plan has no circle

@@ -26,7 +26,8 @@ use Rattle.wq_text.specs.Limits.{limit_fault, text_refusal}
 use Rattle.wq_groups.specs.declared.fault.GroupError.{GroupError}
 use Rattle.wq_groups.specs.Partition.{Partition}
 use Rattle.wq_groups.specs.Grouping.{groups_of}
-use Rattle.wq_commands.specs.Declaration.{Declared, by_groups, by_table, declaration, max_declaration, max_declaration_line, unless_refused}
+use Rattle.wq_groups.specs.DeclaredGroups.{Declared}
+use Rattle.wq_commands.specs.Declaration.{by_groups, by_table, declaration, max_declaration, max_declaration_line, unless_refused}
 use Rattle.wq_dot.specs.Tooltips.{comment_of, comments_of, flushes_cut, flushes_on, line_comments}
 
 -- ---- a line
