@@ -18,6 +18,7 @@ tests/lib/commands.py.
 
 import pathlib
 import re
+import subprocess
 import sys
 import textwrap
 
@@ -25,6 +26,7 @@ sys.dont_write_bytecode = True
 ROOT = pathlib.Path(__file__).resolve().parents[2]
 sys.path.append(str(ROOT / "tests" / "lib"))
 from commands import TEXTS_OF, arguments_of  # noqa: E402  (in tests/lib)
+import messages  # noqa: E402  (there, too)
 from records import records  # noqa: E402  (there, too)
 
 # How wide the lines of a list of short names are, and how long a short one is, with its comma.
@@ -36,6 +38,8 @@ PAGE_WIDTH = 100
 EXPLAINED_WIDTH = 80
 HELP_WIDTH = 80
 RUST_WIDTH = 100
+ARGUMENTS_WIDTH = 60
+LONG_TEXT = 80
 SPECS_WIDTH = 113
 COUNTS = ["none", "one", "two", "three", "four", "five", "six", "seven", "eight", "nine"]
 # Text, or `bold` or *italic*, with what stands directly behind it.
@@ -144,7 +148,14 @@ class Parts:
 
     def __init__(self, path):
         self.path = ROOT / path
-        self.text = self.path.read_text()
+        self.text = self.read()
+
+    def read(self):
+        """The text as it stands in the file; bytes that are no text are kept."""
+        return self.path.read_bytes().decode(errors="surrogateescape")
+
+    def write(self):
+        self.path.write_bytes(self.text.encode(errors="surrogateescape"))
 
     def say(self, pattern, made):
         """Puts a sentence in the place of what this pattern finds in a paragraph, and breaks its lines again."""
@@ -154,6 +165,11 @@ class Parts:
             sys.exit(f"made: {self.path.relative_to(ROOT)}: {len(paragraphs)} paragraphs, and not one, have {pattern}")
         said = re.sub(pattern, lambda _: made, " ".join(paragraphs[0][0].split()))
         self.text = self.text[:paragraphs[0].start()] + wrapped(said, PAGE_WIDTH) + "\n" + self.text[paragraphs[0].end():]
+
+    def say_anew(self, change):
+        """Changes the text, and says whether it is another one now."""
+        before, self.text = self.text, change(self.text)
+        return self.text != before
 
     def replace(self, pattern, made):
         """Puts what is made in the place of all that this pattern finds, which is there once."""
@@ -606,6 +622,128 @@ def explained(numbers, faults, words):
     return parts
 
 
+def joined(start, words, end, width, more):
+    """Words with a space between two each, in as many lines as they need; each further one begins with `more`."""
+    lines, line = [], start
+    for word in words:
+        if len(f"{line} {word}{end}") > width and line != start:
+            lines.append(line)
+            line = f"{more}{word}"
+        else:
+            line += f" {word}"
+    return "\n".join([*lines, line + end]) + "\n"
+
+
+def imports(start, names, end, width):
+    """Lines that import these names."""
+    lines, line = "", start
+    for name in names:
+        if len(f"{line}, {name}{end}") > width:
+            lines, line = f"{lines}{line}{end}\n", start
+        line += name if line == start else f", {name}"
+    return f"{lines}{line}{end}\n"
+
+
+def message_parts(row):
+    """The texts and the holes of a message, in turn. A long text is two."""
+    made = []
+    for is_hole, part in messages.parts_of(row["says"]):
+        at = part.rfind(" ", 0, LONG_TEXT) + 1
+        made += [(is_hole, part)] if is_hole or len(part) <= LONG_TEXT else [(False, part[:at]), (False, part[at:])]
+    return made
+
+
+def message_of_holes(name, holes, parts):
+    """The function that makes a message, as rt fmt lays it out."""
+    head = f"pub fn {name}<A: Allocator + Copy>("
+    result = ") -> Result<Vec<u8, A>, AllocError>\n"
+    given = ["alloc: A", *(f"{hole}: &[u8]" for hole in holes)]
+    made = f"{head}{', '.join(given)}{result}"
+    if len(made) > RUST_WIDTH + 1:
+        made = head + "\n" + "".join(f"    {one},\n" for one in given) + result
+    clause = f"    ensures {{ IfOk result (λ words. words.items ≡ {name}"
+    made += joined(clause, [f"{hole}.now" for hole in holes], ") }", SPECS_WIDTH, "        ")
+    made += "{\n"
+    for at, (is_hole, part) in enumerate(parts):
+        call, first = ("    put(", "&mut words") if at else ("    let mut words = Vec::from_slice(", "alloc")
+        second = part if is_hole else f'b"{part}"'
+        if len(f"{first}, {second}") > ARGUMENTS_WIDTH:
+            made += f"{call}\n        {first},\n        {second},\n    )?;\n"
+        else:
+            made += f"{call}{first}, {second})?;\n"
+    return made + "    Ok(words)\n}\n"
+
+
+def messages_source():
+    """crates/wq_names/src/messages.rt: a function for each message of standard error, or a constant if nothing stands in it."""
+    blocks = []
+    for name, row in messages.MESSAGES.items():
+        holes, parts = messages.holes_of(name), message_parts(row)
+        doc = "".join(f"/// {line}\n" for line in wrapped(f"{row['doc'][0].upper()}{row['doc'][1:]}.", RUST_WIDTH - 4).splitlines())
+        if holes:
+            blocks.append(doc + message_of_holes(name, holes, parts))
+        else:
+            blocks.append(f'{doc}pub const {name.upper()}: &[u8] = b"{row["says"]}";\n')
+    parts = Parts("crates/wq_names/src/messages.rt")
+    named = [name for name in messages.MESSAGES if messages.holes_of(name)]
+    uses = imports("ghost use Rattle.wq_names.specs.Messages.{", named, "};", SPECS_WIDTH)
+    parts.replace(r"(?:^ghost use Rattle\.wq_names\.specs\.Messages\..*\n)+", uses)
+    parts.replace(r"(?<=^use wq_text::put;\n\n)(?:.*\n)*", "\n".join(blocks))
+    return parts
+
+
+def messages_specs():
+    """crates/wq_names/specs/Messages.antt: the same as definitions."""
+    blocks = []
+    for name, row in messages.MESSAGES.items():
+        holes = messages.holes_of(name)
+        words = ""
+        for is_hole, part in message_parts(row):
+            one = part if is_hole else f'codes "{part}"'
+            words = f"({words}) ++ {one}" if "++" in words else f"{words} ++ {one}" if words else one
+        line = " ".join([name, *holes, "=", words])
+        if len(line) > SPECS_WIDTH:
+            line = " ".join([name, *holes, "=\n   ", words.replace(') ++ codes "', ')\n    ++ codes "')])
+        type_of = " → ".join(["List ℕ"] * (len(holes) + 1))
+        shown = textwrap.fill(f'"{row["says"]}"', SPECS_WIDTH, initial_indent="-- ", subsequent_indent="-- ", break_on_hyphens=False)
+        blocks.append(f"-- {row['doc']}\n{shown}\nabbrev pub {name} : {type_of}\n{line}\n")
+    parts = Parts("crates/wq_names/specs/Messages.antt")
+    parts.replace(r"(?<=^use Rattle\.std\.specs\.Prelude\.\{ℕ, List, ◌\+\+◌, codes\}\n\n)(?:.*\n)*", "\n".join(blocks))
+    return parts
+
+
+# Where pages and tests show messages.
+SHOW_MESSAGES = ["README.md", "docs/*.md", "examples/*.md", "crates/test_cases/src", "tests/cli", "tests/DIAGNOSES.md"]
+
+
+def reworded(made):
+    """Says messages anew, in what is made and in each other page and test that shows them, and gives those; if their words aren't what
+    crates/wq_names/specs/Messages.antt says of them.
+    """
+    specs = (ROOT / "crates/wq_names/specs/Messages.antt").read_text()
+    shown = re.findall(r'^-- "((?:.*\n-- )?.*)"\nabbrev pub (\w+) :', specs, re.M)
+    old = {name: words.replace("\n-- ", " ") for words, name in shown}
+    new = {name: row["says"] for name, row in messages.MESSAGES.items()}
+    if all(old.get(name, words) == words for name, words in new.items()):
+        return []
+    there = {parts.path: parts for parts in made}
+    listed = subprocess.run(["git", "ls-files", "--", *SHOW_MESSAGES], cwd=ROOT, stdout=subprocess.PIPE, text=True, check=True).stdout
+    found = [there.get(ROOT / path) or Parts(path) for path in listed.splitlines()]
+    return [parts for parts in found if parts.say_anew(lambda text: messages.reworded(text, old, new)) and parts.path not in there]
+
+
+def diagnoses():
+    """tests/DIAGNOSES.md: the rows of the tables of messages, which are those whose last column is WHAT."""
+    parts = Parts("tests/DIAGNOSES.md")
+    names = list(dict.fromkeys(row["table"] for row in messages.ROWS))
+    tables = list(re.finditer(r"(?<=\| WHAT \|\n)(\|[-|]+\|\n)(?:\|.*\n)+", parts.text))
+    assert len(tables) == len(names), f"made: tests/DIAGNOSES.md has {len(tables)} tables of messages, and not {len(names)}"
+    for name, table in reversed(list(zip(names, tables))):
+        rows = "".join(f"| {row['row']} | {messages.shown(row['what']).decode()} |\n" for row in messages.ROWS if row["table"] == name)
+        parts.text = parts.text[:table.start()] + table[1] + rows + parts.text[table.end():]
+    return parts
+
+
 def main():
     if sys.argv[1:] not in ([], ["--check"]):
         sys.exit(__doc__)
@@ -631,14 +769,18 @@ def main():
         synopsis(commands, directives),
         manual(numbers, directives),
         completion(ascending, faults, words, directives, commands),
+        messages_source(),
+        messages_specs(),
+        diagnoses(),
     ]
+    made += reworded(made)
     failed = 0
     for parts in made:
-        if sys.argv[1:] and parts.text != parts.path.read_text():
+        if sys.argv[1:] and parts.text != parts.read():
             failed += 1
             print(f"FAILED  {parts.path.relative_to(ROOT)} isn't what tests/docs/made.py makes of docs/tables")
         elif not sys.argv[1:]:
-            parts.path.write_text(parts.text)
+            parts.write()
     print(f"made: {len(made) - failed} passed, {failed} failed")
     sys.exit(1 if failed else 0)
 

@@ -5,8 +5,7 @@
     tests/docs/widths.py --widest N   checks nothing, and lists the N files of src and specs with the most columns beyond MOST
 
 A line that was only moved, or indented otherwise, isn't new. Where SINCE isn't in this clone (it is shallow, or no clone), nothing is
-checked, and it says so. First of all, a line that is too wide must be found in a repository of its own. A file of LATER may have just
-as many lines that are too wide as stand there: whoever changes it lays them out, and takes the file away.
+checked, and it says so. First of all, a line that is too wide must be found in a repository of its own.
 """
 import collections
 import pathlib
@@ -19,21 +18,6 @@ ROOT = pathlib.Path(__file__).resolve().parents[2]
 SINCE = "cb00b9322d9ccc4d8fb430f7e627ec04d060ce22"
 MOST = 120
 PARTS = ("src", "specs", "proofs")
-# A layout changes the sources, and then all that stands on these two crates is proved again. So it waits for a change that does so, too.
-LATER = {
-    "crates/wq_commands/proofs/FoundLemmas.antt": 8,
-    "crates/wq_commands/proofs/SameTexts.antt": 2,
-    "crates/wq_commands/proofs/check/check_cmd/Answers.antt": 5,
-    "crates/wq_commands/proofs/deadlock/deadlock_cmd/Answers.antt": 4,
-    "crates/wq_commands/proofs/laws/what_is_said_changes_no_answer/Answers.antt": 4,
-    "crates/wq_commands/proofs/plan/plan_cmd/Answers.antt": 6,
-    "crates/wq_commands/proofs/replay/replay_cmd/Answers.antt": 4,
-    "crates/wq_commands/proofs/shell/respond/Answers.antt": 3,
-    "crates/wq_commands/src/deadlocking.rt": 1,
-    "crates/wq_commands/src/replaying.rt": 1,
-    "crates/wq_commands/src/shell.rt": 2,
-    "crates/wq_meter/proofs/reading/read_texts/Answers.antt": 1,
-}
 
 
 def git(root, *words):
@@ -72,14 +56,14 @@ def added(root, since):
 
 
 def too_wide(root, since):
-    """Each new line that is too wide: its file, its number, and its width."""
+    """What is said of each new line that is too wide."""
     found, gone = added(root, since)
     for file, number, line in found:
         if len(line) > MOST:
             if gone[line.strip()]:
                 gone[line.strip()] -= 1
             else:
-                yield file, number, len(line)
+                yield f"{file}:{number}: {len(line)} columns, {MOST} are allowed in new lines"
 
 
 def finds_wide_lines():
@@ -99,7 +83,7 @@ def finds_wide_lines():
         (root / "crates/a/README.md").write_text(f"{wide}\n")
         git(root, "add", "crates/a/src/moved.rt")
         other.write_text(f"\n{wide}\n{old}\n")
-        said = [f"{file}:{number}" for file, number, _ in too_wide(root, "HEAD")]
+        said = [it.partition(": ")[0] for it in too_wide(root, "HEAD")]
         return said == ["crates/a/src/lib.rt:2", "crates/a/src/other.rt:2", "crates/a/src/other.rt:3"]
 
 
@@ -129,13 +113,9 @@ def main():
     if not finds_wide_lines():
         print("widths: FAILED: a new line that is too wide isn't found in a repository of its own")
         return 1
-    found = list(too_wide(ROOT, SINCE))
-    counts = collections.Counter(file for file, _, _ in found)
-    wrong = [f"{file}:{number}: {width} columns, {MOST} are allowed in new lines" for file, number, width in found
-             if counts[file] != LATER.get(file)]
-    wrong += [f"{file} has no such lines: take it out of LATER" for file in LATER if not counts[file]]
+    wrong = list(too_wide(ROOT, SINCE))
     print("".join(f"{it}\n" for it in wrong), end="")
-    print(f"widths: {len(wrong)} new lines are too wide, {len(found) - len(wrong)} are to be laid out later")
+    print(f"widths: {len(wrong)} new lines are too wide")
     return 1 if wrong else 0
 
 

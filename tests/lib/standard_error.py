@@ -23,6 +23,8 @@ import pathlib
 import re
 import sys
 
+from messages import form, holes_of, said  # beside this file
+
 # The name of standard input in a diagnosis.
 STDIN = b"<stdin>"
 
@@ -39,42 +41,40 @@ MARKED = rb"    [ -~]+\n {4,}\^+(?: [ -~]+)?\n"
 NO_HINT = MARKED.replace(rb"(?: [ -~]+)?", b"")
 
 # What is said beside `safe` of workqueues without a rescuer, behind the file of the assignment.
-WORKQUEUE = rb"workqueue (?:0|[1-9][0-9]*)(?: \([ -~]{1,63}\))?"
-ITEM = rb"`[A-Za-z0-9_.-]{1,63}`"
-ON_ONE = ITEM + b" on " + WORKQUEUE
+WORKQUEUE = form("a_workqueue", number=rb"(?:0|[1-9][0-9]*)", called=rb"(?:%s)?" % form("its_name", name=rb"[ -~]{1,63}"))
+ITEM = form("an_item", name=rb"[A-Za-z0-9_.-]{1,63}")
+ON_ONE = form("item_on_workqueue", item=ITEM, workqueue=WORKQUEUE)
 NOTES = (
-    rb": note: nothing guarantees that these run while memory is short: " + ON_ONE + rb"(?:, " + ON_ONE + rb")*\n",
-    rb": note: where reclaim waits for one of them, declare who waits: an item of its own,"
-    rb" on a `wq` line, that flushes it\n",
+    form("nothing_guarantees", file=b"", items=ON_ONE + rb"(?:, " + ON_ONE + rb")*") + rb"\n",
+    form("declare_who_waits", file=b"") + rb"\n",
 )
+
+
+def one_of(names, **given):
+    """The form of one of these messages, in which of what is given stands what the message has."""
+    return rb"(?:%s)" % b"|".join(form(name, **{hole: given[hole] for hole in holes_of(name)}) for name in names)
+
 
 # The reasons of hangs: WHAT of a wait, by the workqueues of an assignment, or where each group has one; and of one that leads to no
 # rescuer.
-WAITS = (
-    ITEM + rb", on " + WORKQUEUE + rb", waits for (?:itself|" + ITEM + rb", which (?:waits on " + WORKQUEUE
-    + rb"|is behind (?:" + ITEM + rb" on " + WORKQUEUE + rb"|it))|all of (?:its workqueue|" + WORKQUEUE + rb", where " + ITEM + rb" waits))"
-)
-WAITS_IN_GROUPS = (
-    ITEM + rb" waits for (?:itself|" + ITEM + rb", which (?:waits|is behind (?:" + ITEM + rb"|it): they are `ordered`)"
-    rb"|its workqueue|the workqueue of " + ITEM + rb", where " + ITEM + rb" waits)"
-)
-HAS_NONE = WORKQUEUE + rb" has no rescuer"
-WAITS_FOR_NONE = (
-    ITEM + rb", on " + WORKQUEUE + rb", waits for (?:the workqueue of )?" + ITEM + rb", which nothing guarantees to run: " + HAS_NONE
-)
-FRONT = rb"can hang: "
-FRONT_OF_PLAN = rb"can hang on any workqueues: "
+ON_QUEUES = {"item": ITEM, "target": ITEM, "next": ITEM, "workqueue": WORKQUEUE, "other": WORKQUEUE}
+KINDS = ("next", "itself", "behind", "behind_it", "all", "all_of_its_own")
+WAITS = one_of([f"waits_for_{kind}" for kind in KINDS], **ON_QUEUES)
+WAITS_IN_GROUPS = one_of([f"group_waits_for_{kind}" for kind in KINDS], **ON_QUEUES)
+HAS_NONE = form("has_no_rescuer", workqueue=WORKQUEUE)
+WAITS_FOR_NONE = one_of(["waits_for_bare", "waits_for_all_of_bare"], **ON_QUEUES)
+FRONT = form("can_hang")
+FRONT_OF_PLAN = form("can_hang_on_any")
 
 # What is said beside a repair: WHAT of a change, and the line where names are too few, behind the file of the assignment.
-CHANGE = (
-    WORKQUEUE + rb" is given a rescuer|" + ITEM + rb"(?:, with " + NUMBER + rb" more of its group,)? moves from " + WORKQUEUE + rb" to "
-    + WORKQUEUE + rb"(?:, a new one|, which is given a rescuer)?"
-)
-WITHOUT = rb"(?:if it stayed|without one): "
-TOO_FEW = rb": note: wherever these items move, the workqueues can hang; the run is on these:\n(?:(?:wq|norescuer) [ -~]+\n)+"
+GROUP = rb"(?:%s|%s)" % (ITEM, form("with_more", item=ITEM, number=NUMBER))
+PLACE = rb"(?:%s|%s|%s)" % (WORKQUEUE, form("a_new_one", workqueue=WORKQUEUE), form("which_is_given", workqueue=WORKQUEUE))
+CHANGE = form("is_given", workqueue=WORKQUEUE) + rb"|" + form("moves", item=GROUP, workqueue=WORKQUEUE, other=PLACE)
+WITHOUT = rb"(?:%s|%s)" % (form("if_it_stayed"), form("without_one"))
+TOO_FEW = form("names_are_too_few", file=b"") + rb"\n(?:(?:wq|norescuer) [ -~]+\n)+"
 
 # The item that a NAME behind `repair` was most likely meant to be, behind the line of a NAME that is none.
-NEAR = rb"(?:[ -~]+: note: did you mean `[!-~]+`\?\n)?"
+NEAR = rb"(?:%s\n)?" % form("did_you_mean", file=rb"[ -~]+", name=rb"[!-~]+")
 
 # The further mistakes of a declaration: each is a diagnosis of a line, of which a byte is meant.
 FURTHER = rb"(?:[ -~]+:%s:%s: [ -~]+ \[refused ([0-9]+), `wqplan explain \1`\]\n%s){0,9}" % (NUMBER, NUMBER, MARKED)
@@ -88,12 +88,12 @@ def shown(file):
 
 def block(file, what):
     """The form of a block of a reason. The file is a form, too."""
-    return rb"%s:%s:%s: %s\n%s" % (file, NUMBER, NUMBER, what, NO_HINT)
+    return form("at_place", file=file, place=rb":%s:%s" % (NUMBER, NUMBER), what=what) + rb"\n" + NO_HINT
 
 
 def circular_wait(file, waits, front=FRONT):
     """The form of what is said of a circular wait."""
-    return rb"%s(?:%s)*" % (block(file, front + waits), block(file, b"and " + waits))
+    return rb"%s(?:%s)*" % (block(file, front + waits), block(file, form("and_further") + waits))
 
 
 def to_no_rescuer(files, front=FRONT):
@@ -134,7 +134,7 @@ def diagnosis(word, code, line):
 
 def note(file):
     """What is said beside the answer to a declaration without an item."""
-    return shown(file) + b": note: no item is declared: is this the right file?\n"
+    return said("no_item", file=shown(file)) + b"\n"
 
 
 def said_beside(printed, files, command):

@@ -4,6 +4,7 @@
 import dataclasses
 
 from declaration import split_words
+from messages import said  # in tests/lib
 
 # How much of a line is shown.
 WHOLE = 100
@@ -71,4 +72,5 @@ def excerpt(line, found):
 
 def workqueue(assignment, number):
     """A workqueue, with its name if it has one."""
-    return b"workqueue %d" % number + (b" (%s)" % assignment.called[number] if number in assignment.called else b"")
+    called = said("its_name", name=assignment.called[number]) if number in assignment.called else b""
+    return said("a_workqueue", number=b"%d" % number, called=called)

@@ -10,6 +10,7 @@ import re
 
 import certificate
 import circles
+import messages  # in tests/lib
 from deadlock import led_to_no_rescuer
 from declaration import FLUSHES, FLUSHES_WHOLE, read_declaration, split_lines
 from hang import among_rescuers, is_circle, run_of_places, shortest_circle, text_of_places, wait_of
@@ -18,38 +19,30 @@ from marks import Word, about, excerpt, shown, words_of, workqueue
 # The fewest steps of a circular wait: of one item.
 OF_ITSELF = 3
 
-FRONT = b"can hang: "
-FRONT_OF_PLAN = b"can hang on any workqueues: "
-FURTHER = b"and "
+FRONT = messages.said("can_hang")
+FRONT_OF_PLAN = messages.said("can_hang_on_any")
+FURTHER = messages.said("and_further")
 # The lines of a block, and those that stand before the reasons: a `no` has its own block.
 BLOCK = 3
 
-# The rows of the tables of tests/DIAGNOSES.md: how WHAT of each ends, or what is in it.
-ROWS = {
-    "to no rescuer": rb"waits for `[^`\n]+`, which nothing guarantees to run: ",
-    "to no rescuer, by flushwq": rb"waits for the workqueue of `[^`\n]+`, which nothing guarantees to run: ",
-    "B is N": rb"waits for `[^`\n]+`, which waits on workqueue [0-9]+",
-    "B and N are A": rb"on workqueue [^\n]*, waits for itself\n",
-    "B isn't N": rb"waits for `[^`\n]+`, which is behind `[^`\n]+` on workqueue [0-9]+",
-    "B isn't N, and N is A": rb"waits for `[^`\n]+`, which is behind it\n",
-    "by flushwq": rb"waits for all of workqueue [0-9]+[^\n]*, where `[^`\n]+` waits\n",
-    "by flushwq, and N is A": rb"waits for all of its workqueue\n",
-    "groups: B is N": rb"` waits for `[^`\n]+`, which waits\n",
-    "groups: B and N are A": rb"` waits for itself\n",
-    "groups: B isn't N": rb"` waits for `[^`\n]+`, which is behind `[^`\n]+`: they are `ordered`\n",
-    "groups: B isn't N, and N is A": rb"` waits for `[^`\n]+`, which is behind it: they are `ordered`\n",
-    "groups: by flushwq": rb"` waits for the workqueue of `[^`\n]+`, where `[^`\n]+` waits\n",
-    "groups: by flushwq, and N is A": rb"` waits for its workqueue\n",
-    "a name of a workqueue": rb"can hang: [^\n]*on workqueue [0-9]+ \(",
-    "several parts": rb"can hang: [^\0]*can hang: ",
-    "beside a circle of plan": rb": can hang on any workqueues: ",
+# The messages of the tables of tests/DIAGNOSES.md, and what else is in what is said.
+ANY_ITEM = messages.form("an_item", name=rb"[^`\n]+")
+ANY_WORKQUEUE = messages.form("a_workqueue", number=rb"[0-9]+", called=rb"(?: \([^\n]*\))?")
+NAMED = messages.form("a_workqueue", number=rb"[0-9]+", called=messages.form("its_name", name=rb"[^\n]+"))
+ANY = {"item": ANY_ITEM, "target": ANY_ITEM, "next": ANY_ITEM, "workqueue": ANY_WORKQUEUE, "other": ANY_WORKQUEUE}
+NAMES = [name for name in messages.MESSAGES if name.startswith(("waits_for_", "group_waits_for_"))]
+ROWS = {name: messages.form(name, **{hole: ANY[hole] for hole in messages.holes_of(name)}) + rb"\n" for name in NAMES}
+ROWS |= {
+    "a name of a workqueue": re.escape(FRONT) + rb"[^\n]*on " + NAMED,
+    "several parts": re.escape(FRONT) + rb"[^\0]*" + re.escape(FRONT),
+    "beside a circle of plan": rb": " + re.escape(FRONT_OF_PLAN),
 }
-ROWS = {name: re.compile(form) for name, form in ROWS.items()}
+ROWS = {name: re.compile(form_of) for name, form_of in ROWS.items()}
 
 
 def rows_in(said):
     """Which rows these reasons have."""
-    return [name for name, form in ROWS.items() if form.search(said)] if b"can hang" in said else []
+    return [name for name, form in ROWS.items() if form.search(said)] if FRONT in said or FRONT_OF_PLAN in said else []
 
 
 @dataclasses.dataclass
@@ -115,31 +108,30 @@ class Case:
         """How the workqueue of this item is spoken of."""
         return workqueue(self.assignment, self.assignment.workqueue_of[item])
 
+    def say(self, name, place, following=None):
+        """A message about the flush of this place, behind which this item waits next."""
+        item, target, _ = self.flush(place)
+        given = {
+            "item": messages.said("an_item", name=item), "workqueue": self.words(item), "target": messages.said("an_item", name=target),
+            "other": self.words(target), "next": following and messages.said("an_item", name=following)}
+        return messages.said(name, **{hole: given[hole] for hole in messages.holes_of(name)})
+
     def why(self, place, following):
         """WHAT of a wait of a circular wait in which this item waits next."""
         item, target, whole = self.flush(place)
-        waits = b"`%s` waits for " % item if self.in_groups else b"`%s`, on %s, waits for " % (item, self.words(item))
-        if whole and following == item:
-            return waits + (b"its workqueue" if self.in_groups else b"all of its workqueue")
-        if whole and self.in_groups:
-            return waits + b"the workqueue of `%s`, where `%s` waits" % (target, following)
         if whole:
-            return waits + b"all of %s, where `%s` waits" % (self.words(target), following)
-        if target == following:
-            if target == item:
-                return waits + b"itself"
-            return waits + b"`%s`, which waits" % target + (b"" if self.in_groups else b" on " + self.words(target))
-        behind = b"it" if following == item else b"`%s`" % following
-        if self.in_groups:
-            return waits + b"`%s`, which is behind %s: they are `ordered`" % (target, behind)
-        return waits + b"`%s`, which is behind %s" % (target, behind) + (b"" if following == item else b" on " + self.words(target))
+            kind = "all_of_its_own" if following == item else "all"
+        elif target == following:
+            kind = "itself" if target == item else "next"
+        else:
+            kind = "behind_it" if following == item else "behind"
+        return self.say(("group_waits_for_" if self.in_groups else "waits_for_") + kind, place, following)
 
     def why_to_none(self, place):
         """WHAT of a flush that leads to no rescuer, and of the workqueue to which it leads."""
-        item, target, whole = self.flush(place)
-        none = b"%s has no rescuer" % self.words(target)
-        to = b"the workqueue of `%s`" % target if whole else b"`%s`" % target
-        return b"`%s`, on %s, waits for %s, which nothing guarantees to run: %s" % (item, self.words(item), to, none), none
+        _, target, whole = self.flush(place)
+        none = messages.said("has_no_rescuer", workqueue=self.words(target))
+        return self.say("waits_for_all_of_bare" if whole else "waits_for_bare", place), none
 
     def block(self, place, what):
         """The block of the flush of this place."""

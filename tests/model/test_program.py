@@ -162,7 +162,7 @@ def differs(same, command, texts, wanted, found):
 
 
 # The rows of the reasons that must come.
-OF_GROUPS = [row for row in reasons.ROWS if row.startswith("groups: ")] + ["several parts"]
+OF_GROUPS = [row for row in reasons.ROWS if row.startswith("group_")] + ["several parts"]
 REASONS_OF = {"plan": ["beside a circle of plan"], "circles": OF_GROUPS}
 REASONS_OF["deadlock"] = [row for row in reasons.ROWS if row not in REASONS_OF["plan"] + OF_GROUPS]
 

@@ -4,6 +4,7 @@
 import certificate
 from declaration import read_declaration
 from marks import shown, workqueue
+from messages import said  # in tests/lib
 
 COMMANDS = ("deadlock", "hang", "circles")
 
@@ -15,12 +16,9 @@ def said_of(command, files, texts, printed):
     declared = read_declaration(texts[0])
     assignment = certificate.read_assignment(texts[1], declared)
     number_of = assignment.workqueue_of
-    items = [b"`%s` on %s" % (name, workqueue(assignment, number_of[name])) for name in declared.items
-             if number_of[name] in assignment.bare]
+    items = [said("item_on_workqueue", item=said("an_item", name=name), workqueue=workqueue(assignment, number_of[name]))
+             for name in declared.items if number_of[name] in assignment.bare]
     if not items:
         return b""
-    notes = [
-        b"nothing guarantees that these run while memory is short: " + b", ".join(items),
-        b"where reclaim waits for one of them, declare who waits: an item of its own, on a `wq` line, that flushes it",
-    ]
-    return b"".join(shown(files[1] + b": note: " + note) + b"\n" for note in notes)
+    notes = [said("nothing_guarantees", file=files[1], items=b", ".join(items)), said("declare_who_waits", file=files[1])]
+    return b"".join(shown(note) + b"\n" for note in notes)

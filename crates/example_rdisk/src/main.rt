@@ -12,7 +12,7 @@ mod writer;
 
 ghost use Rattle.std.specs.Prelude.{◌≡◌, length};
 ghost use Rattle.wq_core.specs.Wiring.{wiring};
-ghost use Rattle.wq_commands.specs.Answer.{declared_waits};
+ghost use Rattle.wq_groups.specs.DeclaredGroups.{declared_waits};
 
 use anyhow::{Context, Result, anyhow, bail};
 use disk::REQUESTS;
@@ -23,8 +23,8 @@ use std::sync::Wait;
 use std::sync::ledger::Blank;
 use std::thread::Threads;
 use wq_api::{Counts, Kind, Naming, Seat, WqRuntime};
-use wq_commands::{Declaration, read_declaration};
-use wq_groups::Assignment;
+use wq_commands::read_declaration;
+use wq_groups::{Assignment, Declaration};
 use wq_items::ItemId;
 use wq_plan::{Answer, solve};
 use wq_rescuer::{Body, Ran, run_all};
@@ -126,7 +126,9 @@ fn put_ran<N: Naming, R: Wait + Print + AllocGlobal>(
         (*result)?;
     }
     put_disk(rt, rdisk, ran.faults)?;
-    let mut seat = runtime.seat(rt, rt.alloc())?;
+    let mut seat = runtime
+        .seat(rt, rt.alloc())
+        .map_err(|refused| refused.why())?;
     put_destroyed(rt, runtime, &mut seat, rdisk)?;
     ran.seats.push(seat)?;
     Ok(())

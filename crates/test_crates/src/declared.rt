@@ -7,10 +7,9 @@ ghost use Rattle.wq_core.specs.State.{empty_state};
 
 use std::alloc::{AllocError, Allocator};
 use std::test::Fail;
-use wq_commands::Declaration;
 use wq_core::Core;
 use wq_decl::DeclView;
-use wq_groups::{Assignment, Groups, LaneId};
+use wq_groups::{Assignment, Declaration, Groups, LaneId};
 use wq_items::ItemTable;
 use wq_text::Text;
 

@@ -7,10 +7,9 @@ use crate::declared::{assigned, declared};
 use std::alloc::{AllocError, Global};
 use std::process::Abort;
 use std::test::Fail;
-use wq_commands::Declaration;
 use wq_deadlock::{Verdict, verdict};
 use wq_graph::{WaitArc, WaitGraph};
-use wq_groups::Assignment;
+use wq_groups::{Assignment, Declaration};
 use wq_levels::{Ranked, rank};
 
 /// An arc in numbers: its item, its target, the group of the target, and its place.

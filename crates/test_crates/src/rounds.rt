@@ -8,7 +8,7 @@ use crate::groups::assert_lanes;
 use std::alloc::{AllocError, Global};
 use std::process::Abort;
 use std::test::Fail;
-use wq_commands::Declaration;
+use wq_groups::Declaration;
 use wq_plan::{Answer, solve};
 
 /// How many items there are, and how many flushes: the limits.

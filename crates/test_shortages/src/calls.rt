@@ -37,7 +37,7 @@ fn make_calls<N: Naming, R: Wait, A: Allocator>(
     let flushed = runtime.flush_work(rt, seat, a);
     let anew = runtime.queue_work(rt, seat, high, a);
     let stopped = runtime.cancel_work_sync(rt, seat, a);
-    runtime.destroy(rt);
+    let _drained = runtime.destroy(rt);
     let late = runtime.queue_work(rt, seat, high, a);
     (queued, again, elsewhere) == (Ok(true), Ok(false), Err(CallError::WrongLane))
         && (cancelled, flushed, anew) == (Ok(true), Ok(false), Ok(true))
@@ -94,7 +94,13 @@ pub(crate) fn sit<N: Naming, R: Wait, A: Allocator + Copy>(
                 TrialEnd::Wrong
             }
         }
-        Err(SeatError::OutOfMemory) if closes(runtime, Vec::new(ample)) => TrialEnd::Refused,
-        Err(_) => TrialEnd::Wrong,
+        Err(refused) => {
+            let is_memory = refused.why() == SeatError::OutOfMemory;
+            if closes(runtime, Vec::new(ample)) && is_memory {
+                TrialEnd::Refused
+            } else {
+                TrialEnd::Wrong
+            }
+        }
     }
 }

@@ -14,7 +14,7 @@ use std::thread::Threads;
 use wq_api::{CallError, Naming, Seat, WqRuntime};
 use wq_groups::LaneId;
 use wq_items::ItemTable;
-use wq_rescuer::{Ran, Rescued, RunFault, RunWhy, count_contexts, help, rescue, run_all};
+use wq_rescuer::{Ran, RunFault, RunWhy, count_contexts, help, rescue, run_all};
 use wq_script::{ScriptBody, script_bodies, script_callers};
 
 /// Whether `rescue`, or for a helper `help`, so answers of a runtime that was destroyed.
@@ -25,7 +25,7 @@ fn is_answered<N: Naming, R: Wait, A: Allocator + Copy>(
     table: &ItemTable<'_, A>,
     seat: &mut Seat<N, A>,
     context: (u16, u8),
-    wanted: Result<Rescued, CallError>,
+    wanted: Result<(u32, u32), CallError>,
 ) -> bool
     requires { items N.wiring ≡ length table.now.waits }
 {
@@ -40,7 +40,7 @@ fn is_answered<N: Naming, R: Wait, A: Allocator + Copy>(
     } else {
         help(rt, runtime, q, helper, seat, &mut body)
     };
-    answered == wanted
+    answered.map(|rescued| (rescued.finished, rescued.faults)) == wanted
 }
 
 /// Whether nothing is left for the rescuers of both lanes, and there is neither a helper nor a third lane.
@@ -53,10 +53,7 @@ fn is_done<N: Naming, R: Wait, A: Allocator + Copy>(
 ) -> bool
     requires { items N.wiring ≡ length table.now.waits }
 {
-    let nothing = Ok(Rescued {
-        finished: 0,
-        faults: 0,
-    });
+    let nothing = Ok((0, 0));
     for (context, wanted) in [
         ((0, 0), nothing),
         ((1, 0), nothing),

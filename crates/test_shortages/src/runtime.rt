@@ -5,7 +5,7 @@
 
 ghost use Rattle.std.specs.Prelude.{◌≡◌, length};
 ghost use Rattle.wq_core.specs.Wiring.{wiring};
-ghost use Rattle.wq_commands.specs.Answer.{declared_waits};
+ghost use Rattle.wq_groups.specs.DeclaredGroups.{declared_waits};
 
 use crate::calls::sit;
 use crate::crew::serve;
@@ -18,8 +18,8 @@ use std::sync::ledger::Blank;
 use std::thread::Threads;
 use test_cases::{RefusingHeap, SEED, TWO};
 use wq_api::{Naming, NewError, WqRuntime};
-use wq_commands::{Declaration, read_declaration};
-use wq_groups::Assignment;
+use wq_commands::read_declaration;
+use wq_groups::{Assignment, Declaration};
 use wq_plan::{Answer, solve};
 
 /// Room for the history.

@@ -13,7 +13,8 @@ use Rattle.wq_history.proofs.Wakes.{unchanged-enough}
 use Rattle.wq_held.specs.declared.fault.SeatError.{SeatError}
 use Rattle.wq_held.specs.Locked.{HeldView, seat_rows}
 use Rattle.wq_held.specs.Calls.{IsNamed, missing, IsBarred, IsSettled}
-use Rattle.wq_api.specs.Taking.{WritesOne, IsAnswered, Took}
+use Rattle.wq_held.specs.Receipts.{Answered}
+use Rattle.wq_api.specs.Taking.{WritesOne, IsAnswered, IsDoneBy, Took}
 
 -- ---- replies
 
@@ -143,19 +144,34 @@ seat_wakes old new (Err e) few wake made refused =
 -- ---- calls that are done
 
 -- a close is done, whatever the book
-pub closed_done : (w : Wiring) (rows : ℕ) (answer : Result Reply CallError) → IsAnswered w rows Close answer
-    → IsAnswered w rows Close (Ok Done)
-closed_done w rows (Ok (Wrote row)) answered = absurd answered.answers.0
-closed_done w rows (Ok (WroteTwo ask taken)) answered = absurd answered.answers
-closed_done w rows (Ok Done) answered = answered
-closed_done w rows (Ok NotYet) answered = absurd answered.answers.0
-closed_done w rows (Err e) answered = absurd answered.answers.0
+close_answer : (w : Wiring) (rows : ℕ) (answer : Result Reply CallError) → IsAnswered w rows Close answer
+    → answer ≡ Ok Done
+close_answer w rows (Ok (Wrote row)) answered = absurd answered.answers.0
+close_answer w rows (Ok (WroteTwo ask taken)) answered = absurd answered.answers
+close_answer w rows (Ok Done) answered = refl
+close_answer w rows (Ok NotYet) answered = absurd answered.answers.0
+close_answer w rows (Err e) answered = absurd answered.answers.0
 
 -- so is a drain that isn't too early
-pub drained_done : (w : Wiring) (rows : ℕ) (answer : Result Reply CallError) → IsAnswered w rows Drain answer
-    → IsSettled answer → IsAnswered w rows Drain (Ok Done)
-drained_done w rows (Ok (Wrote row)) answered settled = absurd answered.answers.0
-drained_done w rows (Ok (WroteTwo ask taken)) answered settled = absurd answered.answers
-drained_done w rows (Ok Done) answered settled = answered
-drained_done w rows (Ok NotYet) answered settled = absurd settled
-drained_done w rows (Err e) answered settled = absurd answered.answers.0
+drain_answer : (w : Wiring) (rows : ℕ) (answer : Result Reply CallError) → IsAnswered w rows Drain answer
+    → IsSettled answer → answer ≡ Ok Done
+drain_answer w rows (Ok (Wrote row)) answered settled = absurd answered.answers.0
+drain_answer w rows (Ok (WroteTwo ask taken)) answered settled = absurd answered.answers
+drain_answer w rows (Ok Done) answered settled = refl
+drain_answer w rows (Ok NotYet) answered settled = absurd settled
+drain_answer w rows (Err e) answered settled = absurd answered.answers.0
+
+-- a call that was answered with Done is done
+done_by : (w : Wiring) (rows : ℕ) (call : Call) (a : Answered) → a.call ≡ call → a.answer ≡ Ok Done
+    → IsAnswered w rows call a.answer → IsDoneBy w rows call a
+done_by w rows call a calls done answered =
+    (λ t. record { call = calls t; answer = done t }, subst (IsAnswered w rows call) done answered)
+
+pub closed_done : (w : Wiring) (rows : ℕ) (a : Answered) → a.call ≡ Close → IsAnswered w rows Close a.answer
+    → IsDoneBy w rows Close a
+closed_done w rows a calls answered = done_by w rows Close a calls (close_answer w rows a.answer answered) answered
+
+pub drained_done : (w : Wiring) (rows : ℕ) (a : Answered) → a.call ≡ Drain → IsAnswered w rows Drain a.answer
+    → IsSettled a.answer → IsDoneBy w rows Drain a
+drained_done w rows a calls answered settled =
+    done_by w rows Drain a calls (drain_answer w rows a.answer answered settled) answered

@@ -15,31 +15,37 @@ use Rattle.wq_held.specs.Locked.{IsOnLane, SeatHasRoom}
 use Rattle.wq_api.specs.Refusals.{RefusesWaitIn}
 use Rattle.wq_api.specs.WaitingCalls.{IsDeclaredOn, HasWaiter, waited_for, RefusedWaitIn}
 use Rattle.wq_api.specs.Locking.{WasWrongToStartIn}
-use Rattle.wq_api.specs.Taking.{IsAnswered, Took, GivesDone, GivesItem, Waits}
+use Rattle.wq_held.specs.Receipts.{Next}
+use Rattle.wq_api.specs.Taking.{IsAnswered, Took, GivesDone, GivesItem, GivesNext, Waits}
 use Rattle.wq_api.proofs.Calls.{wait_counted, over_counted, finish_counted, barred_by}
 
 -- ---- next_in
 
-pub next_started : (w : Wiring) (rows : ℕ) (c : Context) (r : Result (Option ℕ) CallError)
-    → GivesItem (λ answer. IsAnswered w rows (Start c) answer) r
-    → IfOk r (λ next. HasContext w c.lane c.number × IfSome next (λ item. IsOnLane w c.lane item))
-next_started w rows c (Ok (Some i)) (row, is, took) =
+next_given : (w : Wiring) (rows : ℕ) (c : Context) (item : Option ℕ)
+    → GivesItem (λ answer. IsAnswered w rows (Start c) answer) item
+    → HasContext w c.lane c.number × IfSome item (λ i. IsOnLane w c.lane i)
+next_given w rows c (Some i) (row, is, took) =
     let there = start_there took.old took.new c row took.holds.legal took.answers in (
       subst (λ (x : Wiring). HasContext x c.lane c.number) took.holds.of_wiring there.0,
       subst (λ (x : Wiring). IsOnLane x c.lane i) took.holds.of_wiring
           (subst (λ (k : ℕ). IsOnLane took.old.wiring c.lane k) is (there.1, there.2)),
     )
-next_started w rows c (Ok None) took =
+next_given w rows c None took =
     (subst (λ (x : Wiring). HasContext x c.lane c.number) took.holds.of_wiring took.answers.0.0.0, tt)
+
+pub next_started : (w : Wiring) (rows : ℕ) (c : Context) (r : Result Next CallError)
+    → GivesNext c (λ answer. IsAnswered w rows (Start c) answer) r
+    → IfOk r (λ next. HasContext w c.lane c.number × IfSome next.item (λ item. IsOnLane w c.lane item))
+next_started w rows c (Ok next) took = next_given w rows c next.item took.1
 next_started w rows c (Err e) took = tt
 
-pub next_refused : (w : Wiring) (rows : ℕ) (c : Context) (r : Result (Option ℕ) CallError)
-    → GivesItem (λ answer. IsAnswered w rows (Start c) answer) r → IfErr r (λ e. e ≡ WrongLane)
+pub next_refused : (w : Wiring) (rows : ℕ) (c : Context) (r : Result Next CallError)
+    → GivesNext c (λ answer. IsAnswered w rows (Start c) answer) r → IfErr r (λ e. e ≡ WrongLane)
 next_refused w rows c (Err e) took = ((wrong-only (IsWrongToStart took.old c.lane c.number) e).1 took.answers.0).0
 next_refused w rows c (Ok next) took = tt
 
-pub next_cause : (w : Wiring) (rows : ℕ) (c : Context) (r : Result (Option ℕ) CallError)
-    → GivesItem (λ answer. IsAnswered w rows (Start c) answer) r
+pub next_cause : (w : Wiring) (rows : ℕ) (c : Context) (r : Result Next CallError)
+    → GivesNext c (λ answer. IsAnswered w rows (Start c) answer) r
     → OnErr r (WasWrongToStartIn w rows c.lane c.number)
 next_cause w rows c (Err e) took = (
   record { book = took.old; seats = 0 },

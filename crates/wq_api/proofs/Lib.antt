@@ -3,3 +3,4 @@ pub mod Layouts
 pub mod Projections
 pub mod Contexts
 pub mod WaitsRefused
+pub mod LaneBells

@@ -154,21 +154,6 @@ module _ (w : Wiring) (rows : ℕ) (counts left : List ℕ) where
       not-flushed (λ k l. RefusesFlushWork w counts i k × (l ≡ flush_refused counts i k)) (OfItem i) e
       (λ none. (not_below i (items w) none, refl)) (λ there. (there, refl)) (λ there room. ((there, room), refl)) came
 
-  pub lane_flush_counted : (q : ℕ) (r : Result (Unit {0}) CallError) → FlushesSo w rows counts (OfLane q) r left
-      → OnOk r ((q < w.lanes) × SeatHasRoom counts × ((waited : Bool) × (left ≡ lane_flushed counts q waited)))
-  lane_flush_counted q (Ok done) (true, flushes) =
-      let known = is-flushed (OfLane q) true flushes in (known.0, known.1, (true, known.2))
-  lane_flush_counted q (Ok done) (false, flushes) =
-      let known = is-flushed (OfLane q) false flushes in (known.0, known.1, (false, known.2))
-  lane_flush_counted q (Err e) flushes = tt
-
-  pub lane_flush_not_done : (q : ℕ) (r : Result (Unit {0}) CallError) → FlushesSo w rows counts (OfLane q) r left
-      → IfErr r (λ e. RefusesFlushWorkqueue w counts q e × (left ≡ lane_flush_refused counts q e))
-  lane_flush_not_done q (Ok done) flushes = tt
-  lane_flush_not_done q (Err e) flushes =
-      not-flushed (λ k l. RefusesFlushWorkqueue w counts q k × (l ≡ lane_flush_refused counts q k)) (OfLane q) e
-      (λ none. (not_below q w.lanes none, refl)) (λ there. (there, refl)) (λ there room. ((there, room), refl)) flushes
-
   -- ---- cancel_work_sync
 
   -- counts after an ask and a cancellation in one call

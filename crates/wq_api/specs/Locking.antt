@@ -1,15 +1,21 @@
 -- What the lock of a runtime relies on, and what may be said of what it protects.
-use Rattle.std.specs.Prelude.{◌≡◌, ℕ, ◌+◌, ◌*◌, ◌<◌, List, replicate, Result, Ok, Err}
+use Rattle.std.specs.Prelude.{◌≡◌, ℕ, ◌+◌, ◌*◌, ◌%◌, ◌<◌, List, replicate, slice_get, Result, Ok, Err, Option, Some}
+use Rattle.std.specs.Prelude.{None, Bool, true, false}
 use Rattle.wq_core.specs.Wiring.{Wiring}
 use Rattle.wq_counts.specs.Counting.{counts_each}
 use Rattle.wq_history.specs.declared.sleepers.Sleepers.{Sleepers}
 use Rattle.wq_history.specs.declared.sleepers.Sleepers.TheVariants.{Contexts, ItemWaiters, LaneWaiters, Destroyers}
+use Rattle.wq_history.specs.declared.sleepers.Wake.{Wake}
+use Rattle.wq_history.specs.declared.sleepers.WokenContexts.{WokenContexts}
+use Rattle.wq_history.specs.declared.sleepers.WokenContexts.TheVariants.{One, All as AllOf}
 use Rattle.wq_history.specs.Book.{IsWrongToStart}
 use Rattle.wq_held.specs.declared.fault.SeatError.{SeatError}
 use Rattle.wq_held.specs.declared.fault.SeatError.TheVariants.{TooManySeats, OutOfMemory}
 use Rattle.wq_held.specs.Locked.{HeldView, Holds, slots}
 use Rattle.wq_held.specs.declared.turn.Turn.{Turn}
 use Rattle.wq_held.specs.declared.turn.Turn.TheVariants.{Answers, Sleeps}
+use Rattle.wq_api.specs.declared.bells.Rung.{Rung}
+use Rattle.wq_api.specs.declared.condvars.Woken.{Woken}
 
 -- ---- condition variables
 
@@ -23,6 +29,50 @@ HasCondvar lanes for_items (Contexts q) = q < lanes
 HasCondvar lanes for_items (ItemWaiters i) = 0 < for_items
 HasCondvar lanes for_items (LaneWaiters q) = q < lanes
 HasCondvar lanes for_items Destroyers = Unit {0}
+
+-- among so many variables for items, the group that the variable of these sleepers is called by
+abbrev pub bell_of : ℕ → Sleepers → Sleepers
+bell_of for_items (ItemWaiters i) = ItemWaiters (i % for_items)
+bell_of for_items among = among
+
+-- of the variables of lanes, each is that of its lane's contexts, or waiters
+abbrev pub AreOfLanes : {L : Type 0} → (L → Sleepers) → (L → Sleepers) → List L → Type 0
+AreOfLanes contexts waiters lanes = (q : ℕ) (l : _) → slice_get lanes q ≡ Some l
+    → (contexts l ≡ Contexts q) × (waiters l ≡ LaneWaiters q)
+
+-- of those for items, each is that of the item at its place
+abbrev pub AreOfItems : {B : Type 0} → (B → Sleepers) → List B → Type 0
+AreOfItems of bells = (i : ℕ) (b : _) → slice_get bells i ≡ Some b → of b ≡ ItemWaiters i
+
+-- ---- whom a call wakes
+
+-- the variable of this group was rung, for all who sleep there or for one
+abbrev pub IsRung : Sleepers → Bool → Option Rung → Type 0
+IsRung among all rung = rung ≡ Some (record { among = among; all = all })
+
+-- one context of a lane, or all, if there is such a lane
+abbrev pub WokeContexts : ℕ → WokenContexts → Option Rung → Type 0
+WokeContexts lanes (One q) rung = q < lanes → IsRung (Contexts q) false rung
+WokeContexts lanes (AllOf q) rung = q < lanes → IsRung (Contexts q) true rung
+WokeContexts lanes _ rung = Unit {0}
+
+-- all who wait for an item
+abbrev pub WokeItems : ℕ → Option ℕ → Option Rung → Type 0
+WokeItems for_items (Some i) rung = 0 < for_items → IsRung (bell_of for_items (ItemWaiters i)) true rung
+WokeItems for_items None rung = Unit {0}
+
+-- all who wait for a lane, if there is such a lane
+abbrev pub WokeLane : ℕ → Option ℕ → Option Rung → Type 0
+WokeLane lanes (Some q) rung = q < lanes → IsRung (LaneWaiters q) true rung
+WokeLane lanes None rung = Unit {0}
+
+-- whoever is to be woken was, if there are variables for so many lanes, and so many for items. (Of all contexts of all
+-- lanes, whom a closing wakes, nothing is said.)
+pub record AreWoken (lanes for_items : ℕ) (wake : Wake) (woken : Woken) : Type 0 where
+  pub contexts : WokeContexts lanes wake.contexts woken.contexts
+  pub items : WokeItems for_items wake.item_waiters woken.items
+  pub lane : WokeLane lanes wake.lane_waiters woken.lane
+  pub destroyers : wake.destroyers ≡ true → IsRung Destroyers true woken.destroyers
 
 -- ---- turns
 

@@ -22,6 +22,7 @@ use Rattle.wq_held.specs.declared.fault.SeatError.{SeatError}
 use Rattle.wq_held.specs.declared.turn.Turn.TheVariants.{Answers as Answered}
 use Rattle.wq_held.specs.Locked.{HeldView, Holds}
 use Rattle.wq_held.specs.Calls.{counts_after, IsBarred, IsAdmitted}
+use Rattle.wq_held.specs.Receipts.{Answered as AnsweredCall, Next}
 use Rattle.wq_api.specs.Locking.{MakesSeat}
 
 -- context c of lane q
@@ -59,6 +60,11 @@ ComesTo w rows counts call (Ok reply) left = IsAdmitted w counts call × Took w 
 ComesTo w rows counts call (Err e) left = (IsBarred w counts call e × (left ≡ counts))
     ⊎ (IsAdmitted w counts call × Took w rows counts call (Err e) left)
 
+-- a call is done, and this shows it
+abbrev pub IsDoneBy : Wiring → ℕ → Call → AnsweredCall → Type 0
+IsDoneBy w rows call answered =
+    (answered ≡ record { call = call; answer = Ok Done }) × IsAnswered w rows call (Ok Done)
+
 -- a runtime is destroyed: first its book is closed, and then nothing is unfinished
 abbrev pub Destroys : Wiring → ℕ → Type 0
 Destroys w rows = IsAnswered w rows Close (Ok Done) × IsAnswered w rows Drain (Ok Done)
@@ -94,10 +100,14 @@ GivesDone P (Ok done) = (row : Row) × P (Ok (Wrote row))
 GivesDone P (Err e) = P (Err e)
 
 -- the item of the row, or that there is nothing to write
-abbrev pub GivesItem : (Result Reply CallError → Type 0) → Result (Option ℕ) CallError → Type 0
-GivesItem P (Ok (Some i)) = (row : Row) × (item_in row.event ≡ i) × P (Ok (Wrote row))
-GivesItem P (Ok None) = P (Ok Done)
-GivesItem P (Err e) = P (Err e)
+abbrev pub GivesItem : (Result Reply CallError → Type 0) → Option ℕ → Type 0
+GivesItem P (Some i) = (row : Row) × (item_in row.event ≡ i) × P (Ok (Wrote row))
+GivesItem P None = P (Ok Done)
+
+-- that, of this context
+abbrev pub GivesNext : Context → (Result Reply CallError → Type 0) → Result Next CallError → Type 0
+GivesNext c P (Ok next) = (next.context ≡ c) × GivesItem P next.item
+GivesNext c P (Err e) = P (Err e)
 
 -- ---- calls that wait: two calls
 

@@ -9,14 +9,14 @@ ghost use Rattle.wq_history.specs.declared.call.Call.TheVariants.{CancelSync, St
 ghost use Rattle.wq_history.specs.History.{IsThere};
 ghost use Rattle.wq_held.specs.Calls.{IsNamed, missing, needs_room, IsBarred, IsAdmitted, IsSettled};
 ghost use Rattle.wq_api.specs.Taking.{WritesOne, IsAnswered, Took, ComesTo, GivesRow, GivesTwo, GivesYes, GivesDone};
-ghost use Rattle.wq_api.specs.Taking.{GivesItem, IsTold, IsNotTold, Flushes, CancelsSync, Waits};
+ghost use Rattle.wq_api.specs.Taking.{GivesNext, IsTold, IsNotTold, Flushes, CancelsSync, Waits};
 
 use crate::layout::Layout;
 use crate::runtime::WqRuntime;
 use std::alloc::Allocator;
 use std::sync::Wait;
 use wq_core::Context;
-use wq_held::{CallError, Naming, Seat, Uncounted};
+use wq_held::{Answered, CallError, Naming, Next, Seat, Uncounted};
 use wq_history::{
     AsCall, AskCall, Call, CancelSyncCall, FinishCall, Flush, OverCall, Reply, Row, StartCall,
     Subject, ToldCall, WaitCall,
@@ -124,19 +124,17 @@ impl<N: Naming, A: Allocator> WqRuntime<N, A> {
         ensures took { Took N.wiring N.rows seat.old (C.meant call) result seat.new }
         ensures settled { IsSettled result }
     {
-        self.lock.call(rt, seat, call)
+        let (answer, _woken) = self.lock.call(rt, seat, call);
+        answer
     }
 
-    /// The same of a call that no seat counts.
-    pub(crate) fn settle<R: Wait, C: Uncounted<A>>(
-        &self,
-        rt: &R,
-        call: C,
-    ) -> Result<Reply, CallError>
-        ensures took { IsAnswered N.wiring N.rows (C.meant call) result }
-        ensures settled { IsSettled result }
+    /// The same of a call that no seat counts, and that it was answered so.
+    pub(crate) fn settle<R: Wait, C: Uncounted<A>>(&self, rt: &R, call: C) -> Answered<N>
+        ensures took { (result.call ≡ C.meant call) × IsAnswered N.wiring N.rows (C.meant call) result.answer }
+        ensures settled { IsSettled result.answer }
     {
-        self.lock.call(rt, &mut (), call)
+        let (answered, _woken) = self.lock.call(rt, &mut (), call);
+        answered
     }
 
     /// Has a call that writes one row answered under the lock.
@@ -191,17 +189,14 @@ impl<N: Naming, A: Allocator> WqRuntime<N, A> {
     }
 
     /// Starts what a context can start next, once there is something.
-    pub(crate) fn start<R: Wait>(
-        &self,
-        rt: &R,
-        context: Context,
-    ) -> Result<Option<ItemId>, CallError>
-        ensures { GivesItem (λ answer. IsAnswered N.wiring N.rows (Start context) answer) result }
+    pub(crate) fn start<R: Wait>(&self, rt: &R, context: &Context) -> Result<Next<N>, CallError>
+        ensures { GivesNext context.now (λ answer. IsAnswered N.wiring N.rows (Start context.now) answer) result }
     {
-        match self.settle(rt, StartCall { context }) {
-            Ok(Reply::Wrote(row)) => Ok(Some(row.event.item())),
+        let answered = self.settle(rt, StartCall { context: *context });
+        match answered.answer() {
+            Ok(Reply::Wrote(row)) => Ok(Next::started(*context, &row, &answered)),
             Ok(Reply::WroteTwo(_, _)) => unreachable!(),
-            Ok(Reply::Done) => Ok(None),
+            Ok(Reply::Done) => Ok(Next::ended(*context, &answered)),
             Ok(Reply::NotYet) => unreachable!(),
             Err(e) => Err(e),
         }

@@ -9,12 +9,12 @@ ghost use Rattle.wq_history.specs.declared.call.Reply.TheVariants.{Done};
 ghost use Rattle.wq_held.specs.Locked.{RefusesClose};
 ghost use Rattle.wq_held.specs.Closing.{IsClosed};
 ghost use Rattle.wq_api.specs.Locking.{UnderLock};
-ghost use Rattle.wq_api.specs.Taking.{IsAnswered, Destroys};
+ghost use Rattle.wq_api.specs.Taking.{Destroys, IsDoneBy};
 
 use crate::runtime::WqRuntime;
 use std::alloc::Allocator;
 use std::sync::Wait;
-use wq_held::{CloseWhy, Closed, Naming, Seat};
+use wq_held::{Answered, CloseWhy, Closed, Naming, Seat, Unclosed};
 use wq_history::{CloseCall, DrainCall};
 
 /// A runtime that isn't closed, and the seats that were handed in.
@@ -26,32 +26,36 @@ pub struct CloseRefused<N: Naming, A: Allocator> {
     pub seats: Vec<Seat<N, A>, A>,
     /// Why.
     pub why: CloseWhy,
+    /// That it couldn't be closed with so many seats, for this cause.
+    pub by: Unclosed<N>,
 }
 
 impl<N: Naming, A: Allocator> WqRuntime<N, A> {
     /// Closes the book: nothing is queued from now on.
     #[tactic(auto, using(crate::proofs::Calls::closed_done))]
-    fn refuse_queueings<R: Wait>(&self, rt: &R)
-        ensures { IsAnswered N.wiring N.rows Close (Ok Done) }
+    fn refuse_queueings<R: Wait>(&self, rt: &R) -> Answered<N>
+        ensures { IsDoneBy N.wiring N.rows Close result }
     {
-        let _closed = self.settle(rt, CloseCall);
+        self.settle(rt, CloseCall)
     }
 
-    /// Waits until nothing is unfinished. The book was closed before.
+    /// Waits until nothing is unfinished. The book was closed before, as is shown.
     #[tactic(auto, using(crate::proofs::Calls::drained_done))]
-    fn drain<R: Wait>(&self, rt: &R)
-        requires closed { IsAnswered N.wiring N.rows Close (Ok Done) }
-        ensures { IsAnswered N.wiring N.rows Drain (Ok Done) }
+    fn drain<R: Wait>(&self, rt: &R, _closed: &Answered<N>) -> Answered<N>
+        requires closed { IsDoneBy N.wiring N.rows Close _closed.now }
+        ensures { IsDoneBy N.wiring N.rows Drain result }
     {
-        let _idle = self.settle(rt, DrainCall);
+        self.settle(rt, DrainCall)
     }
 
     /// Refuses queueings from now on, and waits until no entry is unfinished (`destroy_workqueue`, for all workqueues).
-    pub fn destroy<R: Wait>(&self, rt: &R)
+    /// It hands out the answer to its drain, which nothing else makes.
+    pub fn destroy<R: Wait>(&self, rt: &R) -> Answered<N>
         ensures took { Destroys N.wiring N.rows }
+        ensures drained { result ≡ record { call = Drain; answer = Ok Done } }
     {
-        self.refuse_queueings(rt);
-        self.drain(rt);
+        let closed = self.refuse_queueings(rt);
+        self.drain(rt, &closed)
     }
 
     /// Closes an idle runtime, given all of its seats, and returns its book and the sums of their counts.
@@ -61,6 +65,7 @@ impl<N: Naming, A: Allocator> WqRuntime<N, A> {
     pub fn close(self, seats: Vec<Seat<N, A>, A>) -> Result<Closed<N, A>, CloseRefused<N, A>>
         ensures closed { IfOk result (λ c. IsClosed N.wiring N.rows seats.items c.book c.counts c.agree) }
         ensures why { IfErr result (λ e. UnderLock N.wiring N.rows (λ h. RefusesClose h (vec_len seats) e.why)) }
+        ensures by { IfErr result (λ e. e.by ≡ record { seats = vec_len seats; why = e.why }) }
         ensures refused { IfErr result (λ e. e.seats.items ≡ seats.items) }
         ensures kept { IfErr result (λ e. (e.seats ≡ seats) × (e.runtime.layout ≡ self.layout)
             × (e.runtime.lock.condvars ≡ self.lock.condvars)) }
@@ -68,10 +73,11 @@ impl<N: Naming, A: Allocator> WqRuntime<N, A> {
         let WqRuntime { lock, layout } = self;
         match lock.end(seats) {
             Ok(closed) => Ok(closed),
-            Err((lock, seats, why)) => Err(CloseRefused {
+            Err((lock, seats, by)) => Err(CloseRefused {
                 runtime: WqRuntime { lock, layout },
                 seats,
-                why,
+                why: by.why(),
+                by,
             }),
         }
     }

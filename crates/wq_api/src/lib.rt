@@ -7,21 +7,22 @@
 //! the lock protects, and what a call does to it, is `wq_held`.
 #![tactic(auto)]
 
+mod bells;
 mod calling;
 mod closing;
 mod condvars;
+mod entered;
 mod layout;
 mod lock;
 mod runtime;
 mod serving;
 mod turns;
-mod unlocked;
 
 pub use closing::CloseRefused;
 pub use runtime::WqRuntime;
 pub use wq_core::{Context, MAX_HELPERS};
 pub use wq_counts::{Counts, Kind};
 pub use wq_held::{
-    CallError, CloseWhy, Closed, Held, MAX_LANES, MAX_SEATS, Naming, NewError, SEAT_ROWS, Seat,
-    SeatError,
+    Answered, CallError, CloseWhy, Closed, Ended, Held, MAX_LANES, MAX_SEATS, Naming, NewError,
+    Next, NoSeat, SEAT_ROWS, Seat, SeatError, Unclosed,
 };

@@ -8,10 +8,10 @@
 ghost use Rattle.std.specs.Prelude.{◌≡◌, ℕ, min, vec_len, Result, Ok, Err, IfOk, IfErr};
 ghost use Rattle.wq_history.specs.declared.sleepers.Wake.{Wake};
 ghost use Rattle.wq_held.specs.declared.turn.Turn.TheVariants.{Answers};
-ghost use Rattle.wq_api.specs.Locking.{max_item_condvars};
+ghost use Rattle.wq_api.specs.Locking.{max_item_condvars, AreWoken};
 
-use crate::condvars::Condvars;
-use crate::unlocked::unlock;
+use crate::condvars::{Condvars, Woken};
+use crate::entered::enter;
 use std::alloc::Allocator;
 use std::sync::{Mutex, Wait};
 use wq_held::Turn;
@@ -85,25 +85,27 @@ impl<H: Watched, A: Allocator> Lock<H, A> {
         }
     }
 
-    /// Takes the lock, hands over the call, releases the lock, and wakes whom the answer names. Where the call is too
-    /// early, its caller sleeps among those whom it names, and the call is handed over again when one of them is woken.
-    /// There is a condition variable for each group of sleepers, which groups that wait for items may share.
-    pub(crate) fn call<R: Wait, S, C: Copy, T>(&self, rt: &R, own: &mut S, call: C) -> T
+    /// Takes the lock, hands over the call, releases the lock, and wakes whom the answer names, as it shows. Where the
+    /// call is too early, its caller sleeps among those whom it names, and the call is handed over again when one of
+    /// them is woken. There is a condition variable for each group of sleepers, which groups that wait for items may
+    /// share.
+    pub(crate) fn call<R: Wait, S, C: Copy, T>(&self, rt: &R, own: &mut S, call: C) -> (T, Woken)
     where
         H: Turns<S, C, T>,
         requires lanes { vec_len self.now.condvars.lanes ≡ H.lanes }
         requires items { vec_len self.now.condvars.items ≡ min H.items max_item_condvars }
-        ensures { (old : H) × (new : H) × (wake : Wake) × H.takes old own.old call (Answers result wake) new own.new }
+        ensures { (old : H) × (new : H) × (wake : Wake) × H.takes old own.old call (Answers result.0 wake) new own.new
+            × AreWoken (vec_len self.now.condvars.lanes) (vec_len self.now.condvars.items) wake result.1 }
     {
-        let mut held = self.held.lock(rt);
+        let mut entered = enter(rt, &self.held);
         for _ in rt.forever() {
-            match held.take(own, call) {
+            match entered.take(own, call) {
                 Turn::Answers(answer, wake) => {
-                    self.condvars.wake(unlock(held), &wake);
-                    return answer;
+                    let woken = self.condvars.wake(entered.leave(), &wake);
+                    return (answer, woken);
                 }
                 Turn::Sleeps(among) => {
-                    held = self.condvars.of(among).wait(rt, held);
+                    entered = entered.sleep(rt, self.condvars.of(among));
                 }
             }
         }

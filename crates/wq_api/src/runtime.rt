@@ -32,7 +32,7 @@ use std::alloc::Allocator;
 use std::sync::Wait;
 use std::sync::ledger::Blank;
 use wq_groups::{Assignment, Groups, LaneId};
-use wq_held::{CallError, Held, Naming, NewError, Seat, SeatError, new_held};
+use wq_held::{CallError, Held, Naming, NewError, NoSeat, Seat, new_held};
 use wq_history::Subject;
 use wq_items::{ItemId, ItemTable};
 
@@ -116,13 +116,14 @@ impl<N: Naming, A: Allocator + Copy> WqRuntime<N, A> {
     /// Makes a seat for one caller, with no counts.
     ///
     /// The error is `TooManySeats` (70) where 65,535 were made, or else out of
-    /// memory (20). After an error no seat is made.
-    pub fn seat<R: Wait>(&self, rt: &R, alloc: A) -> Result<Seat<N, A>, SeatError>
+    /// memory (20). After an error no seat is made; nothing else makes such an error.
+    pub fn seat<R: Wait>(&self, rt: &R, alloc: A) -> Result<Seat<N, A>, NoSeat<N>>
         ensures took { IsSeated N.wiring N.rows result }
         ensures seat { IfOk result (λ s. s ≡ replicate (counts_each * slots N.wiring) 0) }
         ensures memory { result ≡ Err SeatOutOfMemory → 0 < slots N.wiring }
     {
-        self.lock.call(rt, &mut (), SeatIn(alloc))
+        let (seat, _woken) = self.lock.call(rt, &mut (), SeatIn(alloc));
+        seat
     }
 }
 
@@ -233,8 +234,7 @@ impl<N: Naming, A: Allocator> WqRuntime<N, A> {
     /// it had to wait, false where the item was idle.
     ///
     /// The error is `NoItem` (66), or else `HistoryFull` (60), where the seat is full or fewer rows are free than it
-    /// needs: 1 where the item is idle, else 2. Then nothing is changed or counted. Once it has asked, the only error
-    /// could be `NotAsked` (65); then its ask stays counted.
+    /// needs: 1 where the item is idle, else 2. Then nothing is changed or counted.
     pub fn flush_work<R: Wait>(
         &self,
         rt: &R,
@@ -256,7 +256,7 @@ impl<N: Naming, A: Allocator> WqRuntime<N, A> {
     ///
     /// The error is `WrongLane` (64), where there is no such workqueue, or else `HistoryFull` (60), where the seat is
     /// full or fewer rows are free than it needs: 1 where the workqueue is idle, else 2. Then nothing is changed or
-    /// counted. Once it has asked, the only error could be `NotAsked` (65); then its ask stays counted.
+    /// counted.
     pub fn flush_workqueue<R: Wait>(
         &self,
         rt: &R,
@@ -280,8 +280,7 @@ impl<N: Naming, A: Allocator> WqRuntime<N, A> {
     /// unfinished (`cancel_work_sync`): true where one was pending.
     ///
     /// The error is `NoItem` (66), or else `HistoryFull` (60), where the seat is full or fewer than 3 rows are free.
-    /// Then nothing is changed or counted. Once it has asked, the only error could be `NotAsked` (65); then its ask and
-    /// its cancellation stay counted.
+    /// Then nothing is changed or counted.
     pub fn cancel_work_sync<R: Wait>(
         &self,
         rt: &R,

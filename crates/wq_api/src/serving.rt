@@ -17,14 +17,14 @@ ghost use Rattle.wq_api.specs.Refusals.{RefusesWaitFor, RefusesWaitIn};
 ghost use Rattle.wq_api.specs.WaitingCalls.{IsHelper, waited_for, RefusedWaitFor, RefusedWaitIn, RefusesHelpWaitFor};
 ghost use Rattle.wq_api.specs.WaitingCalls.{RefusedHelpWaitFor, HasWaiter};
 ghost use Rattle.wq_api.specs.Locking.{WasWrongToStartIn};
-ghost use Rattle.wq_api.specs.Taking.{context_of, flush_of, IsAnswered, Took, GivesDone, GivesItem, Waits};
+ghost use Rattle.wq_api.specs.Taking.{context_of, flush_of, IsAnswered, Took, GivesDone, GivesNext, Waits};
 
 use crate::runtime::WqRuntime;
 use std::alloc::Allocator;
 use std::sync::Wait;
 use wq_core::Context;
 use wq_groups::LaneId;
-use wq_held::{CallError, Naming, Seat};
+use wq_held::{CallError, Naming, Next, Seat};
 use wq_history::Flush;
 use wq_items::ItemId;
 
@@ -38,14 +38,14 @@ impl<N: Naming, A: Allocator> WqRuntime<N, A> {
     /// The only error is `WrongLane` (64), where there is no such context or it runs
     /// an entry. After an error nothing is changed.
     #[tactic(auto, using(crate::proofs::Contexts::by_start))]
-    pub fn next_in<R: Wait>(&self, rt: &R, context: Context) -> Result<Option<ItemId>, CallError>
-        ensures took { GivesItem (λ answer. IsAnswered N.wiring N.rows (Start context) answer) result }
+    pub fn next_in<R: Wait>(&self, rt: &R, context: Context) -> Result<Next<N>, CallError>
+        ensures took { GivesNext context (λ answer. IsAnswered N.wiring N.rows (Start context) answer) result }
         ensures started { IfOk result (λ next. HasContext N.wiring context.lane context.number
-            × IfSome next (λ item. IsOnLane N.wiring context.lane item)) }
+            × IfSome next.item (λ item. IsOnLane N.wiring context.lane item)) }
         ensures refused { IfErr result (λ e. e ≡ WrongLane) }
         ensures cause { OnErr result (WasWrongToStartIn N.wiring N.rows context.lane context.number) }
     {
-        self.start(rt, context)
+        self.start(rt, &context)
     }
 
     /// Makes what a context runs wait for an item (`flush_work` in a work function), or for the whole workqueue of the
@@ -54,9 +54,7 @@ impl<N: Naming, A: Allocator> WqRuntime<N, A> {
     ///
     /// The error is the first of these that holds: `WrongLane` (64), where there is no such context; `HistoryFull`
     /// (60), where the seat is full; `WrongLane` (64), where the context runs nothing or waits; `Undeclared` (62),
-    /// where what it runs declares no such flush; `TooManyWaits` (63). Then nothing is changed or counted. Once it
-    /// waits, the only error could be `WrongLane`, where another caller drove this context on; then the wait stays
-    /// counted.
+    /// where what it runs declares no such flush; `TooManyWaits` (63). Then nothing is changed or counted.
     pub fn wait_in<R: Wait>(
         &self,
         rt: &R,
@@ -106,9 +104,11 @@ impl<N: Naming, A: Allocator> WqRuntime<N, A> {
     ///
     /// The only error is `WrongLane` (64), where there is no such workqueue or its
     /// rescuer runs an entry. After an error nothing is changed.
-    pub fn next<R: Wait>(&self, rt: &R, q: LaneId) -> Result<Option<ItemId>, CallError>
-        ensures took { GivesItem (λ answer. IsAnswered N.wiring N.rows (Start (context_of q 0)) answer) result }
-        ensures started { IfOk result (λ next. (q < N.wiring.lanes) × IfSome next (λ item. IsOnLane N.wiring q item)) }
+    pub fn next<R: Wait>(&self, rt: &R, q: LaneId) -> Result<Next<N>, CallError>
+        ensures took { GivesNext (context_of q 0)
+            (λ answer. IsAnswered N.wiring N.rows (Start (context_of q 0)) answer) result }
+        ensures started { IfOk result (λ next. (q < N.wiring.lanes)
+            × IfSome next.item (λ item. IsOnLane N.wiring q item)) }
         ensures refused { IfErr result (λ e. e ≡ WrongLane) }
         ensures cause { OnErr result (WasWrongToStartIn N.wiring N.rows q 0) }
     {
@@ -118,11 +118,10 @@ impl<N: Naming, A: Allocator> WqRuntime<N, A> {
     /// Makes what the rescuer of a workqueue runs wait for an item (`flush_work` in a work function), until none of its
     /// entries that were queued before the call is unfinished: true where one was when the wait began.
     ///
-    /// The error is the first of these that holds: `WrongLane` (64), where there is no such
-    /// workqueue; `HistoryFull` (60), where the seat is full; `WrongLane` (64), where the rescuer
-    /// runs nothing or waits; `Undeclared` (62), where what it runs declares no flush of this item
-    /// alone; `TooManyWaits` (63). Then nothing is changed or counted. Once it waits, the only error
-    /// could be `WrongLane`, where another caller drove this rescuer on; then the wait stays counted.
+    /// The error is the first of these that holds: `WrongLane` (64), where there is no such workqueue; `HistoryFull`
+    /// (60), where the seat is full; `WrongLane` (64), where the rescuer runs nothing or waits; `Undeclared` (62),
+    /// where what it runs declares no flush of this item alone; `TooManyWaits` (63). Then nothing is changed or
+    /// counted.
     pub fn wait_for<R: Wait>(
         &self,
         rt: &R,
@@ -153,8 +152,7 @@ impl<N: Naming, A: Allocator> WqRuntime<N, A> {
     /// The error is the first of these that holds: `WrongLane` (64), where there is no workqueue `q`; `HistoryFull`
     /// (60), where the seat is full; `WrongLane` (64), where the rescuer of `q` runs nothing or waits; `Undeclared`
     /// (62), where what it runs declares no flush of the whole workqueue of this very item; `TooManyWaits` (63). Then
-    /// nothing is changed or counted. Once it waits, the only error could be `WrongLane`, where another caller drove
-    /// this rescuer on; then the wait stays counted.
+    /// nothing is changed or counted.
     pub fn wait_all_for<R: Wait>(
         &self,
         rt: &R,
@@ -204,9 +202,11 @@ impl<N: Naming, A: Allocator> WqRuntime<N, A> {
     ///
     /// The only error is `WrongLane` (64), where the workqueue has no helper `h`, or
     /// that helper runs an entry. After an error nothing is changed.
-    pub fn help_next<R: Wait>(&self, rt: &R, q: LaneId, h: u8) -> Result<Option<ItemId>, CallError>
-        ensures took { 0 < h → GivesItem (λ answer. IsAnswered N.wiring N.rows (Start (context_of q h)) answer) result }
-        ensures started { IfOk result (λ next. IsHelper N.wiring q h × IfSome next (λ item. IsOnLane N.wiring q item)) }
+    pub fn help_next<R: Wait>(&self, rt: &R, q: LaneId, h: u8) -> Result<Next<N>, CallError>
+        ensures took { 0 < h → GivesNext (context_of q h)
+            (λ answer. IsAnswered N.wiring N.rows (Start (context_of q h)) answer) result }
+        ensures started { IfOk result (λ next. IsHelper N.wiring q h
+            × IfSome next.item (λ item. IsOnLane N.wiring q item)) }
         ensures refused { IfErr result (λ e. e ≡ WrongLane) }
         ensures cause { 0 < h → OnErr result (WasWrongToStartIn N.wiring N.rows q h) }
     {
@@ -221,8 +221,7 @@ impl<N: Naming, A: Allocator> WqRuntime<N, A> {
     /// The error is the first of these that holds: `WrongLane` (64), where the workqueue has no helper `h`;
     /// `HistoryFull` (60), where the seat is full; `WrongLane` (64), where the helper runs nothing or waits;
     /// `Undeclared` (62), where what it runs declares no flush of this item alone; `TooManyWaits` (63). Then nothing is
-    /// changed or counted. Once it waits, the only error could be `WrongLane`, where another caller drove this helper
-    /// on; then the wait stays counted.
+    /// changed or counted.
     pub fn help_wait_for<R: Wait>(
         &self,
         rt: &R,
@@ -256,8 +255,7 @@ impl<N: Naming, A: Allocator> WqRuntime<N, A> {
     /// The error is the first of these that holds: `WrongLane` (64), where the workqueue has no helper `h`;
     /// `HistoryFull` (60), where the seat is full; `WrongLane` (64), where the helper runs nothing or waits;
     /// `Undeclared` (62), where what it runs declares no flush of the whole workqueue of this very item; `TooManyWaits`
-    /// (63). Then nothing is changed or counted. Once it waits, the only error could be `WrongLane`, where another
-    /// caller drove this helper on; then the wait stays counted.
+    /// (63). Then nothing is changed or counted.
     pub fn help_wait_all_for<R: Wait>(
         &self,
         rt: &R,

@@ -3,7 +3,7 @@
 
 use crate::lock::{Ends, Turns, Watched};
 use std::alloc::Allocator;
-use wq_held::{CallError, CloseWhy, Closed, Held, Naming, Seat, SeatError, Turn, Uncounted};
+use wq_held::{Answered, CallError, Closed, Held, Naming, NoSeat, Seat, Turn, Unclosed, Uncounted};
 use wq_history::{AsCall, Reply, Wake};
 
 impl<N: Naming, A: Allocator> Watched for Held<N, A> {
@@ -34,16 +34,14 @@ impl<N: Naming, A: Allocator, C: AsCall<A>> Turns<Seat<N, A>, C, Result<Reply, C
     }
 }
 
-impl<N: Naming, A: Allocator, C: Uncounted<A>> Turns<(), C, Result<Reply, CallError>>
-    for Held<N, A> {
-    ghost use Rattle.std.specs.Prelude.{ℕ, List};
+impl<N: Naming, A: Allocator, C: Uncounted<A>> Turns<(), C, Answered<N>> for Held<N, A> {
     ghost use Rattle.wq_held.specs.Locked.{Holds};
-    ghost use Rattle.wq_held.specs.Calls.{TakesTurn};
+    ghost use Rattle.wq_held.specs.Receipts.{TakesTurnOf};
 
     ghost takes = { λ old none call turn new left. Holds N.wiring N.rows old.book
-        × ((counts : List ℕ) → TakesTurn old counts (C.meant call) turn new counts) };
+        × TakesTurnOf old (C.meant call) turn new };
 
-    fn take(&mut self, _own: &mut (), call: C) -> Turn<Result<Reply, CallError>> {
+    fn take(&mut self, _own: &mut (), call: C) -> Turn<Answered<N>> {
         self.turn_uncounted(call)
     }
 }
@@ -54,14 +52,14 @@ impl<N: Naming, A: Allocator, C: Uncounted<A>> Turns<(), C, Result<Reply, CallEr
 #[derive(Clone, Copy)]
 pub(crate) struct SeatIn<A: Allocator + Copy>(pub(crate) A);
 
-impl<N: Naming, A: Allocator + Copy> Turns<(), SeatIn<A>, Result<Seat<N, A>, SeatError>>
+impl<N: Naming, A: Allocator + Copy> Turns<(), SeatIn<A>, Result<Seat<N, A>, NoSeat<N>>>
     for Held<N, A> {
     ghost use Rattle.wq_held.specs.Locked.{Holds};
     ghost use Rattle.wq_api.specs.Locking.{MakesSeat};
 
     ghost takes = { λ old none call turn new left. Holds N.wiring N.rows old.book × MakesSeat N.wiring old turn new };
 
-    fn take(&mut self, _own: &mut (), call: SeatIn<A>) -> Turn<Result<Seat<N, A>, SeatError>> {
+    fn take(&mut self, _own: &mut (), call: SeatIn<A>) -> Turn<Result<Seat<N, A>, NoSeat<N>>> {
         self.holds();
         Turn::Answers(self.seat(call.0), Wake::nobody())
     }
@@ -69,19 +67,21 @@ impl<N: Naming, A: Allocator + Copy> Turns<(), SeatIn<A>, Result<Seat<N, A>, Sea
 
 // ---- the end
 
-impl<N: Naming, A: Allocator> Ends<Vec<Seat<N, A>, A>, Closed<N, A>, CloseWhy> for Held<N, A> {
-    ghost use Rattle.std.specs.Prelude.{vec_len};
+impl<N: Naming, A: Allocator> Ends<Vec<Seat<N, A>, A>, Closed<N, A>, Unclosed<N>> for Held<N, A> {
+    ghost use Rattle.std.specs.Prelude.{◌≡◌, vec_len};
     ghost use Rattle.wq_held.specs.Locked.{Holds, RefusesClose};
     ghost use Rattle.wq_held.specs.Closing.{IsClosed};
 
-    ghost ends = { λ held seats closed. IsClosed N.wiring N.rows seats.items closed.book closed.counts closed.agree };
+    ghost ends = { λ held seats closed. (closed.book ≡ held.book)
+        × IsClosed N.wiring N.rows seats.items closed.book closed.counts closed.agree };
 
-    ghost refuses = { λ held seats why. Holds N.wiring N.rows held.book × RefusesClose held (vec_len seats) why };
+    ghost refuses = { λ held seats e. Holds N.wiring N.rows held.book × (e.seats ≡ vec_len seats)
+        × RefusesClose held (vec_len seats) e.why };
 
     fn end(
         self,
         own: Vec<Seat<N, A>, A>,
-    ) -> Result<Closed<N, A>, (Held<N, A>, Vec<Seat<N, A>, A>, CloseWhy)> {
+    ) -> Result<Closed<N, A>, (Held<N, A>, Vec<Seat<N, A>, A>, Unclosed<N>)> {
         self.holds();
         self.close(own)
     }

@@ -36,33 +36,7 @@ same_items : (o : Option (List ℕ)) → option_map (λ (is : List ℕ). [] ++ i
 same_items None = refl
 same_items (Some is) = refl
 
-pub FoundSoFar-none : (names : List (List ℕ)) (items : List ℕ) (words : List WordView) → items ≡ [] → FoundSoFar names items words words
-FoundSoFar-none names items words none =
-    record { known = ap (λ (front : List ℕ). option_map (λ (is : List ℕ). front ++ is) (items_of names (bytes_of words))) none ∙ same_items (items_of names (bytes_of words)) }
-
 one_more : (i : ℕ) (items : List ℕ) (o : Option (List ℕ)) → option_map (λ (is : List ℕ). (items ++ (i ∷ [])) ++ is) o ≡ option_map (λ (is : List ℕ). items ++ is) (and_more (Some i) o)
 unfolding and_more
 one_more i items None = refl
 one_more i items (Some is) = ap (λ (l : List ℕ). Some l) (append_assoc items (i ∷ []) is)
-
-pub FoundSoFar-more : (names : List (List ℕ)) (items : List ℕ) (w : WordView) (rest words : List WordView) (i : ℕ) → item_named names w.bytes ≡ Some i → FoundSoFar names items (w ∷ rest) words
-    → FoundSoFar names (items ++ (i ∷ [])) rest words
-unfolding and_more
-FoundSoFar-more names items w rest words i found h = record {
-  known = one_more i items (items_of names (bytes_of rest))
-      ∙ ap (λ (o : Option ℕ). option_map (λ (is : List ℕ). items ++ is) (and_more o (items_of names (bytes_of rest)))) (sym found) ∙ h.known;
-}
-
-pub FoundSoFar-unknown : (names : List (List ℕ)) (items : List ℕ) (w : WordView) (rest words : List WordView) → item_named names w.bytes ≡ None → FoundSoFar names items (w ∷ rest) words
-    → None ≡ items_of names (bytes_of words)
-unfolding and_more
-FoundSoFar-unknown names items w rest words absent h =
-    sym (ap (λ (o : Option ℕ). option_map (λ (is : List ℕ). items ++ is) (and_more o (items_of names (bytes_of rest)))) absent) ∙ h.known
-
-append_none : (o : Option (List ℕ)) (items : List ℕ) → o ≡ Some [] → Some items ≡ option_map (λ (is : List ℕ). items ++ is) o
-append_none None items e = absurd cc
-append_none (Some []) items e = ap (λ (l : List ℕ). Some l) (sym (append-nil items))
-append_none (Some (i ∷ is)) items e = absurd cc
-
-pub FoundSoFar-all : (names : List (List ℕ)) (items : List ℕ) (words : List WordView) → FoundSoFar names items [] words → Some items ≡ items_of names (bytes_of words)
-FoundSoFar-all names items words h = append_none (items_of names (bytes_of [])) items refl ∙ h.known

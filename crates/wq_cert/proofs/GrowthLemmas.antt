@@ -29,52 +29,6 @@ Err-passed (Err e) met error passed is = sym passed ∙ cc
 
 -- ---- reading a line requests no memory
 
--- the fault, if there is one, isn't that memory ran out
-abbrev IsOfTheText : {V : Type 0} → Result V CertError → Type 0
-IsOfTheText r = IfErr r (λ e. e ≢ OutOfMemory)
-
-not_memory : {V : Type 0} (r : Result V CertError) → IsOfTheText r → r ≡ Err OutOfMemory → ⊥
-not_memory (Ok v) h e = cc
-not_memory (Err fault) h e =
-    let same : fault ≡ OutOfMemory = cc in
-    h same
-
-of_form : {V : Type 0} (o : Option V) (n : ℕ) → IsOfTheText (ok_or o (BadCertLine n))
-of_form None n = λ e. cc
-of_form (Some v) n = tt
-
-of_then : {V W : Type 0} (next : V → Result W CertError) (r : Result V CertError) → IsOfTheText r → ((v : V) → IsOfTheText (next v)) → IsOfTheText (and_then next r)
-of_then next (Ok v) h then = then v
-of_then next (Err fault) h then = h
-
-of_range : {V : Type 0} (b : Bool) (n : ℕ) (v : V) → IsOfTheText (cond b (Err (NumberOutOfRange n)) (Ok v))
-of_range true n v = λ e. cc
-of_range false n v = tt
-
-of_count : (keyword : List ℕ) (line : CertLine) → IsOfTheText (count_reading keyword line)
-of_count keyword line =
-    of_then (λ n. cond (ltb 4096 n) (Err (NumberOutOfRange line.no)) (Ok n)) (ok_or (count_form keyword line.words) (BadCertLine line.no)) (of_form (count_form keyword line.words) line.no) (λ n. of_range (ltb 4096 n) line.no n)
-
-pub count_reading-memory : (keyword : List ℕ) (line : CertLine) → count_reading keyword line ≢ Err OutOfMemory
-count_reading-memory keyword line = not_memory (count_reading keyword line) (of_count keyword line)
-
-pub circle_count_reading-memory : (line : CertLine) → circle_count_reading line ≢ Err OutOfMemory
-circle_count_reading-memory line =
-    not_memory (circle_count_reading line)
-    (of_then (λ n. cond (eqb n 0) (Err (NumberOutOfRange line.no)) (Ok n)) (count_reading (codes "circle") line) (of_count (codes "circle") line) (λ n. of_range (eqb n 0) line.no n))
-
-pub run_count-memory : (line : CertLine) → run_count line ≢ Err OutOfMemory
-run_count-memory line = not_memory (run_count line) (of_form (count_form (codes "run") line.words) line.no)
-
-pub arc_reading-memory : (names : List (List ℕ)) (line : CertLine) → arc_reading names line ≢ Err OutOfMemory
-arc_reading-memory names line = not_memory (arc_reading names line) (of_form (arc_form names line.words) line.no)
-
-pub step_reading-memory : (names : List (List ℕ)) (line : CertLine) → step_reading names line ≢ Err OutOfMemory
-step_reading-memory names line =
-    not_memory (step_reading names line)
-    (of_then (λ found. cond (names_far_lane found) (Err (NumberOutOfRange line.no)) (Ok found)) (ok_or (step_form names line.words) (BadCertLine line.no)) (of_form (step_form names line.words) line.no)
-    (λ found. of_range (names_far_lane found) line.no found))
-
 -- ---- a line for each value, if the first is read
 
 -- i of n are read, and if any is, the first line is
@@ -84,13 +38,6 @@ pub record ReadTo {V : Type 0} (read : CertLine → Result V CertError) (n i : �
   pub one : 0 < i → ReadsOne read n lines
 
 module _ {V : Type 0} (read : CertLine → Result V CertError) (n : ℕ) (lines : List CertLine) where
-  pub ReadTo-none : (vs : List V) → vs ≡ [] → ReadTo read n 0 lines vs lines
-  ReadTo-none vs none = record {
-    goes_on = subst (λ (m : ℕ). GoesOn read n lines vs m lines) (omega arith) (GoesOn-none read n lines vs none);
-    first = λ e. refl;
-    one = λ some. absurd (omega (arith, some));
-  }
-
   module _ (i : ℕ) (vs : List V) (left : List LineView) (line : LineView) (rest : List LineView) (v : V) (below : i < n) (stands : left ≡ line ∷ rest) (taken : Ok v ≡ read (cert_line line)) (h : ReadTo read n i lines vs (map cert_line left)) where
     pub ReadsOne-next : ReadsOne read n lines
     ReadsOne-next = by_place i refl
@@ -182,38 +129,4 @@ pub made_of : {V W : Type 0} (made : V → W) (r : Result V CertError) → NoLin
 made_of made (Ok v) h = tt
 made_of made (Err fault) h = h
 
-module _ (names : List (List ℕ)) (p : Partition) (first : CertLine) (rest : List CertLine) where
-  abbrev IsFarIn : Bool → Type 0
-  IsFarIn b = BeginsWell (answer_reading names p) (cond b 2 1) (first ∷ rest)
-
-  pub BeginsWell-answer_circle : begins_with (codes "circle") first.words ≡ true → BeginsWell (circle_reading names) 2 (first ∷ rest) → BeginsWell (answer_reading names p) (lines_before_memory (first ∷ rest)) (first ∷ rest)
-  BeginsWell-answer_circle is h =
-      subst IsFarIn (sym is) (record {
-        stand = h.stand;
-        no_fault =
-            subst (λ (b : Bool). NoLineIsAtFault (plan_or names p (first ∷ take 1 rest) b)) (sym is) (made_of (λ circle. OfCircle circle) (circle_reading names (first ∷ take 1 rest)) h.no_fault);
-      })
-
-  pub BeginsWell-answer_plan : begins_with (codes "circle") first.words ≡ false → BeginsWell (plan_reading names p) 1 (first ∷ rest) → BeginsWell (answer_reading names p) (lines_before_memory (first ∷ rest)) (first ∷ rest)
-  BeginsWell-answer_plan is h =
-      subst IsFarIn (sym is) (record {
-        stand = h.stand;
-        no_fault = subst (λ (b : Bool). NoLineIsAtFault (plan_or names p (first ∷ []) b)) (sym is) (made_of (λ plan. OfPlan plan) (plan_reading names p (first ∷ [])) h.no_fault);
-      })
-
-module _ (names : List (List ℕ)) (p : Partition) where
-  pub BeginsWell-assignment : (lines : List CertLine) → begins_plan lines ≡ true → BeginsWell (plan_reading names p) 1 lines → BeginsWell (assignment_reading names p) 1 lines
-  BeginsWell-assignment [] is h = absurd cc
-  BeginsWell-assignment (first ∷ rest) is h = record {
-    stand = h.stand;
-    no_fault =
-        subst (λ (b : Bool). NoLineIsAtFault (workqueues_or names p (first ∷ []) b)) (sym is) (made_of (λ (plan : PlanCertificate). plan.assignment) (plan_reading names p (first ∷ [])) h.no_fault);
-  }
-
 -- ---- texts
-
--- the lines of a text within the limits
-pub opened_lines : (text : List ℕ) (lines : List CertLine) → limit_fault max_certificate max_certificate_line text ≡ None → text_reading (λ ls. Ok ls) text ≡ Ok lines → cert_lines (lines_of text) ≡ lines
-opened_lines text lines within e =
-    let read : unless_too_long None (Ok (cert_lines (lines_of text))) ≡ Ok lines = ap (λ (o : Option TextError). unless_too_long o (Ok (cert_lines (lines_of text)))) (sym within) ∙ e in
-    cc

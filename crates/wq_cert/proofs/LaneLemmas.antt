@@ -106,13 +106,6 @@ module _ (group_of : List ℕ) (workqueues : List (List ℕ)) (g : ℕ) where
   push_none : (front : List ℕ) → holds_member group_of (concat workqueues) g ≡ false → holds_member group_of front g ≡ false → workqueue_with group_of (workqueues ++ (front ∷ [])) g ≡ None
   push_none front free not_here = position-push_none (λ items. holds_member group_of items g) workqueues front (any_holds false free) not_here
 
-  -- one more empty workqueue changes nothing
-  push_nothing : workqueue_with group_of (workqueues ++ ([] ∷ [])) g ≡ workqueue_with group_of workqueues g
-  push_nothing = elim (cases_Bool (holds_member group_of (concat workqueues) g)) [
-    | inl held ↦ push_held [] held
-    | inr free ↦ push_none [] free refl ∙ sym (position-none (λ items. holds_member group_of items g) workqueues (any_holds false free))
-  ]
-
   -- nor does a member of another group
   push_alike : (front others : List ℕ) → holds_member group_of front g ≡ holds_member group_of others g → workqueue_with group_of (workqueues ++ (front ∷ [])) g ≡ workqueue_with group_of (workqueues ++ (others ∷ [])) g
   push_alike front others alike = elim (cases_Bool (holds_member group_of (concat workqueues) g)) [
@@ -156,15 +149,6 @@ length-lanes_with p workqueues = length-map-range_with_len (workqueue_with p.gro
 
 get_or-lanes_with : (p : Partition) (workqueues : List (List ℕ)) (g : ℕ) (d : Option ℕ) → g < p.groups → get_or (lanes_with p workqueues) g d ≡ workqueue_with p.group_of workqueues g
 get_or-lanes_with p workqueues g d lt = get_or-map-range_with_len (workqueue_with p.group_of workqueues) 0 p.groups g g d lt (omega arith)
-
-pub Settled-none : (p : Partition) (lane : ℕ) (lanes : List (Option ℕ)) (items : List ℕ) → Settled p lane lanes lanes items 0
-Settled-none p lane lanes items = record {
-  long = refl;
-  lanes = λ workqueues here is. is
-      ∙ fill_by_all (workqueue_with p.group_of (workqueues ++ ([] ∷ []))) (lanes_with p workqueues) p.groups None (length-lanes_with p workqueues)
-      (λ g lt. get_or-lanes_with p workqueues g None lt ∙ sym (push_nothing p.group_of workqueues g));
-  apart = λ workqueues here is. refl;
-}
 
 -- item x of group g is the next
 pub record NextMember (p : Partition) (lane : ℕ) (new : List (Option ℕ)) (items : List ℕ) (k x g : ℕ) (held : Option ℕ) : Type 0 where
@@ -234,10 +218,3 @@ module _ (p : Partition) (lane : ℕ) (old new : List (Option ℕ)) (items : Lis
     lanes = λ workqueues here is. more_lanes workqueues here is same;
     apart = λ workqueues here is. more_apart workqueues here is same;
   }
-
-module _ (p : Partition) (lane : ℕ) (old new : List (Option ℕ)) (items : List ℕ) (k : ℕ) (all : length items ≤ k) (h : Settled p lane old new items k) (workqueues : List (List ℕ)) (here : lane ≡ length workqueues) (is : old ≡ lanes_with p workqueues) where
-  pub Settled-apart : splits_group p.group_of (concat workqueues) items ≡ false
-  Settled-apart = ap (splits_group p.group_of (concat workqueues)) (sym (take_all k items all)) ∙ h.apart workqueues here is
-
-  pub Settled-all : new ≡ lanes_with p (workqueues ++ (items ∷ []))
-  Settled-all = h.lanes workqueues here is ∙ ap (λ (front : List ℕ). lanes_with p (workqueues ++ (front ∷ []))) (take_all k items all)

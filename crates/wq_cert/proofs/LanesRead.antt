@@ -90,11 +90,3 @@ module _ (names : List (List ℕ)) (p : Partition) (partition : IsPartition p) (
 module _ (names : List (List ℕ)) (p : Partition) where
   abbrev lanes_or : List CertLine → Bool → Result Workqueues CertError
   lanes_or lines b = cond b (and_then of_plan (plan_reading names p lines)) (and_then (of_lines lines) (workqueues_reading names p (map as_wq lines)))
-
-  pub BeginsWell-lanes : (lines : List CertLine) → begins_plan lines ≡ true → BeginsWell (plan_reading names p) 1 lines → BeginsWell (lanes_reading names p) 1 lines
-  BeginsWell-lanes [] is h = absurd cc
-  BeginsWell-lanes (first ∷ rest) is h = record {
-    stand = h.stand;
-    no_fault =
-        subst (λ (b : Bool). NoLineIsAtFault (lanes_or (first ∷ []) b)) (sym is) (made_of (λ (plan : PlanCertificate). all_rescued plan.assignment) (plan_reading names p (first ∷ [])) h.no_fault);
-  }

@@ -64,9 +64,6 @@ module _ {X : Type 0} (g : X → List (List ℕ)) where
   abbrev pub lines : List X → List ℕ
   lines xs = flat_map line_text (map g xs)
 
-  pub lines-none : (out : List ℕ) → out ≡ out ++ lines []
-  lines-none out = sym (append-nil out)
-
   pub lines-push : (out : List ℕ) (xs : List X) (x : X) → (out ++ lines xs) ++ line_text (g x) ≡ out ++ lines (xs ++ (x ∷ []))
   lines-push out xs x =
       append_assoc out (lines xs) (line_text (g x))

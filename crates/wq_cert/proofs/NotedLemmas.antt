@@ -101,9 +101,6 @@ numbered (Some q) place at items e = chosen (q.0 == place) (leb 4096 place) refl
 pub wq_items-below : (names : List (List ℕ)) (place : ℕ) (line : CertLine) (items : List ℕ) → wq_items names place line ≡ Ok items → All (λ i. i < length names) items
 wq_items-below names place line items e = let h = numbered (wq_form names line.words) place line.no items e in wq_form-below names line.words h.number items h.is
 
-pub wq_items-near : (names : List (List ℕ)) (place : ℕ) (line : CertLine) (items : List ℕ) → wq_items names place line ≡ Ok items → place < 4096
-wq_items-near names place line items e = (numbered (wq_form names line.words) place line.no items e).near
-
 -- ---- this many workqueues
 
 -- after some of n workqueues this many are left, from the lines of `rest` on
@@ -111,9 +108,6 @@ pub record ReadSome (names : List (List ℕ)) (p : Partition) (n : ℕ) (lines :
   pub workqueues : List (List ℕ)
   pub noted : AreNoted p workqueues count stood lanes
   pub goes_on : next_workqueues names p.group_of n [] lines ≡ next_workqueues names p.group_of left workqueues rest
-
-pub ReadSome-none : (names : List (List ℕ)) (p : Partition) (n : ℕ) (lines : List CertLine) (count : ℕ) (stood : List Bool) (lanes : List (Option ℕ)) → AreNoted p [] count stood lanes → ReadSome names p n lines count stood lanes n lines
-ReadSome-none names p n lines count stood lanes noted = record { workqueues = []; noted = noted; goes_on = refl }
 
 -- what the next workqueue gives
 next_workqueue : List (List ℕ) → Partition → ℕ → List (List ℕ) → List CertLine → Result (List ℕ) CertError → Read (List (List ℕ))
@@ -154,15 +148,6 @@ module _ (names : List (List ℕ)) (p : Partition) (n i : ℕ) (lines : List Cer
   pub ReadSome-short : i < n → left ≡ [] → next_workqueues names p.group_of n [] lines ≡ Err (BadCertLine 0)
   ReadSome-short lt none = next_goes_on lt [] none
 
-  pub ReadSome-all : n ≤ i → AreRead names p n lines count stood lanes (map cert_line left)
-  ReadSome-all le =
-      let nothing : n - i ≡ zero = omega arith in
-      record {
-        workqueues = h.workqueues;
-        noted = h.noted;
-        read = h.goes_on ∙ ap (λ m. next_workqueues names p.group_of m h.workqueues (map cert_line left)) nothing;
-      }
-
 -- ---- all workqueues
 
 -- after some of the lines `rest` is left
@@ -170,9 +155,6 @@ pub record ReadSoFar (names : List (List ℕ)) (p : Partition) (lines : List Cer
   pub workqueues : List (List ℕ)
   pub noted : AreNoted p workqueues count stood lanes
   pub goes_on : all_workqueues names p.group_of [] lines ≡ all_workqueues names p.group_of workqueues rest
-
-pub ReadSoFar-none : (names : List (List ℕ)) (p : Partition) (lines : List CertLine) (count : ℕ) (stood : List Bool) (lanes : List (Option ℕ)) → AreNoted p [] count stood lanes → ReadSoFar names p lines count stood lanes lines
-ReadSoFar-none names p lines count stood lanes noted = record { workqueues = []; noted = noted; goes_on = refl }
 
 module _ (names : List (List ℕ)) (p : Partition) (lines : List CertLine) (count : ℕ) (stood : List Bool) (lanes : List (Option ℕ)) (bare : Bool) (left : List LineView) (h : ReadSoFar names p lines count stood lanes (map (λ (line : LineView). said_line bare line) left)) where
   step : List CertLine → CertLine → Bool → Result (List ℕ) CertError → Read (List (List ℕ))
@@ -183,22 +165,6 @@ module _ (names : List (List ℕ)) (p : Partition) (lines : List CertLine) (coun
   unfolding step
   steps line rest first = h.goes_on ∙ ap (λ (ls : List LineView). all_workqueues names p.group_of h.workqueues (map (λ (line : LineView). said_line bare line) ls)) first
 
-  pub ReadSoFar-more : (line : LineView) (rest : List LineView) (more_count : ℕ) (more_stood : List Bool) (more_lanes : List (Option ℕ)) → left ≡ line ∷ rest → begins_with (codes "wq") (said_line bare line).words ≡ true
-      → IsNextNoted names p h.workqueues (said_line bare line) more_count more_stood more_lanes → ReadSoFar names p lines more_count more_stood more_lanes (map (λ (line : LineView). said_line bare line) rest)
-  unfolding step
-  ReadSoFar-more line rest more_count more_stood more_lanes first is_wq next = record {
-    workqueues = h.workqueues ++ (next.items ∷ []);
-    noted = next.noted;
-    goes_on = steps line rest first ∙ ap₂ (step (map (λ (line : LineView). said_line bare line) rest) (said_line bare line)) is_wq next.read;
-  }
-
-  pub ReadSoFar-fault : (line : LineView) (rest : List LineView) (e : CertError) → left ≡ line ∷ rest → begins_with (codes "wq") (said_line bare line).words ≡ true → IsCertFaultOf e (wq_reading names p.group_of h.workqueues (said_line bare line))
-      → IsCertFaultOf e (all_workqueues names p.group_of [] lines)
-  unfolding step
-  ReadSoFar-fault line rest e first is_wq fault =
-      IsCertFaultOf-then (λ (items : List ℕ). all_workqueues names p.group_of (h.workqueues ++ (items ∷ [])) (map (λ (line : LineView). said_line bare line) rest)) e (wq_reading names p.group_of h.workqueues (said_line bare line)) (all_workqueues names p.group_of [] lines)
-      (steps line rest first ∙ ap (λ b. step (map (λ (line : LineView). said_line bare line) rest) (said_line bare line) b (wq_reading names p.group_of h.workqueues (said_line bare line))) is_wq) fault
-
   pub ReadSoFar-stop : (line : LineView) (rest : List LineView) (at : ℕ) → left ≡ line ∷ rest → begins_with (codes "wq") (said_line bare line).words ≡ false → at ≡ line.no → AreAllRead names p lines count stood lanes (Some at)
   unfolding step
   ReadSoFar-stop line rest at first other number = record {
@@ -207,13 +173,4 @@ module _ (names : List (List ℕ)) (p : Partition) (lines : List CertLine) (coun
     noted = h.noted;
     read = steps line rest first ∙ ap (λ b. step (map (λ (line : LineView). said_line bare line) rest) (said_line bare line) b (wq_reading names p.group_of h.workqueues (said_line bare line))) other;
     line = ap (λ (n : ℕ). Some n) number;
-  }
-
-  pub ReadSoFar-all : left ≡ [] → AreAllRead names p lines count stood lanes None
-  ReadSoFar-all none = record {
-    workqueues = h.workqueues;
-    rest = [];
-    noted = h.noted;
-    read = h.goes_on ∙ ap (λ (ls : List LineView). all_workqueues names p.group_of h.workqueues (map (λ (line : LineView). said_line bare line) ls)) none;
-    line = refl;
   }

@@ -28,9 +28,6 @@ IsCertFaultOf-then next (GroupSplit line) r s made h = made ∙ ap (λ q. and_th
 IsCertFaultOf-then next (NumberOutOfRange line) r s made h = made ∙ ap (λ q. and_then next q) h
 IsCertFaultOf-then next OutOfMemory r s made h = tt
 
-pub IsCertFaultOf-read : {V W : Type 0} (next : V → List CertLine → Result W CertError) (e : CertError) (r : Read V) (s : Result W CertError) → s ≡ and_read next r → IsCertFaultOf e r → IsCertFaultOf e s
-IsCertFaultOf-read {V} next e r s made h = IsCertFaultOf-then (λ (p : V × List CertLine). next p.0 p.1) e r s made h
-
 -- ---- a line for each value
 
 -- of this many values these are read, and this many are left, from the lines of `rest` on
@@ -80,10 +77,6 @@ GoesOn-fault read n lines vs m line rest e fault h =
 pub GoesOn-short : {V : Type 0} (read : CertLine → Result V CertError) (n : ℕ) (lines : List CertLine) (vs : List V) (m : ℕ) → GoesOn read n lines vs (suc m) [] → next_lines read n lines ≡ Err (BadCertLine 0)
 GoesOn-short read n lines vs m h = h.goes_on
 
-pub GoesOn-all : {V : Type 0} (read : CertLine → Result V CertError) (n : ℕ) (lines : List CertLine) (vs : List V) (rest : List CertLine) → GoesOn read n lines vs zero rest → next_lines read n lines ≡ Ok (vs, rest)
-unfolding in_front
-GoesOn-all {V} read n lines vs rest h = h.goes_on ∙ front_is (vs ++ []) vs rest (append-nil vs)
-
 -- ---- the same, where a loop has read i of n, from lines of which `left` are left
 
 module _ {V : Type 0} (read : CertLine → Result V CertError) (n i : ℕ) (lines : List CertLine) (vs : List V) (left : List LineView) where
@@ -107,11 +100,3 @@ module _ {V : Type 0} (read : CertLine → Result V CertError) (n i : ℕ) (line
   goes_on-short lt none h = GoesOn-short read n lines vs (n - (i + 1)) (next_left lt [] none h)
 
 -- ---- texts
-
-pub text_reading-by : {V : Type 0} (read : List CertLine → Result V CertError) (text : List ℕ) → text_reading read text ≡ and_then read (text_reading (λ lines. Ok lines) text)
-text_reading-by {V} read text = chosen (limit_fault max_certificate max_certificate_line text)
-  where
-    chosen : (o : Option TextError) → unless_too_long o (read (cert_lines (lines_of text))) ≡ and_then read (unless_too_long o (Ok (cert_lines (lines_of text))))
-    chosen None = refl
-    chosen (Some TextTooLong) = refl
-    chosen (Some (LineTooLong line)) = refl

@@ -8,7 +8,7 @@ use Rattle.wq_text.specs.Lines.{Piece, pieces, in_front, lines_from, taken, line
 use Rattle.wq_text.specs.Limits.{limit_fault}
 use Rattle.wq_text.proofs.LimitLaws.{fits-limit_fault}
 use Rattle.wq_groups.specs.Partition.{Partition, IsPartition}
-use Rattle.wq_groups.specs.Assignment.{Assignment}
+use Rattle.wq_groups.specs.Assignment.{Assignment, IsAssignmentOf}
 use Rattle.wq_core.specs.declared.step.Step.{Step}
 use Rattle.wq_cert.specs.declared.fault.CertError.{CertError}
 use Rattle.wq_cert.specs.Certificate.{PlanCertificate, CircleCertificate, Certificate, OfPlan, OfCircle}
@@ -16,7 +16,7 @@ use Rattle.wq_cert.specs.Lines.{CertLine, holds_word, cert_line, cert_lines}
 use Rattle.wq_cert.specs.Forms.{begins_with}
 use Rattle.wq_cert.specs.PlanText.{arc_line}
 use Rattle.wq_cert.specs.RunText.{step_line}
-use Rattle.wq_cert.specs.Ranges.{IsAssignmentOf, IsRunOf, IsPlanOf, IsCircleOf, IsCertificateOf}
+use Rattle.wq_cert.specs.Ranges.{IsRunOf, IsPlanOf, IsCircleOf, IsCertificateOf}
 use Rattle.wq_items.specs.Building.{and_then}
 use Rattle.wq_cert.specs.Reading.{plan_reading, circle_reading, run_reading, workqueues_reading, answer_reading, assignment_reading, assignment_of}
 use Rattle.wq_cert.specs.Spelled.{words_of_lines, AreWorkqueues, SpellsPlan, SpellsRun, SpellsRunAfter, SpellsCircle}

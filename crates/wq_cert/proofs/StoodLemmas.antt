@@ -105,8 +105,5 @@ module _ (old new : List Bool) (items : List ℕ) (k x : ℕ) (is_marked : Bool)
         ∙ ap (λ (front : List ℕ). has_stood front (drop (k + 1) items)) (front_grows before);
   }
 
-pub Marked-fresh : (old new : List Bool) (items : List ℕ) (k : ℕ) → length items ≤ k → Marked old new items k → (n : ℕ) (before : List ℕ) → old ≡ marks n before → has_stood before items ≡ false
-Marked-fresh old new items k all h n before is = h.fresh n before is ∙ ap (has_stood (before ++ take k items)) (drop_all k items all)
-
 pub Marked-all : (old new : List Bool) (items : List ℕ) (k : ℕ) → length items ≤ k → Marked old new items k → (n : ℕ) (before : List ℕ) → old ≡ marks n before → new ≡ marks n (before ++ items)
 Marked-all old new items k all h n before is = h.marked n before is ∙ ap (λ (front : List ℕ). marks n (before ++ front)) (take_all k items all)

@@ -9,9 +9,8 @@ use Rattle.std.proofs.lemmas.List.Folds.{Any-from_list_any, list_any_at}
 use Rattle.std.proofs.lemmas.List.FromFn.{length-map-range_with_len, get_or-map-range_with_len}
 use Rattle.std.proofs.lemmas.List.Sums.{position_or_len_is}
 use Rattle.wq_groups.specs.Partition.{Partition, IsPartition}
-use Rattle.wq_groups.specs.Assignment.{item_lane}
+use Rattle.wq_groups.specs.Assignment.{item_lane, IsAssignmentOf}
 use Rattle.wq_cert.specs.Reading.{workqueue_of_group, assignment_of}
-use Rattle.wq_cert.specs.Ranges.{IsAssignmentOf}
 use Rattle.wq_cert.specs.Spelled.{IsOnWorkqueue, GroupsAreWhole, AreWorkqueues}
 use Rattle.wq_cert.proofs.WorkqueueLists.{on_workqueue-below, Contains-on_workqueue, on_workqueue-Contains}
 

@@ -1,7 +1,7 @@
 -- Ranges: what is known about every certificate, assignment and run that is read. Items are counted by their names.
 use Rattle.std.specs.Prelude.{◌≡◌, ℕ, ◌-◌, ◌<◌, ◌≤◌, ◌⊎◌, false, List, [], length, Some}
 use Rattle.std.specs.List.{All}
-use Rattle.wq_groups.specs.Assignment.{Assignment, IsAssignment, max_lanes}
+use Rattle.wq_groups.specs.Assignment.{Assignment, IsAssignmentOf}
 use Rattle.wq_core.specs.Workqueues.{Workqueues}
 use Rattle.wq_core.specs.declared.step.Step.{Step}
 use Rattle.wq_core.specs.Runs.{IsHelp}
@@ -17,11 +17,6 @@ IsArcOf items arc = (arc.0 < items) × (arc.1 < items)
 -- a step names one of this many items, and a workqueue below 4,096 if it names one; no helper makes it
 abbrev pub IsStepOf : ℕ → Step → Type 0
 IsStepOf items step = (step_item step < items) × (names_far_lane step ≡ false) × (¬ IsHelp step)
-
--- an assignment of this many groups to at most 4,096 workqueues
-pub record IsAssignmentOf (groups : ℕ) (a : Assignment) : Type 0 where
-  pub assignment : IsAssignment groups a
-  pub few : a.lanes ≤ max_lanes
 
 -- workqueues of this many groups, at most 4,096; of each it is known whether it has a rescuer, or all have one
 pub record AreWorkqueuesOf (groups : ℕ) (ws : Workqueues) : Type 0 where

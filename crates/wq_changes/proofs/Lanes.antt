@@ -33,14 +33,3 @@ module _ (old new : Workqueues) (groups : ℕ)
   lanes-within c =
       All-map (λ l. l < new.assignment.lanes) (lane_without old new c) (range_with_len 0 groups)
       (λ k d is. lane-within c (get_or (range_with_len 0 groups) k d) (range_with_len-below groups k d is))
-
--- workqueues with these lanes, and these rescuers, are those without the change
-pub without_made : (old new : Workqueues) (c : Change) (groups : ℕ) (a : Assignment) (bare : List Bool) → length new.assignment.lane_of_group ≡ groups
-    → a.lanes ≡ new.assignment.lanes → a.lane_of_group ≡ map (lane_without old new c) (range_with_len 0 groups) → bare ≡ map (bare_without new c) (range_with_len 0 new.assignment.lanes)
-    → record { assignment = a; bare = bare } ≡ without_change old new c
-without_made old new c groups a bare each count lanes rescuers =
-    let own : a.lane_of_group ≡ (without_change old new c).assignment.lane_of_group =
-    lanes ∙ ap (λ (n : ℕ). map (lane_without old new c) (range_with_len 0 n)) (sym each) in
-    ap (λ (n : ℕ). record { assignment = record { lanes = n; lane_of_group = a.lane_of_group }; bare = bare }) count
-    ∙ ap (λ (l : List ℕ). record { assignment = record { lanes = new.assignment.lanes; lane_of_group = l }; bare = bare }) own
-    ∙ ap (λ (b : List Bool). record { assignment = (without_change old new c).assignment; bare = b }) rescuers

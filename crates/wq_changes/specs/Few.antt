@@ -1,19 +1,17 @@
 -- What is said where too few items may move: the workqueues of the run that is printed, and how they hang soonest.
-use Rattle.std.specs.Prelude.{◌≡◌, ℕ, List, [], ◌∷◌, ◌++◌, Option, codes, unwrap_or}
+use Rattle.std.specs.Prelude.{◌≡◌, ℕ, List, [], ◌∷◌, ◌++◌, Option, unwrap_or}
 use Rattle.wq_core.specs.Workqueues.{Workqueues}
-use Rattle.wq_commands.specs.Answer.{declared_waits}
-use Rattle.wq_commands.specs.Declaration.{Declared}
+use Rattle.wq_groups.specs.DeclaredGroups.{declared_waits, Declared}
 use Rattle.wq_diagnosis.specs.Diagnosis.{shown_lines}
 use Rattle.wq_repair_command.specs.AssignmentText.{assignment_text}
-use Rattle.wq_voice.specs.Reasons.{can_hang, GivesReason}
+use Rattle.wq_names.specs.Messages.{can_hang, names_are_too_few}
+use Rattle.wq_voice.specs.Reasons.{GivesReason}
 use Rattle.wq_voice.specs.Waits.{words_of}
 use Rattle.wq_voice.specs.declared.waits.Wording.TheVariants.{OnWorkqueues}
 
 -- that too few items may move
 abbrev pub few_line : List ℕ → List ℕ
-few_line file =
-    shown_lines ((file ++ codes ": note: wherever these items move, the workqueues can hang; the run is on these:")
-    ∷ [])
+few_line file = shown_lines (names_are_too_few file ∷ [])
 
 -- that it is so, the lines of these workqueues, and how they hang soonest
 pub record TellsFew (first second : List ℕ) (s : Declared) (names : List (List ℕ)) (start : Workqueues)

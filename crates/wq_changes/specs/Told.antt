@@ -1,8 +1,7 @@
 -- What is said of changes: for each in turn what is changed, and for the first ones how the workqueues hang without it.
 use Rattle.std.specs.Prelude.{◌≡◌, ℕ, List, [], ◌∷◌, ◌++◌, Option, drop, take, unwrap_or, nat_lt, if◌then◌else◌, length}
 use Rattle.wq_core.specs.Workqueues.{Workqueues}
-use Rattle.wq_commands.specs.Answer.{declared_waits}
-use Rattle.wq_commands.specs.Declaration.{Declared}
+use Rattle.wq_groups.specs.DeclaredGroups.{declared_waits, Declared}
 use Rattle.wq_diagnosis.specs.Diagnosis.{IsPlain, shown_lines}
 use Rattle.wq_voice.specs.Reasons.{plain_head, GivesReason}
 use Rattle.wq_voice.specs.Waits.{words_of}

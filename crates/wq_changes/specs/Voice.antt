@@ -1,10 +1,11 @@
 -- What is said beside the answer of `repair`, of what it found.
-use Rattle.std.specs.Prelude.{◌≡◌, ◌⊎◌, if◌then◌else◌, is_none, ℕ, List, [], ◌∷◌, ◌++◌, Option, Some, None, codes}
+use Rattle.std.specs.Prelude.{◌≡◌, ◌⊎◌, if◌then◌else◌, is_none, ℕ, List, [], ◌∷◌, ◌++◌, Option, Some, None}
 use Rattle.wq_items.specs.Table.{item_named}
 use Rattle.wq_core.specs.Workqueues.{Workqueues}
 use Rattle.wq_meter.specs.Shell.{Given}
+use Rattle.wq_names.specs.Messages.{did_you_mean, unknown_item}
 use Rattle.wq_names.specs.Names.{names_of}
-use Rattle.wq_commands.specs.Declaration.{Declared}
+use Rattle.wq_groups.specs.DeclaredGroups.{Declared}
 use Rattle.wq_commands.specs.declared.found.Found.{Found}
 use Rattle.wq_diagnosis.specs.Diagnosis.{shown_lines}
 use Rattle.wq_repair.specs.declared.answer.Answer.{Answer}
@@ -40,13 +41,11 @@ first_unknown items (name ∷ names) = if is_none (item_named items name) then S
 
 -- that this is the name of no item
 abbrev pub unknown_line : List ℕ → List ℕ → List ℕ
-unknown_line file name =
-    shown_lines ((((file ++ codes ": no item `") ++ name)
-    ++ codes "` is declared [refused 8, `wqplan explain 8`]") ∷ [])
+unknown_line file name = shown_lines (unknown_item file name ∷ [])
 
 -- that this item was most likely meant
 abbrev pub meant_line : List ℕ → List ℕ → List ℕ
-meant_line file item = shown_lines ((((file ++ codes ": note: did you mean `") ++ item) ++ codes "`?") ∷ [])
+meant_line file item = shown_lines (did_you_mean file item ∷ [])
 
 -- what is said of this name, which is that of no item: that it is the name of none, and nothing else or that an item
 -- was meant, which is declared. Which item that is, and whether one is named, isn't said here

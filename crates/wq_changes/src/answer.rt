@@ -9,7 +9,7 @@ ghost use Rattle.wq_text.specs.Limits.{limit_fault};
 ghost use Rattle.wq_cert.specs.Texts.{max_certificate, max_certificate_line, workqueues_of_text};
 ghost use Rattle.wq_names.specs.Names.{names_of};
 ghost use Rattle.wq_repair.specs.Repair.{IsAnswer};
-ghost use Rattle.wq_commands.specs.Answer.{declared_waits};
+ghost use Rattle.wq_groups.specs.DeclaredGroups.{declared_waits};
 ghost use Rattle.wq_changes.specs.Few.{TellsFew};
 ghost use Rattle.wq_changes.specs.Told.{TellsChanges};
 ghost use Rattle.wq_changes.specs.Voice.{SaysAnswer};
@@ -19,12 +19,10 @@ use crate::few::of_few;
 use crate::places::Places;
 use crate::telling::{Repair, of_changes};
 use std::alloc::{AllocError, Allocator};
-use wq_commands::Declaration;
-use wq_core::Workqueues;
+use wq_core::{Assigned, Workqueues};
 use wq_diagnosis::Source;
 use wq_names::workqueue_names;
 use wq_repair::Answer;
-use wq_repair_command::Repairing;
 use wq_voice::{FlushLines, say_safe};
 
 /// What is said of the changes that make the new workqueues of the old ones, whose text is that of the assignment.
@@ -32,25 +30,22 @@ fn of_repaired<'a, A: Allocator + Copy>(
     alloc: A,
     declaration: Source<'a>,
     assignment: Source<'a>,
-    declared: &Declaration<'a, A>,
-    old: &Workqueues<A>,
+    old: &Assigned<'_, 'a, A>,
     new: &Workqueues<A>,
 ) -> Result<Vec<u8, A>, AllocError>
-    requires read { workqueues_of_text declared.now.table.names declared.now.partition assignment.text.now
-        ≡ Ok old.now }
-    requires old { length old.now.assignment.lane_of_group ≡ declared.now.partition.groups }
-    requires new { length new.now.assignment.lane_of_group ≡ declared.now.partition.groups }
-    requires lanes { old.now.assignment.lanes ≤ new.now.assignment.lanes }
-    ensures { IfOk result (λ text. TellsChanges declaration.entry.file.now assignment.entry.file.now declared.now
-        (names_of assignment.entry.text.now) old.now new.now text.items) }
+    requires read { workqueues_of_text old.now.declared.table.names old.now.declared.partition assignment.text.now
+        ≡ Ok old.now.workqueues }
+    requires new { length new.now.assignment.lane_of_group ≡ old.now.declared.partition.groups }
+    requires lanes { old.now.workqueues.assignment.lanes ≤ new.now.assignment.lanes }
+    ensures { IfOk result (λ text. TellsChanges declaration.entry.file.now assignment.entry.file.now
+        old.now.declared (names_of assignment.entry.text.now) old.now.workqueues new.now text.items) }
 {
     let names = workqueue_names(alloc, assignment.text)?;
     let flushes = FlushLines::new(alloc, declaration.text)?;
-    let places = Places::new(alloc, &declared.table, assignment.text)?;
+    let places = Places::new(alloc, old.table(), assignment.text)?;
     let repair = Repair {
         declaration,
         assignment,
-        declared,
         old,
         new,
         flushes: &flushes,
@@ -66,16 +61,14 @@ fn of_start<'a, A: Allocator + Copy>(
     alloc: A,
     declaration: Source<'a>,
     assignment: Source<'a>,
-    declared: &Declaration<'a, A>,
-    start: &Workqueues<A>,
+    start: &Assigned<'_, 'a, A>,
 ) -> Result<Vec<u8, A>, AllocError>
-    requires limits { limit_fault max_certificate max_certificate_line assignment.text.now ≡ None }
-    requires start { length start.now.assignment.lane_of_group ≡ declared.now.partition.groups }
-    ensures { IfOk result (λ text. TellsFew declaration.entry.file.now assignment.entry.file.now declared.now
-        (names_of assignment.entry.text.now) start.now text.items) }
+    requires { limit_fault max_certificate max_certificate_line assignment.text.now ≡ None }
+    ensures { IfOk result (λ text. TellsFew declaration.entry.file.now assignment.entry.file.now
+        start.now.declared (names_of assignment.entry.text.now) start.now.workqueues text.items) }
 {
     let names = workqueue_names(alloc, assignment.text)?;
-    of_few(alloc, declaration, assignment, declared, start, &names)
+    of_few(alloc, declaration, assignment, start, &names)
 }
 
 /// What is said of this answer to the workqueues with the text of the assignment.
@@ -83,33 +76,32 @@ pub(crate) fn say_answer<'a, A: Allocator + Copy>(
     alloc: A,
     declaration: Source<'a>,
     assignment: Source<'a>,
-    declared: &Declaration<'a, A>,
-    repairing: &Repairing<A>,
+    assigned: &Assigned<'_, 'a, A>,
+    answer: &Answer<A>,
 ) -> Result<Option<Vec<u8, A>>, AllocError>
-    requires read { workqueues_of_text declared.now.table.names declared.now.partition assignment.text.now
-        ≡ Ok repairing.now.workqueues }
-    requires old { length repairing.now.workqueues.assignment.lane_of_group ≡ declared.now.partition.groups }
+    requires read { workqueues_of_text assigned.now.declared.table.names assigned.now.declared.partition
+        assignment.text.now ≡ Ok assigned.now.workqueues }
     requires answer { (moving : List ℕ)
-        × IsAnswer (declared_waits declared.now) repairing.now.workqueues moving repairing.now.answer }
+        × IsAnswer (declared_waits assigned.now.declared) assigned.now.workqueues moving answer.now }
     ensures { IfOk result (λ said. SaysAnswer declaration.entry.file.now assignment.entry.file.now
-        assignment.entry.text.now declared.now repairing.now.workqueues repairing.now.answer
+        assignment.entry.text.now assigned.now.declared assigned.now.workqueues answer.now
         (option_map (λ text. text.items) said)) }
 {
-    // What holds of every declaration.
-    let _groups = &declared.groups;
-    let Repairing { workqueues, answer } = repairing;
+    // What holds of what is declared.
+    let _table = assigned.table();
     match answer {
-        Answer::Safe => say_safe(alloc, declaration.file, assignment, declared, workqueues),
+        Answer::Safe => say_safe(alloc, declaration.file, assignment, assigned),
         Answer::Repaired(new) => {
-            let said = of_repaired(alloc, declaration, assignment, declared, workqueues, new)?;
+            let said = of_repaired(alloc, declaration, assignment, assigned, new)?;
             Ok(Some(said))
         }
         Answer::TooFewNames(start, _) => {
-            let said = of_start(alloc, declaration, assignment, declared, start)?;
+            let start = Assigned::new(assigned.declared, start);
+            let said = of_start(alloc, declaration, assignment, &start)?;
             Ok(Some(said))
         }
         Answer::Circle(arcs) => {
-            let said = of_circle(alloc, declaration, declared, arcs)?;
+            let said = of_circle(alloc, declaration, assigned.declared, arcs)?;
             Ok(Some(said))
         }
     }

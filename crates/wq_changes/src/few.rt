@@ -2,27 +2,22 @@
 //!
 //! The form is that of "Changes" in docs/FORMAT.md. It takes the time of a search for a shortest run.
 
-ghost use Rattle.std.specs.Prelude.{◌≡◌, ◌++◌, [], IfOk, OnOk, length, map, option_map, unwrap_or};
+ghost use Rattle.std.specs.Prelude.{◌≡◌, ◌++◌, [], IfOk, OnOk, map, option_map, unwrap_or};
 ghost use Rattle.wq_changes.specs.Few.{TellsFew, few_line};
 
 use std::alloc::{AllocError, Allocator};
-use wq_commands::Declaration;
-use wq_core::Workqueues;
+use wq_core::Assigned;
 use wq_diagnosis::{Source, put_line};
+use wq_names::messages;
 use wq_repair_command::assignment_text;
 use wq_text::put;
-use wq_voice::{CAN_HANG, FlushLines, Subject, Wording, of_subject};
+use wq_voice::{FlushLines, Subject, Wording, of_subject};
 
 /// That too few items may move.
 fn few_line<A: Allocator + Copy>(alloc: A, file: &str) -> Result<Vec<u8, A>, AllocError>
     ensures { IfOk result (λ text. text.items ≡ few_line file.now) }
 {
-    let mut line = Vec::new(alloc);
-    put(&mut line, file.as_bytes())?;
-    put(
-        &mut line,
-        b": note: wherever these items move, the workqueues can hang; the run is on these:",
-    )?;
+    let line = messages::names_are_too_few(alloc, file.as_bytes())?;
     let mut text = Vec::new(alloc);
     put_line(alloc, &mut text, &line)?;
     Ok(text)
@@ -46,26 +41,23 @@ pub(crate) fn of_few<'a, A: Allocator + Copy>(
     alloc: A,
     declaration: Source<'a>,
     assignment: Source<'a>,
-    declared: &Declaration<'a, A>,
-    start: &Workqueues<A>,
+    start: &Assigned<'_, 'a, A>,
     names: &[&'a [u8]],
 ) -> Result<Vec<u8, A>, AllocError>
-    requires assigned { length start.now.assignment.lane_of_group ≡ declared.now.partition.groups }
     ensures { IfOk result (λ text. TellsFew declaration.entry.file.now assignment.entry.file.now
-        declared.now (map (λ n. n.now) names.now) start.now text.items) }
+        start.now.declared (map (λ n. n.now) names.now) start.now.workqueues text.items) }
 {
     let flushes = FlushLines::new(alloc, declaration.text)?;
     let subject = Subject {
         declaration,
         assignment,
         wording: Wording::OnWorkqueues,
-        declared,
-        workqueues: start,
+        assigned: start,
         flushes: &flushes,
         names,
     };
-    let lines = assignment_text(alloc, &declared.table, &declared.groups, start, names)?;
-    let said = of_subject(alloc, &subject, CAN_HANG)?;
+    let lines = assignment_text(alloc, start, names)?;
+    let said = of_subject(alloc, &subject, messages::CAN_HANG)?;
     let mut text = few_line(alloc, assignment.file)?;
     put(&mut text, &lines)?;
     put_said(&mut text, &said)?;

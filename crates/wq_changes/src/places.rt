@@ -8,9 +8,8 @@ ghost use Rattle.wq_changes.specs.Changes.{IsOf};
 use crate::change::Change;
 use crate::words::first_item;
 use std::alloc::{AllocError, Allocator};
-use wq_commands::Declaration;
 use wq_diagnosis::lines_of;
-use wq_groups::LaneId;
+use wq_groups::{Declaration, LaneId};
 use wq_items::{ItemId, ItemTable};
 use wq_text::{Line, Word};
 

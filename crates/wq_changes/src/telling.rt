@@ -16,10 +16,9 @@ use crate::places::Places;
 use crate::without::without_change;
 use crate::words::{change_words, lead_of};
 use std::alloc::{AllocError, Allocator};
-use wq_commands::Declaration;
-use wq_core::Workqueues;
-use wq_diagnosis::{Source, put_line};
-use wq_findings::put_place;
+use wq_core::{Assigned, Workqueues};
+use wq_diagnosis::{Source, place_words, put_line};
+use wq_names::messages;
 use wq_text::put;
 use wq_voice::{FlushLines, Subject, Wording, of_subject};
 
@@ -32,23 +31,21 @@ fn most_reasons(items: u16) -> usize
 
 /// Workqueues that are repaired, and the texts that say so.
 #[derive(Clone, Copy)]
-pub(crate) struct Repair<'a, 'b, 'c, 'd, A: Allocator> {
+pub(crate) struct Repair<'a, 's, 't, A: Allocator> {
     /// The text of the declaration.
     pub(crate) declaration: Source<'a>,
     /// The text of the old workqueues.
     pub(crate) assignment: Source<'a>,
-    /// What is declared.
-    pub(crate) declared: &'b Declaration<'a, A>,
-    /// The old workqueues.
-    pub(crate) old: &'c Workqueues<A>,
+    /// What is declared, and the old workqueues.
+    pub(crate) old: &'s Assigned<'t, 'a, A>,
     /// The new ones.
-    pub(crate) new: &'c Workqueues<A>,
+    pub(crate) new: &'s Workqueues<A>,
     /// Where the flushes are declared.
-    pub(crate) flushes: &'d FlushLines<'a, A>,
+    pub(crate) flushes: &'s FlushLines<'a, A>,
     /// Where the old workqueues and their items are.
-    pub(crate) places: &'d Places<A>,
+    pub(crate) places: &'s Places<A>,
     /// The old workqueues' names.
-    pub(crate) names: &'d [&'a [u8]],
+    pub(crate) names: &'s [&'a [u8]],
 }
 
 /// One line that says this of a place in a file.
@@ -60,11 +57,8 @@ fn line_at<A: Allocator + Copy>(
 ) -> Result<Vec<u8, A>, AllocError>
     ensures { IfOk result (λ text. text.items ≡ shown_lines (plain_head file.now place.now what.now ∷ [])) }
 {
-    let mut line = Vec::new(alloc);
-    put(&mut line, file.as_bytes())?;
-    put_place(alloc, &mut line, place)?;
-    put(&mut line, b": ")?;
-    put(&mut line, what)?;
+    let place = place_words(alloc, place)?;
+    let line = messages::at_place(alloc, file.as_bytes(), &place, what)?;
     let mut text = Vec::new(alloc);
     put_line(alloc, &mut text, &line)?;
     Ok(text)
@@ -73,27 +67,25 @@ fn line_at<A: Allocator + Copy>(
 /// What is changed.
 fn told<A: Allocator + Copy>(
     alloc: A,
-    repair: &Repair<'_, '_, '_, '_, A>,
+    repair: &Repair<'_, '_, '_, A>,
     change: &Change,
 ) -> Result<Vec<u8, A>, AllocError>
-    requires change { IsOf repair.now.declared.now.partition.groups change.now }
-    requires old { length repair.now.old.now.assignment.lane_of_group ≡ repair.now.declared.now.partition.groups }
-    requires new { length repair.now.new.now.assignment.lane_of_group ≡ repair.now.declared.now.partition.groups }
+    requires change { IsOf repair.now.old.now.declared.partition.groups change.now }
+    requires new { length repair.now.new.now.assignment.lane_of_group ≡ repair.now.old.now.declared.partition.groups }
     ensures { IfOk result (λ text. IsTold repair.now.assignment.file.now
-        repair.now.declared.now
-        (map (λ n. n.now) repair.now.names.now) repair.now.old.now repair.now.new.now change.now text.items) }
+        repair.now.old.now.declared (map (λ n. n.now) repair.now.names.now) repair.now.old.now.workqueues
+        repair.now.new.now change.now text.items) }
 {
     let Repair {
         assignment,
-        declared,
         old,
         new,
         places,
         names,
         ..
     } = *repair;
-    let what = change_words(alloc, declared, names, old, new, change)?;
-    let place = places.of_change(declared, change);
+    let what = change_words(alloc, names, old, new, change)?;
+    let place = places.of_change(old.declared, change);
     line_at(alloc, assignment.file, &[place.line, place.column], &what)
 }
 
@@ -110,25 +102,24 @@ fn or_nothing<A: Allocator>(alloc: A, said: Option<Vec<u8, A>>) -> Vec<u8, A>
 /// How the workqueues hang without a change.
 fn why<A: Allocator + Copy>(
     alloc: A,
-    repair: &Repair<'_, '_, '_, '_, A>,
+    repair: &Repair<'_, '_, '_, A>,
     change: &Change,
 ) -> Result<Vec<u8, A>, AllocError>
-    requires old { length repair.now.old.now.assignment.lane_of_group ≡ repair.now.declared.now.partition.groups }
-    requires new { length repair.now.new.now.assignment.lane_of_group ≡ repair.now.declared.now.partition.groups }
-    requires lanes { repair.now.old.now.assignment.lanes ≤ repair.now.new.now.assignment.lanes }
+    requires new { length repair.now.new.now.assignment.lane_of_group ≡ repair.now.old.now.declared.partition.groups }
+    requires lanes { repair.now.old.now.workqueues.assignment.lanes ≤ repair.now.new.now.assignment.lanes }
     ensures { IfOk result (λ text. GivesWhy repair.now.declaration.file.now
-        repair.now.declared.now
-        (map (λ n. n.now) repair.now.names.now) repair.now.old.now repair.now.new.now change.now text.items) }
+        repair.now.old.now.declared (map (λ n. n.now) repair.now.names.now) repair.now.old.now.workqueues
+        repair.now.new.now change.now text.items) }
 {
-    let declared = repair.declared;
-    let groups = declared.groups.len();
-    let workqueues = without_change(alloc, repair.old, repair.new, change, groups)?;
+    let old = repair.old;
+    let groups = old.groups().len();
+    let workqueues = without_change(alloc, old.workqueues(), repair.new, change, groups)?;
+    let assigned = Assigned::new(old.declared, &workqueues);
     let subject = Subject {
         declaration: repair.declaration,
         assignment: repair.assignment,
         wording: Wording::OnWorkqueues,
-        declared,
-        workqueues: &workqueues,
+        assigned: &assigned,
         flushes: repair.flushes,
         names: repair.names,
     };
@@ -139,16 +130,15 @@ fn why<A: Allocator + Copy>(
 /// What is changed, and how the workqueues hang without it.
 fn told_why<A: Allocator + Copy>(
     alloc: A,
-    repair: &Repair<'_, '_, '_, '_, A>,
+    repair: &Repair<'_, '_, '_, A>,
     change: &Change,
 ) -> Result<Vec<u8, A>, AllocError>
-    requires change { IsOf repair.now.declared.now.partition.groups change.now }
-    requires old { length repair.now.old.now.assignment.lane_of_group ≡ repair.now.declared.now.partition.groups }
-    requires new { length repair.now.new.now.assignment.lane_of_group ≡ repair.now.declared.now.partition.groups }
-    requires lanes { repair.now.old.now.assignment.lanes ≤ repair.now.new.now.assignment.lanes }
+    requires change { IsOf repair.now.old.now.declared.partition.groups change.now }
+    requires new { length repair.now.new.now.assignment.lane_of_group ≡ repair.now.old.now.declared.partition.groups }
+    requires lanes { repair.now.old.now.workqueues.assignment.lanes ≤ repair.now.new.now.assignment.lanes }
     ensures { IfOk result (λ text. IsToldWhy repair.now.declaration.file.now repair.now.assignment.file.now
-        repair.now.declared.now
-        (map (λ n. n.now) repair.now.names.now) repair.now.old.now repair.now.new.now change.now text.items) }
+        repair.now.old.now.declared (map (λ n. n.now) repair.now.names.now) repair.now.old.now.workqueues
+        repair.now.new.now change.now text.items) }
 {
     let why = why(alloc, repair, change)?;
     let mut text = told(alloc, repair, change)?;
@@ -159,16 +149,15 @@ fn told_why<A: Allocator + Copy>(
 /// The same of each of these changes.
 fn all_whys<A: Allocator + Copy>(
     alloc: A,
-    repair: &Repair<'_, '_, '_, '_, A>,
+    repair: &Repair<'_, '_, '_, A>,
     changes: &[Change],
 ) -> Result<Vec<u8, A>, AllocError>
-    requires changes { All (IsOf repair.now.declared.now.partition.groups) changes.now }
-    requires old { length repair.now.old.now.assignment.lane_of_group ≡ repair.now.declared.now.partition.groups }
-    requires new { length repair.now.new.now.assignment.lane_of_group ≡ repair.now.declared.now.partition.groups }
-    requires lanes { repair.now.old.now.assignment.lanes ≤ repair.now.new.now.assignment.lanes }
+    requires changes { All (IsOf repair.now.old.now.declared.partition.groups) changes.now }
+    requires new { length repair.now.new.now.assignment.lane_of_group ≡ repair.now.old.now.declared.partition.groups }
+    requires lanes { repair.now.old.now.workqueues.assignment.lanes ≤ repair.now.new.now.assignment.lanes }
     ensures { IfOk result (λ text. AreEach (IsToldWhy repair.now.declaration.file.now repair.now.assignment.file.now
-        repair.now.declared.now
-        (map (λ n. n.now) repair.now.names.now) repair.now.old.now repair.now.new.now) changes.now text.items) }
+        repair.now.old.now.declared (map (λ n. n.now) repair.now.names.now) repair.now.old.now.workqueues
+        repair.now.new.now) changes.now text.items) }
 {
     let mut text = Vec::new(alloc);
     for change in changes {
@@ -181,16 +170,15 @@ fn all_whys<A: Allocator + Copy>(
 /// A text, and behind it what is changed, of each of these changes.
 fn with_all_told<A: Allocator + Copy>(
     alloc: A,
-    repair: &Repair<'_, '_, '_, '_, A>,
+    repair: &Repair<'_, '_, '_, A>,
     changes: &[Change],
     mut text: Vec<u8, A>,
 ) -> Result<Vec<u8, A>, AllocError>
-    requires changes { All (IsOf repair.now.declared.now.partition.groups) changes.now }
-    requires old { length repair.now.old.now.assignment.lane_of_group ≡ repair.now.declared.now.partition.groups }
-    requires new { length repair.now.new.now.assignment.lane_of_group ≡ repair.now.declared.now.partition.groups }
+    requires changes { All (IsOf repair.now.old.now.declared.partition.groups) changes.now }
+    requires new { length repair.now.new.now.assignment.lane_of_group ≡ repair.now.old.now.declared.partition.groups }
     ensures { IfOk result (λ all. AddsEach (IsTold repair.now.assignment.file.now
-        repair.now.declared.now
-        (map (λ n. n.now) repair.now.names.now) repair.now.old.now repair.now.new.now) changes.now
+        repair.now.old.now.declared (map (λ n. n.now) repair.now.names.now) repair.now.old.now.workqueues
+        repair.now.new.now) changes.now
         text.items all.items) }
 {
     for change in changes {
@@ -203,20 +191,19 @@ fn with_all_told<A: Allocator + Copy>(
 /// What is said of the changes from the old workqueues to the new ones.
 pub(crate) fn of_changes<A: Allocator + Copy>(
     alloc: A,
-    repair: &Repair<'_, '_, '_, '_, A>,
+    repair: &Repair<'_, '_, '_, A>,
 ) -> Result<Vec<u8, A>, AllocError>
-    requires old { length repair.now.old.now.assignment.lane_of_group ≡ repair.now.declared.now.partition.groups }
-    requires new { length repair.now.new.now.assignment.lane_of_group ≡ repair.now.declared.now.partition.groups }
-    requires lanes { repair.now.old.now.assignment.lanes ≤ repair.now.new.now.assignment.lanes }
+    requires new { length repair.now.new.now.assignment.lane_of_group ≡ repair.now.old.now.declared.partition.groups }
+    requires lanes { repair.now.old.now.workqueues.assignment.lanes ≤ repair.now.new.now.assignment.lanes }
     ensures { IfOk result (λ text. TellsChanges repair.now.declaration.file.now repair.now.assignment.file.now
-        repair.now.declared.now
-        (map (λ n. n.now) repair.now.names.now) repair.now.old.now repair.now.new.now text.items) }
+        repair.now.old.now.declared (map (λ n. n.now) repair.now.names.now) repair.now.old.now.workqueues
+        repair.now.new.now text.items) }
 {
-    let declared = repair.declared;
-    let groups = declared.groups.len();
-    let all = changes(alloc, repair.old, repair.new, groups)?;
+    let old = repair.old;
+    let groups = old.groups().len();
+    let all = changes(alloc, old.workqueues(), repair.new, groups)?;
     let list = all.as_slice();
-    let items = declared.table.len();
+    let items = old.table().len();
     let (first, others) = list.split_at(list.len().min(most_reasons(items)));
     let whys = all_whys(alloc, repair, first)?;
     let text = with_all_told(alloc, repair, others, whys)?;

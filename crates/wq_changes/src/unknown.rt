@@ -8,11 +8,12 @@ ghost use Rattle.wq_items.specs.Table.{item_named};
 ghost use Rattle.wq_changes.specs.Voice.{SaysFirstUnknown, SaysNoItem, first_unknown, meant_line, unknown_line};
 
 use std::alloc::{AllocError, Allocator};
-use wq_commands::Declaration;
 use wq_diagnosis::{Source, lines_of, put_line};
 use wq_findings::nearest_item;
+use wq_groups::Declaration;
 use wq_items::ItemTable;
-use wq_text::{Text, put};
+use wq_names::messages;
+use wq_text::Text;
 
 /// The first of these names that is that of no item.
 fn first_unknown<'a, A: Allocator + Copy>(
@@ -37,11 +38,7 @@ fn unknown_line<A: Allocator + Copy>(
 ) -> Result<Vec<u8, A>, AllocError>
     ensures { IfOk result (λ text. text.items ≡ unknown_line file.now name.now) }
 {
-    let mut line = Vec::new(alloc);
-    put(&mut line, file.as_bytes())?;
-    put(&mut line, b": no item `")?;
-    put(&mut line, name.as_bytes())?;
-    put(&mut line, b"` is declared [refused 8, `wqplan explain 8`]")?;
+    let line = messages::unknown_item(alloc, file.as_bytes(), name.as_bytes())?;
     let mut text = Vec::new(alloc);
     put_line(alloc, &mut text, &line)?;
     Ok(text)
@@ -71,11 +68,7 @@ fn put_meant<A: Allocator + Copy>(
 ) -> Result<(), AllocError>
     ensures { OnOk result (text.new.items ≡ text.old.items ++ meant_line file.now item.now) }
 {
-    let mut line = Vec::new(alloc);
-    put(&mut line, file.as_bytes())?;
-    put(&mut line, b": note: did you mean `")?;
-    put(&mut line, item)?;
-    put(&mut line, b"`?")?;
+    let line = messages::did_you_mean(alloc, file.as_bytes(), item)?;
     put_line(alloc, text, &line)
 }
 

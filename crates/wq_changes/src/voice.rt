@@ -13,10 +13,11 @@ ghost use Rattle.wq_changes.specs.Voice.{SaysRead, SaysRepair};
 use crate::answer::say_answer;
 use crate::unknown::say_unknown;
 use std::alloc::{AllocError, Allocator};
-use wq_commands::{Declaration, Found, Texts, Voice};
+use wq_commands::{Found, Texts, Voice};
 use wq_diagnosis::Source;
+use wq_groups::Declaration;
 use wq_repair_command::{RepairCommand, Repairing};
-use wq_voice::{CertificateKind, FileNames, say_refusal, say_refused_text};
+use wq_voice::{CertificateKind, FileNames, assigned_of, say_refusal, say_refused_text};
 
 /// Says what a repair changes, or why no change helps.
 #[derive(Clone, Copy, Debug)]
@@ -40,8 +41,6 @@ fn say_read<A: Allocator + Copy>(
     ensures { IfOk result (λ said. SaysRead files.now.declaration.now files.now.second.now
         (map (λ n. n.now) names.now) declared.now texts.now.second read.now (option_map (λ text. text.items) said)) }
 {
-    // What holds of every declaration.
-    let _groups = &declared.groups;
     let declaration = Source {
         file: files.declaration,
         text: texts.first(),
@@ -53,7 +52,8 @@ fn say_read<A: Allocator + Copy>(
                 file: files.second,
                 text: texts.second(),
             };
-            say_answer(alloc, declaration, assignment, declared, repairing)
+            let assigned = assigned_of(declared, &repairing.workqueues);
+            say_answer(alloc, declaration, assignment, &assigned, &repairing.answer)
         }
     }
 }

@@ -60,12 +60,6 @@ cases_unfinished_on lane = fields lane.pending lane.running lane.helping
       | inr none ↦ inr (λ h. nothing hs none h.0 h.1)
     ]
 
-pub cases_HasUnfinished : (s : State) → Decided (HasUnfinished s)
-cases_HasUnfinished s = elim (cases_lane (λ lane. (e : Entry) × IsUnfinishedOn lane e) cases_unfinished_on s.lanes) [
-  | inl some ↦ inl (record { lane = some.0; entry = some.1.0; unfinished = some.1.1 })
-  | inr none ↦ inr (λ h. none h.lane (h.entry, h.unfinished))
-]
-
 -- ---- steps and lanes that move
 
 CanMove-forced : (w : Wiring) (s : State) (step : Step) → IsForcedStep w step → Lawful w s step → (q : ℕ) × CanMove w s q

@@ -17,8 +17,9 @@ use Rattle.wq_cert.specs.Reading.{is_bare_line}
 use Rattle.wq_cert.specs.Texts.{assignment_of_text, cert_refusal}
 use Rattle.wq_commands.specs.declared.end.End.{End}
 use Rattle.wq_commands.specs.declared.end.End.TheVariants.{Good, Bad, Refused}
-use Rattle.wq_commands.specs.Answer.{declared_waits, PrintsRefusal}
-use Rattle.wq_commands.specs.Declaration.{Declared, declaration}
+use Rattle.wq_groups.specs.DeclaredGroups.{declared_waits, Declared}
+use Rattle.wq_commands.specs.Answer.{PrintsRefusal}
+use Rattle.wq_commands.specs.Declaration.{declaration}
 use Rattle.wq_commands.proofs.AllRescued.{waits-rescued, of_declared, of_text, all_have}
 use Rattle.wq_circles.specs.AllRescued.{CirclesAssignment, CirclesAllRescued}
 use Rattle.wq_circles.specs.Circling.{CirclesAssigned, CirclesDeclared, Circles}

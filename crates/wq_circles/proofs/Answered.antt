@@ -4,7 +4,7 @@ use Rattle.std.specs.Prelude.{MatchResult}
 use Rattle.wq_text.specs.Refusal.{Refusal}
 use Rattle.wq_items.specs.Chain.{Circle}
 use Rattle.wq_groups.specs.Declaration.{GroupWaits, IsDeclaration}
-use Rattle.wq_groups.specs.Assignment.{Assignment, IsAssignment}
+use Rattle.wq_groups.specs.Assignment.{Assignment, IsAssignment, IsAssignmentOf}
 use Rattle.wq_graph.specs.declared.arc.WaitArc.{WaitArc}
 use Rattle.wq_graph.specs.Graph.{HasArc, arcs_by_place, lane_graph}
 use Rattle.wq_graph.proofs.LeavingOut.{without-none}
@@ -18,14 +18,14 @@ use Rattle.wq_core.proofs.Wirings.{IsWiring-wiring}
 use Rattle.wq_deadlock.specs.Judging.{bare_waits}
 use Rattle.wq_deadlock.proofs.OwnLanes.{IsAssignment-own_lanes, lane_graph-own_lanes}
 use Rattle.wq_deadlock.proofs.Renumbered.{not_safe-by, not_safe-deadlocks}
-use Rattle.wq_cert.specs.Ranges.{IsAssignmentOf}
 use Rattle.wq_cert.specs.Texts.{workqueues_of_text, cert_refusal}
 use Rattle.wq_cert.proofs.LanesRead.{AreWorkqueuesOf-workqueues_of_text}
 use Rattle.wq_commands.specs.declared.end.End.{End}
 use Rattle.wq_commands.specs.declared.end.End.TheVariants.{Good, Bad, Refused}
-use Rattle.wq_commands.specs.Answer.{Answers, declared_waits, PrintsRefusal}
+use Rattle.wq_groups.specs.DeclaredGroups.{declared_waits, Declared}
+use Rattle.wq_commands.specs.Answer.{Answers, PrintsRefusal}
 use Rattle.wq_commands.specs.Deadlocking.{JudgesAssigned, JudgesDeclared, Judges}
-use Rattle.wq_commands.specs.Declaration.{Declared, declaration}
+use Rattle.wq_commands.specs.Declaration.{declaration}
 use Rattle.wq_commands.specs.Shown.{ShowsDeclared}
 use Rattle.wq_commands.proofs.AnswerLemmas.{IsSound, IsSound-declaration, IsDeclaration-sound}
 use Rattle.wq_commands.proofs.CircleRuns.{IsAssignmentOf-own_lanes}

@@ -76,19 +76,6 @@ pub record AreFoundFrom (lists : List (List ℕ)) (finished : List ℕ) (k : ℕ
   pub closed : (v w : ℕ) → Next lists w v → Contains s.order w → Contains s.order v
   pub answers : (v : ℕ) → Contains s.order v → IsLowest (NextBack lists) v (slice_index lowest v)
 
-pub AreFoundFrom-none : (lists : List (List ℕ)) (finished : List ℕ) (s : Search) (lowest : List ℕ) → s.marks ≡ replicate (length lists) false → s.order ≡ []
-    → length lowest ≡ length lists → AreFoundFrom lists finished (length finished) s lowest
-AreFoundFrom-none lists finished s lowest unmarked empty one_each = record {
-  marks = ap length unmarked ∙ length-replicate (length lists) false;
-  found = AreFound-none s (length lists) unmarked empty;
-  one_each = one_each;
-  later = λ j le lt. absurd (omega (arith, le, lt));
-  closed = λ v w next has. absurd (none w has);
-  answers = λ v has. absurd (none v has);
-} where
-  none : (v : ℕ) → ¬ Contains s.order v
-  none v has = omega (arith, ap length empty, has.1)
-
 -- the vertex before place k is found already
 pub AreFoundFrom-skipped : (lists : List (List ℕ)) (finished : List ℕ) (k j : ℕ) (s : Search) (lowest : List ℕ) → AreFoundFrom lists finished k s lowest → j + 1 ≡ k
     → Contains s.order (slice_index finished j) → AreFoundFrom lists finished j s lowest

@@ -16,9 +16,8 @@ use Rattle.wq_commands.specs.declared.found.Found.{Found}
 use Rattle.wq_commands.specs.declared.found.Found.TheVariants.{Read}
 use Rattle.wq_commands.specs.declared.found.Which.{Which}
 use Rattle.wq_commands.specs.declared.found.Which.TheVariants.{Certificate as SecondText}
-use Rattle.wq_commands.specs.Answer.{declared_waits}
+use Rattle.wq_groups.specs.DeclaredGroups.{declared_waits, Declared}
 use Rattle.wq_commands.specs.Commands.{one_or_two_texts, one_text, two_texts}
-use Rattle.wq_commands.specs.Declaration.{Declared}
 use Rattle.wq_commands.specs.Found.{AnswersIn}
 use Rattle.wq_commands.specs.Shell.{AnswersTexts, HasOneAnswer}
 use Rattle.wq_commands.proofs.FoundLemmas.{AnswersIn-match, AnswersTexts-match}

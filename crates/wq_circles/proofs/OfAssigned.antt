@@ -5,8 +5,8 @@ use Rattle.std.specs.List.{All}
 use Rattle.wq_groups.specs.Declaration.{IsDeclaration}
 use Rattle.wq_graph.specs.declared.arc.WaitArc.{WaitArc}
 use Rattle.wq_deadlock.specs.Judging.{bare_waits}
-use Rattle.wq_commands.specs.Answer.{declared_waits}
-use Rattle.wq_commands.specs.Assigned.{Assigned, IsAssigned}
+use Rattle.wq_groups.specs.DeclaredGroups.{declared_waits}
+use Rattle.wq_core.specs.Assigned.{Assigned, IsAssigned}
 use Rattle.wq_commands.proofs.AnswerLemmas.{IsDeclaration-sound}
 use Rattle.wq_circles.specs.Components.{AreComponents}
 use Rattle.wq_circles.specs.ComponentsText.{AreBetween}

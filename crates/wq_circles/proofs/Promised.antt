@@ -4,20 +4,20 @@ use Rattle.std.specs.Prelude.{AllPairs, MatchResult, ◌↔◌}
 use Rattle.std.specs.List.{All}
 use Rattle.std.specs.List.Sorted.{IsStrictlyIncreasing}
 use Rattle.wq_groups.specs.Declaration.{Declaration, IsDeclaration}
-use Rattle.wq_groups.specs.Assignment.{Assignment, IsAssignment, item_lane}
+use Rattle.wq_groups.specs.Assignment.{Assignment, IsAssignment, item_lane, IsAssignmentOf}
 use Rattle.wq_graph.specs.declared.arc.WaitArc.{WaitArc}
 use Rattle.wq_graph.specs.Graph.{HasArc}
 use Rattle.wq_core.specs.Wiring.{RescuedWaits, own_lanes}
 use Rattle.wq_core.specs.Workqueues.{Workqueues, wiring_of, all_rescued}
 use Rattle.wq_deadlock.specs.Judging.{bare_waits}
 use Rattle.wq_circles.specs.Leading.{Leads, AreTogether}
-use Rattle.wq_cert.specs.Ranges.{IsAssignmentOf}
 use Rattle.wq_cert.specs.Texts.{workqueues_of_text, cert_refusal}
 use Rattle.wq_cert.proofs.LanesRead.{AreWorkqueuesOf-workqueues_of_text}
 use Rattle.wq_commands.specs.declared.end.End.{End}
 use Rattle.wq_commands.specs.declared.end.End.TheVariants.{Good, Bad, Refused}
-use Rattle.wq_commands.specs.Answer.{declared_waits, PrintsRefusal}
-use Rattle.wq_commands.specs.Declaration.{Declared, declaration}
+use Rattle.wq_groups.specs.DeclaredGroups.{declared_waits, Declared}
+use Rattle.wq_commands.specs.Answer.{PrintsRefusal}
+use Rattle.wq_commands.specs.Declaration.{declaration}
 use Rattle.wq_commands.proofs.AnswerLemmas.{IsSound, IsSound-declaration, IsDeclaration-sound}
 use Rattle.wq_commands.proofs.CircleRuns.{IsAssignmentOf-own_lanes}
 use Rattle.wq_circles.specs.Components.{joined, kept_graph, AreComponents}

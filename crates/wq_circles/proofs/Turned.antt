@@ -140,9 +140,6 @@ tails-below graph tails turned w k d lt = elim (cases_lt w (length tails)) [
 
 -- ---- making the tails
 
-pub HasTails-none : (lists : List (List ℕ)) (v : ℕ) → HasTails lists lists v []
-HasTails-none lists v = record { one_each = refl; tails = λ u w lt. ((λ next. inl next), (λ either. elim either [ inl next ↦ next | inr new ↦ absurd (nothing_in w new.1) ])) }
-
 -- one more head
 pub HasTails-more : (old now : List (List ℕ)) (v : ℕ) (heads : List ℕ) (h : ℕ) → HasTails old now v heads → h < length old
     → HasTails old (set now h (listed_at now h ++ (v ∷ []))) v (heads ++ (h ∷ []))
@@ -202,15 +199,6 @@ HasTails-more old now v heads h has inside = record { one_each = length-set now 
 pub record AreTailsUpTo (heads tails : List (List ℕ)) (n : ℕ) : Type 0 where
   pub one_each : length tails ≡ length heads
   pub turned : (u w : ℕ) → w < length heads → Next tails w u ↔ ((u < n) × Next heads u w)
-
-pub AreTailsUpTo-none : (heads tails : List (List ℕ)) → tails ≡ replicate (length heads) [] → AreTailsUpTo heads tails 0
-AreTailsUpTo-none heads tails empty = record {
-  one_each = ap length empty ∙ length-replicate {A = List ℕ} (length heads) [];
-  turned = λ u w lt. (
-    (λ next. absurd (nothing_in u (subst (λ (l : List ℕ). Contains l u) (ap (λ (l : List (List ℕ)). listed_at l w) empty ∙ get_or-replicate {A = List ℕ} (length heads) w [] [] lt) next))),
-    (λ both. absurd (omega (arith, both.0))),
-  );
-}
 
 pub AreTailsUpTo-more : (heads old new : List (List ℕ)) (v : ℕ) → AreTailsUpTo heads old v → HasTails old new v (listed_at heads v) → AreTailsUpTo heads new (v + 1)
 AreTailsUpTo-more heads old new v are has = record {

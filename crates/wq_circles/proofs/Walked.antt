@@ -355,39 +355,6 @@ few_steps lists s is =
 
 -- ---- from all
 
-pub IsWalkSoFar-none : (lists : List (List ℕ)) (s : Walk) → s.visited ≡ replicate (length lists) false → s.followed ≡ replicate (length lists) 0 → s.path ≡ [] → s.finished ≡ []
-    → IsWalkSoFar lists s
-IsWalkSoFar-none lists s unvisited unfollowed no_path none = record {
-  marks = ap length unvisited ∙ length-replicate (length lists) false;
-  counts = ap length unfollowed ∙ length-replicate {A = ℕ} (length lists) 0;
-  path_below = subst (All (λ v. v < length lists)) (sym no_path) (All-nil (λ v. v < length lists));
-  finished_below = subst (All (λ v. v < length lists)) (sym none) (All-nil (λ v. v < length lists));
-  path_once = λ (i, j, less, upto, same). absurd (omega (arith, path_long, upto));
-  finished_once = λ (i, j, less, upto, same). absurd (omega (arith, none_long, upto));
-  apart = λ v has. absurd (omega (arith, path_long, has.1));
-  visited = λ v lt. (
-    (λ holds. (let fails : is_marked s.visited v ≡ false = ap (λ (m : List Bool). is_marked m v) unvisited ∙ get_or-replicate (length lists) v false false lt in absurd (cc))),
-    (λ either. absurd (elim either [ inl has ↦ omega (arith, path_long, has.1) | inr has ↦ omega (arith, none_long, has.1) ])),
-  );
-  path_leads = λ i j less lt. absurd (omega (arith, path_long, lt));
-  followed = λ v k lt within. absurd (no_count v k lt);
-  arcs = λ v w has next. absurd (omega (arith, none_long, has.1));
-  leads = λ k i w le lt. absurd (omega (arith, none_long, lt));
-} where
-  path_long : length s.path ≡ 0
-  path_long = ap length no_path
-
-  none_long : length s.finished ≡ 0
-  none_long = ap length none
-
-  no_count : (v k : ℕ) → k < slice_index s.followed v → ⊥
-  no_count v k lt =
-      let at : slice_index s.followed v ≡ slice_index (replicate (length lists) 0) v = ap (λ (l : List ℕ). slice_index l v) unfollowed in
-      elim (cases_lt v (length lists)) [
-        | inl inside ↦ omega (arith, lt, at, get_or-replicate {A = ℕ} (length lists) v 0 0 inside)
-        | inr past ↦ omega (arith, lt, at, get_or_past {X = ℕ} (replicate (length lists) 0) v 0 (omega (arith, past, length-replicate {A = ℕ} (length lists) 0)))
-      ]
-
 pub IsFinishing-all : (lists : List (List ℕ)) (s : Walk) → IsWalkSoFar lists s → s.path ≡ [] → ((v : ℕ) → v < length lists → IsVisited s v)
     → IsFinishing (Next lists) (length lists) s.finished
 IsFinishing-all lists s is no_path all = record {

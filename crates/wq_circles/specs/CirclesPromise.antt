@@ -12,9 +12,9 @@ use Rattle.wq_circles.specs.Leading.{Leads, AreTogether}
 use Rattle.wq_cert.specs.Texts.{workqueues_of_text}
 use Rattle.wq_commands.specs.declared.end.End.{End}
 use Rattle.wq_commands.specs.declared.end.End.TheVariants.{Good, Bad, Refused}
-use Rattle.wq_commands.specs.Answer.{declared_waits}
+use Rattle.wq_groups.specs.DeclaredGroups.{declared_waits, Declared}
 use Rattle.wq_commands.specs.Deadlocking.{safe_text}
-use Rattle.wq_commands.specs.Declaration.{Declared, declaration}
+use Rattle.wq_commands.specs.Declaration.{declaration}
 use Rattle.wq_circles.specs.ComponentsText.{circles_text}
 use Rattle.wq_circles.specs.Flushes.{HasFlush, IsInComponents, AreInOneComponent, IsDeclaredFlush, IsBefore}
 

@@ -1,5 +1,7 @@
+pub use Rattle.wq_core.specs.Assigned
 pub use Rattle.wq_core.specs.Deadlock
 pub use Rattle.wq_groups.specs.Declaration
+pub use Rattle.wq_groups.specs.DeclaredGroups
 pub use Rattle.wq_groups.specs.Assignment
 pub use Rattle.wq_items.specs.Chain
 pub use Rattle.wq_graph.specs.Graph

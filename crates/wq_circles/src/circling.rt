@@ -3,21 +3,22 @@
 //! The rule is that of "The command `circles`" in docs/FORMAT.md. It takes the time and the memory of reading the
 //! assignment, of the components and of their text.
 
-ghost use Rattle.std.specs.Prelude.{◌≡◌, IfOk, map};
+ghost use Rattle.std.specs.Prelude.{◌≡◌, IfOk, length, map};
 ghost use Rattle.wq_core.specs.Wiring.{own_lanes};
 ghost use Rattle.wq_core.specs.Workqueues.{all_rescued};
 ghost use Rattle.wq_deadlock.specs.Judging.{bare_waits};
-ghost use Rattle.wq_commands.specs.Answer.{declared_waits};
+ghost use Rattle.wq_groups.specs.DeclaredGroups.{declared_waits};
 ghost use Rattle.wq_circles.specs.Components.{AreComponents};
 ghost use Rattle.wq_circles.specs.Circling.{CirclesText, CirclesTexts, FindsCircles, PrintsCircling};
 
 use crate::joining::components;
 use crate::printing::circles_text;
 use std::alloc::{AllocError, Allocator};
-use wq_commands::{Answered, Assigned, Declaration, End, Found, Texts, Which, safe_text};
-use wq_core::Workqueues;
+use wq_commands::{Answered, End, Found, Texts, Which, own_workqueues, safe_text, workqueues_of};
+use wq_core::{Assigned, Workqueues};
 use wq_deadlock::bare_waits;
 use wq_graph::WaitArc;
+use wq_groups::Declaration;
 
 /// What `circles` finds: of this its answer is printed.
 #[derive(Drop)]
@@ -52,19 +53,18 @@ fn print_components<A: Allocator + Copy>(
 }
 
 /// The answer to workqueues of the declared groups.
-fn circle_assigned<A: Allocator + Copy>(
+fn circle_workqueues<A: Allocator + Copy>(
     alloc: A,
-    assigned: Assigned<'_, '_, A>,
+    declared: &Declaration<'_, A>,
+    workqueues: Workqueues<A>,
 ) -> Result<Answered<A, Found<Circling<A>>>, AllocError>
-    ensures { IfOk result (λ a.
-        FindsCircles assigned.entry.declared assigned.entry.workqueues a.found a.end a.text.items) }
+    requires { length workqueues.assignment.lane_of_group ≡ declared.now.partition.groups }
+    ensures { IfOk result (λ a. FindsCircles declared.now workqueues a.found a.end a.text.items) }
 {
-    let declared = assigned.declared;
-    let Declaration { table, groups } = declared;
-    let components = components(alloc, table, groups, &assigned.workqueues)?;
-    let waits = bare_waits(alloc, table, groups, &assigned.workqueues)?;
+    let assigned = Assigned::new(declared, &workqueues);
+    let components = components(alloc, &assigned)?;
+    let waits = bare_waits(alloc, &assigned)?;
     let (end, text) = print_components(alloc, &assigned, &components, &waits)?;
-    let workqueues = assigned.workqueues;
     Ok(Answered {
         found: Found::Read(Circling {
             workqueues,
@@ -84,8 +84,8 @@ fn circle_text<A: Allocator + Copy>(
 ) -> Result<Answered<A, Found<Circling<A>>>, AllocError>
     ensures { IfOk result (λ a. CirclesText declared.now text.now a.found a.end a.text.items) }
 {
-    match Assigned::read(alloc, declared, text) {
-        Ok(assigned) => circle_assigned(alloc, assigned),
+    match workqueues_of(alloc, declared, text) {
+        Ok(workqueues) => circle_workqueues(alloc, declared, workqueues),
         Err(fault) => Answered::unread(alloc, Which::Certificate, fault),
     }
 }
@@ -98,8 +98,8 @@ fn circle_groups<A: Allocator + Copy>(
     ensures { IfOk result (λ a.
         FindsCircles declared.now (all_rescued (own_lanes declared.now.partition.groups)) a.found a.end a.text.items) }
 {
-    let assigned = Assigned::own_lanes(alloc, declared)?;
-    circle_assigned(alloc, assigned)
+    let workqueues = own_workqueues(alloc, declared)?;
+    circle_workqueues(alloc, declared, workqueues)
 }
 
 /// The answer to what is declared and, where there is one, to the text of an assignment.

@@ -7,33 +7,31 @@
 
 ghost use Rattle.std.specs.Prelude.{◌≡◌, ◌<◌, length, map, IfOk, OnErr};
 ghost use Rattle.std.specs.List.{All};
-ghost use Rattle.wq_groups.specs.Declaration.{declaration_of};
+ghost use Rattle.wq_groups.specs.DeclaredGroups.{declared_waits};
 ghost use Rattle.wq_circles.specs.Components.{joined, kept_graph, loops_at, loops, AreComponents};
 
 use crate::together::lowest;
 use std::alloc::{AllocError, Allocator};
-use wq_core::Workqueues;
+use wq_core::Assigned;
 use wq_deadlock::rescued_graph;
 use wq_graph::{WaitArc, WaitGraph};
-use wq_groups::{Assignment, GroupId, Groups, LaneId};
-use wq_items::ItemTable;
+use wq_groups::{Assignment, GroupId, LaneId};
 
 /// For each group in turn, the lane that represents its own.
 fn joined_lanes<A: Allocator + Copy>(
     alloc: A,
-    groups: &Groups<A>,
-    assignment: &Assignment<A>,
+    assigned: &Assigned<'_, '_, A>,
     lowest: &[u16],
 ) -> Result<Vec<LaneId, A>, AllocError>
-    requires assigned { length assignment.now.lane_of_group ≡ groups.now.groups }
-    requires one_each { length lowest.now ≡ assignment.now.lanes }
-    ensures lanes { IfOk result (λ lanes. lanes.items ≡ (joined assignment.now lowest.now).lane_of_group) }
-    ensures memory { OnErr result (0 < groups.now.groups) }
+    requires { length lowest.now ≡ assigned.now.workqueues.assignment.lanes }
+    ensures lanes { IfOk result (λ lanes.
+        lanes.items ≡ (joined assigned.now.workqueues.assignment lowest.now).lane_of_group) }
+    ensures memory { OnErr result (0 < assigned.now.workqueues.assignment.lanes) }
 {
-    // Each group has one of the lanes.
-    let _lanes = assignment.lanes();
-    let mut lanes = Vec::with_capacity(alloc, usize::from(groups.len()))?;
-    for g in 0..groups.len() {
+    let count = assigned.groups().len();
+    let assignment = assigned.workqueues().assignment();
+    let mut lanes = Vec::with_capacity(alloc, usize::from(count))?;
+    for g in 0..count {
         let lane = assignment.lane(GroupId::new(g));
         lanes.push(LaneId::new(lowest[usize::from(lane.get())]))?;
     }
@@ -43,18 +41,17 @@ fn joined_lanes<A: Allocator + Copy>(
 /// The assignment in which each group is on the lane that represents its own.
 fn join<A: Allocator + Copy>(
     alloc: A,
-    groups: &Groups<A>,
-    assignment: &Assignment<A>,
+    assigned: &Assigned<'_, '_, A>,
     lowest: &[u16],
 ) -> Result<Assignment<A>, AllocError>
-    requires assigned { length assignment.now.lane_of_group ≡ groups.now.groups }
-    requires one_each { length lowest.now ≡ assignment.now.lanes }
-    requires within { All (λ q. q < assignment.now.lanes) lowest.now }
-    ensures joined { IfOk result (λ a. a ≡ joined assignment.now lowest.now) }
-    ensures memory { OnErr result (0 < groups.now.groups) }
+    requires one_each { length lowest.now ≡ assigned.now.workqueues.assignment.lanes }
+    requires within { All (λ q. q < assigned.now.workqueues.assignment.lanes) lowest.now }
+    ensures joined { IfOk result (λ a. a ≡ joined assigned.now.workqueues.assignment lowest.now) }
+    ensures memory { OnErr result (0 < assigned.now.workqueues.assignment.lanes) }
 {
-    let lanes = joined_lanes(alloc, groups, assignment, lowest)?;
-    Ok(Assignment::new(assignment.lanes(), lanes).unwrap())
+    let lanes = joined_lanes(alloc, assigned, lowest)?;
+    let count = assigned.workqueues().assignment().lanes();
+    Ok(Assignment::new(count, lanes).unwrap())
 }
 
 /// The arcs that leave a vertex and lead back to it, in order of place.
@@ -96,52 +93,34 @@ fn loops<A: Allocator + Copy>(
 /// The loops where lanes are joined, of those that aren't bare.
 fn loops_joined<A: Allocator + Copy>(
     alloc: A,
-    table: &ItemTable<'_, A>,
-    groups: &Groups<A>,
-    assignment: &Assignment<A>,
-    bare: &[bool],
+    assigned: &Assigned<'_, '_, A>,
     lowest: &[u16],
 ) -> Result<Vec<Vec<WaitArc, A>, A>, AllocError>
-    requires grouped { length groups.now.group_of ≡ length table.now.names }
-    requires assigned { length assignment.now.lane_of_group ≡ groups.now.groups }
-    requires one_each { length lowest.now ≡ assignment.now.lanes }
-    requires within { All (λ q. q < assignment.now.lanes) lowest.now }
+    requires one_each { length lowest.now ≡ assigned.now.workqueues.assignment.lanes }
+    requires within { All (λ q. q < assigned.now.workqueues.assignment.lanes) lowest.now }
     ensures loops { IfOk result (λ lists. map (λ l. l.items) lists.items
-        ≡ loops (kept_graph (declaration_of table.now groups.now) (joined assignment.now lowest.now) bare.now)) }
-    ensures memory { OnErr result (0 < assignment.now.lanes) }
+        ≡ loops (kept_graph (declared_waits assigned.now.declared)
+        (joined assigned.now.workqueues.assignment lowest.now) assigned.now.workqueues.bare)) }
+    ensures memory { OnErr result (0 < assigned.now.workqueues.assignment.lanes) }
 {
-    // Each group has one of the lanes.
-    let _lanes = assignment.lanes();
-    let joined = join(alloc, groups, assignment, lowest)?;
-    let graph = WaitGraph::of_lanes(alloc, table, groups, &joined)?;
-    let graph = graph.without(alloc, bare)?;
+    let joined = join(alloc, assigned, lowest)?;
+    let graph = WaitGraph::of_lanes(alloc, assigned.table(), assigned.groups(), &joined)?;
+    let graph = graph.without(alloc, assigned.workqueues().bare())?;
     loops(alloc, &graph)
 }
 
-/// The components of workqueues that have a rescuer, each as its arcs. The groups
-/// are those of this table, and each has a workqueue.
+/// The components of the workqueues of declared groups that have a rescuer, each as its arcs.
 ///
 /// The only error is out of memory (20), which can't occur where there is no workqueue.
 pub fn components<A: Allocator + Copy>(
     alloc: A,
-    table: &ItemTable<'_, A>,
-    groups: &Groups<A>,
-    workqueues: &Workqueues<A>,
+    assigned: &Assigned<'_, '_, A>,
 ) -> Result<Vec<Vec<WaitArc, A>, A>, AllocError>
-    requires grouped { length groups.now.group_of ≡ length table.now.names }
-    requires assigned { length workqueues.now.assignment.lane_of_group ≡ groups.now.groups }
-    ensures components { IfOk result (λ lists.
-        AreComponents (declaration_of table.now groups.now) workqueues.now (map (λ l. l.items) lists.items)) }
-    ensures memory { OnErr result (0 < workqueues.now.assignment.lanes) }
+    ensures components { IfOk result (λ lists. AreComponents (declared_waits assigned.now.declared)
+        assigned.now.workqueues (map (λ l. l.items) lists.items)) }
+    ensures memory { OnErr result (0 < assigned.now.workqueues.assignment.lanes) }
 {
-    let graph = rescued_graph(alloc, table, groups, workqueues)?;
+    let graph = rescued_graph(alloc, assigned)?;
     let lowest = lowest(alloc, &graph)?;
-    loops_joined(
-        alloc,
-        table,
-        groups,
-        workqueues.assignment(),
-        workqueues.bare(),
-        lowest.as_slice(),
-    )
+    loops_joined(alloc, assigned, lowest.as_slice())
 }

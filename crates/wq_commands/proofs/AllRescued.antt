@@ -30,9 +30,10 @@ use Rattle.wq_checker.specs.declared.run.RunEnd.{RunEnd}
 use Rattle.wq_checker.specs.RunEnds.{EndsAs}
 use Rattle.wq_commands.specs.declared.end.End.{End}
 use Rattle.wq_commands.specs.declared.end.End.TheVariants.{Good, Bad, Refused}
-use Rattle.wq_commands.specs.Answer.{declared_waits, PrintsRefusal}
+use Rattle.wq_groups.specs.DeclaredGroups.{declared_waits, Declared}
+use Rattle.wq_commands.specs.Answer.{PrintsRefusal}
 use Rattle.wq_commands.specs.Deadlocking.{JudgesAssigned, JudgesDeclared, Judges}
-use Rattle.wq_commands.specs.Declaration.{Declared, declaration}
+use Rattle.wq_commands.specs.Declaration.{declaration}
 use Rattle.wq_commands.specs.Replaying.{AnswersReplay, ReplaysAssigned, ReplaysDeclared, ReplaysRun}
 use Rattle.wq_commands.specs.AllRescued.{JudgesAssignment, JudgesAllRescued, ReplaysSteps, ReplaysAssignment, ReplaysAllRescued}
 use Rattle.wq_commands.proofs.AnswerLemmas.{IsSound, IsSound-declaration, IsDeclaration-sound}

@@ -10,9 +10,10 @@ use Rattle.wq_checker.proofs.AnswersDecided.{an_answer}
 use Rattle.wq_checker.proofs.OneAnswer.{one_answer}
 use Rattle.wq_commands.specs.declared.end.End.{End}
 use Rattle.wq_commands.specs.declared.end.End.TheVariants.{Good, Bad}
-use Rattle.wq_commands.specs.Answer.{declared_waits, PrintsRefusal}
+use Rattle.wq_groups.specs.DeclaredGroups.{declared_waits, Declared}
+use Rattle.wq_commands.specs.Answer.{PrintsRefusal}
 use Rattle.wq_commands.specs.Checking.{yes_words, no_words, PrintsCheck, AnswersCheck, ChecksDeclared, Checks}
-use Rattle.wq_commands.specs.Declaration.{Declared, declaration}
+use Rattle.wq_commands.specs.Declaration.{declaration}
 use Rattle.wq_commands.proofs.AnswerLemmas.{IsSound, IsSound-declaration, IsDeclaration-sound}
 use Rattle.wq_commands.proofs.CheckLemmas.{IsAsked-read}
 use Rattle.wq_commands.proofs.Refusals.{MatchResult-unique, MatchResult-exist, PrintsRefusal-unique, PrintsRefusal-exist}

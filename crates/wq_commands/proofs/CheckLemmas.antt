@@ -18,9 +18,8 @@ use Rattle.wq_checker.specs.declared.answer.No.{No}
 use Rattle.wq_checker.specs.declared.answer.No.TheVariants.{NotFalling, LengthDiffers, ChainBroken, CircleBroken, RunBroken}
 use Rattle.wq_checker.specs.Answers.{IsAsked, AnswersPlan, AnswersCircle, AnswersCertificate}
 use Rattle.wq_checker.specs.Falling.{IsFirstNotFalling}
-use Rattle.wq_commands.specs.Answer.{declared_waits}
+use Rattle.wq_groups.specs.DeclaredGroups.{declared_waits, Declared}
 use Rattle.wq_commands.specs.Checking.{NamesItems}
-use Rattle.wq_commands.specs.Declaration.{Declared}
 use Rattle.wq_commands.proofs.AnswerLemmas.{IsSound}
 
 -- what is said about the value of a result, if the value is known

@@ -2,7 +2,7 @@
 use Rattle.std.proofs.Common.{List, Option, Some, None, option_map, refl, sym, subst, arith}
 use Rattle.std.specs.Option.{IsSome}
 use Rattle.wq_groups.specs.Declaration.{Declaration, IsDeclaration}
-use Rattle.wq_groups.specs.Assignment.{Assignment, IsAssignment}
+use Rattle.wq_groups.specs.Assignment.{Assignment, IsAssignment, IsAssignmentOf}
 use Rattle.wq_graph.specs.declared.arc.WaitArc.{WaitArc}
 use Rattle.wq_graph.specs.Graph.{group_graph, lane_graph}
 use Rattle.wq_graph.proofs.Graphs.{IsGraph-group_graph}
@@ -11,14 +11,12 @@ use Rattle.wq_levels.proofs.OneCircle.{IsWalkedCircle-unique}
 use Rattle.wq_core.specs.declared.step.Step.{Step}
 use Rattle.wq_core.specs.Wiring.{wiring, own_lanes}
 use Rattle.wq_core.specs.Deadlock.{DeadlocksBy, Deadlocks}
-use Rattle.wq_cert.specs.Ranges.{IsAssignmentOf}
 use Rattle.wq_deadlock.specs.CircleRun.{IsCircleRun}
 use Rattle.wq_deadlock.specs.Verdict.{IsDeadlock, IsGroupsRun}
 use Rattle.wq_deadlock.proofs.CircleRuns.{IsCircleRun-exists, DeadlocksBy-circle_run}
 use Rattle.wq_deadlock.proofs.Renumbered.{not_safe-deadlocks}
 use Rattle.wq_deadlock.proofs.OwnLanes.{IsAssignment-own_lanes, lane_graph-own_lanes}
-use Rattle.wq_commands.specs.Answer.{declared_waits}
-use Rattle.wq_commands.specs.Declaration.{Declared}
+use Rattle.wq_groups.specs.DeclaredGroups.{declared_waits, Declared}
 use Rattle.wq_commands.proofs.AnswerLemmas.{IsSound, IsDeclaration-sound}
 
 -- ---- each group on a workqueue of its own

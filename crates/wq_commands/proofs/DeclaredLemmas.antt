@@ -34,7 +34,8 @@ use Rattle.wq_groups.proofs.Among.{same_name, Differ-has_twin, has_twin-Differ}
 use Rattle.wq_groups.proofs.Regrouped.{first_regrouped-none, Differ-all_ordered}
 use Rattle.wq_text.specs.Refusal.{Refusal}
 use Rattle.wq_groups.proofs.Partitions.{groups_of-none, groups_of-some}
-use Rattle.wq_commands.specs.Declaration.{Declared, by_table, unless_refused, declaration, max_declaration, max_declaration_line}
+use Rattle.wq_groups.specs.DeclaredGroups.{Declared}
+use Rattle.wq_commands.specs.Declaration.{by_table, unless_refused, declaration, max_declaration, max_declaration_line}
 use Rattle.wq_commands.specs.DeclaredIn.{named_of, in_groups, words_by_line, is_in_form, declared_in, words_in, is_directive, is_read, Items, is_item, add_flushes, after_line, after_lines, ordered_on, go_together, first_with, first_items, group_with}
 use Rattle.wq_commands.proofs.DeclaredLines.{lines-bytes, words_in-bytes, bytes_of, bytes_in}
 

@@ -13,8 +13,9 @@ use Rattle.wq_graph.specs.Graph.{group_graph}
 use Rattle.wq_levels.specs.Walks.{IsWalkedCircle}
 use Rattle.wq_commands.specs.declared.end.End.{End}
 use Rattle.wq_commands.specs.declared.end.End.TheVariants.{Good, Bad, Refused}
-use Rattle.wq_commands.specs.Answer.{Answers, AnswersDeclared, PrintsCircle, refusal_text, declared_waits, text_of_plan, text_of_circle}
-use Rattle.wq_commands.specs.Declaration.{Declared, declaration}
+use Rattle.wq_groups.specs.DeclaredGroups.{declared_waits, Declared}
+use Rattle.wq_commands.specs.Answer.{Answers, AnswersDeclared, PrintsCircle, refusal_text, text_of_plan, text_of_circle}
+use Rattle.wq_commands.specs.Declaration.{declaration}
 use Rattle.wq_commands.proofs.AnswerLemmas.{IsSound, IsSound-declaration, IsDeclaration-sound}
 use Rattle.wq_commands.proofs.CircleRuns.{IsCircleRun-own_lanes}
 

@@ -1,5 +1,5 @@
 -- From what a command finds to what it answers, and from the bytes that are kept to the texts.
-use Rattle.std.proofs.Common.{◌≡◌, ℕ, ◌+◌, List, Result, Ok, Err, subst, sym, ◌∙◌}
+use Rattle.std.proofs.Common.{◌≡◌, ℕ, ◌+◌, List, Result, Ok, Err, subst, sym}
 use Rattle.std.specs.Prelude.{MatchResult, take}
 use Rattle.wq_text.specs.Refusal.{Refusal}
 use Rattle.wq_meter.specs.Shell.{Given, kept}
@@ -15,10 +15,20 @@ use Rattle.wq_commands.specs.declared.found.Which.TheVariants.{Certificate as Se
 use Rattle.wq_commands.specs.declared.replaying.Replayed.{Replayed}
 use Rattle.wq_commands.specs.Answer.{Answers, AnswersDeclared, PrintsRefusal}
 use Rattle.wq_commands.specs.Checking.{AnswersCheck, Checks, ChecksDeclared}
-use Rattle.wq_commands.specs.Commands.{ChecksText, FindsCheck, FindsEnd, FindsPlan, FindsVerdict, JudgesText, ReplaysOn, ReplaysTexts}
+use Rattle.wq_commands.specs.Commands.{
+  ChecksText,
+  FindsCheck,
+  FindsEnd,
+  FindsPlan,
+  FindsVerdict,
+  JudgesText,
+  ReplaysOn,
+  ReplaysTexts,
+}
 use Rattle.wq_commands.specs.Commands.{one_text, three_texts, two_texts}
 use Rattle.wq_commands.specs.Deadlocking.{JudgesAssigned, JudgesDeclared, Judges}
-use Rattle.wq_commands.specs.Declaration.{Declared, declaration, max_declaration}
+use Rattle.wq_groups.specs.DeclaredGroups.{Declared}
+use Rattle.wq_commands.specs.Declaration.{declaration, max_declaration}
 use Rattle.wq_commands.specs.Found.{AnswersIn}
 use Rattle.wq_commands.specs.Replaying.{AnswersReplay, ReplaysAssigned, ReplaysDeclared, ReplaysRun}
 use Rattle.wq_commands.specs.Shell.{AnswersTexts, HasOneAnswer}
@@ -52,7 +62,8 @@ JudgesText-declared s text found end out =
     AnswersIn-match SecondText (workqueues_of_text s.table.names s.partition text) (FindsVerdict s) (JudgesAssigned s)
     found end out (λ ws h. h.1)
 
-pub ReplaysTexts-declared : {A : Type 0} (s : Declared) (assigned text : List ℕ) (found : Found (Replayed A)) (end : End)
+pub ReplaysTexts-declared : {A : Type 0} (s : Declared) (assigned text : List ℕ) (found : Found (Replayed A))
+    (end : End)
     (out : List ℕ) → ReplaysTexts s assigned text found end out → ReplaysDeclared s assigned text end out
 ReplaysTexts-declared s assigned text found end out =
     AnswersIn-match SecondText (workqueues_of_text s.table.names s.partition assigned) (λ ws. ReplaysOn s ws text)
@@ -79,7 +90,8 @@ pub AnswersTexts-match : {F : Type 0} (Finds : Declared → Given → F → End 
     → ((s : Declared) (f : F) → Finds s texts f end out → Prints s end out) → AnswersTexts Finds texts found end out
     → MatchResult (declaration texts.first) (λ s. Prints s end out) (λ r. PrintsRefusal r end out)
 AnswersTexts-match Finds Prints texts (Ok found) end out f h =
-    of_declared (λ s. Prints s end out) (λ r. PrintsRefusal r end out) (declaration texts.first) h.0 h.1 (f h.0 found h.2)
+    of_declared (λ s. Prints s end out) (λ r. PrintsRefusal r end out) (declaration texts.first) h.0 h.1
+    (f h.0 found h.2)
 AnswersTexts-match Finds Prints texts (Err r) end out f h =
     of_refused (λ s. Prints s end out) (λ r. PrintsRefusal r end out) (declaration texts.first) r h.0 h.1
 
@@ -119,7 +131,8 @@ module _ (texts : Given) (end : End) (out : List ℕ) where
       (AnswersTexts-match (λ s t (f : Found (Replayed A)) e o. ReplaysTexts s t.second t.third f e o)
       (λ s. ReplaysDeclared s (take (max_certificate + 1) texts.second) (take (max_certificate + 1) texts.third))
       (kept three_texts texts) found end out
-      (λ s f. ReplaysTexts-declared s (take (max_certificate + 1) texts.second) (take (max_certificate + 1) texts.third) f end out)
+      (λ s f. ReplaysTexts-declared s (take (max_certificate + 1) texts.second) (take (max_certificate + 1) texts.third)
+      f end out)
       h)
 
 -- ---- a command has one answer
@@ -128,13 +141,15 @@ pub plan-unique : HasOneAnswer (λ s _ found end out. FindsPlan s found end out)
 plan-unique s texts found again end other out printed is one two =
     Answers-unique texts.first end other out printed
     (of_declared (λ s. AnswersDeclared s end out) (λ r. PrintsRefusal r end out) (declaration texts.first) s is one.1)
-    (of_declared (λ s. AnswersDeclared s other printed) (λ r. PrintsRefusal r other printed) (declaration texts.first) s is
+    (of_declared (λ s. AnswersDeclared s other printed) (λ r. PrintsRefusal r other printed) (declaration texts.first) s
+    is
     two.1)
 
 pub check-unique : HasOneAnswer (λ s texts found end out. ChecksText s texts.second found end out)
 check-unique s texts found again end other out printed is one two =
     Checks-unique texts.first texts.second end other out printed
-    (of_declared (λ s. ChecksDeclared s texts.second end out) (λ r. PrintsRefusal r end out) (declaration texts.first) s is
+    (of_declared (λ s. ChecksDeclared s texts.second end out) (λ r. PrintsRefusal r end out) (declaration texts.first) s
+    is
     (ChecksText-declared s texts.second found end out one))
     (of_declared (λ s. ChecksDeclared s texts.second other printed) (λ r. PrintsRefusal r other printed)
     (declaration texts.first) s is (ChecksText-declared s texts.second again other printed two))
@@ -143,13 +158,15 @@ pub deadlock-unique : {A : Type 0}
     → HasOneAnswer (λ s texts (found : Found (Verdict A)) end out. JudgesText s texts.second found end out)
 deadlock-unique s texts found again end other out printed is one two =
     Judges-unique texts.first texts.second end other out printed
-    (of_declared (λ s. JudgesDeclared s texts.second end out) (λ r. PrintsRefusal r end out) (declaration texts.first) s is
+    (of_declared (λ s. JudgesDeclared s texts.second end out) (λ r. PrintsRefusal r end out) (declaration texts.first) s
+    is
     (JudgesText-declared s texts.second found end out one))
     (of_declared (λ s. JudgesDeclared s texts.second other printed) (λ r. PrintsRefusal r other printed)
     (declaration texts.first) s is (JudgesText-declared s texts.second again other printed two))
 
 pub replay-unique : {A : Type 0}
-    → HasOneAnswer (λ s texts (found : Found (Replayed A)) end out. ReplaysTexts s texts.second texts.third found end out)
+    → HasOneAnswer (λ s texts (found : Found (Replayed A)) end out. ReplaysTexts s texts.second texts.third found end
+    out)
 replay-unique s texts found again end other out printed is one two =
     ReplaysRun-unique texts.first texts.second texts.third end other out printed
     (of_declared (λ s. ReplaysDeclared s texts.second texts.third end out) (λ r. PrintsRefusal r end out)

@@ -30,9 +30,10 @@ use Rattle.wq_cert.proofs.PrintedLines.{IsShort-printed}
 use Rattle.wq_cert.proofs.PrintedRuns.{IsPrintableLine-run}
 use Rattle.wq_cert.proofs.TextLength.{length-run_text}
 use Rattle.wq_commands.specs.declared.end.End.TheVariants.{Bad, Refused}
-use Rattle.wq_commands.specs.Answer.{declared_waits, PrintsRefusal}
+use Rattle.wq_groups.specs.DeclaredGroups.{declared_waits, Declared}
+use Rattle.wq_commands.specs.Answer.{PrintsRefusal}
 use Rattle.wq_commands.specs.Deadlocking.{JudgesAssigned, JudgesDeclared, Judges}
-use Rattle.wq_commands.specs.Declaration.{Declared, declaration}
+use Rattle.wq_commands.specs.Declaration.{declaration}
 use Rattle.wq_commands.proofs.AnswerLemmas.{IsSound, IsSound-declaration}
 use Rattle.wq_commands.proofs.NamedSteps.{IsStepOf-hang, length-hang}
 

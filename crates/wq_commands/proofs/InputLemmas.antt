@@ -17,7 +17,8 @@ use Rattle.wq_commands.specs.declared.end.End.{End}
 use Rattle.wq_commands.specs.Answer.{PrintsRefusal}
 use Rattle.wq_commands.specs.Checking.{AnswersCheck, Checks}
 use Rattle.wq_commands.specs.Deadlocking.{JudgesAssigned, Judges}
-use Rattle.wq_commands.specs.Declaration.{Declared, declaration, max_declaration}
+use Rattle.wq_groups.specs.DeclaredGroups.{Declared}
+use Rattle.wq_commands.specs.Declaration.{declaration, max_declaration}
 use Rattle.wq_commands.specs.Replaying.{AnswersReplay, ReplaysRun}
 use Rattle.wq_commands.proofs.AnswerLemmas.{declaration-take, too_long}
 

@@ -4,21 +4,20 @@ use Rattle.std.specs.Prelude.{nat_lt}
 use Rattle.std.specs.List.{All}
 use Rattle.std.proofs.lemmas.Bool.{le-ltb}
 use Rattle.std.proofs.lemmas.List.Elements.{All-weaker}
-use Rattle.wq_groups.specs.Assignment.{Assignment}
+use Rattle.wq_groups.specs.Assignment.{Assignment, IsAssignmentOf}
 use Rattle.wq_core.specs.declared.step.Step.{Step}
 use Rattle.wq_core.specs.declared.step.Step.TheVariants.{Queue, Cancel, Start, Wait, Over, WaitAll, OverAll, Finish, Help}
 use Rattle.wq_core.specs.Wiring.{Wiring, items, wiring}
 use Rattle.wq_core.specs.Runs.{IsHelp, HasNoHelp}
 use Rattle.wq_core.specs.Deadlock.{DeadlocksBy}
 use Rattle.wq_core.specs.Workqueues.{Workqueues, wiring_of, all_rescued}
-use Rattle.wq_cert.specs.Ranges.{IsStepOf, IsAssignmentOf}
+use Rattle.wq_cert.specs.Ranges.{IsStepOf}
 use Rattle.wq_cert.specs.RunText.{step_item}
 use Rattle.wq_deadlock.specs.Bounds.{IsNamed}
 use Rattle.wq_deadlock.proofs.BareLanes.{IsWiring-workqueues}
 use Rattle.wq_deadlock.proofs.Named.{IsNamed-run}
 use Rattle.wq_deadlock.proofs.RunLengths.{length-once}
-use Rattle.wq_commands.specs.Answer.{declared_waits}
-use Rattle.wq_commands.specs.Declaration.{Declared}
+use Rattle.wq_groups.specs.DeclaredGroups.{declared_waits, Declared}
 use Rattle.wq_commands.proofs.AnswerLemmas.{IsSound, IsDeclaration-sound}
 
 near : (q lanes : ℕ) → q < lanes → lanes ≤ 4096 → nat_lt 4095 q ≡ false

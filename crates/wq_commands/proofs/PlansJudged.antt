@@ -17,7 +17,8 @@ use Rattle.wq_commands.specs.declared.end.End.TheVariants.{Good, Refused}
 use Rattle.wq_commands.specs.Answer.{PrintsRefusal, Answers}
 use Rattle.wq_commands.specs.AllRescued.{JudgesAssignment}
 use Rattle.wq_commands.specs.Deadlocking.{safe_text, Judges}
-use Rattle.wq_commands.specs.Declaration.{Declared, declaration}
+use Rattle.wq_groups.specs.DeclaredGroups.{Declared}
+use Rattle.wq_commands.specs.Declaration.{declaration}
 use Rattle.wq_commands.specs.Shown.{ShowsPlan, ShowsDeclared}
 use Rattle.wq_commands.proofs.AllRescued.{Judges-rescued}
 use Rattle.wq_commands.proofs.AnswerLemmas.{IsSound-declaration}

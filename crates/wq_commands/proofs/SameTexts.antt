@@ -8,7 +8,8 @@ use Rattle.wq_meter.specs.Shell.{AreFrom, Given, GivesIf}
 use Rattle.wq_meter.specs.declared.texts.Limits.{Limits}
 use Rattle.wq_commands.specs.declared.end.End.{End}
 use Rattle.wq_commands.specs.Answer.{PrintsRefusal}
-use Rattle.wq_commands.specs.Declaration.{Declared, declaration}
+use Rattle.wq_groups.specs.DeclaredGroups.{Declared}
+use Rattle.wq_commands.specs.Declaration.{declaration}
 use Rattle.wq_commands.specs.Shell.{AnswersTexts, Call, FindsTexts, HasOneAnswer, IsTextIf}
 use Rattle.wq_commands.proofs.Refusals.{PrintsRefusal-unique}
 
@@ -20,7 +21,8 @@ known_text known wanted text is input = subst (λ (k : Option (List ℕ)). IfSom
 known_if : {R : Type 0} (remaining : R → Option (List ℕ)) (old new : Meter R) (limit : Option ℕ) (wanted text : List ℕ)
     → IsTextIf limit (remaining old.device) wanted → GivesIf remaining old new limit text → text ≡ wanted
 known_if remaining old new None wanted text is gives = gives.1 ∙ sym is
-known_if remaining old new (Some limit) wanted text is gives = known_text (remaining old.device) wanted text is gives.input
+known_if remaining old new (Some limit) wanted text is gives = known_text (remaining old.device) wanted text is
+    gives.input
 
 abbrev given : List ℕ → List ℕ → List ℕ → Given
 given first second third = record { first = first; second = second; third = third }
@@ -54,7 +56,8 @@ pub one_answer : {F : Type 0} (Answers : Declared → Given → F → End → Li
 one_answer Answers has texts (Ok f) (Ok g) end other out printed one two =
     let both : Ok one.0 ≡ Ok two.0 = sym one.1 ∙ two.1 in
     let same : one.0 ≡ two.0 = cc in
-    has two.0 texts f g end other out printed two.1 (subst (λ (s : Declared). Answers s texts f end out) same one.2) two.2
+    has two.0 texts f g end other out printed two.1 (subst (λ (s : Declared). Answers s texts f end out) same one.2)
+    two.2
 one_answer Answers has texts (Ok f) (Err r) end other out printed one two =
     absurd (let never : Ok one.0 ≡ Err r = sym one.1 ∙ two.0 in cc)
 one_answer Answers has texts (Err r) (Ok g) end other out printed one two =

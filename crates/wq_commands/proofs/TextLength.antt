@@ -17,8 +17,8 @@ use Rattle.wq_cert.proofs.PrintedCircles.{IsShort-circle}
 use Rattle.wq_cert.proofs.PrintedPlans.{length-plan_text-most, IsShort-plan}
 use Rattle.wq_cert.proofs.TextLength.{length-circle_text}
 use Rattle.wq_deadlock.specs.CircleRun.{IsCircleRun}
-use Rattle.wq_commands.specs.Answer.{ends_of, declared_waits, text_of_plan, text_of_circle}
-use Rattle.wq_commands.specs.Declaration.{Declared}
+use Rattle.wq_groups.specs.DeclaredGroups.{declared_waits, Declared}
+use Rattle.wq_commands.specs.Answer.{ends_of, text_of_plan, text_of_circle}
 use Rattle.wq_commands.proofs.AnswerLemmas.{IsSound, IsDeclaration-sound, ArePrintable, ArePrintable-plan, IsWalkedCircle-short, ArePrintable-walked}
 use Rattle.wq_commands.proofs.CircleRuns.{DeadlocksBy-own_lanes, IsAssignmentOf-own_lanes}
 use Rattle.wq_commands.proofs.NamedSteps.{IsStepOf-deadlock, length-deadlock}

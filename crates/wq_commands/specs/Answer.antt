@@ -1,7 +1,6 @@
 -- The answer to a declaration text: what is printed, and how the run ends.
 use Rattle.std.specs.Prelude.{◌≡◌, ℕ, List, [], ◌∷◌, map, codes, decimal, MatchResult, Some}
 use Rattle.wq_text.specs.Refusal.{Refusal}
-use Rattle.wq_groups.specs.Declaration.{Declaration, declaration_of}
 use Rattle.wq_groups.specs.Assignment.{Assignment, item_lanes}
 use Rattle.wq_graph.specs.declared.arc.WaitArc.{WaitArc}
 use Rattle.wq_graph.specs.Graph.{group_graph}
@@ -15,7 +14,8 @@ use Rattle.wq_commands.specs.declared.end.End.TheVariants.{Good, Bad, Refused}
 use Rattle.wq_text.specs.LineText.{line_text}
 use Rattle.wq_cert.specs.PlanText.{plan_text}
 use Rattle.wq_cert.specs.CircleText.{circle_text}
-use Rattle.wq_commands.specs.Declaration.{Declared, declaration}
+use Rattle.wq_groups.specs.DeclaredGroups.{Declared, declared_waits}
+use Rattle.wq_commands.specs.Declaration.{declaration}
 
 -- `refused CODE line N`
 abbrev pub refusal_text : Refusal → List ℕ
@@ -24,10 +24,6 @@ refusal_text r = line_text (codes "refused" ∷ decimal r.code ∷ codes "line" 
 -- a text is refused, and that is printed
 abbrev pub PrintsRefusal : Refusal → End → List ℕ → Type 0
 PrintsRefusal r end out = (end ≡ Refused) × (out ≡ refusal_text r)
-
--- what a text declares, without its names
-abbrev pub declared_waits : Declared → Declaration
-declared_waits s = declaration_of s.table s.partition
 
 -- the item and the target of an arc
 abbrev pub ends_of : WaitArc → ℕ × ℕ

@@ -1,7 +1,6 @@
 -- The commands as functions of what is declared and of the texts behind it: what each finds, how it ends, and what it
 -- answers.
 use Rattle.std.specs.Prelude.{◌≡◌, Bool, true, false, ℕ, List, Some, None, Result}
-use Rattle.wq_meter.specs.Shell.{Given}
 use Rattle.wq_meter.specs.declared.texts.Limits.{Limits}
 use Rattle.wq_core.specs.declared.step.Step.{Step}
 use Rattle.wq_core.specs.Workqueues.{Workqueues, wiring_of}
@@ -12,17 +11,17 @@ use Rattle.wq_checker.specs.Answers.{AnswersCertificate}
 use Rattle.wq_checker.specs.RunEnds.{EndsAs}
 use Rattle.wq_checker.specs.declared.answer.No.{No}
 use Rattle.wq_checker.specs.declared.answer.Yes.{Yes}
-use Rattle.wq_checker.specs.declared.run.RunEnd.{RunEnd}
 use Rattle.wq_commands.specs.declared.deadlocking.Verdict.{Verdict}
 use Rattle.wq_commands.specs.declared.end.End.{End}
 use Rattle.wq_commands.specs.declared.found.Found.{Found}
 use Rattle.wq_commands.specs.declared.found.Found.TheVariants.{Read}
 use Rattle.wq_commands.specs.declared.found.Which.TheVariants.{Certificate as SecondText, Run}
 use Rattle.wq_commands.specs.declared.replaying.Replayed.{Replayed}
-use Rattle.wq_commands.specs.Answer.{AnswersDeclared, declared_waits}
+use Rattle.wq_groups.specs.DeclaredGroups.{declared_waits, Declared}
+use Rattle.wq_commands.specs.Answer.{AnswersDeclared}
 use Rattle.wq_commands.specs.Checking.{PrintsCheck}
 use Rattle.wq_commands.specs.Deadlocking.{JudgesAssigned}
-use Rattle.wq_commands.specs.Declaration.{Declared, max_declaration}
+use Rattle.wq_commands.specs.Declaration.{max_declaration}
 use Rattle.wq_commands.specs.Found.{AnswersIn}
 use Rattle.wq_commands.specs.Replaying.{replay_end, replay_words}
 

@@ -1,15 +1,16 @@
 -- What a declaration text declares, pass by pass, or what it is refused for.
-use Rattle.std.specs.Prelude.{◌≡◌, ℕ, List, length, Option, Some, None, Result, Ok, Err}
+use Rattle.std.specs.Prelude.{ℕ, List, Option, Some, None, Result, Ok, Err}
 use Rattle.wq_decl.specs.declared.directive.Directive.{Directive}
 use Rattle.wq_text.specs.Lines.{lines_of}
 use Rattle.wq_text.specs.Limits.{limit_fault, text_refusal}
 use Rattle.wq_text.specs.Refusal.{Refusal}
 use Rattle.wq_decl.specs.Reading.{first_fault, directives, decl_refusal}
 use Rattle.wq_items.specs.declared.fault.ItemError.{ItemError}
-use Rattle.wq_items.specs.Table.{Table, IsTable}
+use Rattle.wq_items.specs.Table.{Table}
 use Rattle.wq_items.specs.Building.{table_of, item_refusal}
 use Rattle.wq_groups.specs.declared.fault.GroupError.{GroupError}
-use Rattle.wq_groups.specs.Partition.{Partition, IsPartition}
+use Rattle.wq_groups.specs.DeclaredGroups.{Declared}
+use Rattle.wq_groups.specs.Partition.{Partition}
 use Rattle.wq_groups.specs.Grouping.{groups_of, group_refusal}
 
 -- how many bytes a declaration may have at most
@@ -19,17 +20,6 @@ max_declaration = 1048576
 -- how many bytes a line of a declaration may have at most
 abbrev pub max_declaration_line : ℕ
 max_declaration_line = 4096
-
--- the items of a text with their flushes, and their groups
-pub record Declared : Type 0 where
-  pub table : Table
-  pub partition : Partition
-
--- a table of items, and the groups of these items: each item is in one
-pub record IsSound (s : Declared) : Type 0 where
-  pub table : IsTable s.table
-  pub partition : IsPartition s.partition
-  pub one_group_each : length s.partition.group_of ≡ length s.table.names
 
 -- the table with its groups, or the refusal of the fourth pass
 abbrev pub by_groups : Table → Result Partition GroupError → Result Declared Refusal

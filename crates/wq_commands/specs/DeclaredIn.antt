@@ -14,7 +14,8 @@ use Rattle.wq_items.specs.Table.{item_named, targets_of, flush_count, max_items,
 use Rattle.wq_items.specs.Building.{targets_from}
 use Rattle.wq_groups.specs.Grouping.{has_twin}
 use Rattle.wq_groups.specs.Declaration.{Declaration, declaration_of}
-use Rattle.wq_commands.specs.Declaration.{Declared, max_declaration, max_declaration_line}
+use Rattle.wq_groups.specs.DeclaredGroups.{Declared}
+use Rattle.wq_commands.specs.Declaration.{max_declaration, max_declaration_line}
 
 -- ---- lines
 

@@ -6,7 +6,7 @@ use Rattle.wq_cert.specs.declared.fault.CertError.TheVariants as faults
 use Rattle.wq_cert.specs.Texts.{cert_refusal}
 use Rattle.wq_commands.specs.declared.end.End.{End}
 use Rattle.wq_commands.specs.declared.found.Found.{Found}
-use Rattle.wq_commands.specs.declared.found.Found.TheVariants.{Refused, Read}
+use Rattle.wq_commands.specs.declared.found.Found.TheVariants.{Refused}
 use Rattle.wq_commands.specs.declared.found.Which.{Which}
 use Rattle.wq_commands.specs.Answer.{PrintsRefusal}
 

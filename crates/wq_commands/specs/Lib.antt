@@ -3,6 +3,8 @@ pub use Rattle.wq_meter.specs.Meter
 pub use Rattle.wq_items.specs.Table
 pub use Rattle.wq_items.specs.Chain
 pub use Rattle.wq_groups.specs.Grouping
+pub use Rattle.wq_groups.specs.DeclaredGroups
+pub use Rattle.wq_core.specs.Assigned
 pub use Rattle.wq_graph.specs.Graph
 pub use Rattle.wq_levels.specs.Walks
 pub use Rattle.wq_plan.specs.Plan
@@ -22,7 +24,6 @@ pub mod Replaying
 pub mod Deadlocking
 pub mod DeadlockInput
 pub mod Declaration
-pub mod Assigned
 pub mod End
 pub mod PlanInput
 pub mod Stop

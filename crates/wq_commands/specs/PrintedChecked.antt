@@ -8,7 +8,8 @@ use Rattle.wq_checker.specs.declared.answer.Yes.TheVariants as yes
 use Rattle.wq_commands.specs.declared.end.End.{End}
 use Rattle.wq_commands.specs.declared.end.End.TheVariants.{Good, Bad, Refused}
 use Rattle.wq_commands.specs.Checking.{yes_words, ChecksDeclared}
-use Rattle.wq_commands.specs.Declaration.{Declared, declaration}
+use Rattle.wq_groups.specs.DeclaredGroups.{Declared}
+use Rattle.wq_commands.specs.Declaration.{declaration}
 
 -- a plan is read from the bytes, and the answer to them is `yes K`, where K is the number of its workqueues
 pub record ChecksYesPlan (s : Declared) (out : List ℕ) : Type 0 where

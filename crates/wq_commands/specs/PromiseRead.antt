@@ -3,8 +3,7 @@ use Rattle.std.specs.Prelude.{◌≡◌, ℕ, List, Ok}
 use Rattle.wq_cert.specs.Certificate.{PlanCertificate, CircleCertificate, OfPlan, OfCircle}
 use Rattle.wq_cert.specs.Texts.{answer_of, assignment_of_text}
 use Rattle.wq_checker.specs.Answers.{IsGoodPlan, IsGoodCircle}
-use Rattle.wq_commands.specs.Answer.{declared_waits}
-use Rattle.wq_commands.specs.Declaration.{Declared}
+use Rattle.wq_groups.specs.DeclaredGroups.{declared_waits, Declared}
 
 -- this plan is read from the bytes, its assignment too, and the checker calls it good
 pub record IsReadAsGoodPlan (s : Declared) (out : List ℕ) (plan : PlanCertificate) : Type 0 where

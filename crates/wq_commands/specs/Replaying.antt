@@ -9,8 +9,9 @@ use Rattle.wq_checker.specs.declared.run.RunEnd.TheVariants.{NotLawful, Deadlock
 use Rattle.wq_checker.specs.RunEnds.{EndsAs}
 use Rattle.wq_commands.specs.declared.end.End.{End}
 use Rattle.wq_commands.specs.declared.end.End.TheVariants.{Good, Bad}
-use Rattle.wq_commands.specs.Answer.{declared_waits, PrintsRefusal}
-use Rattle.wq_commands.specs.Declaration.{Declared, declaration}
+use Rattle.wq_groups.specs.DeclaredGroups.{declared_waits, Declared}
+use Rattle.wq_commands.specs.Answer.{PrintsRefusal}
+use Rattle.wq_commands.specs.Declaration.{declaration}
 
 -- the words of an answer: `open`, `deadlock`, `stuck` or `not lawful N`
 abbrev pub replay_words : RunEnd → List (List ℕ)

@@ -6,7 +6,8 @@ use Rattle.wq_meter.specs.Shell.{Given, kept}
 use Rattle.wq_meter.specs.declared.texts.Limits.{Limits}
 use Rattle.wq_commands.specs.declared.end.End.{End}
 use Rattle.wq_commands.specs.Answer.{PrintsRefusal}
-use Rattle.wq_commands.specs.Declaration.{Declared, declaration}
+use Rattle.wq_groups.specs.DeclaredGroups.{Declared}
+use Rattle.wq_commands.specs.Declaration.{declaration}
 
 -- ---- an answer, and what is said of it
 

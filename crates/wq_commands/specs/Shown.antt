@@ -11,8 +11,8 @@ use Rattle.wq_checker.specs.Chains.{IsChainAlong, IsCircleAlong}
 use Rattle.wq_checker.specs.Falling.{AllFall}
 use Rattle.wq_commands.specs.declared.end.End.{End}
 use Rattle.wq_commands.specs.declared.end.End.TheVariants.{Good, Bad, Refused}
-use Rattle.wq_commands.specs.Answer.{declared_waits}
-use Rattle.wq_commands.specs.Declaration.{Declared, declaration}
+use Rattle.wq_groups.specs.DeclaredGroups.{declared_waits, Declared}
+use Rattle.wq_commands.specs.Declaration.{declaration}
 use Rattle.wq_commands.specs.Promise.{KeepsPlan, KeepsCircle}
 
 -- the bytes keep what is promised of a plan. They spell its assignment, its arcs, and as many groups as it has

@@ -7,7 +7,7 @@ use Rattle.wq_items.specs.Building.{item_refusal}
 use Rattle.wq_groups.specs.declared.fault.GroupError.{GroupError}
 use Rattle.wq_groups.specs.declared.fault.GroupError.TheVariants as groups
 use Rattle.wq_groups.specs.Grouping.{group_refusal}
-use Rattle.wq_commands.specs.Declaration.{Declared}
+use Rattle.wq_groups.specs.DeclaredGroups.{Declared}
 use Rattle.wq_commands.specs.declared.declaration.Stop.{Stop}
 use Rattle.wq_commands.specs.declared.declaration.Stop.TheVariants.{Refused, OutOfMemory}
 

@@ -8,9 +8,9 @@ use Rattle.wq_text.specs.LineText.{line_text}
 use Rattle.wq_cert.specs.Texts.{answer_of}
 use Rattle.wq_checker.specs.declared.answer.Yes.TheVariants as yes
 use Rattle.wq_checker.specs.Chains.{IsChainAlong, IsCircleAlong}
-use Rattle.wq_commands.specs.Answer.{declared_waits}
+use Rattle.wq_groups.specs.DeclaredGroups.{declared_waits, Declared}
 use Rattle.wq_commands.specs.Checking.{yes_words}
-use Rattle.wq_commands.specs.Declaration.{Declared, declaration}
+use Rattle.wq_commands.specs.Declaration.{declaration}
 
 -- a plan is read from the certificate, and `yes K` is printed, where K is the number of its workqueues; no run of its
 -- assignment ends stuck, and every assignment to fewer workqueues deadlocks; its arcs are those of a chain of K groups

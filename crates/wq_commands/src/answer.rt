@@ -8,11 +8,11 @@ ghost use Rattle.wq_core.specs.Wiring.{wiring, own_lanes};
 ghost use Rattle.wq_core.specs.Deadlock.{Deadlocks};
 ghost use Rattle.wq_deadlock.specs.Verdict.{IsDeadlock};
 ghost use Rattle.wq_plan.specs.Solve.{IsPlanned, IsCircled, Solves};
-ghost use Rattle.wq_commands.specs.Answer.{PrintsCircle, declared_waits, text_of_plan};
+ghost use Rattle.wq_groups.specs.DeclaredGroups.{declared_waits};
+ghost use Rattle.wq_commands.specs.Answer.{PrintsCircle, text_of_plan};
 ghost use Rattle.wq_commands.specs.Commands.{FindsPlan};
 
 use crate::arc_ends::ends_of;
-use crate::declaration::Declaration;
 use crate::end::End;
 use crate::shell::Answered;
 use std::alloc::{AllocError, Allocator};
@@ -20,7 +20,7 @@ use wq_cert::{circle_text, plan_text};
 use wq_core::Step;
 use wq_deadlock::circle_run;
 use wq_graph::WaitArc;
-use wq_groups::Assignment;
+use wq_groups::{Assignment, Declaration};
 use wq_plan::{Answer, solve};
 
 /// The text of the plan of the declared items, with the chain that `solve` gave with it.

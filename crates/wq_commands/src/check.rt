@@ -12,7 +12,6 @@ ghost use Rattle.wq_meter.specs.Input.{AfterGiven, HasFailed, HasGiven};
 ghost use Rattle.wq_commands.specs.declared.end.End.{End};
 
 use crate::checking::check_declared;
-use crate::declaration::Declaration;
 use crate::end::End;
 use crate::found::Found;
 use crate::limits::TWO_TEXTS;
@@ -20,6 +19,7 @@ use crate::shell::{Answered, Command, Finds, Silent, carry_out};
 use std::alloc::{AllocError, Allocator};
 use std::io::{self, Read, Write};
 use wq_checker::{No, Yes};
+use wq_groups::Declaration;
 use wq_meter::{Fault, Limits, Metered, Texts};
 
 /// The command `check`: its texts are a declaration and a certificate.

@@ -7,17 +7,17 @@ ghost use Rattle.wq_text.specs.LineText.{spaced, line_text};
 ghost use Rattle.wq_cert.specs.Certificate.{certificate};
 ghost use Rattle.wq_checker.specs.Answers.{IsAsked};
 ghost use Rattle.wq_checker.specs.declared.answer.No.TheVariants.{NotFalling};
-ghost use Rattle.wq_commands.specs.Answer.{declared_waits};
+ghost use Rattle.wq_groups.specs.DeclaredGroups.{declared_waits};
 ghost use Rattle.wq_commands.specs.Checking.{yes_words, no_details, no_words, NamesItems, PrintsCheck};
 ghost use Rattle.wq_commands.specs.Commands.{ChecksText, FindsCheck};
 
-use crate::declaration::Declaration;
 use crate::end::End;
 use crate::found::{Found, Which};
 use crate::shell::Answered;
 use std::alloc::{AllocError, Allocator};
 use wq_cert::{CertAnswer, read_answer};
 use wq_checker::{No, Yes, check_answer};
+use wq_groups::Declaration;
 use wq_items::{ItemId, ItemTable};
 use wq_text::{put, put_end, put_number, put_word};
 

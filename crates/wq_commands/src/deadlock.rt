@@ -12,13 +12,13 @@ ghost use Rattle.wq_meter.specs.Input.{AfterGiven, HasFailed, HasGiven};
 ghost use Rattle.wq_commands.specs.declared.end.End.{End};
 
 use crate::deadlocking::{Verdict, judge_declared};
-use crate::declaration::Declaration;
 use crate::end::End;
 use crate::found::Found;
 use crate::limits::TWO_TEXTS;
 use crate::shell::{Answered, Command, Finds, Silent, carry_out};
 use std::alloc::{AllocError, Allocator};
 use std::io::{self, Read, Write};
+use wq_groups::Declaration;
 use wq_meter::{Fault, Limits, Metered, Texts};
 
 /// The command `deadlock`: its texts are a declaration and an assignment.

@@ -3,22 +3,22 @@
 //! The rule is that of "Deadlocking runs" in docs/FORMAT.md. It takes the time and the memory of reading the two texts
 //! and of the verdict, whose run has 45,056 steps at most.
 
-ghost use Rattle.std.specs.Prelude.{◌≡◌, IfOk};
+ghost use Rattle.std.specs.Prelude.{◌≡◌, length, IfOk};
 ghost use Rattle.wq_cert.specs.RunText.{run_text};
 ghost use Rattle.wq_deadlock.specs.Judging.{IsHang, IsJudged};
-ghost use Rattle.wq_commands.specs.Answer.{declared_waits};
+ghost use Rattle.wq_groups.specs.DeclaredGroups.{declared_waits};
 ghost use Rattle.wq_commands.specs.Commands.{FindsVerdict, JudgesText};
 ghost use Rattle.wq_commands.specs.Deadlocking.{safe_text, JudgesAssigned};
 
-use crate::assigned::Assigned;
-use crate::declaration::Declaration;
+use crate::assigned::workqueues_of;
 use crate::end::End;
 use crate::found::{Found, Which};
 use crate::shell::Answered;
 use std::alloc::{AllocError, Allocator};
 use wq_cert::run_text;
-use wq_core::{Step, Workqueues};
+use wq_core::{Assigned, Step, Workqueues};
 use wq_deadlock::{Judged, judge as judge_workqueues};
+use wq_groups::Declaration;
 use wq_text::{put, put_end};
 
 /// Workqueues, and the verdict on them: good if they are safe, and bad if they can hang.
@@ -82,25 +82,20 @@ fn judge_assigned<A: Allocator + Copy>(
     ensures { IfOk result (λ printed.
         JudgesAssigned assigned.now.declared assigned.now.workqueues printed.0 printed.1.items) }
 {
-    let declared = assigned.declared;
-    let judged = judge_workqueues(
-        alloc,
-        &declared.table,
-        &declared.groups,
-        &assigned.workqueues,
-    )?;
+    let judged = judge_workqueues(alloc, assigned)?;
     print_verdict(alloc, assigned, &judged)
 }
 
 /// The answer to workqueues of the declared groups.
 fn find_verdict<A: Allocator + Copy>(
     alloc: A,
-    assigned: Assigned<'_, '_, A>,
+    declared: &Declaration<'_, A>,
+    workqueues: Workqueues<A>,
 ) -> Result<Answered<A, Found<Verdict<A>>>, AllocError>
-    ensures { IfOk result (λ a. FindsVerdict assigned.entry.declared assigned.entry.workqueues a.found a.end a.text.items) }
+    requires { length workqueues.assignment.lane_of_group ≡ declared.now.partition.groups }
+    ensures { IfOk result (λ a. FindsVerdict declared.now workqueues a.found a.end a.text.items) }
 {
-    let (end, text) = judge_assigned(alloc, &assigned)?;
-    let workqueues = assigned.workqueues;
+    let (end, text) = judge_assigned(alloc, &Assigned::new(declared, &workqueues))?;
     Ok(Answered {
         found: Found::Read(Verdict { workqueues, end }),
         end,
@@ -116,8 +111,8 @@ pub(crate) fn judge_declared<A: Allocator + Copy>(
 ) -> Result<Answered<A, Found<Verdict<A>>>, AllocError>
     ensures { IfOk result (λ a. JudgesText declared.now text.now a.found a.end a.text.items) }
 {
-    match Assigned::read(alloc, declared, text) {
-        Ok(assigned) => find_verdict(alloc, assigned),
+    match workqueues_of(alloc, declared, text) {
+        Ok(workqueues) => find_verdict(alloc, declared, workqueues),
         Err(fault) => Answered::unread(alloc, Which::Certificate, fault),
     }
 }

@@ -3,7 +3,7 @@
 //!
 //! They take time in the length of the text, and memory in the number of items and flushes.
 
-ghost use Rattle.std.specs.Prelude.{◌≡◌, Ok, Err, None, Result, IfOk, IfErr, length};
+ghost use Rattle.std.specs.Prelude.{◌≡◌, Ok, Err, None, Result, IfOk, IfErr};
 ghost use Rattle.wq_text.specs.Lines.{lines_of};
 ghost use Rattle.wq_text.specs.Limits.{limit_fault, text_refusal};
 ghost use Rattle.wq_decl.specs.Reading.{first_fault, directives, decl_refusal};
@@ -16,9 +16,8 @@ ghost use Rattle.wq_commands.specs.Stop.{StopsAt, item_stop, group_stop};
 ghost use Rattle.wq_commands.specs.declared.declaration.Stop.TheVariants.{Refused, OutOfMemory};
 
 use std::alloc::Allocator;
-use std::marker::Model;
 use wq_decl::{DeclError, DeclView};
-use wq_groups::{GroupError, Groups};
+use wq_groups::{Declaration, GroupError, Groups};
 use wq_items::{ItemError, ItemId, ItemTable, read_at_once};
 use wq_text::{Text, TextError};
 
@@ -27,36 +26,6 @@ pub const MAX_DECLARATION: u32 = 1_048_576;
 
 /// How many bytes a line of it may have, without its line feed and a carriage return before that: 4 KiB.
 pub const MAX_DECLARATION_LINE: u32 = 4096;
-
-/// What a text declares: its items with their flushes, and the groups of these items.
-#[derive(Drop)]
-pub struct Declaration<'a, A: Allocator> {
-    pub table: ItemTable<'a, A>,
-    pub groups: Groups<A>,
-}
-
-impl<'a, A: Allocator> Model for Declaration<'a, A> {
-    ghost use Rattle.wq_commands.specs.Declaration.{Declared, IsSound};
-
-    ghost Value = { Declared };
-
-    ghost view = { λ d. record { table = d.table; partition = d.groups } };
-
-    ghost invariant = { λ d. IsSound (record { table = d.table; partition = d.groups }) };
-}
-
-impl<'a, A: Allocator + Copy> Declaration<'a, A> {
-    /// These items, in these groups.
-    pub fn new(table: ItemTable<'a, A>, groups: Groups<A>) -> Self
-        requires { length groups.group_of ≡ length table.names }
-        ensures { result ≡ record { table = table.entry; partition = groups } }
-    {
-        // What holds of every table and of all groups.
-        let _items = table.len();
-        let _groups = groups.len();
-        Declaration { table, groups }
-    }
-}
 
 /// Why a text declares nothing.
 #[derive(Clone, Copy, Debug, PartialEq, Eq)]

@@ -29,7 +29,8 @@ ghost use Rattle.wq_deadlock.specs.Bounds.{IsNamed};
 ghost use Rattle.wq_deadlock.specs.CircleRun.{IsCircleRun};
 ghost use Rattle.wq_deadlock.specs.Judging.{IsHang, bare_waits, rescued_graph};
 ghost use Rattle.wq_deadlock.specs.Verdict.{IsDeadlock};
-ghost use Rattle.wq_commands.specs.Answer.{Answers, declared_waits, text_of_plan, text_of_circle};
+ghost use Rattle.wq_groups.specs.DeclaredGroups.{declared_waits, Declared};
+ghost use Rattle.wq_commands.specs.Answer.{Answers, text_of_plan, text_of_circle};
 ghost use Rattle.wq_commands.specs.DeclaredIn.{declared_in, named_of};
 ghost use Rattle.wq_commands.specs.Promise.{KeepsPromise};
 ghost use Rattle.wq_commands.specs.Shown.{ShowsPlan, ShowsCircle, ShowsAnswer};
@@ -47,7 +48,7 @@ ghost use Rattle.wq_commands.specs.declared.found.Found.{Found};
 ghost use Rattle.wq_commands.specs.declared.replaying.Replayed.{Replayed};
 ghost use Rattle.wq_meter.specs.Meter.{WritesWhole};
 ghost use Rattle.wq_meter.specs.Shell.{AreFrom, Given, GivesIf, Tells};
-ghost use Rattle.wq_commands.specs.Declaration.{Declared, declaration, max_declaration};
+ghost use Rattle.wq_commands.specs.Declaration.{declaration, max_declaration};
 ghost use Rattle.wq_commands.specs.declared.end.End.{End};
 ghost use Rattle.wq_commands.specs.declared.end.End.TheVariants.{Good, Bad, Refused};
 

@@ -26,11 +26,11 @@ mod replaying;
 mod shell;
 
 pub use answer::text_of_circle;
-pub use assigned::Assigned;
+pub use assigned::{own_workqueues, workqueues_of};
 pub use check::{CheckCommand, check_cmd};
 pub use deadlock::{DeadlockCommand, deadlock_cmd};
 pub use deadlocking::{Verdict, safe_text};
-pub use declaration::{Declaration, MAX_DECLARATION, MAX_DECLARATION_LINE, Stop, read_declaration};
+pub use declaration::{MAX_DECLARATION, MAX_DECLARATION_LINE, Stop, read_declaration};
 pub use end::End;
 pub use found::{Found, Which};
 pub use limits::{ONE_TEXT, THREE_TEXTS, TWO_TEXTS, one_or_two_texts};

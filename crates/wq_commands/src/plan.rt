@@ -9,12 +9,12 @@ ghost use Rattle.wq_commands.specs.PlanInput.{AnswersInput, KeepsPromiseOfInput,
 ghost use Rattle.wq_commands.specs.declared.end.End.{End};
 
 use crate::answer::answer_declared;
-use crate::declaration::Declaration;
 use crate::end::End;
 use crate::limits::ONE_TEXT;
 use crate::shell::{Answered, Command, Finds, Silent, carry_out};
 use std::alloc::{AllocError, Allocator};
 use std::io::{self, Read, Write};
+use wq_groups::Declaration;
 use wq_meter::{Fault, Limits, Metered, Texts};
 
 /// The command `plan`: its one text is a declaration.

@@ -12,7 +12,6 @@ ghost use Rattle.wq_commands.specs.CheckInput.{ReplaysInput};
 ghost use Rattle.wq_meter.specs.Input.{AfterGiven, HasFailed, HasGiven};
 ghost use Rattle.wq_commands.specs.declared.end.End.{End};
 
-use crate::declaration::Declaration;
 use crate::end::End;
 use crate::found::Found;
 use crate::limits::THREE_TEXTS;
@@ -20,6 +19,7 @@ use crate::replaying::{Replayed, replay_declared};
 use crate::shell::{Answered, Command, Finds, Silent, carry_out};
 use std::alloc::{AllocError, Allocator};
 use std::io::{self, Read, Write};
+use wq_groups::Declaration;
 use wq_meter::{Fault, Limits, Metered, Texts};
 
 /// The command `replay`: its texts are a declaration, an assignment and a run.

@@ -6,19 +6,19 @@ ghost use Rattle.std.specs.Prelude.{◌≡◌, ◌∷◌, [], ◌<◌, IfOk, len
 ghost use Rattle.wq_core.specs.Workqueues.{wiring_of};
 ghost use Rattle.wq_text.specs.LineText.{line_text};
 ghost use Rattle.wq_checker.specs.RunEnds.{EndsAs};
-ghost use Rattle.wq_commands.specs.Answer.{declared_waits};
+ghost use Rattle.wq_groups.specs.DeclaredGroups.{declared_waits};
 ghost use Rattle.wq_commands.specs.Commands.{FindsEnd, ReplaysOn, ReplaysTexts};
 ghost use Rattle.wq_commands.specs.Replaying.{replay_words, replay_end};
 
-use crate::assigned::Assigned;
-use crate::declaration::Declaration;
+use crate::assigned::workqueues_of;
 use crate::end::End;
 use crate::found::{Found, Which};
 use crate::shell::Answered;
 use std::alloc::{AllocError, Allocator};
 use wq_cert::read_run;
 use wq_checker::{RunEnd, check_run_on};
-use wq_core::{Step, Workqueues};
+use wq_core::{Assigned, Step, Workqueues};
+use wq_groups::Declaration;
 use wq_text::{put, put_end, put_number};
 
 /// A run that was made on workqueues, and how it ends.
@@ -75,16 +75,17 @@ fn replay_end(end: RunEnd) -> End
 /// The answer to a run that makes these steps on workqueues of the declared groups.
 fn replay_steps<A: Allocator + Copy>(
     alloc: A,
-    assigned: Assigned<'_, '_, A>,
+    declared: &Declaration<'_, A>,
+    workqueues: Workqueues<A>,
     steps: Vec<Step, A>,
 ) -> Result<Answered<A, Found<Replayed<A>>>, AllocError>
-    requires { length steps.items < 4294967295 }
-    ensures { IfOk result (λ a.
-        FindsEnd assigned.entry.declared assigned.entry.workqueues steps.items a.found a.end a.text.items) }
+    requires assigned { length workqueues.assignment.lane_of_group ≡ declared.now.partition.groups }
+    requires few { length steps.items < 4294967295 }
+    ensures { IfOk result (λ a. FindsEnd declared.now workqueues steps.items a.found a.end a.text.items) }
 {
+    let assigned = Assigned::new(declared, &workqueues);
     let end = end_of_steps(alloc, &assigned, steps.as_slice())?;
     let text = replay_text(alloc, end)?;
-    let workqueues = assigned.workqueues;
     Ok(Answered {
         found: Found::Read(Replayed {
             workqueues,
@@ -106,30 +107,31 @@ fn end_of_steps<A: Allocator + Copy>(
     ensures { IfOk result (EndsAs
         (wiring_of (declared_waits assigned.now.declared) assigned.now.workqueues) steps.now) }
 {
-    let declared = assigned.declared;
     check_run_on(
         alloc,
-        &declared.table,
-        &declared.groups,
-        &assigned.workqueues,
+        assigned.table(),
+        assigned.groups(),
+        assigned.workqueues(),
         steps,
     )
 }
 
 /// The answer to workqueues of the declared groups and the text of a run.
-fn replay_assigned<A: Allocator + Copy>(
+fn replay_on<A: Allocator + Copy>(
     alloc: A,
-    assigned: Assigned<'_, '_, A>,
+    declared: &Declaration<'_, A>,
+    workqueues: Workqueues<A>,
     text: &[u8],
 ) -> Result<Answered<A, Found<Replayed<A>>>, AllocError>
-    ensures { IfOk result (λ a. ReplaysOn assigned.entry.declared assigned.entry.workqueues text.now a.found a.end a.text.items) }
+    requires { length workqueues.assignment.lane_of_group ≡ declared.now.partition.groups }
+    ensures { IfOk result (λ a. ReplaysOn declared.now workqueues text.now a.found a.end a.text.items) }
 {
-    match read_run(alloc, text, assigned.table()) {
-        Ok(steps) => replay_steps(alloc, assigned, steps),
+    match read_run(alloc, text, &declared.table) {
+        Ok(steps) => replay_steps(alloc, declared, workqueues, steps),
         Err(fault) => {
             let answer = Answered::unread(alloc, Which::Run, fault);
             // Written as a call, so that the proof has one step for it.
-            drop(assigned);
+            drop(workqueues);
             answer
         }
     }
@@ -144,8 +146,8 @@ pub(crate) fn replay_declared<A: Allocator + Copy>(
 ) -> Result<Answered<A, Found<Replayed<A>>>, AllocError>
     ensures { IfOk result (λ a. ReplaysTexts declared.now assignment.now text.now a.found a.end a.text.items) }
 {
-    match Assigned::read(alloc, declared, assignment) {
-        Ok(assigned) => replay_assigned(alloc, assigned, text),
+    match workqueues_of(alloc, declared, assignment) {
+        Ok(workqueues) => replay_on(alloc, declared, workqueues, text),
         Err(fault) => Answered::unread(alloc, Which::Certificate, fault),
     }
 }

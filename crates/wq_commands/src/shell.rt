@@ -1,10 +1,10 @@
-//! The shell of every command: it reads the texts of a command in their order, and the declaration in the first of them;
-//! asks the command; writes its answer; and then says more of what the command found.
+//! The shell of every command: it reads the texts of a command in their order, and the declaration in the first of
+//! them; asks the command; writes its answer; and then says more of what the command found.
 //!
 //! Each text is read once. What a command finds is a value: of it the answer is printed, and of it more is said. All
 //! that is promised of readers and writers is promised here, once for all commands. What is said, mostly on standard
-//! error, changes neither the answer nor the end. The time is that of reading the texts, of the answer, of what is said,
-//! and of writing both.
+//! error, changes neither the answer nor the end. The time is that of reading the texts, of the answer, of what is
+//! said, and of writing both.
 
 ghost use Rattle.std.specs.Prelude.{◌≡◌, ◌≢◌, ◌≤◌, ◌+◌, ◌⊎◌, ℕ, List, Ok, Err, Some, Result, IfOk, IfErr, OnErr};
 ghost use Rattle.std.specs.Prelude.{MatchResult, option_map};
@@ -17,11 +17,12 @@ ghost use Rattle.wq_commands.specs.Answer.{PrintsRefusal};
 ghost use Rattle.wq_commands.specs.Declaration.{declaration};
 ghost use Rattle.wq_commands.specs.Shell.{AnswersTexts, IsAnswered, SaysOfTexts};
 
-use crate::declaration::{Declaration, Stop, read_declaration};
+use crate::declaration::{Stop, read_declaration};
 use crate::end::End;
 use crate::refusal::refuse;
 use std::alloc::{AllocError, Allocator};
 use std::io::{Read, Write};
+use wq_groups::Declaration;
 use wq_meter::{Fault, Limits, Metered, Texts, read_texts, write_text};
 
 /// What a command answers to a declaration and the texts behind it.
@@ -55,7 +56,7 @@ pub trait Finds<A: Allocator> {
     ghost use Rattle.std.specs.Prelude.{ℕ, List};
     ghost use Rattle.wq_meter.specs.Shell.{Given};
     ghost use Rattle.wq_meter.specs.declared.texts.Limits.{Limits};
-    ghost use Rattle.wq_commands.specs.Declaration.{Declared};
+    ghost use Rattle.wq_groups.specs.DeclaredGroups.{Declared};
     ghost use Rattle.wq_commands.specs.declared.end.End.{End};
 
     /// What it finds. Of this value the answer is printed, and more is said.
@@ -91,7 +92,7 @@ pub trait Voice<C: Finds<A>, A: Allocator> {
     ghost use Rattle.std.specs.Prelude.{List, Option, ℕ};
     ghost use Rattle.wq_text.specs.Refusal.{Refusal};
     ghost use Rattle.wq_meter.specs.Shell.{Given};
-    ghost use Rattle.wq_commands.specs.Declaration.{Declared};
+    ghost use Rattle.wq_groups.specs.DeclaredGroups.{Declared};
 
     // this is said of what the command found in this declaration and these texts; nothing may be said
     ghost says: { Self → C → Declared → Given → C.Found → Option (List ℕ) → Type 0 };

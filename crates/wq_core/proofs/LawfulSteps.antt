@@ -15,33 +15,10 @@ use Rattle.wq_core.proofs.Machines.{pending-own_lane}
 
 -- ---- a rescuer has at most one item to start, one whose wait may be over, and one to finish
 
-pub MayStartFirst-one : (lane : Lane) (i j : ℕ) → MayStartFirst lane i → MayStartFirst lane j → i ≡ j
-MayStartFirst-one lane i j one other =
-    let both : Some one.entry ≡ Some other.entry = sym one.first ∙ other.first in
-    let same : one.entry ≡ other.entry = cc in
-    sym one.of_item ∙ ap (λ (e : Entry). e.item) same ∙ other.of_item
-
-pub MayBeOver-one : (w : Wiring) (s : State) (r : Running) (whole other_kind : Bool) (b c : ℕ) → MayBeOver w s whole b r → MayBeOver w s other_kind c r → b ≡ c
-MayBeOver-one w s r whole other_kind b c one other =
-    let both : Some one.flush ≡ Some other.flush = sym one.waits ∙ other.waits in
-    let same : one.flush ≡ other.flush = cc in
-    sym one.target ∙ ap (λ (f : Waiting). f.target) same ∙ other.target
-
-pub over-one : (w : Wiring) (s : State) (q b c : ℕ) → Lawful w s (Over q b) → Lawful w s (Over q c) → b ≡ c
-over-one w s q b c (r, runs, may) (x, other, may_too) =
-    MayBeOver-one w s r false false b c may (subst (MayBeOver w s false c) (sym (same_running (lane_at s q) 0 r x runs other)) may_too)
-
-pub finish-one : (w : Wiring) (s : State) (q i j : ℕ) → Lawful w s (Finish q i) → Lawful w s (Finish q j) → i ≡ j
-finish-one w s q i j (r, runs, may) (x, other, may_too) =
-    sym may.entry ∙ ap (λ (y : Running). y.entry.item) (same_running (lane_at s q) 0 r x runs other) ∙ may_too.entry
-
 -- ---- items exist
 
 pub pending-item : (w : Wiring) (s : State) (i : ℕ) → IsSoundState w s → HasPending s i → i < items w
 pending-item w s i sound h = (pending-own_lane w s i sound h).0
-
-pub unfinished-item : (w : Wiring) (s : State) (i : ℕ) → IsSoundState w s → HasUnfinishedOf s i → i < items w
-unfinished-item w s i sound h = subst (λ j. j < items w) h.of_item (sound.own_lane h.lane h.entry h.unfinished).0
 
 pub start-item : (w : Wiring) (s : State) (q c i : ℕ) → IsSoundState w s → MayStart (lane_at s q) c i → i < items w
 start-item w s q c i sound may =

@@ -241,12 +241,6 @@ module _ (w : Wiring) (s : State) (numbers : List (Option ℕ)) (i : ℕ) (numbe
       let never : None ≡ Some h.entry.number = sym is ∙ there in
       cc
 
-  pub numbered-within : (n : ℕ) → get_or numbers i None ≡ Some n → i < items w
-  numbered-within n is = elim (cases_lt i (length numbers)) [
-    | inl within ↦ omega (arith, within, numbering.one_each)
-    | inr past ↦ absurd (let never : None ≡ Some n = sym (get_or_past numbers i None past) ∙ is in cc)
-  ]
-
   pub numbered-below : (n mark : ℕ) → get_or numbers i None ≡ Some n → IsTrue (ltb n mark) ↔ HasPendingBelow s i mark
   numbered-below n mark is = (
     (λ h. record { lane = lane_of w i; entry = record { number = n; item = i }; pending = numbering.pending i n is; of_item = refl; below = ltb-true n mark h }),

@@ -177,21 +177,6 @@ pub work_left-after : (m : Machine) (step : Step) → IsMachine m → Lawful m.w
 work_left-after m step machine lawful =
     work_left-few m.wiring (effect m.wiring m.state step) (IsSoundState-effect m.wiring m.state step machine.state lawful) machine.wiring (IsLimited-machine m machine)
 
--- what a lane runs, and what one of its contexts runs
-pub running_works-machine : (m : Machine) (q : ℕ) → IsMachine m → running_work m.wiring (lane_at m.state q).running + sum_by (running_work m.wiring) (lane_at m.state q).helping ≤ 134225920
-running_works-machine m q machine =
-    let limits = IsLimited-machine m machine in
-    let on = running_work-on m.wiring m.state machine.state machine.wiring limits q in
-    let all : count_by (λ l. l == q) m.wiring.lane_of_item ≤ length m.wiring.lane_of_item = count_by-le-length (λ l. l == q) m.wiring.lane_of_item in
-    omega (arith, on, all, machine.wiring.one_lane_each, machine.few_items)
-
-pub running_work-machine : (m : Machine) (q c : ℕ) → IsMachine m → running_work m.wiring (run_by (lane_at m.state q) c) ≤ 32770
-running_work-machine m q c machine = by (run_by (lane_at m.state q) c) refl
-  where
-    by : (o : Option Running) → run_by (lane_at m.state q) c ≡ o → running_work m.wiring o ≤ 32770
-    by None is = omega arith
-    by (Some r) is = omega (arith, whole_work-few m.wiring r.entry.item (IsLimited-machine m machine) (running-item m.wiring m.state q c r machine.state is))
-
 -- ---- helper by helper
 
 -- one more helper

@@ -3,6 +3,7 @@ pub use Rattle.wq_groups.specs.Declaration
 pub use Rattle.wq_groups.specs.Assignment
 pub mod Wiring
 pub mod Workqueues
+pub mod Assigned
 pub mod State
 pub mod Rules
 pub mod Runs

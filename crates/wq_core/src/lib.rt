@@ -8,6 +8,7 @@
 //! entries. Questions about all lanes take time in the number of these and of their helpers.
 #![tactic(auto)]
 
+mod assigned;
 mod building;
 mod entry;
 mod lane;
@@ -21,6 +22,7 @@ mod targets;
 mod work;
 mod workqueues;
 
+pub use assigned::Assigned;
 pub use entry::{Entry, Running, Waiting};
 pub use lane::{Lane, LaneShape, MAX_HELPERS};
 pub use lanes::Lanes;

@@ -156,22 +156,6 @@ lane_kind-counted (AskLane q) kind is = refl
 lane_kind-counted (ToldLane q) kind is = refl
 lane_kind-counted (Help q h step) kind is = absurd cc
 
--- and it has no kind of both
-pub one_kind : (event : Event) (kind : Kind) → kind_in event ≡ Some kind → lane_kind_in event ≡ None
-one_kind (Queue i) kind is = refl
-one_kind (Cancel i) kind is = refl
-one_kind (Start q i) kind is = absurd cc
-one_kind (Wait q b) kind is = refl
-one_kind (Over q b) kind is = refl
-one_kind (Finish q i) kind is = refl
-one_kind (Ask i) kind is = refl
-one_kind (Told i) kind is = refl
-one_kind (WaitAll q b) kind is = refl
-one_kind (OverAll q b) kind is = refl
-one_kind (AskLane q) kind is = absurd cc
-one_kind (ToldLane q) kind is = absurd cc
-one_kind (Help q h step) kind is = refl
-
 -- ---- which item or lane and kind a row is of, and with which answer
 
 -- two tests that answer yes alike answer alike
@@ -179,15 +163,6 @@ same_tests : (a b : Bool) → (a ≡ true → b ≡ true) → (b ≡ true → a 
 same_tests true b there back = sym (there refl)
 same_tests false true there back = back refl
 same_tests false false there back = refl
-
--- a row that is counted is of its own item and kind, with its own answer
-pub is_of-own : (row : Row) (kind : Kind) → kind_in row.event ≡ Some kind
-    → is_of (item_in row.event) kind row.yes row ≡ true
-is_of-own row kind is =
-    and_from (has_kind (kind_in row.event) kind) ((item_in row.event == item_in row.event) && (answer_place row.yes == answer_place row.yes))
-    (ap (λ o. has_kind o kind) is ∙ eq-eqb (kind_place kind) (kind_place kind) refl)
-    (and_from (item_in row.event == item_in row.event) (answer_place row.yes == answer_place row.yes)
-    (eq-eqb (item_in row.event) (item_in row.event) refl) (eq-eqb (answer_place row.yes) (answer_place row.yes) refl))
 
 -- a kind that a row has is its own
 pub has_kind-own : (own : Option Kind) (kind : Kind) → has_kind own kind ≡ true → own ≡ Some kind
@@ -201,15 +176,6 @@ is_of-parts row i kind said is =
     let parts = and_parts (has_kind (kind_in row.event) kind) ((item_in row.event == i) && (answer_place row.yes == answer_place said)) is in
     let rest = and_parts (item_in row.event == i) (answer_place row.yes == answer_place said) parts.1 in
     (has_kind-own (kind_in row.event) kind parts.0, eqb-true (item_in row.event) i rest.0, answer_place-same row.yes said (eqb-true (answer_place row.yes) (answer_place said) rest.1))
-
--- the same of a lane
-pub is_of_lane-own : (row : Row) (kind : LaneKind) → lane_kind_in row.event ≡ Some kind
-    → is_of_lane (lane_in row.event) kind row.yes row ≡ true
-is_of_lane-own row kind is =
-    and_from (has_lane_kind (lane_kind_in row.event) kind) ((lane_in row.event == lane_in row.event) && (answer_place row.yes == answer_place row.yes))
-    (ap (λ o. has_lane_kind o kind) is ∙ eq-eqb (lane_kind_place kind) (lane_kind_place kind) refl)
-    (and_from (lane_in row.event == lane_in row.event) (answer_place row.yes == answer_place row.yes)
-    (eq-eqb (lane_in row.event) (lane_in row.event) refl) (eq-eqb (answer_place row.yes) (answer_place row.yes) refl))
 
 has_lane_kind-own : (own : Option LaneKind) (kind : LaneKind) → has_lane_kind own kind ≡ true → own ≡ Some kind
 has_lane_kind-own None kind has = absurd (false≢true has)

@@ -10,7 +10,8 @@ use Rattle.wq_items.specs.Table.{ItemWaits}
 use Rattle.wq_items.proofs.Lists.{Contains-here, Contains-filtered}
 use Rattle.wq_groups.specs.Declaration.{Declaration, IsDeclaration}
 use Rattle.wq_groups.specs.Assignment.{Assignment, IsAssignment, group_lane, item_lanes}
-use Rattle.wq_groups.proofs.Declarations.{waiting-item, awaited-item}
+use Rattle.wq_groups.specs.DeclaredGroups.{declared_waits}
+use Rattle.wq_groups.proofs.Declarations.{IsDeclaration-of, waiting-item, awaited-item}
 use Rattle.wq_groups.proofs.Lanes.{item_lanes-at, item_lanes-within}
 use Rattle.wq_graph.specs.declared.arc.WaitArc.{WaitArc}
 use Rattle.wq_graph.specs.Graph.{arc_of, arcs_by_place, arcs_from, lane_graph, IsArc}
@@ -24,12 +25,13 @@ use Rattle.wq_levels.proofs.Walks.{LeadsRound-walked}
 use Rattle.wq_core.specs.declared.step.Step.{Step}
 use Rattle.wq_core.specs.Wiring.{Wiring, IsWiring, HasRescuer, wiring, lane_of}
 use Rattle.wq_core.specs.Workqueues.{Workqueues, wiring_of}
-use Rattle.wq_core.specs.Deadlock.{DeadlocksBy}
+use Rattle.wq_core.specs.Assigned.{Assigned, IsAssigned}
+use Rattle.wq_core.specs.Deadlock.{Deadlocks, DeadlocksBy}
 use Rattle.wq_core.specs.Knot.{IsKnot}
 use Rattle.wq_core.specs.Played.{queue_order}
 use Rattle.wq_core.specs.Runs.{end_of}
 use Rattle.wq_core.proofs.BareWaits.{IsKnot-bare}
-use Rattle.wq_core.proofs.KnotRuns.{DeadlocksBy-knot, IsRun-queue_order}
+use Rattle.wq_core.proofs.KnotRuns.{Deadlocks-knot, DeadlocksBy-knot, IsRun-queue_order}
 use Rattle.wq_core.proofs.Playing.{IsPlayedFrom-exists}
 use Rattle.wq_core.proofs.Sound.{IsSoundState-end_of}
 use Rattle.wq_core.proofs.Safety.{IsSafe-rescued}
@@ -38,6 +40,12 @@ use Rattle.wq_deadlock.specs.CircleRun.{IsRunOf}
 use Rattle.wq_deadlock.specs.Judging.{is_on_bare, leads_to_bare, bare_waits, rescued_graph, AreFirst, IsHang, AreSafe}
 use Rattle.wq_deadlock.proofs.CircleKnots.{IsKnot-flushing_items}
 use Rattle.wq_deadlock.proofs.Verdicts.{HasArc-items}
+
+-- what is declared is a declaration
+pub IsDeclaration-assigned : (a : Assigned) → IsAssigned a → IsDeclaration (declared_waits a.declared)
+IsDeclaration-assigned a is =
+    IsDeclaration-of a.declared.table a.declared.partition is.declared.table is.declared.partition
+    is.declared.one_group_each
 
 leads : (src dst : Bool) → (not src && dst) ≡ true → (src ≡ false) × (dst ≡ true)
 leads true dst is = absurd (let never : false ≡ true = is in cc)
@@ -160,6 +168,23 @@ module _ (d : Declaration) (ws : Workqueues) (declaration : IsDeclaration d) (as
     is_run = run;
     deadlocks = subst (λ (all : List Step). DeadlocksBy w all) (sym run.all) (DeadlocksBy-knot w first run.played IsWiring-workqueues (IsKnot-first (bare_waits d ws) refl first are) run.is_played);
   }
+
+  pub Deadlocks-first : (first : List ℕ) → AreFirst d ws (bare_waits d ws) first → Deadlocks w
+  Deadlocks-first first are = Deadlocks-knot w first IsWiring-workqueues (IsKnot-first (bare_waits d ws) refl first are)
+
+  pub some-first : (first : List ℕ) → AreFirst d ws (bare_waits d ws) first → 0 < ws.assignment.lanes
+  some-first first are = lanes-first first (IsKnot-first (bare_waits d ws) refl first are)
+
+  -- a flush that leads to a workqueue without a rescuer suffices
+  pub Deadlocks-bare : (waits : List WaitArc) → waits ≡ bare_waits d ws → 0 < length waits → Deadlocks w
+  Deadlocks-bare [] all some = absurd (omega (arith, some))
+  Deadlocks-bare (x ∷ more) all some =
+      Deadlocks-first (x.src ∷ []) (subst (λ (l : List WaitArc). AreFirst d ws l (x.src ∷ [])) all refl)
+
+  pub some-bare : (waits : List WaitArc) → waits ≡ bare_waits d ws → 0 < length waits → 0 < ws.assignment.lanes
+  some-bare [] all some = absurd (omega (arith, some))
+  some-bare (x ∷ more) all some =
+      some-first (x.src ∷ []) (subst (λ (l : List WaitArc). AreFirst d ws l (x.src ∷ [])) all refl)
 
   -- ---- safe workqueues
 

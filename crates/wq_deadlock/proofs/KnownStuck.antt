@@ -26,38 +26,6 @@ pub record Forgotten (old new : List Bool) (lanes : List ℕ) : Type 0 where
   pub size : length new ≡ length old
   pub left : (q : ℕ) → get_or new q false ≡ true → (get_or old q false ≡ true) × (¬ Contains lanes q)
 
-set_false : (known : List Bool) (q : ℕ) → get_or (set known q false) q false ≡ false
-set_false [] q = refl
-set_false (b ∷ bs) zero = refl
-set_false (b ∷ bs) (suc q) = set_false bs q
-
-pub Forgotten-none : (known : List Bool) → Forgotten known known []
-Forgotten-none known = record { size = refl; left = λ q is. (is, Contains-nil q) }
-
--- one more lane, whether or not there is such a lane
-pub Forgotten-more : (old new : List Bool) (lanes : List ℕ) (q : ℕ) → Forgotten old new lanes → Forgotten old (set new q false) (lanes ++ (q ∷ []))
-Forgotten-more old new lanes q so_far = record { size = length-set new q false ∙ so_far.size; left = left }
-  where
-    left : (p : ℕ) → get_or (set new q false) p false ≡ true → (get_or old p false ≡ true) × (¬ Contains (lanes ++ (q ∷ [])) p)
-    left p is = elim (cases_eq p q) [
-      | inl same ↦ absurd (let never : false ≡ true = sym (set_false new q) ∙ ap (λ k. get_or (set new q false) k false) (sym same) ∙ is in cc)
-      | inr other ↦ (
-          let was = so_far.left p (sym (get_or-set_other new q p false false other) ∙ is) in
-          (was.0, λ there. elim (Contains-push_cases lanes q p there) [ inl before ↦ was.1 before | inr same ↦ other (sym same) ])
-          )
-    ]
-
-pub Forgotten-past : (old new : List Bool) (lanes : List ℕ) (q : ℕ) → length new ≤ q → Forgotten old new lanes → Forgotten old new (lanes ++ (q ∷ []))
-Forgotten-past old new lanes q past so_far =
-    let more = Forgotten-more old new lanes q so_far in
-    let same : set new q false ≡ new = set_past new q false past in
-    subst (λ (bs : List Bool). Forgotten old bs (lanes ++ (q ∷ []))) same more
-  where
-    set_past : (bs : List Bool) (k : ℕ) (b : Bool) → length bs ≤ k → set bs k b ≡ bs
-    set_past [] k b le = refl
-    set_past (c ∷ cs) zero b le = absurd (omega arith)
-    set_past (c ∷ cs) (suc k) b le = ap (λ (l : List Bool). c ∷ l) (set_past cs k b (omega arith))
-
 -- ---- what is known
 
 -- a lane that is known to be stuck can't move, and if it waits, it is listed by an item that holds its wait back

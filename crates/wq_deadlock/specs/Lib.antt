@@ -1,7 +1,9 @@
 pub use Rattle.wq_groups.specs.Declaration
+pub use Rattle.wq_groups.specs.DeclaredGroups
 pub use Rattle.wq_groups.specs.Assignment
 pub use Rattle.wq_graph.specs.Graph
 pub use Rattle.wq_levels.specs.Walks
+pub use Rattle.wq_core.specs.Assigned
 pub use Rattle.wq_core.specs.Deadlock
 pub use Rattle.wq_core.specs.Played
 pub mod CircleRun

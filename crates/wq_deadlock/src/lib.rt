@@ -27,5 +27,5 @@ pub use circles::{circle_run, own_lanes};
 pub use deciding::verdict;
 pub use judged::Judged;
 pub use outcome::Verdict;
-pub use safety::is_safe;
+pub use safety::{are_safe, is_safe};
 pub use workqueues::{judge, rescued_graph};

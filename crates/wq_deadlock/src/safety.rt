@@ -1,4 +1,4 @@
-//! Whether an assignment is safe: no run of it ends stuck.
+//! Whether an assignment, or workqueues of which some have no rescuer, are safe: no run of them ends stuck.
 //!
 //! The rule is that of Documentation/core-api/workqueue.rst, "Guidelines": work items that are used
 //! during reclaim and depend on one another belong on separate workqueues with WQ_MEM_RECLAIM. Where the
@@ -7,12 +7,18 @@
 //! made. No run and no machine is made for it. The wait graph of the workqueues takes time in the number
 //! of items, workqueues and flushes, and its ranks take time in that of workqueues and flushes.
 
-ghost use Rattle.std.specs.Prelude.{◌≡◌, ◌<◌, ◌↔◌, length, IfOk, OnErr, IsTrue};
+ghost use Rattle.std.specs.Prelude.{◌≡◌, ◌<◌, ◌↔◌, [], false, length, IfOk, OnErr, IsTrue};
 ghost use Rattle.wq_groups.specs.Declaration.{declaration_of};
+ghost use Rattle.wq_groups.specs.DeclaredGroups.{declared_waits};
 ghost use Rattle.wq_core.specs.Wiring.{wiring};
-ghost use Rattle.wq_core.specs.Deadlock.{IsSafe};
+ghost use Rattle.wq_core.specs.Workqueues.{wiring_of};
+ghost use Rattle.wq_core.specs.Deadlock.{Deadlocks, IsSafe};
+ghost use Rattle.wq_deadlock.specs.Judging.{AreSafe, bare_waits};
 
+use crate::bare::bare_waits;
+use crate::workqueues::rescued_graph;
 use std::alloc::{AllocError, Allocator};
+use wq_core::Assigned;
 use wq_graph::WaitGraph;
 use wq_groups::{Assignment, Groups};
 use wq_items::ItemTable;
@@ -41,5 +47,47 @@ pub fn is_safe<A: Allocator + Copy>(
     match rank(alloc, &graph)? {
         Ranked::Ranks(_) => Ok(true),
         Ranked::Circle(_) => Ok(false),
+    }
+}
+
+/// Whether workqueues are safe, where no flush leads from one that has a rescuer to one that has none.
+fn rescued_are_safe<A: Allocator + Copy>(
+    alloc: A,
+    assigned: &Assigned<'_, '_, A>,
+) -> Result<bool, AllocError>
+    requires none { bare_waits (declared_waits assigned.now.declared) assigned.now.workqueues ≡ [] }
+    ensures yes { IfOk result (λ safe. IsTrue safe →
+        AreSafe (declared_waits assigned.now.declared) assigned.now.workqueues) }
+    ensures no { IfOk result (λ safe. safe ≡ false →
+        Deadlocks (wiring_of (declared_waits assigned.now.declared) assigned.now.workqueues)) }
+    ensures some { IfOk result (λ safe. safe ≡ false → 0 < assigned.now.workqueues.assignment.lanes) }
+    ensures memory { OnErr result (0 < assigned.now.workqueues.assignment.lanes) }
+{
+    let graph = rescued_graph(alloc, assigned)?;
+    match rank(alloc, &graph)? {
+        Ranked::Ranks(_) => Ok(true),
+        Ranked::Circle(_) => Ok(false),
+    }
+}
+
+/// Whether the workqueues of declared groups are safe.
+///
+/// The only error is out of memory (20), which can't occur where there is no workqueue.
+pub fn are_safe<A: Allocator + Copy>(
+    alloc: A,
+    assigned: &Assigned<'_, '_, A>,
+) -> Result<bool, AllocError>
+    ensures yes { IfOk result (λ safe. IsTrue safe →
+        AreSafe (declared_waits assigned.now.declared) assigned.now.workqueues) }
+    ensures no { IfOk result (λ safe. safe ≡ false →
+        Deadlocks (wiring_of (declared_waits assigned.now.declared) assigned.now.workqueues)) }
+    ensures some { IfOk result (λ safe. safe ≡ false → 0 < assigned.now.workqueues.assignment.lanes) }
+    ensures memory { OnErr result (0 < assigned.now.workqueues.assignment.lanes) }
+{
+    let waits = bare_waits(alloc, assigned)?;
+    if waits.is_empty() {
+        rescued_are_safe(alloc, assigned)
+    } else {
+        Ok(false)
     }
 }

@@ -5,8 +5,9 @@
 //! on those without a rescuer counts no more, and the others are judged by their graph. It takes
 //! the time of two wait graphs and their ranks, and, where it isn't safe, that of the run.
 
-ghost use Rattle.std.specs.Prelude.{◌≡◌, ◌<◌, [], length, IfOk, OnErr};
-ghost use Rattle.wq_groups.specs.Declaration.{declaration_of};
+ghost use Rattle.std.specs.Prelude.{◌≡◌, ◌<◌, [], IfOk, OnErr};
+ghost use Rattle.wq_groups.specs.DeclaredGroups.{declared_waits};
+ghost use Rattle.wq_core.specs.Assigned.{IsAssigned};
 ghost use Rattle.wq_deadlock.specs.Judging.{AreFirst, IsJudged, bare_waits, rescued_graph};
 
 use crate::bare::bare_waits;
@@ -14,49 +15,50 @@ use crate::hanging::hanging_run;
 use crate::judged::Judged;
 use crate::queueing::flushing_items;
 use std::alloc::{AllocError, Allocator};
-use wq_core::{Core, Workqueues};
+use wq_core::{Assigned, Core};
 use wq_graph::WaitGraph;
-use wq_groups::Groups;
-use wq_items::{ItemId, ItemTable};
+use wq_items::ItemId;
 use wq_levels::{Ranked, rank};
 
-/// The wait graph of the lanes that have a rescuer.
+/// The wait graph of the lanes that have a rescuer; and what holds of each declaration with workqueues.
 ///
 /// The only error is out of memory (20), which can't occur where there is no lane.
 pub fn rescued_graph<A: Allocator + Copy>(
     alloc: A,
-    table: &ItemTable<'_, A>,
-    groups: &Groups<A>,
-    workqueues: &Workqueues<A>,
+    assigned: &Assigned<'_, '_, A>,
 ) -> Result<WaitGraph<A>, AllocError>
-    requires grouped { length groups.now.group_of ≡ length table.now.names }
-    requires assigned { length workqueues.now.assignment.lane_of_group ≡ groups.now.groups }
-    ensures graph { IfOk result (λ g. g ≡ rescued_graph (declaration_of table.now groups.now) workqueues.now) }
-    ensures memory { OnErr result (0 < workqueues.now.assignment.lanes) }
+    ensures graph { IfOk result (λ g.
+        g ≡ rescued_graph (declared_waits assigned.now.declared) assigned.now.workqueues) }
+    ensures assigned { IsAssigned assigned.now }
+    ensures memory { OnErr result (0 < assigned.now.workqueues.assignment.lanes) }
 {
-    let graph = WaitGraph::of_lanes(alloc, table, groups, workqueues.assignment())?;
+    let workqueues = assigned.workqueues();
+    let graph = WaitGraph::of_lanes(
+        alloc,
+        assigned.table(),
+        assigned.groups(),
+        workqueues.assignment(),
+    )?;
     graph.without(alloc, workqueues.bare())
 }
 
 /// The run by which these workqueues hang, where these items are queued first.
 fn hang<A: Allocator + Copy>(
     alloc: A,
-    table: &ItemTable<'_, A>,
-    groups: &Groups<A>,
-    workqueues: &Workqueues<A>,
+    assigned: &Assigned<'_, '_, A>,
     first: &[ItemId],
 ) -> Result<Judged<A>, AllocError>
-    requires grouped { length groups.now.group_of ≡ length table.now.names }
-    requires assigned { length workqueues.now.assignment.lane_of_group ≡ groups.now.groups }
-    requires first { AreFirst (declaration_of table.now groups.now) workqueues.now
-        (bare_waits (declaration_of table.now groups.now) workqueues.now) first.now }
-    ensures verdict { IfOk result (IsJudged (declaration_of table.now groups.now) workqueues.now) }
-    ensures memory { OnErr result (0 < workqueues.now.assignment.lanes) }
+    requires first { AreFirst (declared_waits assigned.now.declared) assigned.now.workqueues
+        (bare_waits (declared_waits assigned.now.declared) assigned.now.workqueues) first.now }
+    ensures verdict { IfOk result (IsJudged (declared_waits assigned.now.declared) assigned.now.workqueues) }
+    ensures memory { OnErr result (0 < assigned.now.workqueues.assignment.lanes) }
 {
-    // Each group has a member, and one of the lanes.
-    prove!(groups.len() <= table.len());
-    prove!(workqueues.assignment().lanes() <= 4096);
-    let core = Core::on_workqueues(alloc, table, groups, workqueues)?;
+    let core = Core::on_workqueues(
+        alloc,
+        assigned.table(),
+        assigned.groups(),
+        assigned.workqueues(),
+    )?;
     let steps = hanging_run(alloc, core, first)?;
     Ok(Judged::Deadlock(steps))
 }
@@ -64,30 +66,23 @@ fn hang<A: Allocator + Copy>(
 /// The verdict where no flush leads from a workqueue that has a rescuer to one that has none.
 fn judge_rescued<A: Allocator + Copy>(
     alloc: A,
-    table: &ItemTable<'_, A>,
-    groups: &Groups<A>,
-    workqueues: &Workqueues<A>,
+    assigned: &Assigned<'_, '_, A>,
 ) -> Result<Judged<A>, AllocError>
-    requires grouped { length groups.now.group_of ≡ length table.now.names }
-    requires assigned { length workqueues.now.assignment.lane_of_group ≡ groups.now.groups }
-    requires none { bare_waits (declaration_of table.now groups.now) workqueues.now ≡ [] }
-    ensures verdict { IfOk result (IsJudged (declaration_of table.now groups.now) workqueues.now) }
-    ensures memory { OnErr result (0 < workqueues.now.assignment.lanes) }
+    requires none { bare_waits (declared_waits assigned.now.declared) assigned.now.workqueues ≡ [] }
+    ensures verdict { IfOk result (IsJudged (declared_waits assigned.now.declared) assigned.now.workqueues) }
+    ensures memory { OnErr result (0 < assigned.now.workqueues.assignment.lanes) }
 {
-    // Each group has a member, and one of the lanes.
-    prove!(groups.len() <= table.len());
-    prove!(workqueues.assignment().lanes() <= 4096);
-    let graph = rescued_graph(alloc, table, groups, workqueues)?;
+    let graph = rescued_graph(alloc, assigned)?;
     match rank(alloc, &graph)? {
         Ranked::Ranks(_) => Ok(Judged::Safe),
         Ranked::Circle(circle) => {
             let first = flushing_items(alloc, circle.as_slice())?;
-            hang(alloc, table, groups, workqueues, first.as_slice())
+            hang(alloc, assigned, first.as_slice())
         }
     }
 }
 
-/// Whether workqueues of a table's items are safe. The groups are those of this table, and each has a workqueue.
+/// Whether the workqueues of declared groups are safe.
 ///
 /// `Deadlock` has a run that ends stuck. The items that are queued first hold up all that wait for them: where a flush
 /// leads from a workqueue that has a rescuer to one that has none, that is the item of the first such flush, and
@@ -95,18 +90,14 @@ fn judge_rescued<A: Allocator + Copy>(
 /// of memory (20), which can't occur where there is no workqueue.
 pub fn judge<A: Allocator + Copy>(
     alloc: A,
-    table: &ItemTable<'_, A>,
-    groups: &Groups<A>,
-    workqueues: &Workqueues<A>,
+    assigned: &Assigned<'_, '_, A>,
 ) -> Result<Judged<A>, AllocError>
-    requires grouped { length groups.now.group_of ≡ length table.now.names }
-    requires assigned { length workqueues.now.assignment.lane_of_group ≡ groups.now.groups }
-    ensures verdict { IfOk result (IsJudged (declaration_of table.now groups.now) workqueues.now) }
-    ensures memory { OnErr result (0 < workqueues.now.assignment.lanes) }
+    ensures verdict { IfOk result (IsJudged (declared_waits assigned.now.declared) assigned.now.workqueues) }
+    ensures memory { OnErr result (0 < assigned.now.workqueues.assignment.lanes) }
 {
-    let waits = bare_waits(alloc, table, groups, workqueues)?;
+    let waits = bare_waits(alloc, assigned)?;
     match waits.as_slice().first() {
-        Some(arc) => hang(alloc, table, groups, workqueues, &[arc.src]),
-        None => judge_rescued(alloc, table, groups, workqueues),
+        Some(arc) => hang(alloc, assigned, &[arc.src]),
+        None => judge_rescued(alloc, assigned),
     }
 }

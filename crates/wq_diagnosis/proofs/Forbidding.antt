@@ -5,9 +5,9 @@ use Rattle.wq_items.specs.Table.{ItemWaitsBy}
 use Rattle.wq_core.specs.declared.entry.Entry.{Entry}
 use Rattle.wq_core.specs.declared.entry.Running.{Running}
 use Rattle.wq_core.specs.declared.entry.Waiting.{Waiting}
-use Rattle.wq_core.specs.declared.step.Step.TheVariants.{Queue, Cancel, Start, Finish}
-use Rattle.wq_core.specs.Wiring.{Wiring, items, declared_by}
-use Rattle.wq_core.specs.State.{Lane, State, lane_at, is_running, next_of, Runs, RunsIn, HasPending}
+use Rattle.wq_core.specs.declared.step.Step.TheVariants.{Start, Finish}
+use Rattle.wq_core.specs.Wiring.{Wiring, declared_by}
+use Rattle.wq_core.specs.State.{Lane, State, lane_at, is_running, next_of, Runs, RunsIn}
 use Rattle.wq_core.specs.Rules.{IsHeldBack, Lawful, MayBeOver, MayWait, over_of, wait_of}
 use Rattle.wq_core.specs.Held.{Machine, IsMachine}
 use Rattle.wq_core.proofs.Contexts.{helpers_of-few, is_running-some}
@@ -66,15 +66,6 @@ nothing_runs m q j machine alone idle = go (is_running (lane_at m.state q) j) re
 
 module _ (w : Wiring) (s : State) where
   -- ---- queueings and cancellations
-
-  pub queue-no_item : (i : ℕ) → (¬ (i < items w)) → Forbids w s why.NoItem (Queue i)
-  queue-no_item i none = record { holds = none; rules_out = λ v t no lawful. no lawful.0 }
-
-  pub queue-pending : (i : ℕ) → HasPending s i → Forbids w s why.Pending (Queue i)
-  queue-pending i pending = record { holds = pending; rules_out = λ v t there lawful. lawful.1 there }
-
-  pub cancel-not_pending : (i : ℕ) → (¬ HasPending s i) → Forbids w s why.NotPending (Cancel i)
-  cancel-not_pending i none = record { holds = none; rules_out = λ v t no lawful. no lawful }
 
   module _ (q i : ℕ) where
     -- ---- starts
@@ -149,14 +140,6 @@ forbids_over true q b w s reason holds never = record { holds = holds; rules_out
 forbids_over false q b w s reason holds never = record { holds = holds; rules_out = never }
 
 module _ (w : Wiring) (s : State) (whole : Bool) (q b : ℕ) where
-  pub wait-nothing : (lane_at s q).running ≡ None → Forbids w s why.NothingRuns (wait_of whole q b)
-  wait-nothing idle =
-      forbids_wait whole q b w s why.NothingRuns idle (λ v t none may. runs_nothing (lane_at t q) may.0 none may.1)
-
-  pub over-nothing : (lane_at s q).running ≡ None → Forbids w s why.NothingRuns (over_of whole q b)
-  over-nothing idle =
-      forbids_over whole q b w s why.NothingRuns idle (λ v t none may. runs_nothing (lane_at t q) may.0 none may.1)
-
   module _ (r : Running) (runs : (lane_at s q).running ≡ Some r) where
     -- ---- a wait begins
 

@@ -1,7 +1,8 @@
 -- Diagnoses: what standard error says about a refused text.
-use Rattle.std.specs.Prelude.{◌≡◌, ◌⊎◌, ◌≤◌, ◌<◌, ℕ, List, [], ◌∷◌, ◌++◌, codes, decimal, flat_map, map}
+use Rattle.std.specs.Prelude.{◌≡◌, ◌⊎◌, ◌≤◌, ◌<◌, ℕ, List, [], ◌∷◌, ◌++◌, decimal, flat_map, map}
 use Rattle.std.specs.List.{All}
 use Rattle.wq_findings.specs.Shown.{place_text, shown}
+use Rattle.wq_names.specs.Messages.{answered}
 
 -- lines as they are shown
 abbrev pub shown_lines : List (List ℕ) → List ℕ
@@ -10,9 +11,7 @@ shown_lines lines = flat_map (λ line. map shown line ++ (10 ∷ [])) lines
 -- the first line: the file, the place in it, what is wrong, and the word of the
 -- answer (`refused` or `no`) with its number
 abbrev pub head : List ℕ → List ℕ → List ℕ → List ℕ → ℕ → List ℕ
-head file place what word code =
-    (((((((((file ++ place_text place) ++ codes ": ") ++ what) ++ codes " [") ++ word) ++ codes " ") ++ decimal code)
-    ++ codes ", `wqplan explain ") ++ decimal code) ++ codes "`]"
+head file place what word code = answered file (place_text place) what word (decimal code)
 
 -- a place has this line, and maybe a column; with line 0, which means no line, it has neither
 abbrev pub IsOnLine : ℕ → List ℕ → Type 0

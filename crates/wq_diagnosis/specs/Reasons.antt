@@ -1,14 +1,17 @@
 -- What is said of a step that isn't lawful: the words of each reason, and the lines.
-use Rattle.std.specs.Prelude.{◌≡◌, ℕ, nat_lt, Bool, true, false, cond, List, [], ◌∷◌, ◌++◌, Option, Some, None}
-use Rattle.std.specs.Prelude.{codes, decimal, length, slice_index_or}
+use Rattle.std.specs.Prelude.{◌≡◌, ℕ, nat_lt, Bool, true, false, cond, if◌then◌else◌, List, [], ◌∷◌, Option, Some}
+use Rattle.std.specs.Prelude.{None, decimal, length, slice_index_or}
 use Rattle.wq_items.specs.Table.{targets_of}
 use Rattle.wq_core.specs.declared.entry.Waiting.{Waiting}
 use Rattle.wq_core.specs.declared.step.Step.{Step}
 use Rattle.wq_core.specs.Workqueues.{Workqueues, wiring_of}
 use Rattle.wq_checker.specs.RunEnds.{IsFirstUnlawful}
-use Rattle.wq_commands.specs.Answer.{declared_waits}
-use Rattle.wq_commands.specs.Declaration.{Declared}
+use Rattle.wq_groups.specs.DeclaredGroups.{declared_waits, Declared}
 use Rattle.wq_findings.specs.Shown.{place_text}
+use Rattle.wq_names.specs.Messages.{answered_unlawful, declares_no_flush, declares_no_flushwq, doesnt_wait}
+use Rattle.wq_names.specs.Messages.{has_made_all, is_pending, is_unfinished, isnt_first, isnt_pending, no_such_item}
+use Rattle.wq_names.specs.Messages.{no_workqueue, nothing_is_pending, nothing_runs, one_is_unfinished, runner_waits}
+use Rattle.wq_names.specs.Messages.{runner_waits_for_all, runs}
 use Rattle.wq_diagnosis.specs.declared.unlawful.Unlawful.{Unlawful}
 use Rattle.wq_diagnosis.specs.declared.unlawful.Unlawful.TheVariants as why
 use Rattle.wq_diagnosis.specs.Diagnosis.{IsPlain, shown_lines}
@@ -22,52 +25,51 @@ abbrev pub workqueue_name : Declared → Workqueues → List (List ℕ) → ℕ 
 workqueue_name s ws names i =
     cond (nat_lt i (length s.table.names)) (slice_index_or names (workqueue_of s ws i) []) []
 
--- the whole workqueue of item i
-abbrev pub whole_words : Declared → Workqueues → List (List ℕ) → ℕ → List ℕ
-whole_words s ws names i = (codes "the workqueue of " ++ item_words s i) ++ name_words (workqueue_name s ws names i)
+-- this name behind item i
+abbrev pub called_words : Declared → Workqueues → List (List ℕ) → ℕ → List ℕ
+called_words s ws names i = name_words (workqueue_name s ws names i)
 
--- the item runs on workqueue q
-abbrev pub runner_words : Declared → List (List ℕ) → ℕ → ℕ → List ℕ
-runner_words s names q i = (item_words s i ++ codes ", which runs on ") ++ workqueue_words names q
+-- nothing is pending on workqueue q, or else nothing runs on it; or there is no workqueue q
+abbrev pub nothing_words : Workqueues → List (List ℕ) → ℕ → Bool → List ℕ
+nothing_words ws names q pending =
+    if nat_lt q ws.assignment.lanes
+    then cond pending (nothing_is_pending (workqueue_words names q)) (nothing_runs (workqueue_words names q))
+    else no_workqueue (workqueue_words names q)
 
--- nothing is on workqueue q that these words name, or there is no workqueue q
-abbrev pub nothing_words : Workqueues → List (List ℕ) → ℕ → List ℕ → List ℕ
-nothing_words ws names q what =
-    cond (nat_lt q ws.assignment.lanes) what (codes "there is no ") ++ workqueue_words names q
+-- item j runs on workqueue q, and waits so
+abbrev pub waiting_words : Declared → Workqueues → List (List ℕ) → ℕ → ℕ → Waiting → List ℕ
+waiting_words s ws names q j f =
+    cond f.whole
+    (runner_waits_for_all (item_words s j) (workqueue_words names q) (item_words s f.target)
+    (called_words s ws names f.target))
+    (runner_waits (item_words s j) (workqueue_words names q) (item_words s f.target))
 
--- for what the item waits
-abbrev pub waits_words : Declared → Workqueues → List (List ℕ) → Waiting → List ℕ
-waits_words s ws names f = cond f.whole (whole_words s ws names f.target) (item_words s f.target)
-
--- by which directive a flush is declared
-abbrev pub flush_words : Bool → List ℕ
-flush_words whole = cond whole (codes "`flushwq`") (codes "flush")
+-- item j runs on workqueue q, and declares no flush of item i, or none of its whole workqueue
+abbrev pub undeclared_words : Declared → List (List ℕ) → ℕ → ℕ → Bool → ℕ → List ℕ
+undeclared_words s names q j whole i =
+    cond whole (declares_no_flushwq (item_words s j) (workqueue_words names q) (item_words s i))
+    (declares_no_flush (item_words s j) (workqueue_words names q) (item_words s i))
 
 -- an entry is unfinished of item i, or on its whole workqueue
 abbrev pub unfinished_words : Declared → Workqueues → List (List ℕ) → Bool → ℕ → List ℕ
-unfinished_words s ws names true i =
-    codes "an entry from before this wait is unfinished on " ++ whole_words s ws names i
-unfinished_words s ws names false i =
-    (codes "an entry of " ++ item_words s i) ++ codes " from before this wait is unfinished"
+unfinished_words s ws names whole i =
+    cond whole (one_is_unfinished (item_words s i) (called_words s ws names i)) (is_unfinished (item_words s i))
 
 -- why a step with this workqueue and this item isn't lawful
 abbrev pub words_of_reason : Declared → Workqueues → List (List ℕ) → ℕ → ℕ → Unlawful → List ℕ
-words_of_reason s ws names q i why.NoItem = codes "there is no such item"
-words_of_reason s ws names q i why.Pending = item_words s i ++ codes " is pending already"
-words_of_reason s ws names q i why.NotPending = item_words s i ++ codes " isn't pending"
-words_of_reason s ws names q i (why.Runs j) = (workqueue_words names q ++ codes " runs ") ++ item_words s j
-words_of_reason s ws names q i why.NothingPending = nothing_words ws names q (codes "nothing is pending on ")
+words_of_reason s ws names q i why.NoItem = no_such_item
+words_of_reason s ws names q i why.Pending = is_pending (item_words s i)
+words_of_reason s ws names q i why.NotPending = isnt_pending (item_words s i)
+words_of_reason s ws names q i (why.Runs j) = runs (workqueue_words names q) (item_words s j)
+words_of_reason s ws names q i why.NothingPending = nothing_words ws names q true
 words_of_reason s ws names q i (why.First j) =
-    (((item_words s i ++ codes " isn't the first entry of ") ++ workqueue_words names q) ++ codes ", which is ")
-    ++ item_words s j
-words_of_reason s ws names q i why.NothingRuns = nothing_words ws names q (codes "nothing runs on ")
-words_of_reason s ws names q i (why.Waits j f) =
-    (runner_words s names q j ++ codes ", waits for ") ++ waits_words s ws names f
-words_of_reason s ws names q i (why.Undeclared j whole) =
-    (((runner_words s names q j ++ codes ", declares no ") ++ flush_words whole) ++ codes " of ") ++ item_words s i
+    isnt_first (item_words s i) (workqueue_words names q) (item_words s j)
+words_of_reason s ws names q i why.NothingRuns = nothing_words ws names q false
+words_of_reason s ws names q i (why.Waits j f) = waiting_words s ws names q j f
+words_of_reason s ws names q i (why.Undeclared j whole) = undeclared_words s names q j whole i
 words_of_reason s ws names q i (why.AllMade j) =
-    (runner_words s names q j ++ codes ", has made all of its waits: ") ++ decimal (length (targets_of s.table.waits j))
-words_of_reason s ws names q i (why.Awake j) = runner_words s names q j ++ codes ", doesn't wait"
+    has_made_all (item_words s j) (workqueue_words names q) (decimal (length (targets_of s.table.waits j)))
+words_of_reason s ws names q i (why.Awake j) = doesnt_wait (item_words s j) (workqueue_words names q)
 words_of_reason s ws names q i (why.Unfinished whole) = unfinished_words s ws names whole i
 
 -- why the step isn't lawful
@@ -79,8 +81,7 @@ reason_words s ws names step reason =
 
 -- the first line about step n: the file, the place in it, why the step isn't lawful, and the answer
 abbrev pub unlawful_head : List ℕ → List ℕ → List ℕ → ℕ → List ℕ
-unlawful_head file place what n =
-    (((((file ++ place_text place) ++ codes ": ") ++ what) ++ codes " [not lawful ") ++ decimal n) ++ codes "]"
+unlawful_head file place what n = answered_unlawful file (place_text place) what (decimal n)
 
 -- what is said of step n of a run, counted from 1: the first line has its file, why it isn't lawful, and its number;
 -- and it is plain

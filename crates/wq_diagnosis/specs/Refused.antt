@@ -1,9 +1,10 @@
 -- Which refusal or which `no` a diagnosis is about.
-use Rattle.std.specs.Prelude.{◌≡◌, ◌<◌, ℕ, List, [], ◌∷◌, ◌++◌, Option, Some, None, codes, length}
+use Rattle.std.specs.Prelude.{◌≡◌, ◌<◌, ℕ, List, [], ◌∷◌, Option, Some, None, codes, length}
 use Rattle.wq_text.specs.Refusal.{Refusal}
 use Rattle.wq_checker.specs.declared.answer.No.{No}
 use Rattle.wq_checker.specs.Codes.{no_code}
-use Rattle.wq_commands.specs.Declaration.{Declared}
+use Rattle.wq_groups.specs.DeclaredGroups.{Declared}
+use Rattle.wq_names.specs.Messages.{no_item}
 use Rattle.wq_diagnosis.specs.Diagnosis.{IsDiagnosis, shown_lines}
 
 -- what is said about a text: nothing if it isn't refused, and else a diagnosis of its refusal
@@ -20,7 +21,7 @@ SaysNo file (Some why) said =
 
 -- the line that is said beside the answer to a declaration without an item
 abbrev pub no_item_note : List ℕ → List ℕ
-no_item_note file = shown_lines ((file ++ codes ": note: no item is declared: is this the right file?") ∷ [])
+no_item_note file = shown_lines (no_item file ∷ [])
 
 -- what is said beside the answer to a declaration that needs no more words: this line if it has no item, and else
 -- nothing

@@ -3,22 +3,23 @@
 //! The form is that of "Diagnoses" in docs/FORMAT.md. A call takes the time and the memory of searching the text for
 //! the fault; of a declaration that is refused, also those of reading it again, mended.
 
-ghost use Rattle.std.specs.Prelude.{◌≡◌, ◌++◌, ◌∷◌, codes, length, map, option_map, ℕ, IfOk, OnOk};
-ghost use Rattle.wq_findings.specs.Shown.{place_text};
+ghost use Rattle.std.specs.Prelude.{◌≡◌, ◌∷◌, codes, map, option_map, ℕ, IfOk};
 ghost use Rattle.wq_diagnosis.specs.Diagnosis.{head, shown_lines, IsDiagnosis};
 ghost use Rattle.wq_checker.specs.Codes.{no_code};
 ghost use Rattle.wq_diagnosis.specs.Refused.{no_item_note, NotesNoItem};
 
 use crate::further::push_further;
-use crate::layout::{column, lines_of, push_excerpt, put_line, put_lines};
+use crate::layout::{column, lines_of, place_words, push_excerpt, put_line, put_lines};
 use std::alloc::{AllocError, Allocator};
 use wq_checker::No;
-use wq_commands::{Declaration, TOO_MANY_LANES};
+use wq_commands::TOO_MANY_LANES;
 use wq_findings::{
     CertificateKind, Finding, Found, Mark, Refused, What, in_answer, in_certificate,
-    in_declaration, line_at, put_place,
+    in_declaration, line_at,
 };
-use wq_text::{Line, Text, put};
+use wq_groups::Declaration;
+use wq_names::messages;
+use wq_text::{Line, Text};
 
 /// A text of a command, and the file that it comes from.
 #[derive(Clone, Copy, Debug, PartialEq, Eq)]
@@ -65,53 +66,7 @@ impl Refusal {
     }
 }
 
-/// Adds the word of an answer with its number, and the command that explains it.
-fn put_answer<A: Allocator + Copy>(
-    out: &mut Vec<u8, A>,
-    word: &str,
-    code: &str,
-) -> Result<(), AllocError>
-    ensures { OnOk result (out.new.items
-        ≡ ((((((out.old.items ++ codes " [") ++ word.now) ++ codes " ") ++ code.now) ++ codes ", `wqplan explain ")
-        ++ code.now)
-        ++ codes "`]") }
-{
-    put(out, b" [")?;
-    put(out, word.as_bytes())?;
-    put(out, b" ")?;
-    put(out, code.as_bytes())?;
-    put(out, b", `wqplan explain ")?;
-    put(out, code.as_bytes())?;
-    put(out, b"`]")
-}
-
-/// Adds the first line: the file, the place, what is wrong, and the word of the answer with its number.
-fn put_head<A: Allocator + Copy>(
-    alloc: A,
-    out: &mut Vec<u8, A>,
-    file: &str,
-    place: &[u32],
-    what: &str,
-    word: &str,
-    code: &str,
-) -> Result<(), AllocError>
-    ensures { OnOk result (out.new.items
-        ≡ ((((((((((out.old.items ++ file.now) ++ place_text place.now) ++ codes ": ") ++ what.now) ++ codes " [")
-        ++ word.now)
-        ++ codes " ")
-        ++ code.now)
-        ++ codes ", `wqplan explain ")
-        ++ code.now)
-        ++ codes "`]") }
-{
-    put(out, file.as_bytes())?;
-    put_place(alloc, out, place)?;
-    put(out, b": ")?;
-    put(out, what.as_bytes())?;
-    put_answer(out, word, code)
-}
-
-/// The first line.
+/// The first line: the file, the place, what is wrong, and the word of the answer with its number.
 pub(crate) fn head<A: Allocator + Copy>(
     alloc: A,
     file: &str,
@@ -122,10 +77,16 @@ pub(crate) fn head<A: Allocator + Copy>(
 ) -> Result<Vec<u8, A>, AllocError>
     ensures { IfOk result (λ line. line.items ≡ head file.now place.now what.now word.now code) }
 {
+    let place = place_words(alloc, place)?;
     let code = code.to_string(alloc)?;
-    let mut line = Vec::new(alloc);
-    put_head(alloc, &mut line, file, place, what, word, &code)?;
-    Ok(line)
+    messages::answered(
+        alloc,
+        file.as_bytes(),
+        &place,
+        what.as_bytes(),
+        word.as_bytes(),
+        code.as_bytes(),
+    )
 }
 
 /// Adds the line that is meant and its marks, where bytes of it are meant.
@@ -337,12 +298,7 @@ pub fn of_too_many<A: Allocator + Copy>(
 fn no_item_note<A: Allocator + Copy>(alloc: A, file: &str) -> Result<Vec<u8, A>, AllocError>
     ensures { IfOk result (λ said. said.items ≡ no_item_note file.now) }
 {
-    let mut line = Vec::new(alloc);
-    put(&mut line, file.as_bytes())?;
-    put(
-        &mut line,
-        b": note: no item is declared: is this the right file?",
-    )?;
+    let line = messages::no_item(alloc, file.as_bytes())?;
     let mut out = Vec::new(alloc);
     put_line(alloc, &mut out, &line)?;
     Ok(out)

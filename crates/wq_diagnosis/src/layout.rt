@@ -4,11 +4,11 @@
 //! memory in the length of what is shown.
 
 ghost use Rattle.std.specs.Prelude.{◌≡◌, ◌++◌, ◌∷◌, [], map, IfOk, OnOk};
-ghost use Rattle.wq_findings.specs.Shown.{shown};
+ghost use Rattle.wq_findings.specs.Shown.{place_text, shown};
 ghost use Rattle.wq_diagnosis.specs.Diagnosis.{shown_lines};
 
 use std::alloc::{AllocError, Allocator};
-use wq_findings::{Excerpt, Hint, Mark, Marks, shown};
+use wq_findings::{Excerpt, Hint, Mark, Marks, put_place, shown};
 use wq_text::Text;
 
 /// The bytes as they are shown.
@@ -48,6 +48,15 @@ pub fn put_lines<A: Allocator + Copy>(
         put_line(alloc, out, line)?;
     }
     Ok(())
+}
+
+/// A place in a file.
+pub fn place_words<A: Allocator + Copy>(alloc: A, place: &[u32]) -> Result<Vec<u8, A>, AllocError>
+    ensures { IfOk result (λ words. words.items ≡ place_text place.now) }
+{
+    let mut words = Vec::new(alloc);
+    put_place(alloc, &mut words, place)?;
+    Ok(words)
 }
 
 /// Adds a line and its marks.

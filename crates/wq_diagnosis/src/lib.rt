@@ -22,7 +22,7 @@ pub use diagnosis::{
     Source, of_lack, of_no_item, of_refused_certificate, of_refused_declaration, of_too_many,
 };
 pub use failed::of_failed;
-pub use layout::{column, lines_of, push_excerpt, put_line, put_lines};
+pub use layout::{column, lines_of, place_words, push_excerpt, put_line, put_lines};
 pub use replayed::of_unlawful;
 pub use unlawful::Unlawful;
 pub use words::{item_words, workqueue_of, workqueue_words};

@@ -3,87 +3,48 @@
 //! The words are those of "`not lawful N` of `replay`" in tests/DIAGNOSES.md. A call takes the time and the memory of
 //! the words.
 
-ghost use Rattle.std.specs.Prelude.{◌≡◌, ◌++◌, IfOk, codes, cond, decimal, length, map};
+ghost use Rattle.std.specs.Prelude.{◌≡◌, IfOk, decimal, length, map};
 ghost use Rattle.wq_items.specs.Table.{targets_of};
-ghost use Rattle.wq_diagnosis.specs.Reasons.{flush_words, nothing_words, reason_words, runner_words, unfinished_words};
-ghost use Rattle.wq_diagnosis.specs.Reasons.{waits_words, whole_words, workqueue_name};
+ghost use Rattle.wq_names.specs.Messages.{doesnt_wait, has_made_all, isnt_first, runs};
+ghost use Rattle.wq_diagnosis.specs.Reasons.{called_words, nothing_words, reason_words, undeclared_words};
+ghost use Rattle.wq_diagnosis.specs.Reasons.{unfinished_words, waiting_words, workqueue_name};
 ghost use Rattle.wq_diagnosis.specs.Words.{item_words, workqueue_words};
 
 use crate::unlawful::{Unlawful, named_item, named_workqueue};
-use crate::words::{item_words, put_name, workqueue_of, workqueue_words};
+use crate::words::{item_words, name_words, workqueue_of, workqueue_words};
 use std::alloc::{AllocError, Allocator};
-use wq_commands::Declaration;
-use wq_core::{Step, Waiting, Workqueues};
-use wq_groups::LaneId;
+use wq_core::{Assigned, Step, Waiting, Workqueues};
+use wq_groups::{Declaration, LaneId};
 use wq_items::ItemId;
-use wq_names::name_at;
-use wq_text::put;
+use wq_names::{messages, name_at};
 
 /// The name of the workqueue of an item; no byte where it has none, or where there is no such item.
 fn workqueue_name<'a, A: Allocator + Copy>(
-    declared: &Declaration<'_, A>,
-    workqueues: &Workqueues<A>,
+    assigned: &Assigned<'_, '_, A>,
     names: &[&'a [u8]],
     item: ItemId,
 ) -> &'a [u8]
-    requires assigned { length workqueues.now.assignment.lane_of_group ≡ declared.now.partition.groups }
-    ensures { result.now ≡ workqueue_name declared.now
-        workqueues.now (map (λ n. n.now) names.now) item }
+    ensures { result.now
+        ≡ workqueue_name assigned.now.declared assigned.now.workqueues (map (λ n. n.now) names.now) item }
 {
-    if item.get() < declared.table.len() {
-        name_at(names, workqueue_of(declared, workqueues, item).get())
+    if item.get() < assigned.table().len() {
+        name_at(names, workqueue_of(assigned, item).get())
     } else {
         &[]
     }
 }
 
-/// The whole workqueue of an item.
-fn whole_words<A: Allocator + Copy>(
+/// The name of the workqueue of an item, behind the item.
+fn called_words<A: Allocator + Copy>(
     alloc: A,
-    declared: &Declaration<'_, A>,
-    workqueues: &Workqueues<A>,
+    assigned: &Assigned<'_, '_, A>,
     names: &[&[u8]],
     item: ItemId,
 ) -> Result<Vec<u8, A>, AllocError>
-    requires assigned { length workqueues.now.assignment.lane_of_group ≡ declared.now.partition.groups }
     ensures { IfOk result (λ words. words.items
-        ≡ whole_words declared.now workqueues.now (map (λ n. n.now) names.now) item) }
+        ≡ called_words assigned.now.declared assigned.now.workqueues (map (λ n. n.now) names.now) item) }
 {
-    let item_words = item_words(alloc, declared, item)?;
-    let mut words = Vec::new(alloc);
-    put(&mut words, b"the workqueue of ")?;
-    put(&mut words, &item_words)?;
-    put_name(
-        &mut words,
-        workqueue_name(declared, workqueues, names, item),
-    )?;
-    Ok(words)
-}
-
-/// An item, and that it runs on a workqueue.
-fn runner_words<A: Allocator + Copy>(
-    alloc: A,
-    declared: &Declaration<'_, A>,
-    names: &[&[u8]],
-    q: LaneId,
-    item: ItemId,
-) -> Result<Vec<u8, A>, AllocError>
-    ensures { IfOk result (λ words. words.items ≡ runner_words declared.now (map (λ n. n.now) names.now) q item) }
-{
-    let workqueue = workqueue_words(alloc, names, q)?;
-    let mut words = item_words(alloc, declared, item)?;
-    put(&mut words, b", which runs on ")?;
-    put(&mut words, &workqueue)?;
-    Ok(words)
-}
-
-/// These words, and behind them those.
-fn followed<A: Allocator + Copy>(words: Vec<u8, A>, behind: &[u8]) -> Result<Vec<u8, A>, AllocError>
-    ensures { IfOk result (λ both. both.items ≡ words.items ++ behind.now) }
-{
-    let mut both = words;
-    put(&mut both, behind)?;
-    Ok(both)
+    name_words(alloc, workqueue_name(assigned, names, item))
 }
 
 /// That a workqueue runs an item.
@@ -94,40 +55,33 @@ fn runs_words<A: Allocator + Copy>(
     q: LaneId,
     item: ItemId,
 ) -> Result<Vec<u8, A>, AllocError>
-    ensures { IfOk result (λ words. words.items ≡ (workqueue_words (map (λ n. n.now) names.now) q ++ codes " runs ")
-        ++ item_words declared.now item) }
+    ensures { IfOk result (λ words. words.items
+        ≡ runs (workqueue_words (map (λ n. n.now) names.now) q) (item_words declared.now item)) }
 {
+    let workqueue = workqueue_words(alloc, names, q)?;
     let item = item_words(alloc, declared, item)?;
-    let mut words = workqueue_words(alloc, names, q)?;
-    put(&mut words, b" runs ")?;
-    put(&mut words, &item)?;
-    Ok(words)
+    messages::runs(alloc, &workqueue, &item)
 }
 
-/// What stands before a workqueue on which there is nothing, or which there isn't.
-fn before_nothing<'a>(is_there: bool, what: &'a [u8]) -> &'a [u8]
-    ensures { result.now ≡ cond is_there what.now (codes "there is no ") }
-{
-    if is_there { what } else { b"there is no " }
-}
-
-/// That nothing is on a workqueue, or that there is none with this number.
+/// That nothing is pending on a workqueue, or else that nothing runs on it; or that there is none with this number.
 fn nothing_words<A: Allocator + Copy>(
     alloc: A,
     workqueues: &Workqueues<A>,
     names: &[&[u8]],
     q: LaneId,
-    what: &[u8],
+    pending: bool,
 ) -> Result<Vec<u8, A>, AllocError>
     ensures { IfOk result (λ words. words.items
-        ≡ nothing_words workqueues.now (map (λ n. n.now) names.now) q what.now) }
+        ≡ nothing_words workqueues.now (map (λ n. n.now) names.now) q pending) }
 {
     let workqueue = workqueue_words(alloc, names, q)?;
-    let is_there = q.get() < workqueues.assignment().lanes();
-    let mut words = Vec::new(alloc);
-    put(&mut words, before_nothing(is_there, what))?;
-    put(&mut words, &workqueue)?;
-    Ok(words)
+    if q.get() >= workqueues.assignment().lanes() {
+        messages::no_workqueue(alloc, &workqueue)
+    } else if pending {
+        messages::nothing_is_pending(alloc, &workqueue)
+    } else {
+        messages::nothing_runs(alloc, &workqueue)
+    }
 }
 
 /// That another item comes first on a workqueue.
@@ -139,68 +93,35 @@ fn first_words<A: Allocator + Copy>(
     item: ItemId,
     first: ItemId,
 ) -> Result<Vec<u8, A>, AllocError>
-    ensures { IfOk result (λ words. words.items
-        ≡ (((item_words declared.now item
-        ++ codes " isn't the first entry of ") ++ workqueue_words (map (λ n. n.now) names.now) q)
-        ++ codes ", which is ")
-        ++ item_words declared.now first) }
+    ensures { IfOk result (λ words. words.items ≡ isnt_first (item_words declared.now item)
+        (workqueue_words (map (λ n. n.now) names.now) q) (item_words declared.now first)) }
 {
+    let item = item_words(alloc, declared, item)?;
     let workqueue = workqueue_words(alloc, names, q)?;
     let first = item_words(alloc, declared, first)?;
-    let mut words = item_words(alloc, declared, item)?;
-    put(&mut words, b" isn't the first entry of ")?;
-    put(&mut words, &workqueue)?;
-    put(&mut words, b", which is ")?;
-    put(&mut words, &first)?;
-    Ok(words)
-}
-
-/// For what an item waits.
-fn waits_words<A: Allocator + Copy>(
-    alloc: A,
-    declared: &Declaration<'_, A>,
-    workqueues: &Workqueues<A>,
-    names: &[&[u8]],
-    flush: Waiting,
-) -> Result<Vec<u8, A>, AllocError>
-    requires assigned { length workqueues.now.assignment.lane_of_group ≡ declared.now.partition.groups }
-    ensures { IfOk result (λ words. words.items
-        ≡ waits_words declared.now workqueues.now (map (λ n. n.now) names.now) flush) }
-{
-    if flush.whole {
-        whole_words(alloc, declared, workqueues, names, flush.target)
-    } else {
-        item_words(alloc, declared, flush.target)
-    }
+    messages::isnt_first(alloc, &item, &workqueue, &first)
 }
 
 /// That an item runs on a workqueue and waits.
 fn waiting_words<A: Allocator + Copy>(
     alloc: A,
-    declared: &Declaration<'_, A>,
-    workqueues: &Workqueues<A>,
+    assigned: &Assigned<'_, '_, A>,
     names: &[&[u8]],
     q: LaneId,
     item: ItemId,
     flush: Waiting,
 ) -> Result<Vec<u8, A>, AllocError>
-    requires assigned { length workqueues.now.assignment.lane_of_group ≡ declared.now.partition.groups }
-    ensures { IfOk result (λ words. words.items
-        ≡ (runner_words declared.now (map (λ n. n.now) names.now) q item ++ codes ", waits for ")
-        ++ waits_words declared.now workqueues.now (map (λ n. n.now) names.now) flush) }
+    ensures { IfOk result (λ words. words.items ≡ waiting_words assigned.now.declared
+        assigned.now.workqueues (map (λ n. n.now) names.now) q item flush) }
 {
-    let target = waits_words(alloc, declared, workqueues, names, flush)?;
-    let mut words = runner_words(alloc, declared, names, q, item)?;
-    put(&mut words, b", waits for ")?;
-    put(&mut words, &target)?;
-    Ok(words)
-}
-
-/// By which directive a flush is declared.
-fn flush_words(whole: bool) -> &'static [u8]
-    ensures { result.now ≡ flush_words whole }
-{
-    if whole { b"`flushwq`" } else { b"flush" }
+    let item = item_words(alloc, assigned.declared, item)?;
+    let workqueue = workqueue_words(alloc, names, q)?;
+    let target = item_words(alloc, assigned.declared, flush.target)?;
+    if !flush.whole {
+        return messages::runner_waits(alloc, &item, &workqueue, &target);
+    }
+    let called = called_words(alloc, assigned, names, flush.target)?;
+    messages::runner_waits_for_all(alloc, &item, &workqueue, &target, &called)
 }
 
 /// That an item runs on a workqueue and declares no such flush.
@@ -214,17 +135,16 @@ fn undeclared_words<A: Allocator + Copy>(
     target: ItemId,
 ) -> Result<Vec<u8, A>, AllocError>
     ensures { IfOk result (λ words. words.items
-        ≡ (((runner_words declared.now
-        (map (λ n. n.now) names.now) q item ++ codes ", declares no ") ++ flush_words whole) ++ codes " of ")
-        ++ item_words declared.now target) }
+        ≡ undeclared_words declared.now (map (λ n. n.now) names.now) q item whole target) }
 {
+    let item = item_words(alloc, declared, item)?;
+    let workqueue = workqueue_words(alloc, names, q)?;
     let target = item_words(alloc, declared, target)?;
-    let mut words = runner_words(alloc, declared, names, q, item)?;
-    put(&mut words, b", declares no ")?;
-    put(&mut words, flush_words(whole))?;
-    put(&mut words, b" of ")?;
-    put(&mut words, &target)?;
-    Ok(words)
+    if whole {
+        messages::declares_no_flushwq(alloc, &item, &workqueue, &target)
+    } else {
+        messages::declares_no_flush(alloc, &item, &workqueue, &target)
+    }
 }
 
 /// How many flushes an item declares; 0 where there is no such item.
@@ -246,90 +166,80 @@ fn made_words<A: Allocator + Copy>(
     q: LaneId,
     item: ItemId,
 ) -> Result<Vec<u8, A>, AllocError>
-    ensures { IfOk result (λ words. words.items
-        ≡ (runner_words declared.now (map (λ n. n.now) names.now) q item ++ codes ", has made all of its waits: ")
-        ++ decimal (length (targets_of declared.now.table.waits item))) }
+    ensures { IfOk result (λ words. words.items ≡ has_made_all (item_words declared.now item)
+        (workqueue_words (map (λ n. n.now) names.now) q)
+        (decimal (length (targets_of declared.now.table.waits item)))) }
 {
     let flushes = flushes_of(declared, item).to_string(alloc)?;
-    let mut words = runner_words(alloc, declared, names, q, item)?;
-    put(&mut words, b", has made all of its waits: ")?;
-    put(&mut words, flushes.as_bytes())?;
-    Ok(words)
+    let item = item_words(alloc, declared, item)?;
+    let workqueue = workqueue_words(alloc, names, q)?;
+    messages::has_made_all(alloc, &item, &workqueue, flushes.as_bytes())
+}
+
+/// That an item runs on a workqueue and doesn't wait.
+fn awake_words<A: Allocator + Copy>(
+    alloc: A,
+    declared: &Declaration<'_, A>,
+    names: &[&[u8]],
+    q: LaneId,
+    item: ItemId,
+) -> Result<Vec<u8, A>, AllocError>
+    ensures { IfOk result (λ words. words.items
+        ≡ doesnt_wait (item_words declared.now item) (workqueue_words (map (λ n. n.now) names.now) q)) }
+{
+    let item = item_words(alloc, declared, item)?;
+    let workqueue = workqueue_words(alloc, names, q)?;
+    messages::doesnt_wait(alloc, &item, &workqueue)
 }
 
 /// That an entry of an item is unfinished, or one on its whole workqueue.
 fn unfinished_words<A: Allocator + Copy>(
     alloc: A,
-    declared: &Declaration<'_, A>,
-    workqueues: &Workqueues<A>,
+    assigned: &Assigned<'_, '_, A>,
     names: &[&[u8]],
     whole: bool,
     item: ItemId,
 ) -> Result<Vec<u8, A>, AllocError>
-    requires assigned { length workqueues.now.assignment.lane_of_group ≡ declared.now.partition.groups }
-    ensures { IfOk result (λ words. words.items
-        ≡ unfinished_words declared.now workqueues.now (map (λ n. n.now) names.now) whole item) }
+    ensures { IfOk result (λ words. words.items ≡ unfinished_words assigned.now.declared
+        assigned.now.workqueues (map (λ n. n.now) names.now) whole item) }
 {
-    let mut words = Vec::new(alloc);
-    if whole {
-        put(
-            &mut words,
-            b"an entry from before this wait is unfinished on ",
-        )?;
-        put(
-            &mut words,
-            &whole_words(alloc, declared, workqueues, names, item)?,
-        )?;
-        return Ok(words);
+    let words = item_words(alloc, assigned.declared, item)?;
+    if !whole {
+        return messages::is_unfinished(alloc, &words);
     }
-    put(&mut words, b"an entry of ")?;
-    put(&mut words, &item_words(alloc, declared, item)?)?;
-    put(&mut words, b" from before this wait is unfinished")?;
-    Ok(words)
+    let called = called_words(alloc, assigned, names, item)?;
+    messages::one_is_unfinished(alloc, &words, &called)
 }
 
 /// Why a step isn't lawful, in words.
 pub(crate) fn reason_words<A: Allocator + Copy>(
     alloc: A,
-    declared: &Declaration<'_, A>,
-    workqueues: &Workqueues<A>,
+    assigned: &Assigned<'_, '_, A>,
     names: &[&[u8]],
     step: Step,
     reason: Unlawful,
 ) -> Result<Vec<u8, A>, AllocError>
-    requires assigned { length workqueues.now.assignment.lane_of_group ≡ declared.now.partition.groups }
-    ensures { IfOk result (λ words. words.items
-        ≡ reason_words declared.now workqueues.now (map (λ n. n.now) names.now) step reason) }
+    ensures { IfOk result (λ words. words.items ≡ reason_words assigned.now.declared
+        assigned.now.workqueues (map (λ n. n.now) names.now) step reason) }
 {
+    let declared = assigned.declared;
+    let workqueues = assigned.workqueues;
     let q = named_workqueue(step);
     let item = named_item(step);
     match reason {
-        Unlawful::NoItem => Vec::from_slice(alloc, b"there is no such item"),
-        Unlawful::Pending => {
-            followed(item_words(alloc, declared, item)?, b" is pending already")
-        }
-        Unlawful::NotPending => followed(item_words(alloc, declared, item)?, b" isn't pending"),
+        Unlawful::NoItem => Vec::from_slice(alloc, messages::NO_SUCH_ITEM),
+        Unlawful::Pending => messages::is_pending(alloc, &item_words(alloc, declared, item)?),
+        Unlawful::NotPending => messages::isnt_pending(alloc, &item_words(alloc, declared, item)?),
         Unlawful::Runs(other) => runs_words(alloc, declared, names, q, other),
-        Unlawful::NothingPending => {
-            nothing_words(alloc, workqueues, names, q, b"nothing is pending on ")
-        }
+        Unlawful::NothingPending => nothing_words(alloc, workqueues, names, q, true),
         Unlawful::First(first) => first_words(alloc, declared, names, q, item, first),
-        Unlawful::NothingRuns => { nothing_words(alloc, workqueues, names, q, b"nothing runs on ") }
-        Unlawful::Waits(other, flush) => {
-            waiting_words(alloc, declared, workqueues, names, q, other, flush)
-        }
+        Unlawful::NothingRuns => nothing_words(alloc, workqueues, names, q, false),
+        Unlawful::Waits(other, flush) => waiting_words(alloc, assigned, names, q, other, flush),
         Unlawful::Undeclared(other, whole) => {
             undeclared_words(alloc, declared, names, q, other, whole, item)
         }
         Unlawful::AllMade(other) => made_words(alloc, declared, names, q, other),
-        Unlawful::Awake(other) => {
-            followed(
-                runner_words(alloc, declared, names, q, other)?,
-                b", doesn't wait",
-            )
-        }
-        Unlawful::Unfinished(whole) => {
-            unfinished_words(alloc, declared, workqueues, names, whole, item)
-        }
+        Unlawful::Awake(other) => awake_words(alloc, declared, names, q, other),
+        Unlawful::Unfinished(whole) => unfinished_words(alloc, assigned, names, whole, item),
     }
 }

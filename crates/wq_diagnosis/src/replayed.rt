@@ -13,14 +13,14 @@ ghost use Rattle.wq_diagnosis.specs.Reasons.{IsUnlawfulText, SaysStep, reason_wo
 ghost use Rattle.wq_diagnosis.specs.Unlawful.{IsFirstFor};
 
 use crate::diagnosis::Source;
-use crate::layout::{lines_of, put_line, put_lines};
+use crate::layout::{lines_of, place_words, put_line, put_lines};
 use crate::reasons::reason_words;
 use crate::unlawful::{Unlawful, reason_of};
 use std::alloc::{AllocError, Allocator};
-use wq_commands::Declaration;
-use wq_core::{Core, Step, Workqueues};
-use wq_findings::{Excerpt, Hint, Mark, Marks, put_place};
-use wq_text::{Line, Text, put};
+use wq_core::{Assigned, Core, Step};
+use wq_findings::{Excerpt, Hint, Mark, Marks};
+use wq_names::messages;
+use wq_text::{Line, Text};
 
 /// The first step that isn't lawful: its number, counted from 1, the step, and why it isn't.
 #[derive(Clone, Copy)]
@@ -89,16 +89,9 @@ fn head<A: Allocator + Copy>(
 ) -> Result<Vec<u8, A>, AllocError>
     ensures { IfOk result (λ line. line.items ≡ unlawful_head file.now place.now what.now number) }
 {
+    let place = place_words(alloc, place)?;
     let number = number.to_string(alloc)?;
-    let mut line = Vec::new(alloc);
-    put(&mut line, file.as_bytes())?;
-    put_place(alloc, &mut line, place)?;
-    put(&mut line, b": ")?;
-    put(&mut line, what)?;
-    put(&mut line, b" [not lawful ")?;
-    put(&mut line, number.as_bytes())?;
-    put(&mut line, b"]")?;
-    Ok(line)
+    messages::answered_unlawful(alloc, file.as_bytes(), &place, what, number.as_bytes())
 }
 
 /// All lines about the step of this number, with these below the first one.
@@ -173,18 +166,17 @@ fn said_of<A: Allocator + Copy>(
 /// What is said of the first of these steps that isn't lawful.
 fn of_first<A: Allocator + Copy>(
     alloc: A,
-    declared: &Declaration<'_, A>,
-    workqueues: &Workqueues<A>,
+    assigned: &Assigned<'_, '_, A>,
     names: &[&[u8]],
     run: Source<'_>,
     first: &UnlawfulStep,
 ) -> Result<Vec<u8, A>, AllocError>
-    requires assigned { length workqueues.now.assignment.lane_of_group ≡ declared.now.partition.groups }
     ensures { IfOk result (λ said. IsUnlawfulText run.entry.file.now
-        (reason_words declared.now workqueues.now (map (λ n. n.now) names.now) first.now.step first.now.why)
+        (reason_words assigned.now.declared assigned.now.workqueues (map (λ n. n.now) names.now) first.now.step
+        first.now.why)
         first.now.number said.items) }
 {
-    let what = reason_words(alloc, declared, workqueues, names, first.step, first.why)?;
+    let what = reason_words(alloc, assigned, names, first.step, first.why)?;
     said_of(alloc, run, &what, first.number)
 }
 
@@ -192,28 +184,30 @@ fn of_first<A: Allocator + Copy>(
 /// lawful.
 fn of_steps<A: Allocator + Copy>(
     alloc: A,
-    declared: &Declaration<'_, A>,
-    workqueues: &Workqueues<A>,
+    assigned: &Assigned<'_, '_, A>,
     names: &[&[u8]],
     steps: &[Step],
     run: Source<'_>,
     number: u32,
 ) -> Result<Option<Vec<u8, A>>, AllocError>
-    requires assigned { length workqueues.now.assignment.lane_of_group ≡ declared.now.partition.groups }
     requires few { length steps.now < 4294967295 }
     requires no_help { HasNoHelp steps.now }
-    ensures { IfOk result (λ said. SaysStep run.entry.file.now declared.now workqueues.now
+    ensures { IfOk result (λ said. SaysStep run.entry.file.now assigned.now.declared assigned.now.workqueues
         (map (λ n. n.now) names.now) steps.now number (option_map (λ text. text.items) said)) }
 {
-    let Declaration { table, groups } = declared;
-    let mut core = Core::on_workqueues(alloc, table, groups, workqueues)?;
+    let mut core = Core::on_workqueues(
+        alloc,
+        assigned.table(),
+        assigned.groups(),
+        assigned.workqueues(),
+    )?;
     let Some(first) = find(&mut core, steps) else {
         return Ok(None);
     };
     if first.number != number {
         return Ok(None);
     }
-    let said = of_first(alloc, declared, workqueues, names, run, &first)?;
+    let said = of_first(alloc, assigned, names, run, &first)?;
     Ok(Some(said))
 }
 
@@ -223,17 +217,15 @@ fn of_steps<A: Allocator + Copy>(
 /// The only error is out of memory (20).
 pub fn of_unlawful<A: Allocator + Copy>(
     alloc: A,
-    declared: &Declaration<'_, A>,
-    workqueues: &Workqueues<A>,
+    assigned: &Assigned<'_, '_, A>,
     names: &[&[u8]],
     steps: &[Step],
     run: Source<'_>,
     number: u32,
 ) -> Result<Option<Vec<u8, A>>, AllocError>
-    requires assigned { length workqueues.now.assignment.lane_of_group ≡ declared.now.partition.groups }
-    requires read { run_of declared.now.table.names run.text.now ≡ Ok steps.now }
-    ensures { IfOk result (λ said. SaysStep run.entry.file.now declared.now workqueues.now
+    requires read { run_of assigned.now.declared.table.names run.text.now ≡ Ok steps.now }
+    ensures { IfOk result (λ said. SaysStep run.entry.file.now assigned.now.declared assigned.now.workqueues
         (map (λ n. n.now) names.now) steps.now number (option_map (λ text. text.items) said)) }
 {
-    of_steps(alloc, declared, workqueues, names, steps, run, number)
+    of_steps(alloc, assigned, names, steps, run, number)
 }

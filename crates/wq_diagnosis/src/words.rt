@@ -2,31 +2,27 @@
 //!
 //! A call takes the time and the memory of the words.
 
-ghost use Rattle.std.specs.Prelude.{◌≡◌, ◌++◌, ◌<◌, [], IfOk, OnOk, codes, length, map, slice_index_or};
+ghost use Rattle.std.specs.Prelude.{◌≡◌, ◌<◌, [], IfOk, length, map, slice_index_or};
 ghost use Rattle.wq_cert.specs.PlanText.{name_of};
 ghost use Rattle.wq_diagnosis.specs.Words.{item_words, name_words, workqueue_of, workqueue_words};
 
 use std::alloc::{AllocError, Allocator};
-use wq_commands::Declaration;
-use wq_core::Workqueues;
-use wq_groups::LaneId;
+use wq_core::Assigned;
+use wq_groups::{Declaration, LaneId};
 use wq_items::{ItemId, ItemTable};
-use wq_names::name_at;
-use wq_text::put;
+use wq_names::{messages, name_at};
 
-/// Adds the name of a workqueue behind its number, if it has a name.
-pub(crate) fn put_name<A: Allocator + Copy>(
-    out: &mut Vec<u8, A>,
+/// The name of a workqueue behind its number, if it has a name.
+pub(crate) fn name_words<A: Allocator + Copy>(
+    alloc: A,
     name: &[u8],
-) -> Result<(), AllocError>
-    ensures { OnOk result (out.new.items ≡ out.old.items ++ name_words name.now) }
+) -> Result<Vec<u8, A>, AllocError>
+    ensures { IfOk result (λ words. words.items ≡ name_words name.now) }
 {
     if name.is_empty() {
-        return Ok(());
+        return Ok(Vec::new(alloc));
     }
-    put(out, b" (")?;
-    put(out, name)?;
-    put(out, b")")
+    messages::its_name(alloc, name)
 }
 
 /// A workqueue with its name, where it has one.
@@ -38,24 +34,17 @@ pub fn workqueue_words<A: Allocator + Copy>(
     ensures { IfOk result (λ words. words.items ≡ workqueue_words (map (λ n. n.now) names.now) q) }
 {
     let number = q.get().to_string(alloc)?;
-    let mut words = Vec::new(alloc);
-    put(&mut words, b"workqueue ")?;
-    put(&mut words, number.as_bytes())?;
-    put_name(&mut words, name_at(names, q.get()))?;
-    Ok(words)
+    let called = name_words(alloc, name_at(names, q.get()))?;
+    messages::a_workqueue(alloc, number.as_bytes(), &called)
 }
 
 /// The workqueue of an item.
-pub fn workqueue_of<A: Allocator + Copy>(
-    declared: &Declaration<'_, A>,
-    workqueues: &Workqueues<A>,
-    item: ItemId,
-) -> LaneId
-    requires item { item < length declared.now.partition.group_of }
-    requires assigned { length workqueues.now.assignment.lane_of_group ≡ declared.now.partition.groups }
-    ensures { result ≡ workqueue_of declared.now workqueues.now item }
+pub fn workqueue_of<A: Allocator + Copy>(assigned: &Assigned<'_, '_, A>, item: ItemId) -> LaneId
+    requires item { item < length assigned.now.declared.partition.group_of }
+    ensures { result ≡ workqueue_of assigned.now.declared assigned.now.workqueues item }
 {
-    workqueues.assignment().lane(declared.groups.of(item))
+    let group = assigned.groups().of(item);
+    assigned.workqueues().assignment().lane(group)
 }
 
 /// The name of an item; no byte where there is no such item.
@@ -77,9 +66,5 @@ pub fn item_words<A: Allocator + Copy>(
 ) -> Result<Vec<u8, A>, AllocError>
     ensures { IfOk result (λ words. words.items ≡ item_words declared.now item) }
 {
-    let mut words = Vec::new(alloc);
-    put(&mut words, b"`")?;
-    put(&mut words, item_name(&declared.table, item))?;
-    put(&mut words, b"`")?;
-    Ok(words)
+    messages::an_item(alloc, item_name(&declared.table, item))
 }

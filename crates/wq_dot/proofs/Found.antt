@@ -12,7 +12,8 @@ use Rattle.wq_commands.specs.declared.found.Found.TheVariants.{Read, Refused}
 use Rattle.wq_commands.specs.declared.found.Which.TheVariants.{Certificate as SecondText}
 use Rattle.wq_commands.specs.Answer.{PrintsRefusal}
 use Rattle.wq_commands.specs.Commands.{one_or_two_texts}
-use Rattle.wq_commands.specs.Declaration.{Declared, declaration, max_declaration}
+use Rattle.wq_groups.specs.DeclaredGroups.{Declared}
+use Rattle.wq_commands.specs.Declaration.{declaration, max_declaration}
 use Rattle.wq_commands.specs.Shell.{AnswersTexts, HasOneAnswer}
 use Rattle.wq_commands.proofs.FoundLemmas.{AnswersIn-match, of_declared, of_refused}
 use Rattle.wq_commands.proofs.InputLemmas.{assigned-kept, declared-kept}

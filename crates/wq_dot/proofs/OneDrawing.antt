@@ -15,8 +15,9 @@ use Rattle.wq_plan.proofs.Plans.{IsPlan-no_circle, IsPlan-unique}
 use Rattle.wq_cert.specs.declared.fault.CertError.{CertError}
 use Rattle.wq_cert.specs.Texts.{workqueues_of_text, cert_refusal}
 use Rattle.wq_commands.specs.declared.end.End.{End}
-use Rattle.wq_commands.specs.Answer.{declared_waits, PrintsRefusal}
-use Rattle.wq_commands.specs.Declaration.{Declared, declaration}
+use Rattle.wq_groups.specs.DeclaredGroups.{declared_waits, Declared}
+use Rattle.wq_commands.specs.Answer.{PrintsRefusal}
+use Rattle.wq_commands.specs.Declaration.{declaration}
 use Rattle.wq_commands.proofs.Refusals.{PrintsRefusal-unique}
 use Rattle.wq_circles.proofs.Safe.{AreComponents-unique}
 use Rattle.wq_dot.specs.declared.look.FlushLook.{FlushLook}

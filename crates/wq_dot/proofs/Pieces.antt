@@ -16,13 +16,3 @@ put_end out a b now new so_far put = put_more out a (ended b) (ended b) now new 
 -- one more line, after others
 pub put_line : (out a b now new : List ℕ) → now ≡ out ++ a → new ≡ now ++ b → new ≡ out ++ (a ++ b)
 put_line out a b now new so_far put = put_more out a b b now new so_far put refl
-
--- what is put for each element of a list: that for one more
-pub put_each : (f : ℕ → List ℕ) (out now new : List ℕ) (xs : List ℕ) (k x : ℕ) → k < length xs → x ≡ get_or xs k x → now ≡ out ++ flat_map f (take k xs) → new ≡ now ++ f x
-    → new ≡ out ++ flat_map f (take (k + 1) xs)
-put_each f out now new xs k x within is so_far put =
-    put
-    ∙ ap (λ (o : List ℕ). o ++ f x) so_far
-    ∙ append_assoc out (flat_map f (take k xs)) (f x)
-    ∙ ap (λ (l : List ℕ). out ++ l) (ap (λ (l : List ℕ). flat_map f (take k xs) ++ l) (sym (append-nil (f x))) ∙ sym (flat_map-append f (take k xs) (x ∷ [])))
-    ∙ ap (λ (l : List ℕ). out ++ flat_map f l) (ap (λ (y : ℕ). take k xs ++ (y ∷ [])) is ∙ sym (take_more xs k x within))

@@ -5,7 +5,8 @@ use Rattle.wq_text.specs.Lines.{lines_of}
 use Rattle.wq_text.specs.Limits.{limit_fault, text_refusal}
 use Rattle.wq_decl.specs.Reading.{first_fault, directives, decl_refusal}
 use Rattle.wq_items.specs.Building.{table_of}
-use Rattle.wq_commands.specs.Declaration.{Declared, declaration, by_table, max_declaration, max_declaration_line, unless_refused}
+use Rattle.wq_groups.specs.DeclaredGroups.{Declared}
+use Rattle.wq_commands.specs.Declaration.{declaration, by_table, max_declaration, max_declaration_line, unless_refused}
 
 pub within_limits : (text : List ℕ) (s : Declared) → declaration text ≡ Ok s → limit_fault max_declaration max_declaration_line text ≡ None
 within_limits text s is = by_fault (limit_fault max_declaration max_declaration_line text) refl

@@ -1,6 +1,6 @@
 -- What is said beside the answer of `dot`.
 use Rattle.std.specs.Prelude.{List, ℕ, Option}
-use Rattle.wq_commands.specs.Declaration.{Declared}
+use Rattle.wq_groups.specs.DeclaredGroups.{Declared}
 use Rattle.wq_commands.specs.declared.found.Found.{Found}
 use Rattle.wq_diagnosis.specs.Refused.{NotesNoItem}
 use Rattle.wq_voice.specs.Voice.{SaysFound}

@@ -7,7 +7,8 @@
 
 use crate::dotting::{Drawn, draw};
 use std::alloc::{AllocError, Allocator};
-use wq_commands::{Answered, Command, Declaration, Finds, Found, one_or_two_texts};
+use wq_commands::{Answered, Command, Finds, Found, one_or_two_texts};
+use wq_groups::Declaration;
 use wq_meter::{Limits, Texts};
 
 /// The command `dot`: its texts are a declaration and, where there is one, an assignment.

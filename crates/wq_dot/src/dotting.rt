@@ -11,7 +11,7 @@ ghost use Rattle.wq_plan.specs.Solve.{IsPlanned, Solves};
 ghost use Rattle.wq_cert.specs.Texts.{max_certificate, max_certificate_line};
 ghost use Rattle.wq_names.specs.Names.{names_of};
 ghost use Rattle.wq_text.specs.Limits.{limit_fault};
-ghost use Rattle.wq_commands.specs.Answer.{declared_waits};
+ghost use Rattle.wq_groups.specs.DeclaredGroups.{declared_waits};
 ghost use Rattle.wq_commands.specs.declared.end.End.TheVariants.{Good};
 ghost use Rattle.wq_commands.specs.declared.found.Found.TheVariants.{Read};
 ghost use Rattle.wq_circles.specs.Components.{AreComponents};
@@ -25,11 +25,11 @@ use crate::shortest::shortest_waits;
 use crate::titles::{circles_title, plan_title};
 use std::alloc::{AllocError, Allocator};
 use wq_circles::components;
-use wq_commands::{Answered, Assigned, Declaration, End, Found, Texts, Which};
-use wq_core::Workqueues;
+use wq_commands::{Answered, End, Found, Texts, Which, own_workqueues, workqueues_of};
+use wq_core::{Assigned, Workqueues};
 use wq_deadlock::bare_waits;
 use wq_graph::WaitArc;
-use wq_groups::Assignment;
+use wq_groups::{Assignment, Declaration};
 use wq_hang::Hop;
 use wq_names::workqueue_names;
 use wq_plan::{Answer, solve};
@@ -135,11 +135,8 @@ fn draw_circles<A: Allocator + Copy>(
     ensures { IfOk result (λ d. DrawsCircles assigned.now.declared (map (λ c. c.now) comments.now)
         assigned.now.workqueues (map (λ n. n.now) called.now) hanging.now d.drawn.waits.items d.text.items) }
 {
-    let declared = assigned.declared;
-    let Declaration { table, groups } = declared;
-    let workqueues = &assigned.workqueues;
-    let components = components(alloc, table, groups, workqueues)?;
-    let waits = bare_waits(alloc, table, groups, workqueues)?;
+    let components = components(alloc, assigned)?;
+    let waits = bare_waits(alloc, assigned)?;
     let hops = shortest_waits(alloc, assigned)?;
     let text = draw_components(
         alloc,
@@ -169,7 +166,7 @@ fn draw_planned<A: Allocator + Copy>(
     ensures { IfOk result (λ text. DrawsPlan declared.now (map (λ c. c.now) comments.now) text.items) }
 {
     let workqueues = Workqueues::new(assignment, Vec::new(alloc));
-    let assigned = Assigned::new(declared, workqueues);
+    let assigned = Assigned::new(declared, &workqueues);
     draw_plan(alloc, &assigned, comments, chain)
 }
 
@@ -183,7 +180,8 @@ fn draw_own_lanes<A: Allocator + Copy>(
         (all_rescued (own_lanes declared.now.partition.groups)) []
         (codes "every assignment can hang") d.drawn.waits.items d.text.items) }
 {
-    let assigned = Assigned::own_lanes(alloc, declared)?;
+    let workqueues = own_workqueues(alloc, declared)?;
+    let assigned = Assigned::new(declared, &workqueues);
     draw_circles(
         alloc,
         &assigned,
@@ -271,12 +269,10 @@ fn draw_text<A: Allocator + Copy>(
     ensures { IfOk result (λ a.
         DrawsText declared.now (map (λ c. c.now) comments.now) text.now a.found a.end a.text.items) }
 {
-    match Assigned::read(alloc, declared, text) {
-        Ok(assigned) => {
-            let answer = draw_named(alloc, &assigned, comments, text);
-            // Written as a call, so that the proof has one step for it.
-            drop(assigned);
-            answer
+    match workqueues_of(alloc, declared, text) {
+        Ok(workqueues) => {
+            let assigned = Assigned::new(declared, &workqueues);
+            draw_named(alloc, &assigned, comments, text)
         }
         Err(fault) => Answered::unread(alloc, Which::Certificate, fault),
     }

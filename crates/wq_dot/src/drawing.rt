@@ -18,9 +18,9 @@ use crate::shared::shared_names;
 use crate::workqueue::put_workqueue;
 use std::alloc::{AllocError, Allocator};
 use wq_buckets::Buckets;
-use wq_commands::{Assigned, Declaration};
+use wq_core::Assigned;
 use wq_graph::group_arcs_by_place;
-use wq_groups::LaneId;
+use wq_groups::{Declaration, LaneId};
 use wq_names::name_at;
 use wq_text::put;
 

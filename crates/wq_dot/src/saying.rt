@@ -10,8 +10,9 @@ ghost use Rattle.wq_dot.specs.Saying.{SaysDot};
 use crate::dot::DotCommand;
 use crate::dotting::Drawn;
 use std::alloc::{AllocError, Allocator};
-use wq_commands::{Declaration, Found, Texts, Voice};
+use wq_commands::{Found, Texts, Voice};
 use wq_diagnosis::{CertificateKind, of_no_item};
+use wq_groups::Declaration;
 use wq_voice::{FileNames, say_refusal, say_refused_text};
 
 /// What is said of a drawing, or of the text that is refused.

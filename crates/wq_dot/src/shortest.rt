@@ -4,11 +4,11 @@
 //! without a rescuer. It takes the time and the memory of the search for them.
 
 ghost use Rattle.std.specs.Prelude.{IfOk};
-ghost use Rattle.wq_commands.specs.Answer.{declared_waits};
+ghost use Rattle.wq_groups.specs.DeclaredGroups.{declared_waits};
 ghost use Rattle.wq_dot.specs.Dotting.{AreShortest};
 
 use std::alloc::{AllocError, Allocator};
-use wq_commands::{Assigned, Declaration};
+use wq_core::Assigned;
 use wq_hang::{Answer, Hop, hang};
 
 /// The waits of a shortest run of these workqueues that ends stuck; none if no run does.
@@ -19,9 +19,7 @@ pub(crate) fn shortest_waits<A: Allocator + Copy>(
     ensures { IfOk result (λ hops.
         AreShortest (declared_waits assigned.now.declared) assigned.now.workqueues hops.items) }
 {
-    let declared = assigned.declared;
-    let Declaration { table, groups } = declared;
-    match hang(alloc, table, groups, &assigned.workqueues)? {
+    match hang(alloc, assigned)? {
         Answer::Safe => Ok(Vec::new(alloc)),
         Answer::Hang(hops, _) => Ok(hops),
     }

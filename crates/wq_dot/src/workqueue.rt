@@ -10,8 +10,7 @@ ghost use Rattle.wq_dot.specs.Drawing.{box_lines, ended, frame_line, frame_text}
 use crate::group::put_group;
 use crate::label::{put_label, put_numbered};
 use std::alloc::{AllocError, Allocator};
-use wq_commands::Declaration;
-use wq_groups::GroupId;
+use wq_groups::{Declaration, GroupId};
 use wq_text::{put, put_number};
 
 /// The frame of a workqueue: dashed if it has no rescuer.

@@ -1,5 +1,5 @@
 -- Assignments: which workqueue serves each group.
-use Rattle.std.specs.Prelude.{◌≡◌, ℕ, ◌<◌, List, length, map, slice_index}
+use Rattle.std.specs.Prelude.{◌≡◌, ℕ, ◌<◌, ◌≤◌, List, length, map, slice_index}
 use Rattle.std.specs.List.{All}
 
 -- an assignment puts each group on a lane, which is a workqueue: how many lanes there are, and for each group in turn
@@ -16,6 +16,11 @@ max_lanes = 4096
 pub record IsAssignment (groups : ℕ) (a : Assignment) : Type 0 where
   pub one_each : length a.lane_of_group ≡ groups
   pub within : All (λ l. l < a.lanes) a.lane_of_group
+
+-- an assignment of this many groups to at most 4,096 workqueues
+pub record IsAssignmentOf (groups : ℕ) (a : Assignment) : Type 0 where
+  pub assignment : IsAssignment groups a
+  pub few : a.lanes ≤ max_lanes
 
 -- the lane of group g
 abbrev pub group_lane : Assignment → ℕ → ℕ

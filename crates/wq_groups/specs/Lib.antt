@@ -8,3 +8,4 @@ pub mod Numbering
 pub mod OutOfMemory
 pub mod Declaration
 pub mod Assignment
+pub mod DeclaredGroups

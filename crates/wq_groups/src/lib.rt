@@ -9,6 +9,7 @@
 #![tactic(auto)]
 
 mod assignment;
+mod declaration;
 mod fault;
 mod group_id;
 mod groups;
@@ -19,6 +20,7 @@ mod numbering;
 mod reading;
 
 pub use assignment::{Assignment, MAX_ASSIGNED_LANES};
+pub use declaration::Declaration;
 pub use fault::GroupError;
 pub use group_id::GroupId;
 pub use groups::Groups;

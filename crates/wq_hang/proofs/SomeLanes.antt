@@ -5,10 +5,13 @@ use Rattle.std.specs.List.{All}
 use Rattle.std.proofs.lemmas.Bool.{cases_eq, cases_lt, not-false, false≢true}
 use Rattle.std.proofs.lemmas.List.{get_or-replicate, get_or-set_same, get_or-set_other, length-replicate, length-set}
 use Rattle.std.proofs.lemmas.List.Elements.{All-nil, All-cons, Contains-get_or}
-use Rattle.wq_core.specs.Wiring.{Wiring, IsWiring, HasRescuer, items, lane_of, declared_by}
+use Rattle.wq_core.specs.Assigned.{Assigned, IsAssigned}
+use Rattle.wq_core.specs.Wiring.{Wiring, IsWiring, HasRescuer, items, lane_of, declared_by, wiring}
 use Rattle.wq_groups.specs.Declaration.{Declaration}
+use Rattle.wq_groups.specs.DeclaredGroups.{declared_waits}
+use Rattle.wq_groups.proofs.Declarations.{IsDeclaration-of}
 use Rattle.wq_core.specs.Workqueues.{Workqueues, with_bare, wiring_of}
-use Rattle.wq_core.proofs.Wirings.{lane_of-within, IsWiring-with_bare}
+use Rattle.wq_core.proofs.Wirings.{lane_of-within, IsWiring-wiring, IsWiring-with_bare}
 use Rattle.wq_hang.specs.declared.hop.Hop.{Hop}
 use Rattle.wq_hang.specs.Walk.{IsPath, IsRound, IsRoundOn, IsLeastRoundOn, target_beside}
 use Rattle.wq_hang.specs.Search.{hops_cost, AreItemsOn, ArePassed, IsLeastRound, AreMarked, AreMarkedOf, AreMade}
@@ -17,6 +20,15 @@ use Rattle.wq_hang.proofs.Declared.{declared-item, target_beside-most}
 use Rattle.wq_hang.proofs.StuckRounds.{walk_cost-hops}
 use Rattle.wq_hang.proofs.LeastWalks.{lanes_from, apart}
 use Rattle.wq_hang.proofs.LeastFound.{ArePassed-marked}
+
+-- the wiring of workqueues of a declaration's groups
+pub IsWiring-assigned : (a : Assigned) → IsAssigned a → IsWiring (wiring_of (declared_waits a.declared) a.workqueues)
+IsWiring-assigned a is =
+    let s = a.declared in
+    let declaration =
+    IsDeclaration-of s.table s.partition is.declared.table is.declared.partition is.declared.one_group_each in
+    IsWiring-with_bare (wiring (declared_waits s) a.workqueues.assignment) a.workqueues.bare
+    (IsWiring-wiring (declared_waits s) a.workqueues.assignment declaration is.assignment.assignment)
 
 -- ---- where each round costs more than 4 for each lane, there is none
 
@@ -185,9 +197,6 @@ AreKept-past w before after bare q are past fewer more = record {
   kept = λ p lt stays. let was = are.kept p lt stays in (was.0, more p (inl was.1));
   all = λ p lt has there. elim (fewer p there) [ inl old ↦ are.all p lt has old | inr same ↦ absurd (omega (arith, same, lt, past)) ];
 }
-
-pub AreKept-rescued : (w : Wiring) (lanes : List ℕ) (bare : List Bool) → AreKept w lanes bare → (q : ℕ) → q < w.lanes → (HasRescuer (with_bare w bare) q ↔ (HasRescuer w q × Contains lanes q))
-AreKept-rescued w lanes bare are q below = (λ stays. are.kept q below stays, λ on. are.all q below on.0 on.1)
 
 -- the same bare lanes again
 pub same_bare : (w : Wiring) (d : Declaration) (ws : Workqueues) (bare : List Bool) → w ≡ wiring_of d ws → bare ≡ ws.bare → with_bare w bare ≡ w

@@ -300,9 +300,6 @@ module _ (w : Wiring) (hops : List Hop) (beside : List ℕ) (wiring : IsWiring w
   pub IsRun-walk : IsRun w (run_of_walk w hops beside)
   IsRun-walk = IsRunFrom-append w (empty_state w) (map Queue all) (flat_map (moves_of w) hops) IsRun-queueings moves.0
 
-  end_is_sound : IsSoundState w end
-  end_is_sound = IsSoundState-after w start (flat_map (moves_of w) hops) start_is_sound moves.0
-
   -- what is queued is unfinished at the end
   left_at_end : (i : ℕ) → In i all → (e : Entry) × IsUnfinishedOn (lane_at end (lane_of w i)) e × (e.item ≡ i) × (e.number < start.next)
   left_at_end i there =

@@ -1,6 +1,8 @@
 pub use Rattle.wq_groups.specs.Declaration
+pub use Rattle.wq_groups.specs.DeclaredGroups
 pub use Rattle.wq_groups.specs.Assignment
 pub use Rattle.wq_graph.specs.Graph
+pub use Rattle.wq_core.specs.Assigned
 pub use Rattle.wq_core.specs.Deadlock
 pub mod Shortest
 pub mod Walk

@@ -5,7 +5,7 @@
 
 ghost use Rattle.std.specs.Prelude.{◌≡◌, ◌<◌, ◌≤◌, List, length, IfOk, OnErr, IfSome, IfNone, MatchOption};
 ghost use Rattle.wq_core.specs.Deadlock.{IsSafe};
-ghost use Rattle.wq_groups.specs.Declaration.{declaration_of};
+ghost use Rattle.wq_groups.specs.DeclaredGroups.{declared_waits};
 ghost use Rattle.wq_hang.specs.Answer.{IsAnswer};
 ghost use Rattle.wq_hang.specs.declared.hop.Hop.{Hop};
 ghost use Rattle.wq_hang.specs.Walk.{IsRound, IsLeastWalk, IsRoundOrFirst};
@@ -22,9 +22,8 @@ use crate::running::{run_of_walk, targets_beside};
 use crate::search::Search;
 use crate::waits::Waits;
 use std::alloc::{AllocError, Allocator};
-use wq_core::{Core, Workqueues};
-use wq_groups::Groups;
-use wq_items::{ItemId, ItemTable};
+use wq_core::{Assigned, Core};
+use wq_items::ItemId;
 
 /// What a round has to cost less than: 4, if there is a flush that leads to a bare lane.
 fn limit(bare: &Option<Hop>) -> u16
@@ -80,32 +79,25 @@ fn least_walk<A: Allocator + Copy>(
     }
 }
 
-/// The shortest hang of workqueues of a table's items, if they can hang. The groups are those of this table, and each
-/// has a workqueue.
+/// The shortest hang of the workqueues of declared groups, if they can hang.
 ///
 /// `Hang` has a run that ends stuck, such that no run that ends stuck has fewer steps, with 0 to 8 helpers of each
 /// workqueue; and the waits in it that hold one another up. The only error is out of memory (20), which can't occur
 /// where there is no workqueue.
 pub fn hang<A: Allocator + Copy>(
     alloc: A,
-    table: &ItemTable<'_, A>,
-    groups: &Groups<A>,
-    workqueues: &Workqueues<A>,
+    assigned: &Assigned<'_, '_, A>,
 ) -> Result<Answer<A>, AllocError>
-    requires grouped { length groups.now.group_of ≡ length table.now.names }
-    requires assigned { length workqueues.now.assignment.lane_of_group ≡ groups.now.groups }
-    ensures answer { IfOk result (IsAnswer (declaration_of table.now groups.now) workqueues.now) }
-    ensures memory { OnErr result (0 < workqueues.now.assignment.lanes) }
+    ensures answer { IfOk result (IsAnswer (declared_waits assigned.now.declared) assigned.now.workqueues) }
+    ensures memory { OnErr result (0 < assigned.now.workqueues.assignment.lanes) }
 {
-    // Each group has a member, and one of the lanes.
-    prove!(groups.len() <= table.len());
-    prove!(workqueues.assignment().lanes() <= 4096);
+    let workqueues = assigned.workqueues();
     if workqueues.assignment().lanes() == 0 {
         return Ok(Answer::Safe);
     }
     // The wait graph, which these are made of, is let go before the machine takes memory.
-    let numbers = lane_numbers(alloc, table, groups, workqueues)?;
-    let core = Core::on_workqueues(alloc, table, groups, workqueues)?;
+    let numbers = lane_numbers(alloc, assigned)?;
+    let core = Core::on_workqueues(alloc, assigned.table(), assigned.groups(), workqueues)?;
     let waits = Waits::new(&core, workqueues.bare());
     match least_walk(alloc, &waits, &numbers)? {
         Some((hops, beside)) => {

@@ -12,10 +12,8 @@ ghost use Rattle.wq_hang.specs.Numbering.{AreGiven};
 
 use std::alloc::{AllocError, Allocator};
 use std::marker::Model;
-use wq_core::Workqueues;
+use wq_core::Assigned;
 use wq_graph::{WaitArc, WaitGraph};
-use wq_groups::Groups;
-use wq_items::ItemTable;
 
 /// Comes to a vertex, if it is for the first time.
 fn visit<A: Allocator>(
@@ -230,15 +228,17 @@ pub(crate) fn vertex_numbers<A: Allocator + Copy>(
 /// A number for each lane.
 pub(crate) fn lane_numbers<A: Allocator + Copy>(
     alloc: A,
-    table: &ItemTable<'_, A>,
-    groups: &Groups<A>,
-    workqueues: &Workqueues<A>,
+    assigned: &Assigned<'_, '_, A>,
 ) -> Result<Vec<u16, A>, AllocError>
-    requires grouped { length groups.now.group_of ≡ length table.now.names }
-    requires assigned { length workqueues.now.assignment.lane_of_group ≡ groups.now.groups }
-    ensures { IfOk result (λ numbers. length numbers.items ≡ workqueues.now.assignment.lanes) }
+    ensures { IfOk result (λ numbers. length numbers.items ≡ assigned.now.workqueues.assignment.lanes) }
 {
-    let graph = WaitGraph::of_lanes(alloc, table, groups, workqueues.assignment())?;
+    let workqueues = assigned.workqueues();
+    let graph = WaitGraph::of_lanes(
+        alloc,
+        assigned.table(),
+        assigned.groups(),
+        workqueues.assignment(),
+    )?;
     let kept = graph.without(alloc, workqueues.bare())?;
     let numbers = vertex_numbers(alloc, &kept)?;
     Ok(numbers)

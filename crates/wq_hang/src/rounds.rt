@@ -5,7 +5,7 @@
 
 ghost use Rattle.std.specs.Prelude.{◌≡◌, ◌<◌, ℕ, List, length, replicate, slice_index_or, true, false, Contains, ◌↔◌};
 ghost use Rattle.std.specs.Prelude.{IfOk, OnOk, IfSome, IfNone};
-ghost use Rattle.wq_groups.specs.Declaration.{declaration_of};
+ghost use Rattle.wq_groups.specs.DeclaredGroups.{declared_waits};
 ghost use Rattle.wq_core.specs.Wiring.{HasRescuer};
 ghost use Rattle.wq_core.specs.Workqueues.{wiring_of, with_bare};
 ghost use Rattle.wq_hang.specs.declared.hop.Hop.{Hop};
@@ -21,9 +21,8 @@ use crate::waits::Waits;
 use std::alloc::{AllocError, Allocator};
 use std::marker::Model;
 use wq_buckets::Buckets;
-use wq_core::{Core, Workqueues};
-use wq_groups::{Groups, LaneId};
-use wq_items::ItemTable;
+use wq_core::{Assigned, Core};
+use wq_groups::LaneId;
 
 /// The rounds of workqueues, of which a least one is found for any lanes. Contracts see the wiring.
 #[derive(Drop)]
@@ -78,21 +77,15 @@ fn leave_others_out<A: Allocator>(
 }
 
 impl<A: Allocator + Copy> Rounds<A> {
-    /// Those of workqueues of a table's items. The groups are those of this table, and each has a workqueue.
+    /// Those of the workqueues of declared groups.
     ///
     /// The only error is out of memory (20).
-    pub fn new(
-        alloc: A,
-        table: &ItemTable<'_, A>,
-        groups: &Groups<A>,
-        workqueues: &Workqueues<A>,
-    ) -> Result<Self, AllocError>
-        requires grouped { length groups.now.group_of ≡ length table.now.names }
-        requires assigned { length workqueues.now.assignment.lane_of_group ≡ groups.now.groups }
-        ensures { IfOk result (λ r. r ≡ wiring_of (declaration_of table.now groups.now) workqueues.now) }
+    pub fn new(alloc: A, assigned: &Assigned<'_, '_, A>) -> Result<Self, AllocError>
+        ensures { IfOk result (λ r. r ≡ wiring_of (declared_waits assigned.now.declared) assigned.now.workqueues) }
     {
-        let numbers = lane_numbers(alloc, table, groups, workqueues)?;
-        let core = Core::on_workqueues(alloc, table, groups, workqueues)?;
+        let workqueues = assigned.workqueues();
+        let numbers = lane_numbers(alloc, assigned)?;
+        let core = Core::on_workqueues(alloc, assigned.table(), assigned.groups(), workqueues)?;
         let waits = Waits::new(&core, workqueues.bare());
         let on = items_on_lanes(alloc, &waits)?;
         let marks = marked_lanes(alloc, &waits, &numbers)?;

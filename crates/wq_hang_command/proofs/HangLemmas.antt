@@ -7,16 +7,16 @@ use Rattle.wq_core.specs.declared.step.Step.TheVariants.{Queue, Cancel, Start, W
 use Rattle.wq_core.specs.Wiring.{Wiring, items}
 use Rattle.wq_core.specs.Workqueues.{Workqueues, wiring_of}
 use Rattle.wq_core.specs.Runs.{IsHelp, HasNoHelp}
-use Rattle.wq_cert.specs.Ranges.{IsStepOf, IsAssignmentOf}
+use Rattle.wq_groups.specs.Assignment.{IsAssignmentOf}
+use Rattle.wq_cert.specs.Ranges.{IsStepOf}
 use Rattle.wq_cert.specs.RunText.{step_item}
 use Rattle.wq_deadlock.proofs.BareLanes.{IsWiring-workqueues}
 use Rattle.wq_deadlock.proofs.Named.{IsNamed-run}
 use Rattle.wq_hang.specs.Shortest.{NeedsWorker, IsShortestHang}
 use Rattle.wq_commands.specs.declared.end.End.{End}
 use Rattle.wq_commands.specs.declared.end.End.TheVariants.{Good, Bad, Refused}
-use Rattle.wq_commands.specs.Answer.{declared_waits}
+use Rattle.wq_groups.specs.DeclaredGroups.{declared_waits, Declared}
 use Rattle.wq_commands.specs.Deadlocking.{JudgesAssigned}
-use Rattle.wq_commands.specs.Declaration.{Declared}
 use Rattle.wq_commands.proofs.AnswerLemmas.{IsSound, IsDeclaration-sound}
 use Rattle.wq_commands.proofs.JudgeLemmas.{JudgesAssigned-exist}
 use Rattle.wq_commands.proofs.NamedSteps.{length-hang, steps_of-named}

@@ -12,9 +12,8 @@ use Rattle.wq_commands.specs.declared.end.End.{End}
 use Rattle.wq_commands.specs.declared.found.Found.{Found}
 use Rattle.wq_commands.specs.declared.found.Found.TheVariants.{Read}
 use Rattle.wq_commands.specs.declared.found.Which.TheVariants.{Certificate as SecondText}
-use Rattle.wq_commands.specs.Answer.{declared_waits}
+use Rattle.wq_groups.specs.DeclaredGroups.{declared_waits, Declared}
 use Rattle.wq_commands.specs.Commands.{two_texts}
-use Rattle.wq_commands.specs.Declaration.{Declared}
 use Rattle.wq_commands.specs.Shell.{AnswersTexts}
 use Rattle.wq_commands.proofs.FoundLemmas.{AnswersIn-match, AnswersTexts-match}
 use Rattle.wq_commands.proofs.InputLemmas.{assigned-kept}

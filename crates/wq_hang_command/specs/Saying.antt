@@ -5,10 +5,11 @@ use Rattle.wq_core.specs.Workqueues.{Workqueues}
 use Rattle.wq_hang.specs.declared.answer.Answer.{Answer}
 use Rattle.wq_hang.specs.declared.answer.Answer.TheVariants.{Hang, Safe}
 use Rattle.wq_names.specs.Names.{names_of}
-use Rattle.wq_commands.specs.Declaration.{Declared}
+use Rattle.wq_groups.specs.DeclaredGroups.{Declared}
 use Rattle.wq_commands.specs.declared.found.Found.{Found}
 use Rattle.wq_voice.specs.Note.{NotesBare}
-use Rattle.wq_voice.specs.Reasons.{AreSaid, can_hang, told}
+use Rattle.wq_names.specs.Messages.{can_hang}
+use Rattle.wq_voice.specs.Reasons.{AreSaid, told}
 use Rattle.wq_voice.specs.Voice.{SaysFound}
 use Rattle.wq_voice.specs.Waits.{words_of}
 use Rattle.wq_voice.specs.declared.waits.Wording.TheVariants.{OnWorkqueues}

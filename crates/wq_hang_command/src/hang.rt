@@ -5,7 +5,8 @@
 
 use crate::hanging::{Hanging, hang_declared};
 use std::alloc::{AllocError, Allocator};
-use wq_commands::{Answered, Command, Declaration, Finds, Found, TWO_TEXTS};
+use wq_commands::{Answered, Command, Finds, Found, TWO_TEXTS};
+use wq_groups::Declaration;
 use wq_meter::{Limits, Texts};
 
 /// The command `hang`: its texts are a declaration and an assignment.

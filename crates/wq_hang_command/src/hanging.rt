@@ -3,18 +3,19 @@
 //! The rule is that of "The command `hang`" in docs/FORMAT.md. It takes the time and the memory of reading the
 //! assignment and of the search for the shortest run.
 
-ghost use Rattle.std.specs.Prelude.{◌≡◌, IfOk};
+ghost use Rattle.std.specs.Prelude.{◌≡◌, length, IfOk};
 ghost use Rattle.wq_core.specs.Workqueues.{wiring_of};
 ghost use Rattle.wq_hang.specs.Answer.{IsAnswer};
 ghost use Rattle.wq_hang.specs.Shortest.{IsShortestHang};
 ghost use Rattle.wq_cert.specs.RunText.{run_text};
-ghost use Rattle.wq_commands.specs.Answer.{declared_waits};
+ghost use Rattle.wq_groups.specs.DeclaredGroups.{declared_waits};
 ghost use Rattle.wq_hang_command.specs.Hanging.{FindsHang, HangsText, PrintsAnswer};
 
 use std::alloc::{AllocError, Allocator};
 use wq_cert::run_text;
-use wq_commands::{Answered, Assigned, Declaration, End, Found, Which, safe_text};
-use wq_core::{Step, Workqueues};
+use wq_commands::{Answered, End, Found, Which, safe_text, workqueues_of};
+use wq_core::{Assigned, Step, Workqueues};
+use wq_groups::Declaration;
 use wq_hang::{Answer, hang as shortest_hang};
 
 /// Workqueues, and how they hang soonest, if they can.
@@ -58,29 +59,18 @@ fn print_answer<A: Allocator + Copy>(
     }
 }
 
-/// How these workqueues of the declared groups hang soonest.
-fn hang_of<A: Allocator + Copy>(
-    alloc: A,
-    assigned: &Assigned<'_, '_, A>,
-) -> Result<Answer<A>, AllocError>
-    ensures { IfOk result (IsAnswer (declared_waits assigned.now.declared) assigned.now.workqueues) }
-{
-    let declared = assigned.declared;
-    let Declaration { table, groups } = declared;
-    shortest_hang(alloc, table, groups, &assigned.workqueues)
-}
-
 /// The answer to workqueues of the declared groups.
-fn hang_assigned<A: Allocator + Copy>(
+fn hang_workqueues<A: Allocator + Copy>(
     alloc: A,
-    assigned: Assigned<'_, '_, A>,
+    declared: &Declaration<'_, A>,
+    workqueues: Workqueues<A>,
 ) -> Result<Answered<A, Found<Hanging<A>>>, AllocError>
-    ensures { IfOk result (λ a.
-        FindsHang assigned.entry.declared assigned.entry.workqueues a.found a.end a.text.items) }
+    requires { length workqueues.assignment.lane_of_group ≡ declared.now.partition.groups }
+    ensures { IfOk result (λ a. FindsHang declared.now workqueues a.found a.end a.text.items) }
 {
-    let answer = hang_of(alloc, &assigned)?;
+    let assigned = Assigned::new(declared, &workqueues);
+    let answer = shortest_hang(alloc, &assigned)?;
     let (end, text) = print_answer(alloc, &assigned, &answer)?;
-    let workqueues = assigned.workqueues;
     Ok(Answered {
         found: Found::Read(Hanging { workqueues, answer }),
         end,
@@ -96,8 +86,8 @@ pub(crate) fn hang_declared<A: Allocator + Copy>(
 ) -> Result<Answered<A, Found<Hanging<A>>>, AllocError>
     ensures { IfOk result (λ a. HangsText declared.now text.now a.found a.end a.text.items) }
 {
-    match Assigned::read(alloc, declared, text) {
-        Ok(assigned) => hang_assigned(alloc, assigned),
+    match workqueues_of(alloc, declared, text) {
+        Ok(workqueues) => hang_workqueues(alloc, declared, workqueues),
         Err(fault) => Answered::unread(alloc, Which::Certificate, fault),
     }
 }

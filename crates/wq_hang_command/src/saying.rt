@@ -3,10 +3,10 @@
 //!
 //! Nothing is searched for: the answer has the walk beside its run. A call takes the time and the memory of the words.
 
-ghost use Rattle.std.specs.Prelude.{◌≡◌, ℕ, IfOk, List, Ok, length, option_map};
+ghost use Rattle.std.specs.Prelude.{◌≡◌, ℕ, IfOk, List, Ok, option_map};
 ghost use Rattle.wq_hang.specs.Answer.{IsAnswer};
 ghost use Rattle.wq_cert.specs.Texts.{workqueues_of_text};
-ghost use Rattle.wq_commands.specs.Answer.{declared_waits};
+ghost use Rattle.wq_groups.specs.DeclaredGroups.{declared_waits};
 ghost use Rattle.wq_commands.specs.declared.end.End.{End};
 ghost use Rattle.wq_hang_command.specs.Hanging.{HangsText};
 ghost use Rattle.wq_hang_command.specs.Saying.{SaysHang, SaysHangOf};
@@ -14,39 +14,41 @@ ghost use Rattle.wq_hang_command.specs.Saying.{SaysHang, SaysHangOf};
 use crate::hang::HangCommand;
 use crate::hanging::Hanging;
 use std::alloc::{AllocError, Allocator};
-use wq_commands::{Declaration, Found, Texts, Voice};
+use wq_commands::{Found, Texts, Voice};
+use wq_core::Assigned;
 use wq_diagnosis::Source;
+use wq_groups::Declaration;
 use wq_hang::Answer;
-use wq_voice::{CertificateKind, FileNames, say_hops, say_refusal, say_refused_text, say_safe};
+use wq_voice::{
+    CertificateKind, FileNames, assigned_of, say_hops, say_refusal, say_refused_text, say_safe,
+};
 
 /// What is said of this answer to workqueues whose text is the second.
 fn say_answer<A: Allocator + Copy>(
     alloc: A,
     names: &FileNames<'_>,
-    declared: &Declaration<'_, A>,
+    assigned: &Assigned<'_, '_, A>,
     texts: &Texts<A>,
-    hanging: &Hanging<A>,
+    answer: &Answer<A>,
 ) -> Result<Option<Vec<u8, A>>, AllocError>
-    requires read { workqueues_of_text declared.now.table.names declared.now.partition texts.now.second
-        ≡ Ok hanging.now.workqueues }
-    requires assigned { length hanging.now.workqueues.assignment.lane_of_group ≡ declared.now.partition.groups }
-    requires answer { IsAnswer (declared_waits declared.now) hanging.now.workqueues hanging.now.answer }
+    requires read { workqueues_of_text assigned.now.declared.table.names assigned.now.declared.partition
+        texts.now.second ≡ Ok assigned.now.workqueues }
+    requires answer { IsAnswer (declared_waits assigned.now.declared) assigned.now.workqueues answer.now }
     ensures { IfOk result (λ said. SaysHang names.now.declaration.now names.now.second.now texts.now.second
-        declared.now hanging.now.workqueues hanging.now.answer (option_map (λ text. text.items) said)) }
+        assigned.now.declared assigned.now.workqueues answer.now (option_map (λ text. text.items) said)) }
 {
     let assignment = Source {
         file: names.second,
         text: texts.second(),
     };
-    let workqueues = &hanging.workqueues;
-    match &hanging.answer {
-        Answer::Safe => say_safe(alloc, names.declaration, assignment, declared, workqueues),
+    match answer {
+        Answer::Safe => say_safe(alloc, names.declaration, assignment, assigned),
         Answer::Hang(hops, _) => {
             let declaration = Source {
                 file: names.declaration,
                 text: texts.first(),
             };
-            let said = say_hops(alloc, declaration, assignment, declared, workqueues, hops)?;
+            let said = say_hops(alloc, declaration, assignment, assigned, hops)?;
             Ok(Some(said))
         }
     }
@@ -64,14 +66,15 @@ fn say_hang<A: Allocator + Copy>(
     ensures { IfOk result (λ said. SaysHangOf names.now.declaration.now names.now.second.now names.now.run.now
         declared.now texts.now found.now (option_map (λ text. text.items) said)) }
 {
-    // What holds of every declaration.
-    let _groups = &declared.groups;
     match found {
         Found::Refused { which, code, line } => {
             let kind = CertificateKind::Assignment;
             say_refused_text(alloc, names, kind, declared, texts, *which, *code, *line)
         }
-        Found::Read(hanging) => say_answer(alloc, names, declared, texts, hanging),
+        Found::Read(hanging) => {
+            let assigned = assigned_of(declared, &hanging.workqueues);
+            say_answer(alloc, names, &assigned, texts, &hanging.answer)
+        }
     }
 }
 

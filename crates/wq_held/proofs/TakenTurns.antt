@@ -21,6 +21,7 @@ use Rattle.wq_held.specs.declared.turn.Turn.TheVariants.{Answers as Answered, Sl
 use Rattle.wq_held.specs.Locked.{slots, HeldView, IsProtected, Holds}
 use Rattle.wq_held.specs.Calls.{counts_after, IsUncounted, WasAnswered, AreThere, BecomesTurn, TakesTurn}
 use Rattle.wq_held.specs.Turns.{IfSleeps, IsGroup, Wakes, WakesEnoughOf}
+use Rattle.wq_held.specs.Receipts.{Answered as Shown, TakesTurnOf, ShowsTurn}
 use Rattle.wq_held.proofs.Locking.{IsProtected-noted}
 
 -- ---- what the rows of an answer are about is there
@@ -58,11 +59,6 @@ pub now-there : (b : BookView) (call : Call) (answer : Result Reply CallError) �
 now-there b call answer (old, book, answers) =
     subst (λ (w : Wiring). AreThere w answer) (sym (answer-upheld old b call answer book answers).1)
     (answered-there old b call answer book answers)
-
--- a book that has just answered that it is too early is the same
-pub now-early : (b : BookView) (call : Call) → WasAnswered b call (Ok NotYet) → IsBook b × IsEarly b call
-now-early b call (old, book, answers) =
-    subst (λ (x : BookView). IsBook x × IsEarly x call) (sym answers.1) (book, answers.0)
 
 -- ---- what the lock guards
 
@@ -212,12 +208,6 @@ turn-taken old new counts left call answer (Sleeps among) answers seats counted 
       sleeps = comes.1 ∙ ap (λ (b : BookView). sleepers_of b.wiring call) early.1;
     }
 
--- nothing was counted for a caller who sleeps
-pub turn-sleeps : (old new : HeldView) (counts left : List ℕ) (call : Call) (turn : Turn (Result Reply CallError))
-    → TakesTurn old counts call turn new left → IfSleeps turn (λ among. left ≡ counts)
-turn-sleeps old new counts left call (Answered answer wake) takes = tt
-turn-sleeps old new counts left call (Sleeps among) takes = takes.uncounted
-
 -- enough are woken, and who sleeps has a group
 pub turn-wakes : (w : Wiring) (rows : ℕ) (old new : HeldView) (counts left : List ℕ) (call : Call)
     (turn : Turn (Result Reply CallError)) → Holds w rows old.book → TakesTurn old counts call turn new left
@@ -231,3 +221,21 @@ turn-wakes w rows old new counts left call (Sleeps among) holds takes = (
       (subst (IsGroup old.book.wiring.lanes (items old.book.wiring)) (sym takes.sleeps)
       (early-group old.book holds.legal call takes.early)),
 )
+
+-- ---- turns that show their answers
+
+pub shown-taken : (old new : HeldView) (call meant : Call) (turn : Turn (Result Reply CallError)) (shown : Turn Shown)
+    → meant ≡ call → ((counts : List ℕ) → TakesTurn old counts call turn new counts) → ShowsTurn meant turn shown
+    → TakesTurnOf old call shown new
+shown-taken old new call meant (Answered answer wake) shown is takes shows =
+    subst (λ (t : Turn Shown). TakesTurnOf old call t new) (sym shows) (is, takes)
+shown-taken old new call meant (Sleeps among) shown is takes shows =
+    subst (λ (t : Turn Shown). TakesTurnOf old call t new) (sym shows) takes
+
+pub shown-wakes : (lanes items_of : ℕ) (old new : HeldView) (meant : Call) (turn : Turn (Result Reply CallError))
+    (shown : Turn Shown) → ShowsTurn meant turn shown → Wakes lanes items_of WakesEnoughOf old new turn
+    → Wakes lanes items_of WakesEnoughOf old new shown
+shown-wakes lanes items_of old new meant (Answered answer wake) shown shows wakes =
+    subst (λ (t : Turn Shown). Wakes lanes items_of WakesEnoughOf old new t) (sym shows) wakes
+shown-wakes lanes items_of old new meant (Sleeps among) shown shows wakes =
+    subst (λ (t : Turn Shown). Wakes lanes items_of WakesEnoughOf old new t) (sym shows) wakes

@@ -6,3 +6,4 @@ pub mod Making
 pub mod Closing
 pub mod Turns
 pub mod Calls
+pub mod Receipts

@@ -9,9 +9,9 @@ ghost use Rattle.wq_counts.specs.Counting.{counts_each, HasCountsOf};
 ghost use Rattle.wq_held.specs.Locked.{slots, RefusesClose, Closes};
 ghost use Rattle.wq_held.specs.Closing.{SumsSeats, IsClosed};
 
-use crate::fault::CloseWhy;
 use crate::held::Held;
 use crate::naming::Naming;
+use crate::receipts::Unclosed;
 use crate::seat::Seat;
 use crate::tallies::Tallies;
 use std::alloc::Allocator;
@@ -90,9 +90,10 @@ impl<N: Naming, A: Allocator> Held<N, A> {
     pub fn close(
         self,
         seats: Vec<Seat<N, A>, A>,
-    ) -> Result<Closed<N, A>, (Self, Vec<Seat<N, A>, A>, CloseWhy)>
+    ) -> Result<Closed<N, A>, (Self, Vec<Seat<N, A>, A>, Unclosed<N>)>
         ensures closed { IfOk result (λ c. IsClosed N.wiring N.rows seats.items c.book c.counts c.agree) }
-        ensures refused { IfErr result (λ e. RefusesClose self (vec_len seats) e.2) }
+        ensures book { IfOk result (λ c. c.book ≡ self.book) }
+        ensures refused { IfErr result (λ e. (e.2.seats ≡ vec_len seats) × RefusesClose self (vec_len seats) e.2.why) }
         ensures kept { IfErr result (λ e. (e.0 ≡ self) × (e.1 ≡ seats)) }
     {
         match self.closable(seats.len()) {

@@ -12,6 +12,7 @@ ghost use Rattle.wq_held.specs.declared.fault.SeatError.TheVariants.{TooManySeat
 
 use crate::fault::{CloseWhy, SeatError};
 use crate::naming::Naming;
+use crate::receipts::{NoSeat, Unclosed};
 use crate::seat::Seat;
 use crate::tallies::Tallies;
 use std::alloc::Allocator;
@@ -60,7 +61,7 @@ impl<N: Naming, A: Allocator + Copy> Held<N, A> {
     ///
     /// The error is `TooManySeats` (70) exactly where 65,535 were made. Otherwise it is out of memory (20), which can't
     /// occur where there are no items and no lanes. After an error nothing is changed, and no seat counts as made.
-    pub fn seat(&mut self, alloc: A) -> Result<Seat<N, A>, SeatError>
+    pub fn seat(&mut self, alloc: A) -> Result<Seat<N, A>, NoSeat<N>>
         ensures seat { IfOk result (λ s. s ≡ replicate (counts_each * slots N.wiring) 0) }
         ensures made { OnOk result ((self.old.seats < 65535)
             × (self.new ≡ record self.old { seats = self.old.seats + 1 })) }
@@ -69,9 +70,11 @@ impl<N: Naming, A: Allocator + Copy> Held<N, A> {
         ensures memory { result ≡ Err SeatOutOfMemory → (self.old.seats < 65535) × (0 < slots N.wiring) }
     {
         if self.seats >= MAX_SEATS {
-            return Err(SeatError::TooManySeats);
+            return Err(NoSeat::by(SeatError::TooManySeats));
         }
-        let counts = Counts::new(alloc, slots_of(&self.book))?;
+        let Ok(counts) = Counts::new(alloc, slots_of(&self.book)) else {
+            return Err(NoSeat::by(SeatError::OutOfMemory));
+        };
         let share = self.rest.split_off(1, 0);
         self.seats += 1;
         Ok(Seat { counts, share })
@@ -113,16 +116,16 @@ impl<N: Naming, A: Allocator> Held<N, A> {
     ///
     /// The error is `NotIdle` (71) exactly where an entry is unfinished or a caller waits. Otherwise it is
     /// `SeatsMissing` (72), exactly where not this many seats were made.
-    pub fn closable(&self, seats: usize) -> Result<(), CloseWhy>
+    pub fn closable(&self, seats: usize) -> Result<(), Unclosed<N>>
         ensures closes { OnOk result (Closes self.now seats) }
-        ensures refused { IfErr result (RefusesClose self.now seats) }
+        ensures refused { IfErr result (λ e. (e.seats ≡ seats) × RefusesClose self.now seats e.why) }
     {
         self.book.legal();
         if !self.book.is_idle() || self.book.has_waiting_asks() {
-            return Err(CloseWhy::NotIdle);
+            return Err(Unclosed::by(seats, CloseWhy::NotIdle));
         }
         if seats != self.seats as usize {
-            return Err(CloseWhy::SeatsMissing);
+            return Err(Unclosed::by(seats, CloseWhy::SeatsMissing));
         }
         Ok(())
     }

@@ -2,14 +2,16 @@
 //!
 //! A call that is too early changes nothing. A call takes the time of the book's answer, and no memory.
 
-ghost use Rattle.std.specs.Prelude.{◌≡◌, ℕ, List};
+ghost use Rattle.std.specs.Prelude.{◌≡◌};
 ghost use Rattle.wq_core.specs.Wiring.{items};
 ghost use Rattle.wq_held.specs.Locked.{Holds};
 ghost use Rattle.wq_held.specs.Calls.{WasAnswered, BecomesTurn, TakesTurn};
+ghost use Rattle.wq_held.specs.Receipts.{TakesTurnOf, ShowsTurn};
 ghost use Rattle.wq_held.specs.Turns.{IfSleeps, Wakes, WakesEnoughOf};
 
 use crate::held::Held;
 use crate::naming::Naming;
+use crate::receipts::Answered;
 use crate::seat::Seat;
 use crate::turn::Turn;
 use crate::waking::{by_done, by_refusal, by_row, sleepers};
@@ -60,6 +62,17 @@ fn turn_of<A: Allocator>(
     }
 }
 
+/// What a call comes to, with a value that shows its answer.
+#[inline(always)]
+fn shown<N: Naming>(call: Call, turn: Turn<Result<Reply, CallError>>) -> Turn<Answered<N>>
+    ensures { ShowsTurn call turn result }
+{
+    match turn {
+        Turn::Answers(answer, wake) => Turn::Answers(Answered::new(call, answer), wake),
+        Turn::Sleeps(among) => Turn::Sleeps(among),
+    }
+}
+
 impl<N: Naming, A: Allocator> Held<N, A> {
     /// Answers a call, counts the row or rows that it wrote in the caller's seat, and says who is woken; or, where it
     /// is too early, says among whom the caller sleeps, and changes nothing.
@@ -80,15 +93,15 @@ impl<N: Naming, A: Allocator> Held<N, A> {
         turn_of(&self.book, &meant, answer)
     }
 
-    /// The same of a call of which no seat counts anything.
-    pub fn turn_uncounted<C: Uncounted<A>>(&mut self, call: C) -> Turn<Result<Reply, CallError>>
-        ensures takes { (counts : List ℕ) → TakesTurn self.old counts (C.meant call) result self.new counts }
+    /// The same of a call of which no seat counts anything. What it hands out shows that it was answered.
+    pub fn turn_uncounted<C: Uncounted<A>>(&mut self, call: C) -> Turn<Answered<N>>
+        ensures takes { TakesTurnOf self.old (C.meant call) result self.new }
         ensures wakes { Wakes N.wiring.lanes (items N.wiring) WakesEnoughOf self.old self.new result }
         ensures holds { Holds N.wiring N.rows self.old.book }
     {
         self.holds();
         let meant = call.call();
         let answer = call.answer_by(&mut self.book);
-        turn_of(&self.book, &meant, answer)
+        shown(meant, turn_of(&self.book, &meant, answer))
     }
 }

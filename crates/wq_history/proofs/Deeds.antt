@@ -120,11 +120,6 @@ over_is_lawful b q c f there (r, runs, waits) done =
     over_lawful b.wiring (state b) q c f.whole f.target r there runs
     (record { flush = f; waits = waits; kind = refl; target = refl; done = done })
 
-pub finish_is_lawful : (w : Wiring) (s : State) (q c : ℕ) (r : Running) → HasContext w q c → RunsIn (lane_at s q) c r
-    → r.waiting ≡ None → Lawful w s (step_in q c (DoFinish r.entry.item))
-finish_is_lawful w s q c r there runs awake =
-    lawful-step_in w s q c (DoFinish r.entry.item) there.1 tt (r, runs, record { entry = refl; awake = awake })
-
 -- ---- answers by helper
 
 -- what follows from there being no answer

@@ -28,10 +28,6 @@ pub step_of-ask_event : (x : Subject) (said : Bool) → step_of (ask_event x) sa
 step_of-ask_event (OfItem i) said = refl
 step_of-ask_event (OfLane q) said = refl
 
-pub step_of-told_event : (x : Subject) (said : Bool) → step_of (told_event x) said ≡ None
-step_of-told_event (OfItem i) said = refl
-step_of-told_event (OfLane q) said = refl
-
 -- what a caller asks about exists
 pub ask-there : (w : Wiring) (s : State) (waiting : ℕ) (x : Subject) (said : Bool) (n : ℕ) → MayComeIn w s waiting (ask_event x) said n → IsThere w x
 ask-there w s waiting (OfItem i) said n may = may.0

@@ -175,10 +175,6 @@ read_in (Err fault) rest e = absurd cc
 line_is_read : (t : Table) (orders : Bool) (line : LineView) (left rest all : List LineView) → left ≡ line ∷ rest → SoFar t orders left all → first_fault all ≡ None → IsOk (reading line)
 line_is_read t orders line left rest all step h sound = read_in (reading line) (first_fault rest) ((at_lines t orders left (line ∷ rest) all step h).sound ∙ sound)
 
-pub SoFar-refused : (t : Table) (orders : Bool) (line : LineView) (left rest all : List LineView) → left ≡ line ∷ rest → ¬ IsOk (reading line) → SoFar t orders left all
-    → first_fault all ≡ None → IsOk (table_of (directives all)) → RanOut (directives all)
-SoFar-refused t orders line left rest all step refused h sound made = absurd (refused (line_is_read t orders line left rest all step h sound))
-
 ok_before : (r : Result Table ItemError) (ds : List (ℕ × Directive)) → IsOk (and_then (λ (v : Table). table_after v ds) r) → IsOk r
 ok_before (Ok u) ds ok = refl
 ok_before (Err e) ds ok = absurd cc
@@ -201,12 +197,6 @@ SoFar-out_at_end t orders left all none some h = Made-out_at_end t (directives l
 or_false : (b : Bool) → b ≡ (b || false)
 or_false true = refl
 or_false false = refl
-
-pub SoFar-all : (t : Table) (orders : Bool) (left all : List LineView) → left ≡ [] → SoFar t orders left all
-    → (first_fault all ≡ None) × (table_of (directives all) ≡ Ok t) × (orders ≡ has_ordered (directives all))
-SoFar-all t orders left all none h =
-    let at = at_lines t orders left [] all none h in
-    (sym at.sound, sym at.whole, or_false orders ∙ at.order)
 
 -- ---- the `ordered` lines so far
 

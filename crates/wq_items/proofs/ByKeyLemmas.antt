@@ -190,11 +190,3 @@ AreFound-none hasher names lasts befores no_names no_lasts no_befores =
       keyed = λ some. absurd (omega (arith, some));
       linked = AreLinked-none [] lasts befores 0 no_lasts no_befores;
     }
-
--- without a key there is no name
-pub AreFound-empty : (hasher : Seeded) (names : List Name) (lasts befores : List ℕ) (name : List ℕ) → AreFound hasher names lasts befores → length lasts ≡ 0 → item_named (names_of names) name ≡ None
-AreFound-empty hasher names lasts befores name are none = by (item_named (names_of names) name) refl
-  where
-    by : (o : Option ℕ) → item_named (names_of names) name ≡ o → o ≡ None
-    by None e = refl
-    by (Some j) e = absurd (omega (arith, none, are.keyed (omega (arith, item_named-below (names_of names) name j e, length-map names (λ (n : Name). n.bytes.now)))))

@@ -8,8 +8,3 @@ use Rattle.wq_meter.specs.declared.stopped.Stopped.TheVariants.{Faulted, Unanswe
 abbrev pub IfUnanswered : {S : Type 0} → (S → Type 0) → Stopped S → Type 0
 IfUnanswered holds (Faulted fault) = Unit {0}
 IfUnanswered holds (Unanswered stop) = holds stop
-
--- if a fault stopped it, this holds of the fault
-abbrev pub IfFaulted : {S : Type 0} → (Fault → Type 0) → Stopped S → Type 0
-IfFaulted holds (Faulted fault) = holds fault
-IfFaulted holds (Unanswered stop) = Unit {0}

@@ -1,4 +1,5 @@
-//! Names of workqueues: how the comments of an assignment text call them.
+//! Names of workqueues: how the comments of an assignment text call them; and the messages in which standard error
+//! speaks of items and workqueues.
 //!
 //! What the layers above rely on: the name of a workqueue is what the comment of its line says up to its first comma,
 //! if that can be a name. The rule is that of "Names of workqueues" in docs/FORMAT.md. Names are for people: no verdict
@@ -7,6 +8,7 @@
 
 mod comment;
 pub mod laws;
+pub mod messages;
 mod names;
 
 pub use comment::comment_body;

@@ -282,11 +282,6 @@ IsReady-start d old start names s named lanes declaration before are_named are_l
       safe = safe;
     }
 
--- what hangs deadlocks
-pub Deadlocks-hang : (d : Declaration) (ws : Workqueues) (steps : List Step) → IsDeclaration d → IsHang d ws steps → Deadlocks (wiring_of d ws)
-Deadlocks-hang d ws steps declaration hang =
-    Deadlocks-knot (wiring_of d ws) hang.first (IsWiring-workqueues d ws declaration hang.assignment) (IsKnot-first d ws declaration hang.assignment (bare_waits d ws) refl hang.first hang.are_first)
-
 -- the answer is a repair
 pub IsRepair-minimal : (d : Declaration) (old new : Workqueues) (names : List ℕ) (needed : List Bool) → IsDeclaration d → IsAssignment d.groups old.assignment
     → Marks (NeedsRescuerOf d old names) d.groups needed → Deadlocks (wiring_of d old) → IsMinimal d old names needed new → IsRepair d old names new

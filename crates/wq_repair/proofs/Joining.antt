@@ -94,15 +94,6 @@ module _ (R : ℕ → ℕ → Type 0) (number : ℕ → ℕ) (bound : ℕ) (fall
     | inr not ↦ falls_from x y not arc
   ]
 
-  below-joined : (p : ℕ) → new p < bound + 1 + bound
-  below-joined p = elim (cases_Bool (beyond p)) [
-    | inl is ↦ omega (arith, at_beyond p is, below p)
-    | inr not ↦ elim (cases_Bool (p == v)) [
-      | inl same ↦ omega (arith, ap new (eqb-true p v same), at_v)
-      | inr other ↦ omega (arith, at_other p not other, below p)
-    ]
-  ]
-
 -- a chain from one to the other goes round when they become one
 module _ (R S : ℕ → ℕ → Type 0) (u v : ℕ) (keeps : (x y : ℕ) → R x y → S (become u v x) (become u v y)) where
   -- as Circle-map, of a chain that ends where it may begin

@@ -28,11 +28,3 @@ Workqueues-made ws a bare lanes lane_of made count groups =
 -- whether lane q is bare
 pub bare-read : (ws : Workqueues) (q p : ℕ) (is is_bare : Bool) → p ≡ q → is ≡ slice_index_or ws.bare p false → is ≡ is_bare → slice_index_or ws.bare q false ≡ is_bare
 bare-read ws q p is is_bare number read same = ap (λ (x : ℕ). slice_index_or ws.bare x false) (sym number) ∙ sym read ∙ same
-
-pub either-true : (a b : Bool) → ((a || b) ≡ true) ↔ ((a ≡ true) ⊎ (b ≡ true))
-either-true true b = (λ is. inl refl, λ either. refl)
-either-true false b = (λ is. inr is, λ either. elim either [ inl never ↦ absurd (false≢true never) | inr is ↦ is ])
-
-pub both-true : (a b : Bool) → ((a && b) ≡ true) ↔ ((a ≡ true) × (b ≡ true))
-both-true true b = (λ is. (refl, is), λ both. both.1)
-both-true false b = (λ is. absurd (false≢true is), λ both. absurd (false≢true both.0))

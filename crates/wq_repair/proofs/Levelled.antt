@@ -125,24 +125,6 @@ module _ (v : Vertices) (are : AreVertices v) (high low : ℕ) (high_is : high <
     top = let h : slice_index v.heights high ≤ v.top = are.low high 0 (omega (arith, high_is, are.one_each)) in omega (arith, h, top);
   }
 
--- the vertices that aren't higher than one, apart from that one
-pub Marks-not_higher : (heights : List ℕ) (marks : List Bool) (low : ℕ) → low < length heights → length marks ≡ length heights
-    → ((k : ℕ) → k < length heights → IsMarked marks k ↔ (slice_index heights k ≤ slice_index heights low))
-    → Marks (IsNotHigher heights low) (length heights) (set marks low false)
-Marks-not_higher heights marks low low_is long done = record {
-  one_each = length-set marks low false ∙ long;
-  exactly = λ k lt. elim (cases_eq k low) [
-    | inl same ↦ (
-      (λ is. absurd (false≢true (sym (get_or-set_same marks low false false (omega (arith, low_is, long))) ∙ subst (IsMarked (set marks low false)) same is))),
-      (λ both. absurd (both.1 same)),
-    )
-    | inr other ↦ (
-      (λ is. ((done k lt).0 (sym (get_or-set_other marks low k false false other) ∙ is), other)),
-      (λ both. get_or-set_other marks low k false false other ∙ (done k lt).1 both.0),
-    )
-  ];
-}
-
 -- the same, where the difference and the marks have other names
 pub AreVertices-raise : (v : Vertices) → AreVertices v → (high low : ℕ) → high < length v.heads → low < length v.heads → slice_index v.heights low < slice_index v.heights high
     → (before marks shown : List Bool) → Marks (IsNotHigher v.heights low) (length v.heights) before → HasSearched v.at v.heads high low before marks → shown ≡ marks

@@ -25,12 +25,6 @@ none_at n p = elim (cases_lt p n) [
   | inr le ↦ past_end (replicate n []) p [] (omega (arith, le, length-replicate {A = List ℕ} n []))
 ]
 
-pub AreHeadsUpTo-none : (graph : List (List WaitArc)) (at : List ℕ) (n : ℕ) → AreHeadsUpTo graph at (replicate n []) 0
-AreHeadsUpTo-none graph at n p h = (
-  (λ has. absurd (let bad : Contains [] h = subst (λ (l : List ℕ). Contains l h) (none_at n p) has in omega (arith, bad.1))),
-  (λ (g, lt, is, arc). absurd (omega (arith, lt))),
-)
-
 Contains-heads : (graph : List (List WaitArc)) (g h : ℕ) → HasArc graph g h → Contains (map (λ (a : WaitArc). a.head) (arcs_at graph g)) h
 Contains-heads graph g h (k, a, lt, at, head) =
     subst (Contains (map (λ (b : WaitArc). b.head) (arcs_at graph g))) head (Contains-map (λ (b : WaitArc). b.head) (arcs_at graph g) a (k, lt, at))

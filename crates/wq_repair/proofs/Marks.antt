@@ -65,13 +65,6 @@ Marks-none P n xs is none = record {
   );
 }
 
--- all is marked
-pub Marks-all : (P : ℕ → Type 0) (n : ℕ) (xs : List Bool) → xs ≡ replicate n true → ((k : ℕ) → k < n → P k) → Marks P n xs
-Marks-all P n xs is all = record {
-  one_each = ap length is ∙ length-replicate n true;
-  exactly = λ k lt. (λ marked. all k lt, λ p. ap (λ (ys : List Bool). get_or ys k false) is ∙ get_or-replicate n k true false lt);
-}
-
 -- one more is told of
 pub Marks-push : (P : ℕ → Type 0) (n : ℕ) (xs : List Bool) (b : Bool) → Marks P n xs → (b ≡ true) ↔ P n → Marks P (n + 1) (xs ++ b ∷ [])
 Marks-push P n xs b is last = record { one_each = omega (arith, length-append xs (b ∷ []), is.one_each); exactly = at }
@@ -104,19 +97,6 @@ Marks-one_more R n i j xs only here below is = Marks-set (SomeBelow R i) (SomeBe
       λ some. (some.0, omega (arith, some.1), some.2),
       λ some. elim (cases_eq some.0 i) [
         | inl last ↦ absurd (other (only k (subst (λ (m : ℕ). R m k) last some.2)))
-        | inr before ↦ (some.0, omega (arith, some.1, before), some.2)
-      ],
-    )
-
--- i is looked at, and stands in the relation to none
-pub Marks-no_more : (R : ℕ → ℕ → Type 0) (n i : ℕ) (xs : List Bool) → ((k : ℕ) → ¬ R i k) → Marks (SomeBelow R i) n xs → Marks (SomeBelow R (i + 1)) n xs
-Marks-no_more R n i xs none is = Marks-as (SomeBelow R i) (SomeBelow R (i + 1)) n xs same is
-  where
-    same : (k : ℕ) → k < n → SomeBelow R i k ↔ SomeBelow R (i + 1) k
-    same k lt = (
-      λ some. (some.0, omega (arith, some.1), some.2),
-      λ some. elim (cases_eq some.0 i) [
-        | inl last ↦ absurd (none k (subst (λ (m : ℕ). R m k) last some.2))
         | inr before ↦ (some.0, omega (arith, some.1, before), some.2)
       ],
     )

@@ -19,33 +19,8 @@ use Rattle.wq_repair.proofs.Taking.{nth_lane-apart}
 
 -- ---- the lanes of those that stay
 
-pub AreLanesOfRanks-none : (old : Workqueues) (marks named : List Bool) (ranks : List ℕ) (most : ℕ)
-    (of_rank : List (Option ℕ)) → of_rank ≡ replicate most None → AreLanesOfRanks old marks named ranks most 0 of_rank
-AreLanesOfRanks-none old marks named ranks most of_rank is = record {
-  one_each = ap length is ∙ length-replicate {A = Option ℕ} most None;
-  holds = λ r q lane. absurd (no_home most of_rank is r q lane);
-  on_named = λ r q lane. absurd (no_home most of_rank is r q lane);
-  all = λ g lt. absurd (omega (arith, lt));
-}
-
 module _ (old : Workqueues) (marks named : List Bool) (ranks : List ℕ) (most g : ℕ) (of_rank : List (Option ℕ))
     (is : AreLanesOfRanks old marks named ranks most g of_rank) where
-  -- the group isn't marked, or its lane isn't named, or its rank has a lane
-  pub AreLanesOfRanks-skip :
-      (IsMarked marks g → IsMarked named (lane_in old g) → ¬ HasNoLane of_rank (slice_index ranks g))
-      → AreLanesOfRanks old marks named ranks most (g + 1) of_rank
-  AreLanesOfRanks-skip has = record {
-    one_each = is.one_each;
-    holds = is.holds;
-    on_named = is.on_named;
-    all = λ h lt marked on_named. elim (cases_eq h g) [
-      | inl last ↦
-          subst (λ (x : ℕ). ¬ HasNoLane of_rank (slice_index ranks x)) (sym last)
-          (has (subst (IsMarked marks) last marked) (subst (λ (x : ℕ). IsMarked named (lane_in old x)) last on_named))
-      | inr other ↦ is.all h (omega (arith, lt, other)) marked on_named
-    ];
-  }
-
   pub AreLanesOfRanks-set : (r lane : ℕ) → IsMarked marks g → IsMarked named lane → slice_index ranks g ≡ r
       → lane_in old g ≡ lane → r < most → AreLanesOfRanks old marks named ranks most (g + 1) (set of_rank r (Some lane))
   AreLanesOfRanks-set r lane marked on_named ranked on below = record {
@@ -295,33 +270,6 @@ leaving-has_lane leaves leave ranks empty there most taken before after long bel
         some (nth_lane empty there at.0) at.2
 
 -- ---- the lanes of all groups
-
-module _ (old : Workqueues) (marks : List Bool) (ranks : List ℕ) (of_rank : List (Option ℕ)) where
-  pub AreRankedLanes-none : AreRankedLanes old marks ranks of_rank 0 []
-  AreRankedLanes-none = record { one_each = refl; marked = λ g lt. absurd (omega (arith, lt)); others = λ g lt. absurd (omega (arith, lt)) }
-
-  pub AreRankedLanes-next : (g : ℕ) (lane_of : List ℕ) (lane : ℕ) → AreRankedLanes old marks ranks of_rank g lane_of → (IsMarked marks g → IsLaneOfRank of_rank (slice_index ranks g) lane)
-      → ((¬ IsMarked marks g) → lane ≡ lane_in old g) → AreRankedLanes old marks ranks of_rank (g + 1) (lane_of ++ lane ∷ [])
-  AreRankedLanes-next g lane_of lane is if_marked if_not = record {
-    one_each = omega (arith, length-append lane_of (lane ∷ []), is.one_each);
-    marked = λ h lt marked. elim (cases_eq h g) [
-      | inl last ↦ subst (λ (x : ℕ). IsLaneOfRank of_rank (slice_index ranks x) (slice_index (lane_of ++ lane ∷ []) x)) (sym last)
-          (subst (IsLaneOfRank of_rank (slice_index ranks g)) (sym at) (if_marked (subst (IsMarked marks) last marked)))
-      | inr other ↦
-          let earlier : h < g = omega (arith, lt, other) in
-          subst (IsLaneOfRank of_rank (slice_index ranks h)) (sym (before h earlier)) (is.marked h earlier marked)
-    ];
-    others = λ h lt not. elim (cases_eq h g) [
-      | inl last ↦ subst (λ (x : ℕ). slice_index (lane_of ++ lane ∷ []) x ≡ lane_in old x) (sym last) (at ∙ if_not (subst (λ (x : ℕ). ¬ IsMarked marks x) last not))
-      | inr other ↦ let earlier : h < g = omega (arith, lt, other) in before h earlier ∙ is.others h earlier not
-    ];
-  }
-    where
-      at : slice_index (lane_of ++ lane ∷ []) g ≡ lane
-      at = get_or_push lane_of lane 0 g is.one_each
-
-      before : (h : ℕ) → h < g → slice_index (lane_of ++ lane ∷ []) h ≡ slice_index lane_of h
-      before h lt = get_or_append_left lane_of (lane ∷ []) 0 h (omega (arith, lt, is.one_each))
 
 -- one more number, where each is what its place says
 pub each-push : (f : ℕ → ℕ) (xs ys : List ℕ) (n x : ℕ) → length xs ≡ n → ((k : ℕ) → k < n → slice_index xs k ≡ f k) → ys ≡ xs ++ x ∷ [] → x ≡ f n → (k : ℕ) → k < n + 1 → slice_index ys k ≡ f k

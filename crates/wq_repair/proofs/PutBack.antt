@@ -12,10 +12,6 @@ use Rattle.wq_repair.specs.Ready.{Scope, IsReady, IsTried, HoldsNeeded, IsButNot
 use Rattle.wq_repair.proofs.StartsBy.{cases_marked}
 use Rattle.wq_repair.proofs.StartMade.{IsMarked-below}
 
--- each number once
-pub no_repeats : (order : List ℕ) → AllPairs (λ (j k : ℕ). j ≢ k) order → ¬ Repeats order
-no_repeats order once again = once again.0 again.1 0 again.2 again.3 again.4
-
 module _ (d : Declaration) (old : Workqueues) (names : List ℕ) (s : Scope) (start : Workqueues) (ready : IsReady d old names s start) where
   long : length s.movable ≡ d.groups
   long = ready.are_movable.one_each

@@ -173,9 +173,6 @@ IsSearching-first at heads from before within = record {
 -- it looks at one of them
 module _ (at : List ℕ) (heads : List (List ℕ)) (from : ℕ) (before : List Bool) (s t : Search) (p : ℕ) (is : IsSearching at heads from before s)
     (same : t.marks ≡ s.marks) (taken : s.found ≡ t.found ++ (p ∷ [])) where
-  pub IsSearching-at : p < length before
-  IsSearching-at = All-contains (λ x. x < length before) s.found p is.below (subst (λ (l : List ℕ). Contains l p) (sym taken) (Contains-push t.found p))
-
   module _ (within : All (λ h. slice_index at h < length before) (heads_at heads p)) where
     abbrev next : Search
     next = with_all_found at t (heads_at heads p)

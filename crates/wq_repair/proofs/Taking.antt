@@ -37,16 +37,6 @@ module _ (free : List ℕ) (there : ℕ) where
 
 -- ---- one group after the other
 
-pub AreOwnLanes-none : (old : Assignment) (marks : List Bool) (free : List ℕ) → AreOwnLanes old marks free 0 [] 0
-AreOwnLanes-none old marks free = record {
-  one_each = refl;
-  others = λ g lt. absurd (omega (arith, lt));
-  own = λ g lt. absurd (omega (arith, lt));
-  apart = λ g h lt below. absurd (omega (arith, below));
-  all = λ n lt. absurd (omega (arith, lt));
-  few = omega arith;
-}
-
 module _ (old : Assignment) (marks : List Bool) (free : List ℕ) (g : ℕ) (lane_of : List ℕ) (taken : ℕ) (is : AreOwnLanes old marks free g lane_of taken) (lane : ℕ) where
   before : (h : ℕ) → h < g → slice_index (lane_of ++ lane ∷ []) h ≡ slice_index lane_of h
   before h lt = get_or_append_left lane_of (lane ∷ []) 0 h (omega (arith, lt, is.one_each))

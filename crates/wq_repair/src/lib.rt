@@ -8,6 +8,7 @@
 #![tactic(auto)]
 
 mod answer;
+mod assigned;
 mod bits;
 mod joined;
 mod lanes;

@@ -4,24 +4,27 @@
 
 ghost use Rattle.std.specs.Prelude.{◌≡◌, ◌<◌, ◌≤◌, length, IfOk};
 ghost use Rattle.std.specs.List.{All};
-ghost use Rattle.wq_repair.specs.Changes.{HasName};
+ghost use Rattle.wq_groups.specs.DeclaredGroups.{declared_waits};
+ghost use Rattle.wq_repair.specs.Changes.{IsNamed};
 ghost use Rattle.wq_repair.specs.Marks.{Marks};
 ghost use Rattle.wq_repair.specs.Steps.{HoldsMarked};
 
 use std::alloc::{AllocError, Allocator};
-use wq_core::Workqueues;
-use wq_groups::{GroupId, Groups};
+use wq_core::{Assigned, Workqueues};
+use wq_groups::GroupId;
 use wq_items::ItemId;
 
 /// For each group, whether one of these items is in it.
 pub(crate) fn named_groups<A: Allocator + Copy>(
     alloc: A,
-    groups: &Groups<A>,
+    assigned: &Assigned<'_, '_, A>,
     names: &[ItemId],
 ) -> Result<Vec<bool, A>, AllocError>
-    requires { All (λ i. i < length groups.now.group_of) names.now }
-    ensures { IfOk result (λ named. Marks (HasName groups.now.group_of names.now) groups.now.groups named.items) }
+    requires { All (λ i. i < length assigned.now.declared.table.names) names.now }
+    ensures { IfOk result (λ named. Marks (IsNamed (declared_waits assigned.now.declared) names.now)
+        assigned.now.declared.partition.groups named.items) }
 {
+    let groups = assigned.groups();
     let mut named = vec![in alloc; false; usize::from(groups.len())]?;
     for item in names {
         named[usize::from(groups.of(*item).get())] = true;

@@ -6,21 +6,22 @@
 
 ghost use Rattle.std.specs.Prelude.{◌≡◌, ◌<◌, ◌≤◌, ◌↔◌, ℕ, [], length, slice_index, slice_index_or, IfOk, Contains};
 ghost use Rattle.std.specs.List.{All, Any};
-ghost use Rattle.wq_groups.specs.Declaration.{declaration_of};
+ghost use Rattle.wq_groups.specs.DeclaredGroups.{declared_waits};
 ghost use Rattle.wq_repair.specs.Changes.{IsRescued, lane_in};
 ghost use Rattle.wq_repair.specs.Needed.{NeedsRescuerOf};
 ghost use Rattle.wq_repair.specs.Following.{HasGrown, BringsAlongBy};
 ghost use Rattle.wq_repair.specs.Marks.{IsMarked, Marks};
 ghost use Rattle.wq_repair.specs.Together.{Lists};
 
+use crate::assigned::{graph_of_groups, workqueues_of};
 use crate::named::{named_groups, named_lanes};
 use std::alloc::{AllocError, Allocator};
 use std::marker::Model;
 use wq_buckets::Buckets;
-use wq_core::Workqueues;
+use wq_core::{Assigned, Workqueues};
 use wq_graph::{WaitArc, WaitGraph};
-use wq_groups::{Assignment, GroupId, Groups};
-use wq_items::{ItemId, ItemTable};
+use wq_groups::{Assignment, GroupId};
+use wq_items::ItemId;
 
 /// Which groups are found, and in which order.
 #[derive(Drop)]
@@ -165,27 +166,21 @@ fn groups_on_lanes<A: Allocator + Copy>(
 /// For each group whether it needs a rescuer, if only the groups of these items may move.
 pub(crate) fn needed_groups<A: Allocator + Copy>(
     alloc: A,
-    table: &ItemTable<'_, A>,
-    groups: &Groups<A>,
-    workqueues: &Workqueues<A>,
+    assigned: &Assigned<'_, '_, A>,
     names: &[ItemId],
 ) -> Result<Vec<bool, A>, AllocError>
-    requires grouped { length groups.now.group_of ≡ length table.now.names }
-    requires assigned { length workqueues.now.assignment.lane_of_group ≡ groups.now.groups }
-    requires names { All (λ i. i < length groups.now.group_of) names.now }
+    requires { All (λ i. i < length assigned.now.declared.table.names) names.now }
     ensures { IfOk result (λ needed.
-        Marks (NeedsRescuerOf (declaration_of table.now groups.now) workqueues.now names.now)
-        groups.now.groups needed.items) }
+        Marks (NeedsRescuerOf (declared_waits assigned.now.declared) assigned.now.workqueues names.now)
+        assigned.now.declared.partition.groups needed.items) }
 {
-    // What holds of every table, of its groups and of every assignment.
-    let _items = table.len();
-    let _groups = groups.len();
-    let _lanes = workqueues.assignment().lanes();
-    let graph = WaitGraph::of_groups(alloc, table, groups)?;
-    let on = groups_on_lanes(alloc, workqueues.assignment(), groups.len())?;
-    let named = named_groups(alloc, groups, names)?;
+    let workqueues = workqueues_of(assigned);
+    let groups = assigned.groups().len();
+    let graph = graph_of_groups(alloc, assigned)?;
+    let on = groups_on_lanes(alloc, workqueues.assignment(), groups)?;
+    let named = named_groups(alloc, assigned, names)?;
     let lanes = named_lanes(alloc, workqueues, named.as_slice())?;
-    let mut found = on_rescuers(alloc, workqueues, groups.len())?;
+    let mut found = on_rescuers(alloc, workqueues, groups)?;
     let mut done = 0;
     while done < found.list.len() {
         let group = found.list[done];

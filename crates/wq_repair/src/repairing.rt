@@ -7,7 +7,8 @@
 ghost use Rattle.std.specs.Prelude.{◌≡◌, ◌↔◌, ◌<◌, ◌≤◌, ℕ, Bool, List, length, map, not, slice_index, IfOk, OnErr};
 ghost use Rattle.std.specs.Prelude.{IfSome, IfNone};
 ghost use Rattle.std.specs.List.{All};
-ghost use Rattle.wq_groups.specs.Declaration.{Declaration, IsDeclaration, declaration_of};
+ghost use Rattle.wq_groups.specs.Declaration.{Declaration, IsDeclaration};
+ghost use Rattle.wq_groups.specs.DeclaredGroups.{declared_waits};
 ghost use Rattle.wq_graph.specs.declared.arc.WaitArc.{WaitArc};
 ghost use Rattle.wq_core.specs.Workqueues.{Workqueues as WorkqueuesView, wiring_of};
 ghost use Rattle.wq_core.specs.Deadlock.{Deadlocks};
@@ -24,6 +25,7 @@ ghost use Rattle.wq_repair.specs.Joined.{NeededWaits};
 ghost use Rattle.wq_repair.specs.Repair.{IsAnswer, IsNeededCircle};
 
 use crate::answer::Answer;
+use crate::assigned::{graph_of_groups, judge_others, with_workqueues, workqueues_of};
 use crate::joined::{Joined, put_together, put_together_by};
 use crate::listing::listed;
 use crate::named::{named_groups, named_lanes};
@@ -34,10 +36,10 @@ use crate::scope::{Scope, all_but, but_not, scope_of, tried_groups};
 use crate::start::start;
 use crate::wider::better_repair;
 use std::alloc::{AllocError, Allocator};
-use wq_core::Workqueues;
-use wq_deadlock::{Judged, judge, rescued_graph};
+use wq_core::{Assigned, Workqueues};
+use wq_deadlock::{Judged, are_safe, rescued_graph};
 use wq_graph::{WaitArc, WaitGraph};
-use wq_groups::{Assignment, GroupId, Groups, LaneId};
+use wq_groups::{Assignment, GroupId, LaneId};
 use wq_items::{ItemId, ItemTable};
 use wq_levels::{Ranked, rank};
 
@@ -60,16 +62,14 @@ fn all_items<A: Allocator + Copy>(
 /// The wait graph of the groups that need a rescuer. All groups are vertices, and the others have no arcs.
 fn graph_of_needed<A: Allocator + Copy>(
     alloc: A,
-    table: &ItemTable<'_, A>,
-    groups: &Groups<A>,
+    assigned: &Assigned<'_, '_, A>,
     needed: &[bool],
 ) -> Result<WaitGraph<A>, AllocError>
-    requires { length groups.now.group_of ≡ length table.now.names }
     ensures { IfOk result (λ graph.
-        graph ≡ without (map not needed.now) (group_graph (declaration_of table.now groups.now))) }
+        graph ≡ without (map not needed.now) (group_graph (declared_waits assigned.now.declared))) }
 {
     let out = all_but(alloc, needed)?;
-    WaitGraph::of_groups(alloc, table, groups)?.without(alloc, out.as_slice())
+    graph_of_groups(alloc, assigned)?.without(alloc, out.as_slice())
 }
 
 /// The vertex at which the groups of each lane are that need a rescuer and can't move, if there are any. It has the
@@ -223,84 +223,67 @@ fn keep_together<A: Allocator + Copy>(
 /// Each group at its lane in the start. Lanes are as high as their ranks say.
 fn start_vertices<A: Allocator + Copy>(
     alloc: A,
-    table: &ItemTable<'_, A>,
-    groups: &Groups<A>,
-    start: &Workqueues<A>,
+    start: &Assigned<'_, '_, A>,
     graph: &WaitGraph<A>,
 ) -> Result<Joined<A>, AllocError>
-    requires grouped { length groups.now.group_of ≡ length table.now.names }
-    requires ready { (old : WorkqueuesView) × (names : List ℕ) × (s : ScopeView)
-        × IsReady (declaration_of table.now groups.now) old names s start.now
-        × IsGraphOfNeeded (declaration_of table.now groups.now) s.needed graph.now }
+    requires { (old : WorkqueuesView) × (names : List ℕ) × (s : ScopeView)
+        × IsReady (declared_waits start.now.declared) old names s start.now.workqueues
+        × IsGraphOfNeeded (declared_waits start.now.declared) s.needed graph.now }
     ensures vertices { IfOk result AreVertices }
-    ensures at { IfOk result (λ joined. joined.at ≡ start.now.assignment.lane_of_group) }
+    ensures at { IfOk result (λ joined. joined.at ≡ start.now.workqueues.assignment.lane_of_group) }
     ensures heads { IfOk result (λ joined. AreHeads graph.now joined.at joined.heads) }
 {
-    // What holds of every table, of its groups and of every assignment.
-    let _items = table.len();
-    let _groups = groups.len();
-    let _lanes = start.assignment().lanes();
-    let start_graph = rescued_graph(alloc, table, groups, start)?;
+    let workqueues = workqueues_of(start);
+    let start_graph = rescued_graph(alloc, start)?;
     let ranks = ranks_of(alloc, &start_graph)?;
-    Joined::new(alloc, graph, start.assignment(), ranks.as_slice())
+    Joined::new(alloc, graph, workqueues.assignment(), ranks.as_slice())
 }
 
 /// For each group the rank of its vertex, if the vertices are the lanes of the start.
 fn ranks_of_vertices<A: Allocator + Copy>(
     alloc: A,
-    table: &ItemTable<'_, A>,
-    groups: &Groups<A>,
-    start: &Workqueues<A>,
+    start: &Assigned<'_, '_, A>,
     joined: &Joined<A>,
 ) -> Result<Vec<u16, A>, AllocError>
-    requires grouped { length groups.now.group_of ≡ length table.now.names }
-    requires assigned { length start.now.assignment.lane_of_group ≡ groups.now.groups }
-    requires groups { length joined.now.at ≡ groups.now.groups }
-    requires within { All (λ v. v < start.now.assignment.lanes) joined.now.at }
-    requires bare { length start.now.bare ≤ start.now.assignment.lanes }
+    requires groups { length joined.now.at ≡ start.now.declared.partition.groups }
+    requires within { All (λ v. v < start.now.workqueues.assignment.lanes) joined.now.at }
+    requires bare { length start.now.workqueues.bare ≤ start.now.workqueues.assignment.lanes }
     requires no_circle { (n : ℕ) → ¬ HasCircle
-        (HasArc (rescued_graph (declaration_of table.now groups.now) (placed_at start.now joined.now.at))) n }
-    ensures { IfOk result (λ ranks. AreRanksOfGroups (declaration_of table.now groups.now)
-        (placed_at start.now joined.now.at) ranks.items) }
+        (HasArc (rescued_graph (declared_waits start.now.declared) (placed_at start.now.workqueues joined.now.at))) n }
+    ensures { IfOk result (λ ranks. AreRanksOfGroups (declared_waits start.now.declared)
+        (placed_at start.now.workqueues joined.now.at) ranks.items) }
 {
-    // What holds of every table, of its groups and of every assignment.
-    let _items = table.len();
-    let _groups = groups.len();
-    let _lanes = start.assignment().lanes();
-    let merged = vertices_as_lanes(alloc, start, joined)?;
-    let graph = rescued_graph(alloc, table, groups, &merged)?;
+    let workqueues = workqueues_of(start);
+    let groups = start.groups().len();
+    let placed = vertices_as_lanes(alloc, workqueues, joined)?;
+    let merged = with_workqueues(start, &placed);
+    let graph = rescued_graph(alloc, &merged)?;
     let ranks = ranks_of(alloc, &graph)?;
-    let of_groups = ranks_of_groups(alloc, merged.assignment(), ranks.as_slice(), groups.len())?;
+    let of_groups = ranks_of_groups(alloc, placed.assignment(), ranks.as_slice(), groups)?;
     Ok(of_groups)
 }
 
-/// Of workqueues that can be repaired: the repair.
-pub(crate) fn repaired<A: Allocator + Copy>(
+/// Of workqueues that can be repaired: the repair, from a start that is safe.
+fn repaired_from<A: Allocator + Copy>(
     alloc: A,
-    table: &ItemTable<'_, A>,
-    groups: &Groups<A>,
     old: &Workqueues<A>,
-    start: &Workqueues<A>,
+    start: &Assigned<'_, '_, A>,
     scope: &Scope<A>,
 ) -> Result<Workqueues<A>, AllocError>
-    requires grouped { length groups.now.group_of ≡ length table.now.names }
-    requires ready { (names : List ℕ)
-        × IsReady (declaration_of table.now groups.now) old.now names scope.now start.now }
+    requires { (names : List ℕ)
+        × IsReady (declared_waits start.now.declared) old.now names scope.now start.now.workqueues }
     ensures { IfOk result (λ new. (names : List ℕ) →
-        IsReady (declaration_of table.now groups.now) old.now names scope.now start.now →
-        IsMinimal (declaration_of table.now groups.now) old.now names scope.now.needed new) }
+        IsReady (declared_waits start.now.declared) old.now names scope.now start.now.workqueues →
+        IsMinimal (declared_waits start.now.declared) old.now names scope.now.needed new) }
 {
-    // What holds of every table, of its groups and of every assignment.
-    let _items = table.len();
-    let _groups = groups.len();
-    let lanes = start.assignment().lanes();
-    let graph = graph_of_needed(alloc, table, groups, scope.needed.as_slice())?;
-    let mut joined = start_vertices(alloc, table, groups, start, &graph)?;
+    let lanes = workqueues_of(start).assignment().lanes();
+    let graph = graph_of_needed(alloc, start, scope.needed.as_slice())?;
+    let mut joined = start_vertices(alloc, start, &graph)?;
     let back = put_back(alloc, &graph, old, scope, &mut joined)?;
     let leaves = but_not(alloc, scope.movable.as_slice(), back.as_slice())?;
     let stays = but_not(alloc, scope.needed.as_slice(), leaves.as_slice())?;
     keep_together(alloc, old.assignment(), leaves.as_slice(), &mut joined)?;
-    let ranks = ranks_of_vertices(alloc, table, groups, start, &joined)?;
+    let ranks = ranks_of_vertices(alloc, start, &joined)?;
     place(
         alloc,
         old,
@@ -313,27 +296,38 @@ pub(crate) fn repaired<A: Allocator + Copy>(
     )
 }
 
+/// Of workqueues that can be repaired: the repair.
+pub(crate) fn repaired<A: Allocator + Copy>(
+    alloc: A,
+    assigned: &Assigned<'_, '_, A>,
+    start: &Workqueues<A>,
+    scope: &Scope<A>,
+) -> Result<Workqueues<A>, AllocError>
+    requires { (names : List ℕ)
+        × IsReady (declared_waits assigned.now.declared) assigned.now.workqueues names scope.now start.now }
+    ensures { IfOk result (λ new. (names : List ℕ) →
+        IsReady (declared_waits assigned.now.declared) assigned.now.workqueues names scope.now start.now →
+        IsMinimal (declared_waits assigned.now.declared) assigned.now.workqueues names scope.now.needed new) }
+{
+    let old = workqueues_of(assigned);
+    let begin = with_workqueues(assigned, start);
+    repaired_from(alloc, old, &begin, scope)
+}
+
 /// The circle in which groups wait that need a rescuer whatever may move, if there is one.
 fn needed_circle<A: Allocator + Copy>(
     alloc: A,
-    table: &ItemTable<'_, A>,
-    groups: &Groups<A>,
-    workqueues: &Workqueues<A>,
+    assigned: &Assigned<'_, '_, A>,
 ) -> Result<Option<Vec<WaitArc, A>>, AllocError>
-    requires grouped { length groups.now.group_of ≡ length table.now.names }
-    requires assigned { length workqueues.now.assignment.lane_of_group ≡ groups.now.groups }
+    ensures declaration { IsDeclaration (declared_waits assigned.now.declared) }
     ensures some { IfOk result (λ circle. IfSome circle (λ arcs.
-        IsNeededCircle (declaration_of table.now groups.now) workqueues.now arcs.items)) }
+        IsNeededCircle (declared_waits assigned.now.declared) assigned.now.workqueues arcs.items)) }
     ensures none { IfOk result (λ circle. IfNone circle
-        (¬ Circle (NeededWaits (declaration_of table.now groups.now) workqueues.now))) }
+        (¬ Circle (NeededWaits (declared_waits assigned.now.declared) assigned.now.workqueues))) }
 {
-    // What holds of every table, of its groups and of every assignment.
-    let _items = table.len();
-    let _groups = groups.len();
-    let _lanes = workqueues.assignment().lanes();
-    let all = all_items(alloc, table)?;
-    let always = needed_groups(alloc, table, groups, workqueues, all.as_slice())?;
-    let graph = graph_of_needed(alloc, table, groups, always.as_slice())?;
+    let all = all_items(alloc, assigned.table())?;
+    let always = needed_groups(alloc, assigned, all.as_slice())?;
+    let graph = graph_of_needed(alloc, assigned, always.as_slice())?;
     match rank(alloc, &graph)? {
         Ranked::Ranks(_) => Ok(None),
         Ranked::Circle(arcs) => Ok(Some(arcs)),
@@ -343,24 +337,17 @@ fn needed_circle<A: Allocator + Copy>(
 /// The answer for workqueues that deadlock, if no groups that need a rescuer wait in a circle.
 fn repair_without_circle<A: Allocator + Copy>(
     alloc: A,
-    table: &ItemTable<'_, A>,
-    groups: &Groups<A>,
-    workqueues: &Workqueues<A>,
+    assigned: &Assigned<'_, '_, A>,
     names: &[ItemId],
 ) -> Result<Answer<A>, AllocError>
-    requires grouped { length groups.now.group_of ≡ length table.now.names }
-    requires assigned { length workqueues.now.assignment.lane_of_group ≡ groups.now.groups }
-    requires names { All (λ i. i < length table.now.names) names.now }
-    requires deadlocked { Deadlocks (wiring_of (declaration_of table.now groups.now) workqueues.now) }
-    requires no_circle { ¬ Circle (NeededWaits (declaration_of table.now groups.now) workqueues.now) }
-    ensures { IfOk result (IsAnswer (declaration_of table.now groups.now) workqueues.now names.now) }
+    requires names { All (λ i. i < length assigned.now.declared.table.names) names.now }
+    requires deadlocked { Deadlocks (wiring_of (declared_waits assigned.now.declared) assigned.now.workqueues) }
+    requires no_circle { ¬ Circle (NeededWaits (declared_waits assigned.now.declared) assigned.now.workqueues) }
+    ensures { IfOk result (IsAnswer (declared_waits assigned.now.declared) assigned.now.workqueues names.now) }
 {
-    // What holds of every table, of its groups and of every assignment.
-    let _items = table.len();
-    let _groups = groups.len();
-    let _lanes = workqueues.assignment().lanes();
-    let needed = needed_groups(alloc, table, groups, workqueues, names)?;
-    let named = named_groups(alloc, groups, names)?;
+    let workqueues = workqueues_of(assigned);
+    let needed = needed_groups(alloc, assigned, names)?;
+    let named = named_groups(alloc, assigned, names)?;
     let lanes = named_lanes(alloc, workqueues, named.as_slice())?;
     let scope = scope_of(
         alloc,
@@ -375,10 +362,10 @@ fn repair_without_circle<A: Allocator + Copy>(
         scope.movable.as_slice(),
         scope.given.as_slice(),
     )?;
-    match judge(alloc, table, groups, &begin)? {
+    match judge_others(alloc, assigned, &begin)? {
         Judged::Deadlock(steps) => Ok(Answer::TooFewNames(begin, steps)),
         Judged::Safe => {
-            let new = better_repair(alloc, table, groups, workqueues, names, &begin, &scope)?;
+            let new = better_repair(alloc, assigned, names, &begin, &scope)?;
             Ok(Answer::Repaired(new))
         }
     }
@@ -387,25 +374,22 @@ fn repair_without_circle<A: Allocator + Copy>(
 /// The answer for workqueues that deadlock.
 fn repair_deadlocked<A: Allocator + Copy>(
     alloc: A,
-    table: &ItemTable<'_, A>,
-    groups: &Groups<A>,
-    workqueues: &Workqueues<A>,
+    assigned: &Assigned<'_, '_, A>,
     names: &[ItemId],
 ) -> Result<Answer<A>, AllocError>
-    requires grouped { length groups.now.group_of ≡ length table.now.names }
-    requires assigned { length workqueues.now.assignment.lane_of_group ≡ groups.now.groups }
-    requires names { All (λ i. i < length table.now.names) names.now }
-    requires deadlocked { Deadlocks (wiring_of (declaration_of table.now groups.now) workqueues.now) }
-    ensures { IfOk result (IsAnswer (declaration_of table.now groups.now) workqueues.now names.now) }
+    requires names { All (λ i. i < length assigned.now.declared.table.names) names.now }
+    requires deadlocked { Deadlocks (wiring_of (declared_waits assigned.now.declared) assigned.now.workqueues) }
+    requires lanes { 0 < assigned.now.workqueues.assignment.lanes }
+    ensures answer { IfOk result (IsAnswer (declared_waits assigned.now.declared) assigned.now.workqueues names.now) }
+    ensures memory { OnErr result (0 < assigned.now.workqueues.assignment.lanes) }
 {
-    match needed_circle(alloc, table, groups, workqueues)? {
+    match needed_circle(alloc, assigned)? {
         Some(arcs) => Ok(Answer::Circle(arcs)),
-        None => repair_without_circle(alloc, table, groups, workqueues, names),
+        None => repair_without_circle(alloc, assigned, names),
     }
 }
 
-/// Repairs workqueues of a table's items, of which only these may move, each with its group. The groups are those of
-/// this table, and each has a workqueue.
+/// Repairs the workqueues of declared items, of which only these may move, each with its group.
 ///
 /// `Safe` says that nothing has to be done. `Repaired` has workqueues that are safe: what has only some of their
 /// changes deadlocks. A change is a group on another workqueue, or a rescuer for a workqueue that had none and on which
@@ -413,22 +397,16 @@ fn repair_deadlocked<A: Allocator + Copy>(
 /// whatever may move. The only error is out of memory (20), which can't occur where there is no workqueue.
 pub fn repair<A: Allocator + Copy>(
     alloc: A,
-    table: &ItemTable<'_, A>,
-    groups: &Groups<A>,
-    workqueues: &Workqueues<A>,
+    assigned: &Assigned<'_, '_, A>,
     names: &[ItemId],
 ) -> Result<Answer<A>, AllocError>
-    requires grouped { length groups.now.group_of ≡ length table.now.names }
-    requires assigned { length workqueues.now.assignment.lane_of_group ≡ groups.now.groups }
-    requires names { All (λ i. i < length table.now.names) names.now }
-    ensures answer { IfOk result (IsAnswer (declaration_of table.now groups.now) workqueues.now names.now) }
-    ensures memory { OnErr result (0 < workqueues.now.assignment.lanes) }
+    requires names { All (λ i. i < length assigned.now.declared.table.names) names.now }
+    ensures answer { IfOk result (IsAnswer (declared_waits assigned.now.declared) assigned.now.workqueues names.now) }
+    ensures memory { OnErr result (0 < assigned.now.workqueues.assignment.lanes) }
 {
-    // What holds of every table, of its groups and of every assignment.
-    let _items = table.len();
-    let _groups = groups.len();
-    match judge(alloc, table, groups, workqueues)? {
-        Judged::Safe => Ok(Answer::Safe),
-        Judged::Deadlock(_) => repair_deadlocked(alloc, table, groups, workqueues, names),
+    if are_safe(alloc, assigned)? {
+        Ok(Answer::Safe)
+    } else {
+        repair_deadlocked(alloc, assigned, names)
     }
 }

@@ -7,7 +7,7 @@
 
 ghost use Rattle.std.specs.Prelude.{◌≡◌, ◌<◌, ◌≤◌, ◌⊎◌, ℕ, length, IfOk, IfSome, IsTrue, List, Some};
 ghost use Rattle.std.specs.List.{All};
-ghost use Rattle.wq_groups.specs.Declaration.{declaration_of};
+ghost use Rattle.wq_groups.specs.DeclaredGroups.{declared_waits};
 ghost use Rattle.wq_core.specs.Workqueues.{wiring_of};
 ghost use Rattle.wq_core.specs.Deadlock.{Deadlocks};
 ghost use Rattle.wq_repair.specs.Changes.{IsRescued, lane_in};
@@ -17,17 +17,17 @@ ghost use Rattle.wq_repair.specs.Ready.{IsReady, IsMinimal};
 ghost use Rattle.wq_repair.specs.Repair.{IsRepair};
 ghost use Rattle.wq_repair.specs.Wider.{IsScope, KeepsNeeded};
 
+use crate::assigned::{graph_of_groups, others_are_safe, workqueues_of};
 use crate::listing::either;
 use crate::named::{named_groups, named_lanes};
 use crate::repairing::repaired;
 use crate::scope::{Scope, scope_of};
 use crate::start::{given_lanes, start};
 use std::alloc::{AllocError, Allocator};
-use wq_core::Workqueues;
-use wq_deadlock::{Judged, judge};
+use wq_core::{Assigned, Workqueues};
 use wq_graph::{WaitArc, WaitGraph};
-use wq_groups::{GroupId, Groups, LaneId};
-use wq_items::{ItemId, ItemTable};
+use wq_groups::{GroupId, LaneId};
+use wq_items::ItemId;
 
 /// For each lane how many of these groups are on it, up to 2.
 fn counts_on_lanes<A: Allocator + Copy>(
@@ -199,31 +199,25 @@ fn are_beside<A: Allocator>(
 /// A repair in which all of this scope have a rescuer, if its start is safe.
 fn repaired_in<A: Allocator + Copy>(
     alloc: A,
-    table: &ItemTable<'_, A>,
-    groups: &Groups<A>,
-    old: &Workqueues<A>,
+    assigned: &Assigned<'_, '_, A>,
     scope: &Scope<A>,
 ) -> Result<Option<Workqueues<A>>, AllocError>
-    requires grouped { length groups.now.group_of ≡ length table.now.names }
-    requires scope { (names : List ℕ) × IsScope (declaration_of table.now groups.now) old.now names scope.now }
+    requires { (names : List ℕ)
+        × IsScope (declared_waits assigned.now.declared) assigned.now.workqueues names scope.now }
     ensures { IfOk result (λ new. IfSome new (λ new. (names : List ℕ) →
-        IsScope (declaration_of table.now groups.now) old.now names scope.now →
-        IsMinimal (declaration_of table.now groups.now) old.now names scope.now.needed new)) }
+        IsScope (declared_waits assigned.now.declared) assigned.now.workqueues names scope.now →
+        IsMinimal (declared_waits assigned.now.declared) assigned.now.workqueues names scope.now.needed new)) }
 {
-    // What holds of every table and of its groups.
-    let _items = table.len();
-    let _groups = groups.len();
+    let old = workqueues_of(assigned);
     let begin = start(alloc, old, scope.movable.as_slice(), scope.given.as_slice())?;
     if !all_rescued(&begin, scope.needed.as_slice()) {
         return Ok(None);
     }
-    match judge(alloc, table, groups, &begin)? {
-        Judged::Deadlock(_) => Ok(None),
-        Judged::Safe => {
-            let new = repaired(alloc, table, groups, old, &begin, scope)?;
-            Ok(Some(new))
-        }
+    if !others_are_safe(alloc, assigned, &begin)? {
+        return Ok(None);
     }
+    let new = repaired(alloc, assigned, &begin, scope)?;
+    Ok(Some(new))
 }
 
 /// Whether each lane that holds another group than those that need a rescuer, of all these, keeps one that does.
@@ -249,27 +243,20 @@ fn keeps_needed<A: Allocator + Copy>(
 /// What such a repair is about, if there are lanes on which groups are that need a rescuer and others that don't.
 fn wider_scope<A: Allocator + Copy>(
     alloc: A,
-    table: &ItemTable<'_, A>,
-    groups: &Groups<A>,
-    old: &Workqueues<A>,
+    assigned: &Assigned<'_, '_, A>,
     names: &[ItemId],
     needed: &[bool],
 ) -> Result<Option<Scope<A>>, AllocError>
-    requires grouped { length groups.now.group_of ≡ length table.now.names }
-    requires assigned { length old.now.assignment.lane_of_group ≡ groups.now.groups }
-    requires names { All (λ i. i < length groups.now.group_of) names.now }
-    requires needed { Marks (NeedsRescuerOf (declaration_of table.now groups.now) old.now names.now)
-        groups.now.groups needed.now }
+    requires names { All (λ i. i < length assigned.now.declared.table.names) names.now }
+    requires needed { Marks (NeedsRescuerOf (declared_waits assigned.now.declared) assigned.now.workqueues names.now)
+        assigned.now.declared.partition.groups needed.now }
     ensures { IfOk result (λ scope. IfSome scope
-        (IsScope (declaration_of table.now groups.now) old.now names.now)) }
+        (IsScope (declared_waits assigned.now.declared) assigned.now.workqueues names.now)) }
 {
-    // What holds of every table, of its groups and of every assignment.
-    let _items = table.len();
-    let _groups = groups.len();
-    let _lanes = old.assignment().lanes();
-    let named = named_groups(alloc, groups, names)?;
+    let old = workqueues_of(assigned);
+    let named = named_groups(alloc, assigned, names)?;
     let lanes = named_lanes(alloc, old, named.as_slice())?;
-    let graph = WaitGraph::of_groups(alloc, table, groups)?;
+    let graph = graph_of_groups(alloc, assigned)?;
     let shared = shared_lanes(alloc, &graph, old, lanes.as_slice(), needed)?;
     if !shared.iter().any(|is_shared| *is_shared) {
         return Ok(None);
@@ -283,32 +270,30 @@ fn wider_scope<A: Allocator + Copy>(
 /// one.
 fn wider<A: Allocator + Copy>(
     alloc: A,
-    table: &ItemTable<'_, A>,
-    groups: &Groups<A>,
-    old: &Workqueues<A>,
+    assigned: &Assigned<'_, '_, A>,
     names: &[ItemId],
     needed: &[bool],
 ) -> Result<Option<Workqueues<A>>, AllocError>
-    requires grouped { length groups.now.group_of ≡ length table.now.names }
-    requires assigned { length old.now.assignment.lane_of_group ≡ groups.now.groups }
-    requires names { All (λ i. i < length groups.now.group_of) names.now }
-    requires needed { Marks (NeedsRescuerOf (declaration_of table.now groups.now) old.now names.now)
-        groups.now.groups needed.now }
-    requires deadlocked { Deadlocks (wiring_of (declaration_of table.now groups.now) old.now) }
+    requires names { All (λ i. i < length assigned.now.declared.table.names) names.now }
+    requires needed { Marks (NeedsRescuerOf (declared_waits assigned.now.declared) assigned.now.workqueues names.now)
+        assigned.now.declared.partition.groups needed.now }
+    requires deadlocked { Deadlocks (wiring_of (declared_waits assigned.now.declared) assigned.now.workqueues) }
     ensures { IfOk result (λ new. IfSome new
-        (IsRepair (declaration_of table.now groups.now) old.now names.now)) }
+        (IsRepair (declared_waits assigned.now.declared) assigned.now.workqueues names.now)) }
 {
-    // What holds of every table, of its groups and of every assignment.
-    let _items = table.len();
-    let _groups = groups.len();
-    let _lanes = old.assignment().lanes();
-    let Some(scope) = wider_scope(alloc, table, groups, old, names, needed)? else {
+    let Some(scope) = wider_scope(alloc, assigned, names, needed)? else {
         return Ok(None);
     };
-    let Some(new) = repaired_in(alloc, table, groups, old, &scope)? else {
+    let Some(new) = repaired_in(alloc, assigned, &scope)? else {
         return Ok(None);
     };
-    if keeps_needed(alloc, old, &new, scope.needed.as_slice(), needed)? {
+    if keeps_needed(
+        alloc,
+        workqueues_of(assigned),
+        &new,
+        scope.needed.as_slice(),
+        needed,
+    )? {
         return Ok(Some(new));
     }
     Ok(None)
@@ -363,25 +348,20 @@ pub(crate) fn with_fewer_changes<A: Allocator + Copy>(
 /// The repair of workqueues that can be repaired: of two, the one with fewer changes.
 pub(crate) fn better_repair<A: Allocator + Copy>(
     alloc: A,
-    table: &ItemTable<'_, A>,
-    groups: &Groups<A>,
-    old: &Workqueues<A>,
+    assigned: &Assigned<'_, '_, A>,
     names: &[ItemId],
     start: &Workqueues<A>,
     scope: &Scope<A>,
 ) -> Result<Workqueues<A>, AllocError>
-    requires grouped { length groups.now.group_of ≡ length table.now.names }
-    requires names { All (λ i. i < length groups.now.group_of) names.now }
-    requires ready { IsReady (declaration_of table.now groups.now) old.now names.now scope.now start.now }
-    requires needed { Marks (NeedsRescuerOf (declaration_of table.now groups.now) old.now names.now)
-        groups.now.groups scope.now.needed }
-    requires deadlocked { Deadlocks (wiring_of (declaration_of table.now groups.now) old.now) }
-    ensures { IfOk result (IsRepair (declaration_of table.now groups.now) old.now names.now) }
+    requires names { All (λ i. i < length assigned.now.declared.table.names) names.now }
+    requires ready { IsReady (declared_waits assigned.now.declared) assigned.now.workqueues names.now
+        scope.now start.now }
+    requires needed { Marks (NeedsRescuerOf (declared_waits assigned.now.declared) assigned.now.workqueues names.now)
+        assigned.now.declared.partition.groups scope.now.needed }
+    requires deadlocked { Deadlocks (wiring_of (declared_waits assigned.now.declared) assigned.now.workqueues) }
+    ensures { IfOk result (IsRepair (declared_waits assigned.now.declared) assigned.now.workqueues names.now) }
 {
-    // What holds of every table and of its groups.
-    let _items = table.len();
-    let _groups = groups.len();
-    let one = repaired(alloc, table, groups, old, start, scope)?;
-    let other = wider(alloc, table, groups, old, names, scope.needed.as_slice())?;
-    with_fewer_changes(alloc, old, one, other)
+    let one = repaired(alloc, assigned, start, scope)?;
+    let other = wider(alloc, assigned, names, scope.needed.as_slice())?;
+    with_fewer_changes(alloc, workqueues_of(assigned), one, other)
 }

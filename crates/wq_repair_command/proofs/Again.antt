@@ -13,8 +13,9 @@ use Rattle.wq_cert.proofs.ListLemmas.{AllByRecursion-range_with_len}
 use Rattle.wq_names.specs.Names.{names_of}
 use Rattle.wq_commands.specs.declared.end.End.{End}
 use Rattle.wq_commands.specs.declared.end.End.TheVariants.{Good, Bad, Refused}
-use Rattle.wq_commands.specs.Answer.{declared_waits, PrintsRefusal}
-use Rattle.wq_commands.specs.Declaration.{Declared, declaration}
+use Rattle.wq_groups.specs.DeclaredGroups.{declared_waits, Declared}
+use Rattle.wq_commands.specs.Answer.{PrintsRefusal}
+use Rattle.wq_commands.specs.Declaration.{declaration}
 use Rattle.wq_commands.proofs.AnswerLemmas.{IsSound, IsSound-declaration}
 use Rattle.wq_repair.proofs.Ends.{no_repair-safe, enough-safe, no_circle-safe}
 use Rattle.wq_repair_command.specs.AssignmentText.{workqueue_text, assignment_text}

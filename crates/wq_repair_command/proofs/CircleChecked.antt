@@ -21,8 +21,8 @@ use Rattle.wq_cert.proofs.PrintedCircles.{answer_of-circle}
 use Rattle.wq_cert.proofs.TextLength.{length-circle_text}
 use Rattle.wq_checker.specs.declared.answer.Yes.TheVariants as yes
 use Rattle.wq_checker.specs.Chains.{Joins, AllJoin, before_in_circle}
-use Rattle.wq_commands.specs.Answer.{declared_waits, ends_of}
-use Rattle.wq_commands.specs.Declaration.{Declared}
+use Rattle.wq_groups.specs.DeclaredGroups.{declared_waits, Declared}
+use Rattle.wq_commands.specs.Answer.{ends_of}
 use Rattle.wq_commands.specs.PrintedChecked.{ChecksYesCircle}
 use Rattle.wq_commands.proofs.AnswerLemmas.{IsSound, IsDeclaration-sound}
 use Rattle.wq_commands.proofs.CheckLemmas.{MatchResult-ok}

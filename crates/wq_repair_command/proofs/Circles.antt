@@ -19,8 +19,8 @@ use Rattle.wq_core.proofs.LaneCircles.{Circle-lanes, Circle-map}
 use Rattle.wq_core.proofs.Wirings.{IsWiring-wiring}
 use Rattle.wq_deadlock.proofs.OwnLanes.{IsAssignment-own_lanes}
 use Rattle.wq_repair.specs.Repair.{IsNeededCircle}
-use Rattle.wq_commands.specs.Answer.{declared_waits, ends_of}
-use Rattle.wq_commands.specs.Declaration.{Declared}
+use Rattle.wq_groups.specs.DeclaredGroups.{declared_waits, Declared}
+use Rattle.wq_commands.specs.Answer.{ends_of}
 use Rattle.wq_commands.proofs.AnswerLemmas.{IsSound, IsDeclaration-sound, ArePrintable, printable}
 
 module _ (s : Declared) (sound : IsSound s) (old : Workqueues) (circle : List WaitArc) (needed : IsNeededCircle (declared_waits s) old circle) where

@@ -15,8 +15,8 @@ use Rattle.wq_commands.specs.declared.end.End.TheVariants.{Good, Bad}
 use Rattle.wq_commands.specs.declared.found.Found.{Found}
 use Rattle.wq_commands.specs.declared.found.Found.TheVariants.{Read}
 use Rattle.wq_commands.specs.declared.found.Which.TheVariants.{Certificate}
-use Rattle.wq_commands.specs.Answer.{declared_waits, PrintsRefusal}
-use Rattle.wq_commands.specs.Declaration.{Declared}
+use Rattle.wq_groups.specs.DeclaredGroups.{declared_waits, Declared}
+use Rattle.wq_commands.specs.Answer.{PrintsRefusal}
 use Rattle.wq_commands.specs.Found.{AnswersIn, refused_for}
 use Rattle.wq_commands.specs.Shell.{AnswersTexts}
 use Rattle.wq_repair_command.specs.declared.repairing.Repairing.{Repairing}

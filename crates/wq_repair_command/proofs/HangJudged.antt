@@ -15,8 +15,8 @@ use Rattle.wq_deadlock.specs.Judging.{AreFirst, IsHang, bare_waits, leads_to_bar
 use Rattle.wq_cert.specs.Texts.{cert_refusal, workqueues_of_text}
 use Rattle.wq_names.specs.Names.{names_of}
 use Rattle.wq_commands.specs.declared.end.End.TheVariants.{Bad}
-use Rattle.wq_commands.specs.Answer.{declared_waits, PrintsRefusal}
-use Rattle.wq_commands.specs.Declaration.{Declared}
+use Rattle.wq_groups.specs.DeclaredGroups.{declared_waits, Declared}
+use Rattle.wq_commands.specs.Answer.{PrintsRefusal}
 use Rattle.wq_commands.specs.Deadlocking.{JudgesAssigned, JudgesDeclared}
 use Rattle.wq_commands.proofs.AnswerLemmas.{IsSound, IsDeclaration-sound}
 use Rattle.wq_commands.proofs.CheckLemmas.{MatchResult-ok}

@@ -20,9 +20,10 @@ use Rattle.wq_names.specs.Names.{names_of}
 use Rattle.wq_deadlock.specs.Judging.{AreSafe}
 use Rattle.wq_repair.specs.Repair.{IsRepair}
 use Rattle.wq_commands.specs.declared.end.End.TheVariants.{Good, Refused}
-use Rattle.wq_commands.specs.Answer.{declared_waits, PrintsRefusal}
+use Rattle.wq_groups.specs.DeclaredGroups.{declared_waits, Declared}
+use Rattle.wq_commands.specs.Answer.{PrintsRefusal}
 use Rattle.wq_commands.specs.Deadlocking.{safe_text, JudgesAssigned, JudgesDeclared, Judges}
-use Rattle.wq_commands.specs.Declaration.{Declared, declaration}
+use Rattle.wq_commands.specs.Declaration.{declaration}
 use Rattle.wq_commands.proofs.AnswerLemmas.{IsSound, IsDeclaration-sound, IsSound-declaration}
 use Rattle.wq_commands.proofs.CheckLemmas.{MatchResult-ok}
 use Rattle.wq_repair_command.specs.AssignmentText.{assignment_text}

@@ -34,11 +34,6 @@ line-parts out first number words comment end =
     ∙ append_assoc out first (number ++ (words ++ (comment ++ end)))
     ∙ ap (λ (l : List ℕ). out ++ (first ++ l)) (sym (append_assoc number words (comment ++ end)))
 
--- a name that has a byte
-pub name_comment-some : (name : List ℕ) → name ≢ [] → name_comment name ≡ codes "  #" ++ spaced name
-name_comment-some [] some = absurd (some refl)
-name_comment-some (b ∷ name) some = refl
-
 -- one line more
 pub lines-more : (line : ℕ → List ℕ) (q : ℕ) → flat_map line (range_with_len 0 q) ++ line q ≡ flat_map line (range_with_len 0 (q + 1))
 lines-more line q =

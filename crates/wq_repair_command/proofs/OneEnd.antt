@@ -15,8 +15,9 @@ use Rattle.wq_cert.specs.Texts.{cert_refusal, workqueues_of_text}
 use Rattle.wq_names.specs.Names.{names_of}
 use Rattle.wq_commands.specs.declared.end.End.{End}
 use Rattle.wq_commands.specs.declared.end.End.TheVariants.{Good, Bad, Refused}
-use Rattle.wq_commands.specs.Answer.{declared_waits, text_of_circle, PrintsRefusal}
-use Rattle.wq_commands.specs.Declaration.{Declared, declaration}
+use Rattle.wq_groups.specs.DeclaredGroups.{declared_waits, Declared}
+use Rattle.wq_commands.specs.Answer.{text_of_circle, PrintsRefusal}
+use Rattle.wq_commands.specs.Declaration.{declaration}
 use Rattle.wq_commands.proofs.AnswerLemmas.{IsSound, IsDeclaration-sound}
 use Rattle.wq_commands.proofs.CircleRuns.{IsAssignmentOf-own_lanes}
 use Rattle.wq_repair.proofs.Ends.{enough-safe, no_circle-safe, enough-repaired, no_circle-repaired, IsNeededCircle-unique}

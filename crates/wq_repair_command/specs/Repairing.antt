@@ -18,8 +18,9 @@ use Rattle.wq_commands.specs.declared.end.End.TheVariants.{Good, Bad, Refused}
 use Rattle.wq_commands.specs.declared.found.Found.{Found}
 use Rattle.wq_commands.specs.declared.found.Found.TheVariants.{Read}
 use Rattle.wq_commands.specs.declared.found.Which.TheVariants.{Certificate}
-use Rattle.wq_commands.specs.Answer.{declared_waits, text_of_circle, PrintsRefusal}
-use Rattle.wq_commands.specs.Declaration.{Declared, declaration}
+use Rattle.wq_groups.specs.DeclaredGroups.{declared_waits, Declared}
+use Rattle.wq_commands.specs.Answer.{text_of_circle, PrintsRefusal}
+use Rattle.wq_commands.specs.Declaration.{declaration}
 use Rattle.wq_commands.specs.Found.{AnswersIn}
 use Rattle.wq_repair_command.specs.declared.repairing.Repairing.{Repairing}
 use Rattle.wq_repair_command.specs.AssignmentText.{assignment_text}

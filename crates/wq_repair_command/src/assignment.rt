@@ -11,8 +11,8 @@ ghost use Rattle.wq_repair_command.specs.AssignmentText.{keyword, name_comment, 
 
 use std::alloc::{AllocError, Allocator};
 use wq_buckets::Buckets;
-use wq_core::Workqueues;
-use wq_groups::{Groups, LaneId};
+use wq_core::Assigned;
+use wq_groups::LaneId;
 use wq_items::{ItemId, ItemTable};
 use wq_names::name_at;
 use wq_text::{put, put_end, put_number, put_word};
@@ -72,27 +72,24 @@ fn put_line<A: Allocator + Copy>(
     put_end(out)
 }
 
-/// The text of workqueues of these groups: a line for each, with its items in the order of their declaration, and with
-/// its name, where it has one among these.
+/// The text of workqueues of declared groups: a line for each, with its items in the order of their declaration, and
+/// with its name, where it has one among these.
 ///
-/// The groups are those of the table's items, and each has a workqueue. The only error is out of memory (20).
+/// The only error is out of memory (20).
 pub fn assignment_text<A: Allocator + Copy>(
     alloc: A,
-    table: &ItemTable<'_, A>,
-    groups: &Groups<A>,
-    workqueues: &Workqueues<A>,
+    assigned: &Assigned<'_, '_, A>,
     names: &[&[u8]],
 ) -> Result<Vec<u8, A>, AllocError>
-    requires grouped { length groups.now.group_of ≡ length table.now.names }
-    requires assigned { length workqueues.now.assignment.lane_of_group ≡ groups.now.groups }
     ensures { IfOk result (λ text. text.items
-        ≡ assignment_text table.now.names groups.now workqueues.now (map (λ n. n.now) names.now)) }
+        ≡ assignment_text assigned.now.declared.table.names assigned.now.declared.partition
+        assigned.now.workqueues (map (λ n. n.now) names.now)) }
 {
-    // What holds of every table.
-    let _items = table.len();
+    let table = assigned.table();
+    let workqueues = assigned.workqueues();
     let assignment = workqueues.assignment();
     let lanes = assignment.lanes();
-    let lane = assignment.item_lanes(alloc, groups)?;
+    let lane = assignment.item_lanes(alloc, assigned.groups())?;
     let items = Buckets::new(alloc, &lane, lanes)?;
     let mut out = Vec::new(alloc);
     for q in 0..lanes {

@@ -4,7 +4,8 @@
 //! group has a workqueue of its own.
 
 ghost use Rattle.std.specs.Prelude.{◌≡◌, IfOk, map};
-ghost use Rattle.wq_commands.specs.Answer.{declared_waits, ends_of};
+ghost use Rattle.wq_groups.specs.DeclaredGroups.{declared_waits};
+ghost use Rattle.wq_commands.specs.Answer.{ends_of};
 ghost use Rattle.wq_core.specs.Deadlock.{Deadlocks};
 ghost use Rattle.wq_core.specs.Wiring.{wiring, own_lanes};
 ghost use Rattle.wq_core.specs.Workqueues.{Workqueues};
@@ -14,10 +15,10 @@ ghost use Rattle.wq_repair_command.specs.Repairing.{PrintsWithRun};
 
 use std::alloc::{AllocError, Allocator};
 use wq_cert::circle_text;
-use wq_commands::Declaration;
 use wq_core::Step;
 use wq_deadlock::circle_run;
 use wq_graph::WaitArc;
+use wq_groups::Declaration;
 use wq_items::ItemId;
 
 /// The item and the target of each arc.

@@ -8,7 +8,8 @@ ghost use Rattle.std.specs.Prelude.{◌≡◌, ◌<◌, ℕ, List, IfOk, None, l
 ghost use Rattle.std.specs.List.{All};
 ghost use Rattle.wq_text.specs.Limits.{limit_fault};
 ghost use Rattle.wq_cert.specs.Texts.{max_certificate, max_certificate_line};
-ghost use Rattle.wq_commands.specs.Answer.{declared_waits, PrintsRefusal};
+ghost use Rattle.wq_groups.specs.DeclaredGroups.{declared_waits};
+ghost use Rattle.wq_commands.specs.Answer.{PrintsRefusal};
 ghost use Rattle.wq_commands.specs.declared.found.Found.TheVariants.{Read};
 ghost use Rattle.wq_names.specs.Names.{names_of};
 ghost use Rattle.wq_repair.specs.Repair.{IsAnswer};
@@ -20,8 +21,9 @@ use crate::circle::text_of_circle;
 use crate::movers::items_that_may_move;
 use crate::run::text_of_hang;
 use std::alloc::{AllocError, Allocator};
-use wq_commands::{Answered, Assigned, Declaration, End, Found, Which, refuse};
-use wq_core::Workqueues;
+use wq_commands::{Answered, End, Found, Which, refuse, workqueues_of};
+use wq_core::{Assigned, Workqueues};
+use wq_groups::Declaration;
 use wq_items::ItemId;
 use wq_names::workqueue_names;
 use wq_repair::{Answer, repair};
@@ -50,56 +52,44 @@ fn print_answer<A: Allocator + Copy>(
     ensures { IfOk result (λ printed. PrintsAnswer assigned.now.declared assigned.now.workqueues
         (map (λ n. n.now) called.now) answer.now printed.0 printed.1.items) }
 {
-    let declared = assigned.declared;
-    let Declaration { table, groups } = declared;
     match answer {
         Answer::Safe => {
-            let text = assignment_text(alloc, table, groups, &assigned.workqueues, called)?;
+            let text = assignment_text(alloc, assigned, called)?;
             Ok((End::Good, text))
         }
         Answer::Repaired(new) => {
-            let text = assignment_text(alloc, table, groups, new, called)?;
+            let repaired = Assigned::new(assigned.declared, new);
+            let text = assignment_text(alloc, &repaired, called)?;
             Ok((End::Good, text))
         }
         Answer::TooFewNames(start, steps) => {
-            let text = text_of_hang(alloc, declared, start, steps)?;
+            let begin = Assigned::new(assigned.declared, start);
+            let text = text_of_hang(alloc, &begin, steps)?;
             Ok((End::Bad, text))
         }
         Answer::Circle(arcs) => {
-            let text = text_of_circle(alloc, declared, arcs)?;
+            let text = text_of_circle(alloc, assigned.declared, arcs)?;
             Ok((End::Bad, text))
         }
     }
 }
 
-/// What can be done about workqueues, where these items may move.
-fn repair_assigned<A: Allocator + Copy>(
-    alloc: A,
-    assigned: &Assigned<'_, '_, A>,
-    moving: &[ItemId],
-) -> Result<Answer<A>, AllocError>
-    requires { All (λ i. i < length assigned.now.declared.table.names) moving.now }
-    ensures { IfOk result (IsAnswer (declared_waits assigned.now.declared) assigned.now.workqueues moving.now) }
-{
-    let declared = assigned.declared;
-    let Declaration { table, groups } = declared;
-    repair(alloc, table, groups, &assigned.workqueues, moving)
-}
-
-/// The answer to workqueues, which have these names, where these items may move.
+/// The answer to workqueues of declared groups, which have these names, where these items may move.
 fn answer_moving<A: Allocator + Copy>(
     alloc: A,
-    assigned: Assigned<'_, '_, A>,
+    declared: &Declaration<'_, A>,
+    workqueues: Workqueues<A>,
     called: &[&[u8]],
     moving: &[ItemId],
 ) -> Result<Answered<A, Found<Option<Repairing<A>>>>, AllocError>
-    requires { All (λ i. i < length assigned.declared.table.names) moving.now }
-    ensures { IfOk result (λ a. FindsRepair assigned.entry.declared assigned.entry.workqueues
+    requires assigned { length workqueues.assignment.lane_of_group ≡ declared.now.partition.groups }
+    requires moving { All (λ i. i < length declared.now.table.names) moving.now }
+    ensures { IfOk result (λ a. FindsRepair declared.now workqueues
         (map (λ n. n.now) called.now) moving.now a.found a.end a.text.items) }
 {
-    let answer = repair_assigned(alloc, &assigned, moving)?;
+    let assigned = Assigned::new(declared, &workqueues);
+    let answer = repair(alloc, &assigned, moving)?;
     let (end, text) = print_answer(alloc, &assigned, called, &answer)?;
-    let workqueues = assigned.workqueues;
     Ok(Answered {
         found: Found::Read(Some(Repairing { workqueues, answer })),
         end,
@@ -122,45 +112,51 @@ fn refuse_name<A: Allocator + Copy>(
     })
 }
 
-/// The answer to workqueues, which have these names, where the items with these other names may move.
+/// The answer to workqueues of declared groups, which have these names, where the items with these other names may
+/// move.
 fn answer_named<A: Allocator + Copy>(
     alloc: A,
-    assigned: Assigned<'_, '_, A>,
+    declared: &Declaration<'_, A>,
+    workqueues: Workqueues<A>,
     called: &[&[u8]],
     names: &[&str],
 ) -> Result<Answered<A, Found<Option<Repairing<A>>>>, AllocError>
-    ensures { IfOk result (λ a. FindsIfNamed assigned.entry.declared assigned.entry.workqueues
-        (map (λ n. n.now) called.now) (movers assigned.entry.declared.table.names (map (λ n. n.now) names.now))
+    requires { length workqueues.assignment.lane_of_group ≡ declared.now.partition.groups }
+    ensures { IfOk result (λ a. FindsIfNamed declared.now workqueues
+        (map (λ n. n.now) called.now) (movers declared.now.table.names (map (λ n. n.now) names.now))
         a.found a.end a.text.items) }
 {
-    match items_that_may_move(alloc, assigned.table(), names)? {
+    match items_that_may_move(alloc, &declared.table, names)? {
         Some(moving) => {
-            let answer = answer_moving(alloc, assigned, called, moving.as_slice());
+            let answer = answer_moving(alloc, declared, workqueues, called, moving.as_slice());
             // Written as a call, so that the proof has one step for it.
             drop(moving);
             answer
         }
         None => {
             let answer = refuse_name(alloc);
-            drop(assigned);
+            drop(workqueues);
             answer
         }
     }
 }
 
-/// The answer to workqueues, whose names are in this text, where the items with these other names may move.
+/// The answer to workqueues of declared groups, whose names are in this text, where the items with these other names
+/// may move.
 fn answer_assigned<A: Allocator + Copy>(
     alloc: A,
-    assigned: Assigned<'_, '_, A>,
+    declared: &Declaration<'_, A>,
+    workqueues: Workqueues<A>,
     text: &[u8],
     names: &[&str],
 ) -> Result<Answered<A, Found<Option<Repairing<A>>>>, AllocError>
-    requires { limit_fault max_certificate max_certificate_line text.now ≡ None }
-    ensures { IfOk result (λ a. FindsIfNamed assigned.entry.declared assigned.entry.workqueues (names_of text.now)
-        (movers assigned.entry.declared.table.names (map (λ n. n.now) names.now)) a.found a.end a.text.items) }
+    requires assigned { length workqueues.assignment.lane_of_group ≡ declared.now.partition.groups }
+    requires within { limit_fault max_certificate max_certificate_line text.now ≡ None }
+    ensures { IfOk result (λ a. FindsIfNamed declared.now workqueues (names_of text.now)
+        (movers declared.now.table.names (map (λ n. n.now) names.now)) a.found a.end a.text.items) }
 {
     let called = workqueue_names(alloc, text)?;
-    answer_named(alloc, assigned, &called, names)
+    answer_named(alloc, declared, workqueues, &called, names)
 }
 
 /// The answer to the text of an assignment of the declared groups, where the items with these names may move.
@@ -173,8 +169,8 @@ pub(crate) fn repair_declared<A: Allocator + Copy>(
     ensures { IfOk result (λ a.
         RepairsText (map (λ n. n.now) names.now) declared.now text.now a.found a.end a.text.items) }
 {
-    match Assigned::read(alloc, declared, text) {
-        Ok(assigned) => answer_assigned(alloc, assigned, text, names),
+    match workqueues_of(alloc, declared, text) {
+        Ok(workqueues) => answer_assigned(alloc, declared, workqueues, text, names),
         Err(fault) => Answered::unread(alloc, Which::Certificate, fault),
     }
 }

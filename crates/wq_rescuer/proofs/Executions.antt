@@ -201,7 +201,8 @@ executes may none old new (Err e) is executed stopped = subst (λ (c : List ℕ)
 
 -- why it stopped, by its answer
 pub has_ceased : (w : Wiring) (rows q c : ℕ) (may : ℕ → Result (Unit {0}) BodyFault → List ℕ → List ℕ → Type 0)
-    (none old new : List ℕ) (r : Result Rescued CallError) → old ≡ none → OnOk r (HasEnded w rows q c)
+    (none old new : List ℕ) (r : Result Rescued CallError) → old ≡ none
+    → IfOk r (λ rescued. HasEnded w rows q c rescued.ended)
     → (HasContext w q c → IfErr r (λ e. e ≡ WrongLane → WasDrivenIn w rows q c may old new))
     → HasCeased w rows q c may none new r
 has_ceased w rows q c may none old new (Ok rescued) is ended cause = ended
@@ -211,7 +212,7 @@ has_ceased w rows q c may none old new (Err e) is ended cause = λ there wrong.
 -- if it wasn't refused, its lane had ended
 pub has_ended : (w : Wiring) (rows q c : ℕ) (may : ℕ → Result (Unit {0}) BodyFault → List ℕ → List ℕ → Type 0)
     (old new : List ℕ) (r : Result Rescued CallError) → HasCeased w rows q c may old new r
-    → OnOk r (HasEnded w rows q c)
+    → IfOk r (λ rescued. HasEnded w rows q c rescued.ended)
 has_ended w rows q c may old new (Ok rescued) ceased = ceased
 has_ended w rows q c may old new (Err e) ceased = tt
 

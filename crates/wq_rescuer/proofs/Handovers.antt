@@ -223,13 +223,6 @@ pub nothing_in : {X : Type 0} (xs : List X) → length xs ≡ 0 → xs ≡ []
 nothing_in [] none = refl
 nothing_in (x ∷ xs) none = absurd (omega (arith, none))
 
--- a seat is lacking, although there is a body for each context
-pub no_seat_refused : (needed bodies : ℕ) (why : RunWhy) → IsNoSeat why → bodies ≡ needed → RefusesRun needed bodies why
-no_seat_refused needed bodies BodiesDiffer seatless same = absurd seatless
-no_seat_refused needed bodies TooManySeats seatless same = same
-no_seat_refused needed bodies OutOfMemory seatless same = same
-no_seat_refused needed bodies NoThread seatless same = absurd seatless
-
 -- the seats of the contexts, before those of the callers
 pub contexts_first : (w : Wiring) (all : List Context) (n : ℕ) (context_seats seats : List (List ℕ)) (runs : List (ℕ → ℕ)) (rescued : List (Result Rescued CallError))
     → AreServed w all context_seats runs rescued → take n seats ≡ context_seats → n ≡ length context_seats → AreServed w all (take (length all) seats) runs rescued

@@ -10,6 +10,7 @@ use Rattle.wq_history.specs.declared.call.Reply.TheVariants.{Done}
 use Rattle.wq_history.specs.declared.fault.CallError.{CallError}
 use Rattle.wq_history.specs.declared.fault.CallError.TheVariants.{HistoryFull, Closed, WrongLane, NoItem}
 use Rattle.wq_history.specs.Errors.{call_code}
+use Rattle.wq_held.specs.declared.receipts.Ended.{Ended}
 use Rattle.wq_held.specs.Locked.{IsOnLane, SeatHasRoom, seat_rows, slots}
 use Rattle.wq_api.specs.WaitingCalls.{IsHelper}
 use Rattle.wq_api.specs.Locking.{WasWrongToStartIn}
@@ -116,9 +117,10 @@ abbrev pub Executes : (ℕ → Result (Unit {0}) BodyFault → List ℕ → List
 Executes may old new (Ok rescued) = HasExecuted may old new rescued.finished rescued.faults
 Executes may old new (Err e) = HasStopped may old new
 
--- context c of lane q was given nothing to start, by a book that the lock may protect: its lane had ended
-abbrev pub HasEnded : Wiring → ℕ → ℕ → ℕ → Type 0
-HasEnded w rows q c = IsAnswered w rows (Start (context_of q c)) (Ok Done)
+-- context c of lane q was given nothing to start, as this shows: its lane had ended
+abbrev pub HasEnded : Wiring → ℕ → ℕ → ℕ → Ended → Type 0
+HasEnded w rows q c ended =
+    (ended.context ≡ context_of q c) × IsAnswered w rows (Start (context_of q c)) (Ok Done)
 
 -- ---- refusals
 
@@ -157,5 +159,5 @@ WasDrivenIn w rows q c may old new = WasWrongToStartIn w rows q c ⊎ HasLeftOne
 abbrev pub HasCeased : Wiring → ℕ → ℕ → ℕ → (ℕ → Result (Unit {0}) BodyFault → List ℕ → List ℕ → Type 0) → List ℕ
     → List ℕ → Result Rescued CallError
     → Type 0
-HasCeased w rows q c may old new (Ok rescued) = HasEnded w rows q c
+HasCeased w rows q c may old new (Ok rescued) = HasEnded w rows q c rescued.ended
 HasCeased w rows q c may old new (Err e) = HasContext w q c → e ≡ WrongLane → WasDrivenIn w rows q c may old new

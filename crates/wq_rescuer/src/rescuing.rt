@@ -19,28 +19,37 @@ use crate::body::{Body, BodyFault};
 use crate::work::Work;
 use std::alloc::Allocator;
 use std::sync::Wait;
-use wq_api::{CallError, Context, Naming, Seat, WqRuntime};
+use wq_api::{CallError, Context, Ended, Naming, Seat, WqRuntime};
 use wq_groups::LaneId;
 use wq_items::ItemId;
 
-/// What a rescuer or a helper did.
+/// What a rescuer or a helper did, until its workqueue had ended.
 #[derive(Clone, Copy, Debug, PartialEq, Eq)]
 pub struct Rescued {
     /// How many executions it finished.
     pub finished: u32,
     /// How many of them ended with a fault of the body.
     pub faults: u32,
+    /// That it was given nothing more to start.
+    pub ended: Ended,
 }
 
-impl Rescued {
+/// What it did so far.
+#[derive(Clone, Copy)]
+struct Executed {
+    finished: u32,
+    faults: u32,
+}
+
+impl Executed {
     /// One more execution was finished, whose body answered this.
-    fn and(self, answer: Result<(), BodyFault>) -> Rescued
+    fn and(self, answer: Result<(), BodyFault>) -> Executed
         requires few { self.finished < 4294967295 }
         requires faults { self.faults ≤ self.finished }
         ensures finished { result.finished ≡ self.finished + 1 }
         ensures faults { result.faults ≡ self.faults + faults_of answer }
     {
-        Rescued {
+        Executed {
             finished: self.finished + 1,
             faults: match answer {
                 Ok(()) => self.faults,
@@ -108,14 +117,14 @@ pub fn serve<N: Naming, A: Allocator, R: Wait, B: Body>(
     ensures cause { HasContext N.wiring q helper → IfErr result (λ e. e ≡ WrongLane
         → WasDrivenIn N.wiring N.rows q helper (B.may N.wiring body.old) seat.old seat.new) }
     ensures refused { OnErr result (CountsAtMost seat.old seat.new (B.runs body.new)) }
-    ensures ended { OnOk result (HasEnded N.wiring N.rows q helper) }
+    ensures ended { IfOk result (λ r. HasEnded N.wiring N.rows q helper r.ended) }
     ensures executed { IfOk result (λ r. HasExecuted (B.may N.wiring body.old) seat.old seat.new r.finished r.faults) }
     ensures stopped { OnErr result (HasStopped (B.may N.wiring body.old) seat.old seat.new) }
 {
     if !runtime.has_context(q, helper) {
         return Err(CallError::WrongLane);
     }
-    let mut rescued = Rescued {
+    let mut rescued = Executed {
         finished: 0,
         faults: 0,
     };
@@ -128,8 +137,13 @@ pub fn serve<N: Naming, A: Allocator, R: Wait, B: Body>(
             lane: q,
             number: helper,
         };
-        let Some(item) = runtime.next_in(rt, context)? else {
-            return Ok(rescued);
+        let next = runtime.next_in(rt, context)?;
+        let Some(item) = next.item() else {
+            return Ok(Rescued {
+                finished: rescued.finished,
+                faults: rescued.faults,
+                ended: next.end(),
+            });
         };
         let answer = execute(rt, runtime, q, helper, seat, body, item);
         seat.holds();
@@ -169,7 +183,7 @@ pub fn rescue<N: Naming, A: Allocator, R: Wait, B: Body>(
     ensures cause { q < N.wiring.lanes → IfErr result (λ e. e ≡ WrongLane
         → WasDrivenIn N.wiring N.rows q 0 (B.may N.wiring body.old) seat.old seat.new) }
     ensures refused { OnErr result (CountsAtMost seat.old seat.new (B.runs body.new)) }
-    ensures ended { OnOk result (HasEnded N.wiring N.rows q 0) }
+    ensures ended { IfOk result (λ r. HasEnded N.wiring N.rows q 0 r.ended) }
     ensures executed { IfOk result (λ r. HasExecuted (B.may N.wiring body.old) seat.old seat.new r.finished r.faults) }
     ensures stopped { OnErr result (HasStopped (B.may N.wiring body.old) seat.old seat.new) }
 {
@@ -203,7 +217,7 @@ pub fn help<N: Naming, A: Allocator, R: Wait, B: Body>(
     ensures cause { IsHelper N.wiring q h → IfErr result (λ e. e ≡ WrongLane
         → WasDrivenIn N.wiring N.rows q h (B.may N.wiring body.old) seat.old seat.new) }
     ensures refused { OnErr result (CountsAtMost seat.old seat.new (B.runs body.new)) }
-    ensures ended { OnOk result (HasEnded N.wiring N.rows q h) }
+    ensures ended { IfOk result (λ r. HasEnded N.wiring N.rows q h r.ended) }
     ensures executed { IfOk result (λ r. HasExecuted (B.may N.wiring body.old) seat.old seat.new r.finished r.faults) }
     ensures stopped { OnErr result (HasStopped (B.may N.wiring body.old) seat.old seat.new) }
 {

@@ -184,7 +184,7 @@ pub fn run_all<
         (λ body seat answer. Executes (B.may N.wiring body) (no_counts N.wiring) seat answer) bodies.items
         (take (length (contexts_of N.wiring)) r.seats.items) r.rescued.items) }
     ensures ended { IfOk result (λ r. HaveServed
-        (λ context seat answer. OnOk answer (HasEnded N.wiring N.rows context.lane context.number))
+        (λ context seat answer. IfOk answer (λ r. HasEnded N.wiring N.rows context.lane context.number r.ended))
         (contexts_of N.wiring) (take (length (contexts_of N.wiring)) r.seats.items) r.rescued.items) }
     ensures called { IfOk result (λ r. HaveCalled
         (λ before after answer seat. C.did N.wiring before after answer (no_counts N.wiring) seat) callers.items

@@ -94,8 +94,12 @@ fn make_seats<N: Naming, A: Allocator + Copy, R: Wait>(
     for _ in 0..wanted {
         match runtime.seat(rt, alloc) {
             Ok(seat) => seats.push_reserved(seat),
-            Err(SeatError::TooManySeats) => return Err(RunWhy::TooManySeats),
-            Err(SeatError::OutOfMemory) => return Err(RunWhy::OutOfMemory),
+            Err(refused) => {
+                return match refused.why() {
+                    SeatError::TooManySeats => Err(RunWhy::TooManySeats),
+                    SeatError::OutOfMemory => Err(RunWhy::OutOfMemory),
+                };
+            }
         }
     }
     Ok(())

@@ -92,7 +92,7 @@ fn run_contexts<
 {
     let Some(job) = board.contexts.waiting.pop() else {
         let all = run_callers(scope, rt, runtime, &mut board.callers);
-        runtime.destroy(rt);
+        let _drained = runtime.destroy(rt);
         return all;
     };
     let promise = EndOfContext {
@@ -106,7 +106,7 @@ fn run_contexts<
             all
         }
         Err(_) => {
-            runtime.destroy(rt);
+            let _drained = runtime.destroy(rt);
             false
         }
     }

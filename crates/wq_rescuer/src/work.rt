@@ -117,7 +117,7 @@ impl<'a, N: Naming, A: Allocator> Work<'a, N, A> {
     /// The error is the first of these that holds: `HistoryFull` (60), where the seat is full; `Undeclared` (62), where
     /// the running item declares no flush of this one alone; `TooManyWaits` (63), where it has made as many as it
     /// declares, of both kinds. Then nothing is changed or counted. `WrongLane` (64) comes only where another caller
-    /// drives the same context. If that happens during the wait, the wait stays counted.
+    /// drives the same context.
     pub fn flush<R: Wait>(&mut self, rt: &R, target: ItemId) -> Result<bool, CallError>
         ensures counted { IfOk result (λ unfinished. HasContext N.wiring self.old.context.lane self.old.context.number
             × (target < items N.wiring)
@@ -149,11 +149,10 @@ impl<'a, N: Naming, A: Allocator> Work<'a, N, A> {
     /// Waits until none of the entries that were queued before the call on an item's workqueue is unfinished: true
     /// where one was when the wait began.
     ///
-    /// The error is the first of these that holds: `HistoryFull` (60), where the seat is full;
-    /// `Undeclared` (62), where the running item declares no flush of the whole workqueue of this
-    /// very item; `TooManyWaits` (63), where it has made as many flushes as it declares, of both
-    /// kinds. Then nothing is changed or counted. `WrongLane` (64) comes only where another caller
-    /// drives the same context as this body. If that happens during the wait, the wait stays counted.
+    /// The error is the first of these that holds: `HistoryFull` (60), where the seat is full; `Undeclared` (62), where
+    /// the running item declares no flush of the whole workqueue of this very item; `TooManyWaits` (63), where it has
+    /// made as many flushes as it declares, of both kinds. Then nothing is changed or counted. `WrongLane` (64) comes
+    /// only where another caller drives the same context as this body.
     pub fn flush_wq<R: Wait>(&mut self, rt: &R, target: ItemId) -> Result<bool, CallError>
         ensures counted { IfOk result (λ unfinished. HasContext N.wiring self.old.context.lane self.old.context.number
             × (target < items N.wiring)

@@ -124,10 +124,6 @@ pub record LeadsOn (bytes left : List ℕ) : Type 0 where
 pub IsStored-rows_of : (bytes : List ℕ) (rows : List Row) → IsStored bytes rows → IsStored bytes (rows_of bytes)
 IsStored-rows_of bytes rows stored = subst (IsStored bytes) (sym (IsStored-read bytes rows stored)) stored
 
--- before the first row
-pub LeadsOn-all : (bytes : List ℕ) → LeadsOn bytes bytes
-LeadsOn-all bytes = record { on = λ stored. stored; back = λ rows stored. (rows, stored) }
-
 -- what is split in two consists of its two parts
 pub IsSplitAt-parts : (bytes front after : List ℕ) → IsSplitAt bytes 12 front after → bytes ≡ front ++ after
 IsSplitAt-parts bytes front after split =

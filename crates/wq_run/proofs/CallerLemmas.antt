@@ -1,6 +1,7 @@
 -- What the callers of a crew did, caller by caller, where none of them was refused.
-use Rattle.std.proofs.Common.{◌≡◌, ℕ, zero, suc, ◌<◌, List, [], ◌∷◌, length, get_or, Result, Ok, Err, refl, sym, ap, subst, ◌∙◌, arith}
-use Rattle.std.specs.Prelude.{Some, slice_get, is_ok, IsTrue, true}
+use Rattle.std.proofs.Common.{◌≡◌, ℕ, zero, suc, ◌<◌, List, [], ◌∷◌, length, get_or, Result, Ok, Err, refl, subst}
+use Rattle.std.proofs.Common.{arith}
+use Rattle.std.specs.Prelude.{Some, slice_get, is_ok, IsTrue}
 use Rattle.std.specs.List.{All}
 use Rattle.wq_core.specs.Wiring.{Wiring}
 use Rattle.wq_history.specs.declared.fault.CallError.{CallError}

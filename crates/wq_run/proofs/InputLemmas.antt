@@ -13,7 +13,8 @@ use Rattle.wq_meter.specs.declared.stopped.Stopped.TheVariants.{Faulted, Unanswe
 use Rattle.wq_meter.specs.Stopped.{IfUnanswered}
 use Rattle.wq_commands.specs.declared.end.End.{End}
 use Rattle.wq_commands.specs.Answer.{PrintsRefusal}
-use Rattle.wq_commands.specs.Declaration.{Declared, declaration, max_declaration}
+use Rattle.wq_groups.specs.DeclaredGroups.{Declared}
+use Rattle.wq_commands.specs.Declaration.{declaration, max_declaration}
 use Rattle.wq_commands.proofs.AnswerLemmas.{declaration-take}
 use Rattle.wq_commands.proofs.FoundLemmas.{AnswersTexts-match}
 use Rattle.wq_run.specs.declared.fault.RunStop.{RunStop}

@@ -4,3 +4,7 @@ pub mod InputLemmas
 pub mod RuntimeLemmas
 pub mod CallerLemmas
 pub mod Uniqueness
+pub mod ItemsLeft
+pub mod Balances
+pub mod CrewCounts
+pub mod CrewOnce

@@ -9,7 +9,7 @@ use Rattle.wq_cert.specs.PlanText.{name_of}
 use Rattle.wq_cert.proofs.LineLemmas.{plan_text-parts}
 use Rattle.wq_counts.specs.declared.kind.Kind.{Kind}
 use Rattle.wq_counts.specs.declared.kind.Kind.TheVariants.{Queue, Cancel, Finish}
-use Rattle.wq_commands.specs.Declaration.{Declared}
+use Rattle.wq_groups.specs.DeclaredGroups.{Declared}
 use Rattle.wq_run.specs.Report.{workqueues_line, faults_line, item_line, report_text}
 
 -- six words after what is there

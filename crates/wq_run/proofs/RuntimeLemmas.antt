@@ -1,5 +1,6 @@
 -- Why no runtime is made for a plan, and what a closed runtime says about the items of a declaration.
-use Rattle.std.proofs.Common.{◌≡◌, ◌≢◌, ℕ, ◌<◌, ◌≤◌, true, List, drop, length, Result, Vec, refl, sym, ap, subst, ◌∙◌, arith}
+use Rattle.std.proofs.Common.{◌≡◌, ◌≢◌, ℕ, ◌<◌, ◌≤◌, true, List, drop, take, length, Result, Vec, refl, sym, ap}
+use Rattle.std.proofs.Common.{subst, ◌∙◌, arith}
 use Rattle.std.specs.Prelude.{IfOk}
 use Rattle.std.proofs.lemmas.Result.{IfOk-weaker}
 use Rattle.wq_items.specs.Table.{IsTable}
@@ -22,12 +23,13 @@ use Rattle.wq_rescuer.specs.Contexts.{contexts_of}
 use Rattle.wq_rescuer.specs.Serving.{IsRan}
 use Rattle.wq_script.specs.Crews.{shared_by_two}
 use Rattle.wq_commands.specs.declared.end.End.{End}
-use Rattle.wq_commands.specs.Answer.{declared_waits, PrintsRefusal}
-use Rattle.wq_commands.specs.Declaration.{Declared}
+use Rattle.wq_groups.specs.DeclaredGroups.{declared_waits, Declared}
+use Rattle.wq_commands.specs.Answer.{PrintsRefusal}
 use Rattle.wq_commands.proofs.AnswerLemmas.{IsSound, IsDeclaration-sound}
 use Rattle.wq_run.specs.Report.{report_text}
 use Rattle.wq_run.proofs.ReportLemmas.{report_text-same}
-use Rattle.wq_run.specs.Running.{HaveMade, PrintsRun, RunsDeclared, rows_for, run_wiring, yes_tally}
+use Rattle.wq_run.proofs.CrewOnce.{each_once}
+use Rattle.wq_run.specs.Running.{HaveMade, QueuesNothing, PrintsRun, RunsDeclared, rows_for, run_wiring, yes_tally}
 
 -- a runtime has as many items as the declaration
 pub items-wiring : (helpers : ℕ) (w : Wiring) (s : Declared) (a : Assignment) → IsTable s.table → w ≡ run_wiring helpers s a → items w ≡ length s.table.names
@@ -61,9 +63,10 @@ pub PrintsRun-closed : (helpers : ℕ) (s : Declared) (w : Wiring) (a : Assignme
     → IsPlan (declared_waits s) a → a.lanes ≤ max_runtime_lanes → w ≡ run_wiring helpers s a → rows ≡ rows_for s
     → IsRan w 2 seats runs 2 2 rescued finished faults
     → HaveMade w (shared_by_two (length s.table.names)) (drop (length (contexts_of w)) seats)
+    → w.helpers ≤ max_helpers → QueuesNothing (take (length (contexts_of w)) seats)
     → IsClosed w rows seats book counts true → out ≡ report_text s a (λ i kind. made counts i kind true) faults → PrintsRun helpers s out
 PrintsRun-closed helpers s w a rows seats runs rescued finished faults book counts out of_items plan few is room ran
-    called closed text =
+    called few_helpers quiet closed text =
     let agrees : Agrees w book counts = closed.agrees.0 refl in
     record {
       assignment = a;
@@ -80,5 +83,7 @@ PrintsRun-closed helpers s w a rows seats runs rescued finished faults book coun
       book = book;
       counts = counts;
       closed = subst (λ (n : ℕ). IsClosed (run_wiring helpers s a) n seats book counts true) room (subst (λ (x : Wiring). IsClosed x rows seats book counts true) is closed);
+      once = each_once w rows (length s.table.names) (length (contexts_of w)) seats book counts few_helpers of_items
+          quiet called closed;
       text = text ∙ report_text-same s a (λ i kind. made counts i kind true) (yes_tally book) faults (λ i kind below. agrees.0 i kind true (subst (λ (n : ℕ). i < n) (sym of_items) below));
     }

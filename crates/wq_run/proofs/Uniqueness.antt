@@ -8,8 +8,9 @@ use Rattle.wq_plan.proofs.Plans.{IsPlan-unique}
 use Rattle.wq_held.specs.Locked.{max_runtime_lanes}
 use Rattle.wq_commands.specs.declared.end.End.{End}
 use Rattle.wq_commands.specs.declared.end.End.TheVariants.{Good, Bad, Refused}
-use Rattle.wq_commands.specs.Answer.{Answers, AnswersDeclared, PrintsRefusal, declared_waits}
-use Rattle.wq_commands.specs.Declaration.{Declared, declaration}
+use Rattle.wq_groups.specs.DeclaredGroups.{declared_waits, Declared}
+use Rattle.wq_commands.specs.Answer.{Answers, AnswersDeclared, PrintsRefusal}
+use Rattle.wq_commands.specs.Declaration.{declaration}
 use Rattle.wq_commands.proofs.AnswerLemmas.{IsSound, IsSound-declaration}
 use Rattle.wq_commands.proofs.Uniqueness.{not_both, PrintsCircle-unique}
 use Rattle.wq_run.specs.Running.{HasRuntime, IsRunnable, RunsPlan, RunsDeclared}

@@ -6,7 +6,7 @@ use Rattle.wq_counts.specs.declared.kind.Kind.{Kind}
 use Rattle.wq_counts.specs.declared.kind.Kind.TheVariants.{Queue, Cancel, Finish}
 use Rattle.wq_text.specs.LineText.{line_text}
 use Rattle.wq_cert.specs.PlanText.{name_of}
-use Rattle.wq_commands.specs.Declaration.{Declared}
+use Rattle.wq_groups.specs.DeclaredGroups.{Declared}
 
 -- `workqueues K`
 abbrev pub workqueues_line : ℕ → List (List ℕ)

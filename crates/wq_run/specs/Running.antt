@@ -1,12 +1,13 @@
 -- The answer of `run` to a declaration text: what is printed, and how it ends.
-use Rattle.std.specs.Prelude.{◌≡◌, ℕ, ◌+◌, ◌*◌, ◌<◌, ◌≤◌, List, [], ◌∷◌, drop, length, true, Option, Some, Result}
-use Rattle.std.specs.Prelude.{MatchResult}
+use Rattle.std.specs.Prelude.{◌≡◌, ℕ, ◌+◌, ◌*◌, ◌<◌, ◌≤◌, List, [], ◌∷◌, drop, length, Bool, true, Option, Some}
+use Rattle.std.specs.Prelude.{Result, sum_by, MatchResult}
 use Rattle.wq_items.specs.Table.{flush_count}
 use Rattle.wq_groups.specs.Assignment.{Assignment}
 use Rattle.wq_core.specs.Wiring.{Wiring, wiring, with_helpers}
 use Rattle.wq_plan.specs.Plan.{IsPlan}
 use Rattle.wq_counts.specs.declared.kind.Kind.{Kind}
-use Rattle.wq_counts.specs.Counting.{tally}
+use Rattle.wq_counts.specs.declared.kind.Kind.TheVariants.{Queue, Cancel, Finish}
+use Rattle.wq_counts.specs.Counting.{made, tally}
 use Rattle.wq_history.specs.Book.{BookView}
 use Rattle.wq_history.specs.declared.fault.CallError.{CallError}
 use Rattle.wq_held.specs.Locked.{max_runtime_lanes}
@@ -21,8 +22,9 @@ use Rattle.wq_script.specs.Crews.{shared_by_two}
 use Rattle.wq_commands.specs.declared.end.End.{End}
 use Rattle.wq_commands.specs.declared.end.End.TheVariants.{Good, Bad, Refused}
 use Rattle.wq_meter.specs.Shell.{Given}
-use Rattle.wq_commands.specs.Answer.{declared_waits, refusal_text, PrintsRefusal, PrintsCircle}
-use Rattle.wq_commands.specs.Declaration.{Declared, declaration}
+use Rattle.wq_groups.specs.DeclaredGroups.{declared_waits, Declared}
+use Rattle.wq_commands.specs.Answer.{refusal_text, PrintsRefusal, PrintsCircle}
+use Rattle.wq_commands.specs.Declaration.{declaration}
 use Rattle.wq_text.specs.Refusal.{Refusal}
 use Rattle.wq_commands.specs.Shell.{AnswersTexts}
 use Rattle.wq_diagnosis.specs.Refused.{Diagnoses, NotesNoItem}
@@ -37,6 +39,17 @@ rows_for s = 5 * length s.table.names + 2 * flush_count s.table.waits
 abbrev pub yes_tally : BookView → ℕ → Kind → ℕ
 yes_tally book i kind = tally book.rows i kind true
 
+-- each of so many items was queued once, never cancelled, and executed once
+abbrev pub EachOnce : BookView → ℕ → Type 0
+EachOnce book items = (i : ℕ) → i < items
+    → (yes_tally book i Queue ≡ 1) × (yes_tally book i Cancel ≡ 0) × (yes_tally book i Finish ≡ 1)
+
+-- no queueing of an item, nor a cancellation, is counted in these seats
+abbrev pub QueuesNothing : List (List ℕ) → Type 0
+QueuesNothing seats = (i : ℕ) (said : Bool)
+    → (sum_by (λ (seat : List ℕ). made seat i Queue said) seats ≡ 0)
+    × (sum_by (λ (seat : List ℕ). made seat i Cancel said) seats ≡ 0)
+
 -- what a runtime of a plan is made of, if each workqueue that isn't ordered has this many helpers
 abbrev pub run_wiring : ℕ → Declared → Assignment → Wiring
 run_wiring helpers s a = with_helpers (wiring (declared_waits s) a) helpers
@@ -48,10 +61,11 @@ HaveMade w (acts ∷ others) (seat ∷ seats) = CountsActs w (no_counts w) seat 
 HaveMade w _ _ = ⊥
 
 -- the plan was run with this many helpers, as far as a text can show it: there is a book, which was closed with all
--- seats. It is idle and a legal history under the plan, and the seats' counts agree with it, item by item and workqueue
--- by workqueue. The last two seats are those of the callers, who between them queued each item once and flushed it
--- once, and weren't refused. What is printed is the text of the book's tallies, and of the faults that rescuers and
--- helpers counted. It isn't said that the book is that of the threads, nor that no rescuer and no helper was refused
+-- seats. It is idle and a legal history under the plan, and the seats' counts agree with it, item by item and
+-- workqueue by workqueue. The last two seats are those of the callers, who between them queued each item once and
+-- flushed it once, and weren't refused. So in the book each item was queued once, never cancelled, and executed once.
+-- What is printed is the text of the book's tallies, and of the faults that rescuers and helpers counted. It isn't
+-- said that the book is that of the threads, nor that no rescuer and no helper was refused
 pub record PrintsRun (helpers : ℕ) (s : Declared) (out : List ℕ) : Type 0 where
   pub assignment : Assignment
   pub plan : IsPlan (declared_waits s) assignment
@@ -67,6 +81,7 @@ pub record PrintsRun (helpers : ℕ) (s : Declared) (out : List ℕ) : Type 0 wh
   pub book : BookView
   pub counts : List ℕ
   pub closed : IsClosed (run_wiring helpers s assignment) (rows_for s) seats book counts true
+  pub once : EachOnce book (length s.table.names)
   pub text : out ≡ report_text s assignment (yes_tally book) faults
 
 -- the plan has more workqueues than a runtime may have, which is refused (69)

@@ -11,9 +11,8 @@ ghost use Rattle.wq_run.specs.Report.{workqueues_line, kind_count_words, item_li
 
 use std::alloc::{AllocError, Allocator};
 use wq_api::{Closed, Naming};
-use wq_commands::Declaration;
 use wq_counts::Counts;
-use wq_groups::Assignment;
+use wq_groups::{Assignment, Declaration};
 use wq_items::ItemId;
 use wq_rescuer::{Body, Caller, Ran};
 use wq_text::{put, put_count, put_end, put_number, put_word};

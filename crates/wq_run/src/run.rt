@@ -28,9 +28,9 @@ use std::io::{self, Read, Write};
 use std::sync::Wait;
 use std::thread::Threads;
 use wq_commands::{
-    Declaration, End, Finds, MAX_DECLARATION, Silent, Stop, Voice, read_declaration,
-    respond_refused, tell,
+    End, Finds, MAX_DECLARATION, Silent, Stop, Voice, read_declaration, respond_refused, tell,
 };
+use wq_groups::Declaration;
 use wq_meter::{Metered, Stopped, Texts, read_text, write_text};
 
 /// The command `run`: its one text is a declaration.

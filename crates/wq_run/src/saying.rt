@@ -7,8 +7,9 @@ ghost use Rattle.wq_run.specs.Running.{SaysRun};
 
 use crate::run::RunCommand;
 use std::alloc::{AllocError, Allocator};
-use wq_commands::{Declaration, End, Texts, Voice};
+use wq_commands::{End, Texts, Voice};
 use wq_diagnosis::{Source, of_no_item, of_too_many};
+use wq_groups::Declaration;
 use wq_voice::{FileNames, say_refusal};
 
 /// What is said of a declaration on which `run` ended like this.

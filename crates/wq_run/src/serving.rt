@@ -4,9 +4,9 @@
 //! the declared flushes, and two callers. It takes the time of all executions and of
 //! writing the text, and time and memory in the number of bodies times that of items.
 
-ghost use Rattle.std.specs.Prelude.{◌≡◌, ◌≤◌, ℕ, List, length, map, drop, IfOk, IfErr, is_ok, IsTrue, true};
+ghost use Rattle.std.specs.Prelude.{◌≡◌, ◌≤◌, ℕ, List, length, map, take, drop, IfOk, IfErr, is_ok, IsTrue, true};
 ghost use Rattle.std.specs.List.{All};
-ghost use Rattle.wq_core.specs.Wiring.{items, wiring, with_helpers};
+ghost use Rattle.wq_core.specs.Wiring.{items, wiring, with_helpers, max_helpers};
 ghost use Rattle.wq_plan.specs.Plan.{IsPlan};
 ghost use Rattle.wq_counts.specs.Counting.{made};
 ghost use Rattle.wq_history.specs.Book.{BookView};
@@ -17,10 +17,10 @@ ghost use Rattle.wq_rescuer.specs.Contexts.{contexts_of};
 ghost use Rattle.wq_rescuer.specs.Serving.{IsRan};
 ghost use Rattle.wq_script.specs.Scripts.{runs_of};
 ghost use Rattle.wq_script.specs.Crews.{shared_by_two};
-ghost use Rattle.wq_commands.specs.Answer.{declared_waits};
+ghost use Rattle.wq_groups.specs.DeclaredGroups.{declared_waits};
 ghost use Rattle.wq_run.specs.Fault.{Stops};
 ghost use Rattle.wq_run.specs.Report.{report_text};
-ghost use Rattle.wq_run.specs.Running.{PrintsRun, HasRuntime, HaveMade, rows_for};
+ghost use Rattle.wq_run.specs.Running.{PrintsRun, HasRuntime, HaveMade, QueuesNothing, rows_for};
 
 use crate::fault::RunStop;
 use crate::report::report_text;
@@ -29,8 +29,7 @@ use std::mem;
 use std::sync::Wait;
 use std::thread::Threads;
 use wq_api::{CallError, Closed, Naming, Seat, WqRuntime};
-use wq_commands::Declaration;
-use wq_groups::Assignment;
+use wq_groups::{Assignment, Declaration};
 use wq_items::ItemTable;
 use wq_rescuer::{Body, Caller, Ran, count_contexts, run_all};
 use wq_script::{ScriptBody, ScriptCaller, script_bodies, script_callers};
@@ -94,6 +93,7 @@ fn run_crew<
         IsRan N.wiring 2 r.seats.items (map runs_of r.bodies.items) 2 2 r.rescued.items r.finished r.faults) }
     ensures called { IfOk result (λ r. HaveMade N.wiring (shared_by_two (length table.now.names))
         (drop (length (contexts_of N.wiring)) r.seats.items)) }
+    ensures served { IfOk result (λ r. QueuesNothing (take (length (contexts_of N.wiring)) r.seats.items)) }
 {
     let Crew { bodies, callers } = make_crew(alloc, table, count_contexts(runtime))?;
     let ran = match run_all(rt, alloc, runtime, bodies, callers) {
@@ -172,6 +172,7 @@ pub(crate) fn serve<
     requires assigned { length assignment.now.lane_of_group ≡ declared.now.partition.groups }
     requires plan { IsPlan (declared_waits declared.now) assignment.now }
     requires few { assignment.now.lanes ≤ max_runtime_lanes }
+    requires few_helpers { N.wiring.helpers ≤ max_helpers }
     requires items { items N.wiring ≡ length declared.now.table.names }
     requires of_wiring { N.wiring
         ≡ with_helpers (wiring (declared_waits declared.now) assignment.now) N.wiring.helpers }

@@ -1,6 +1,6 @@
 -- Notes on items of workqueues without a rescuer.
-use Rattle.std.proofs.Common.{◌≡◌, ℕ, ◌+◌, ◌<◌, Bool, true, false, List, [], ◌∷◌, ◌++◌, length, Option, Some}
-use Rattle.std.proofs.Common.{append-nil, sym, ap, ◌∙◌, arith}
+use Rattle.std.proofs.Common.{◌≡◌, ℕ, ◌+◌, ◌<◌, Bool, true, false, List, [], ◌∷◌, ◌++◌, length}
+use Rattle.std.proofs.Common.{append-nil, sym, ap, ◌∙◌}
 use Rattle.std.specs.Prelude.{filter}
 use Rattle.std.specs.List.{All, range_with_len}
 use Rattle.std.proofs.lemmas.Bool.{cond-true, cond-false}
@@ -9,9 +9,8 @@ use Rattle.wq_items.proofs.Lists.{range_with_len-below}
 use Rattle.wq_items.proofs.TableLemmas.{range_with_len-push}
 use Rattle.wq_core.specs.Workqueues.{Workqueues}
 use Rattle.wq_deadlock.specs.Judging.{is_on_bare}
-use Rattle.wq_commands.specs.Declaration.{Declared}
-use Rattle.wq_diagnosis.specs.Refused.{NotesNoItem}
-use Rattle.wq_voice.specs.Note.{bare_items, bare_note, NotesItems}
+use Rattle.wq_groups.specs.DeclaredGroups.{Declared}
+use Rattle.wq_voice.specs.Note.{bare_items}
 
 -- ---- the items
 
@@ -31,15 +30,3 @@ left p n items so_far is = so_far ∙ sym (more p n [] (cond-false (p n) (n ∷ 
 pub bare_items-within : (s : Declared) (ws : Workqueues) → All (λ i. i < length s.table.names) (bare_items s ws)
 bare_items-within s ws =
     All-filter (is_on_bare ws s.partition.group_of) (λ i. i < length s.table.names) (range_with_len 0 (length s.table.names)) (range_with_len-below (length s.table.names))
-
--- ---- the note
-
-pub notes-none : (first second : List ℕ) (s : Declared) (items : List (List ℕ)) (said : Option (List ℕ))
-    → length items ≡ 0 → NotesNoItem first s said → NotesItems first second s items said
-notes-none first second s [] said none notes = notes
-notes-none first second s (item ∷ items) said none notes = absurd (omega (arith, none))
-
-pub notes-some : (first second : List ℕ) (s : Declared) (items : List (List ℕ)) (said : Option (List ℕ))
-    → 0 < length items → said ≡ Some (bare_note second items) → NotesItems first second s items said
-notes-some first second s [] said some is = absurd (omega (arith, some))
-notes-some first second s (item ∷ items) said some is = is

@@ -1,10 +1,10 @@
 -- Blocks of lines: each is plain, and they follow one another.
 use Rattle.std.proofs.Common.{◌≡◌, ℕ, ◌+◌, ◌-◌, ◌<◌, List, [], ◌∷◌, ◌++◌, length, map, take, drop, get_or, append-nil, append_assoc, refl, sym, ap, subst, ◌∙◌, arith}
-use Rattle.std.specs.Prelude.{codes}
 use Rattle.std.proofs.lemmas.List.{take_all, take_more, map_push}
 use Rattle.wq_diagnosis.specs.Diagnosis.{IsPlain, shown_lines}
 use Rattle.wq_diagnosis.proofs.Lines.{plain-lines}
 use Rattle.wq_hang.specs.declared.hop.Hop.{Hop}
+use Rattle.wq_names.specs.Messages.{and_further}
 use Rattle.wq_voice.specs.Reasons.{plain_head, told, AddsSaid, AreSaid, IsSaidOf}
 
 -- lines that begin with that one say this
@@ -47,13 +47,15 @@ AddsSaid-next {X = X} file what xs k x old middle new within is some one =
 
 -- the block of the first wait of a walk, and then those of the further ones
 pub AddsSaid-told : (file lead : List ℕ) (words : Hop → List ℕ) (hops : List Hop) (h : Hop) (old middle new : List ℕ) → 0 < length hops → h ≡ get_or hops 0 h
-    → AddsSaid file ((lead ++ words h) ∷ []) old middle → AddsSaid file (map (λ (g : Hop). codes "and " ++ words g) (take (length hops - 1) (drop 1 hops))) middle new
+    → AddsSaid file ((lead ++ words h) ∷ []) old middle
+    → AddsSaid file (map (λ (g : Hop). and_further ++ words g) (take (length hops - 1) (drop 1 hops))) middle new
     → AddsSaid file (told lead words hops) old new
 AddsSaid-told file lead words [] h old middle new some is one more = absurd (omega (arith, some))
 AddsSaid-told file lead words (first ∷ hops) h old middle new some is one more =
-    AddsSaid-then file ((lead ++ words first) ∷ []) (map (λ (g : Hop). codes "and " ++ words g) hops) old middle new
+    AddsSaid-then file ((lead ++ words first) ∷ []) (map (λ (g : Hop). and_further ++ words g) hops) old middle new
     (subst (λ (g : Hop). AddsSaid file ((lead ++ words g) ∷ []) old middle) is one)
-    (subst (λ (others : List Hop). AddsSaid file (map (λ (g : Hop). codes "and " ++ words g) others) middle new) (take_all (length (first ∷ hops) - 1) hops (omega arith)) more)
+    (subst (λ (others : List Hop). AddsSaid file (map (λ (g : Hop). and_further ++ words g) others) middle new)
+    (take_all (length (first ∷ hops) - 1) hops (omega arith)) more)
 
 -- all that is added to nothing is what there is
 pub AreSaid-added : (file : List ℕ) (whats : List (List ℕ)) (new : List ℕ) → AddsSaid file whats [] new → AreSaid file whats new

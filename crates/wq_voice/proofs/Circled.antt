@@ -13,8 +13,7 @@ use Rattle.wq_circles.specs.Components.{AreComponents}
 use Rattle.wq_circles.proofs.Found.{CirclesText-read, FindsCircles-read}
 use Rattle.wq_commands.specs.declared.end.End.{End}
 use Rattle.wq_commands.specs.declared.found.Found.TheVariants.{Read}
-use Rattle.wq_commands.specs.Answer.{declared_waits}
-use Rattle.wq_commands.specs.Declaration.{Declared}
+use Rattle.wq_groups.specs.DeclaredGroups.{declared_waits, Declared}
 use Rattle.wq_voice.specs.Components.{are_some}
 
 -- ---- whether there are some

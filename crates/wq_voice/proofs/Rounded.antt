@@ -7,10 +7,10 @@ use Rattle.wq_graph.specs.declared.arc.WaitArc.{WaitArc}
 use Rattle.wq_core.specs.Workqueues.{Workqueues, wiring_of}
 use Rattle.wq_hang.specs.declared.hop.Hop.{Hop}
 use Rattle.wq_hang.specs.Walk.{IsLeastRoundOn, IsRoundOn}
-use Rattle.wq_commands.specs.Answer.{declared_waits}
-use Rattle.wq_commands.specs.Declaration.{Declared}
+use Rattle.wq_groups.specs.DeclaredGroups.{declared_waits, Declared}
 use Rattle.wq_voice.specs.Components.{first_told, hop_of, lanes_of, AddsRounds, AreRounds}
-use Rattle.wq_voice.specs.Reasons.{can_hang, told, AddsSaid}
+use Rattle.wq_names.specs.Messages.{can_hang}
+use Rattle.wq_voice.specs.Reasons.{told, AddsSaid}
 use Rattle.wq_voice.proofs.Blocks.{AddsSaid-none, AddsSaid-then}
 
 module _ (s : Declared) (ws : Workqueues) where

@@ -11,7 +11,7 @@ use Rattle.wq_commands.specs.declared.found.Found.TheVariants.{Read}
 use Rattle.wq_commands.specs.declared.found.Which.TheVariants.{Certificate as SecondText, Run}
 use Rattle.wq_commands.specs.declared.replaying.Replayed.{Replayed}
 use Rattle.wq_commands.specs.Commands.{FindsEnd, FindsVerdict, JudgesText, ReplaysOn, ReplaysTexts}
-use Rattle.wq_commands.specs.Declaration.{Declared, IsSound}
+use Rattle.wq_groups.specs.DeclaredGroups.{Declared, IsSound}
 
 -- each declared group is on one of the workqueues that were read
 pub assigned_read : (s : Declared) (text : List ℕ) (ws : Workqueues) → IsSound s

@@ -4,12 +4,12 @@ use Rattle.std.specs.Prelude.{map}
 use Rattle.std.specs.List.{range_with_len}
 use Rattle.wq_core.specs.Workqueues.{Workqueues}
 use Rattle.wq_deadlock.specs.Judging.{is_on_bare}
-use Rattle.wq_cert.specs.PlanText.{name_of}
+use Rattle.wq_names.specs.Messages.{declare_who_waits, item_on_workqueue, nothing_guarantees}
 use Rattle.wq_names.specs.Names.{names_of}
-use Rattle.wq_commands.specs.Declaration.{Declared}
+use Rattle.wq_groups.specs.DeclaredGroups.{Declared}
 use Rattle.wq_diagnosis.specs.Diagnosis.{shown_lines}
 use Rattle.wq_diagnosis.specs.Refused.{NotesNoItem}
-use Rattle.wq_diagnosis.specs.Words.{workqueue_of, workqueue_words}
+use Rattle.wq_diagnosis.specs.Words.{item_words, workqueue_of, workqueue_words}
 
 -- these, with a comma between each two
 abbrev pub listed : List (List ℕ) → List ℕ
@@ -22,15 +22,11 @@ bare_items s ws = filter (is_on_bare ws s.partition.group_of) (range_with_len 0 
 
 -- an item and its workqueue
 abbrev pub placed_item : Declared → Workqueues → List (List ℕ) → ℕ → List ℕ
-placed_item s ws names i =
-    ((codes "`" ++ name_of s.table.names i) ++ codes "` on ") ++ workqueue_words names (workqueue_of s ws i)
+placed_item s ws names i = item_on_workqueue (item_words s i) (workqueue_words names (workqueue_of s ws i))
 
 -- the two lines of the note: these items, all of them, and what to do
 abbrev pub bare_note : List ℕ → List (List ℕ) → List ℕ
-bare_note file items = shown_lines (
-    ((file ++ codes ": note: nothing guarantees that these run while memory is short: ") ++ listed items)
-    ∷ (file ++ codes ": note: where reclaim waits for one of them, declare who waits: an item of its own, on a `wq` line, that flushes it")
-    ∷ [])
+bare_note file items = shown_lines (nothing_guarantees file (listed items) ∷ declare_who_waits file ∷ [])
 
 -- what is said beside `safe`: this note of such items in the file of the assignment; if there is none, what is said of
 -- a declaration without an item

@@ -1,5 +1,5 @@
 -- What is said where workqueues can hang: by which waits, one after another.
-use Rattle.std.specs.Prelude.{◌≡◌, ℕ, List, [], ◌∷◌, ◌++◌, Option, Some, None, MatchResult, codes, map}
+use Rattle.std.specs.Prelude.{◌≡◌, ℕ, List, [], ◌∷◌, ◌++◌, Option, Some, None, MatchResult, map}
 use Rattle.wq_groups.specs.Declaration.{Declaration}
 use Rattle.wq_core.specs.declared.step.Step.{Step}
 use Rattle.wq_core.specs.Wiring.{own_lanes}
@@ -8,9 +8,9 @@ use Rattle.wq_core.specs.Deadlock.{IsSafe}
 use Rattle.wq_hang.specs.declared.hop.Hop.{Hop}
 use Rattle.wq_hang.specs.Answer.{IsHangOf}
 use Rattle.wq_cert.specs.Texts.{workqueues_of_text}
+use Rattle.wq_names.specs.Messages.{and_further, at_place, can_hang, can_hang_on_any}
 use Rattle.wq_names.specs.Names.{names_of}
-use Rattle.wq_commands.specs.Answer.{declared_waits}
-use Rattle.wq_commands.specs.Declaration.{Declared}
+use Rattle.wq_groups.specs.DeclaredGroups.{declared_waits, Declared}
 use Rattle.wq_findings.specs.Shown.{place_text}
 use Rattle.wq_diagnosis.specs.Diagnosis.{IsPlain, shown_lines}
 use Rattle.wq_voice.specs.Waits.{words_of}
@@ -20,7 +20,7 @@ use Rattle.wq_voice.specs.declared.waits.Wording.TheVariants.{OfGroups, OnWorkqu
 
 -- a first line without the number of an answer: the file, the place in it, and what there is to say
 abbrev pub plain_head : List ℕ → List ℕ → List ℕ → List ℕ
-plain_head file place what = ((file ++ place_text place) ++ codes ": ") ++ what
+plain_head file place what = at_place file (place_text place) what
 
 -- lines of which the first has this file, a line and a column of it, and says this; and they are plain
 pub record IsSaidOf (file what text : List ℕ) : Type 0 where
@@ -42,19 +42,10 @@ AddsSaid file whats old new = (added : List ℕ) × (new ≡ old ++ added) × Ar
 
 -- ---- walks
 
--- what is said of the waits of a walk, one after another: this comes before the
--- first, and `and ` before each further one
+-- what is said of the waits of a walk, one after another, with this before the first one
 abbrev pub told : List ℕ → (Hop → List ℕ) → List Hop → List (List ℕ)
 told lead words [] = []
-told lead words (h ∷ hops) = (lead ++ words h) ∷ map (λ (g : Hop). codes "and " ++ words g) hops
-
--- before the waits by which workqueues hang
-abbrev pub can_hang : List ℕ
-can_hang = codes "can hang: "
-
--- before those by which groups hang whatever their workqueues
-abbrev pub can_hang_on_any : List ℕ
-can_hang_on_any = codes "can hang on any workqueues: "
+told lead words (h ∷ hops) = (lead ++ words h) ∷ map (λ (g : Hop). and_further ++ words g) hops
 
 -- how these workqueues hang soonest is said in this file: the waits of a walk whose run is a shortest of all that end
 -- stuck; nothing is said if no run does

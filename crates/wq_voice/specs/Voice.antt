@@ -13,7 +13,7 @@ use Rattle.wq_checker.specs.declared.run.RunEnd.TheVariants.{Free, NotLawful}
 use Rattle.wq_checker.specs.Codes.{no_code}
 use Rattle.wq_names.specs.Names.{names_of}
 use Rattle.wq_circles.specs.declared.circling.Circling.{Circling}
-use Rattle.wq_commands.specs.Declaration.{Declared}
+use Rattle.wq_groups.specs.DeclaredGroups.{Declared}
 use Rattle.wq_commands.specs.declared.deadlocking.Verdict.{Verdict}
 use Rattle.wq_commands.specs.declared.end.End.{End}
 use Rattle.wq_commands.specs.declared.end.End.TheVariants.{Bad}

@@ -1,98 +1,93 @@
 -- The words of waits that hold one another up: who waits, for what, and why that doesn't go on.
-use Rattle.std.specs.Prelude.{◌==◌, if◌then◌else◌, ℕ, List, [], ◌++◌, codes, cond}
-use Rattle.wq_items.specs.declared.target.Target.{Target}
+use Rattle.std.specs.Prelude.{◌==◌, if◌then◌else◌, ℕ, List, cond}
 use Rattle.wq_core.specs.Workqueues.{Workqueues}
 use Rattle.wq_deadlock.specs.Judging.{is_on_bare}
 use Rattle.wq_hang.specs.declared.hop.Hop.{Hop}
-use Rattle.wq_commands.specs.Declaration.{Declared}
+use Rattle.wq_groups.specs.DeclaredGroups.{Declared}
+use Rattle.wq_names.specs.Messages.{group_waits_for_all, group_waits_for_all_of_its_own, group_waits_for_behind}
+use Rattle.wq_names.specs.Messages.{group_waits_for_behind_it, group_waits_for_itself, group_waits_for_next}
+use Rattle.wq_names.specs.Messages.{has_no_rescuer, waits_for_all, waits_for_all_of_bare, waits_for_all_of_its_own}
+use Rattle.wq_names.specs.Messages.{waits_for_bare, waits_for_behind, waits_for_behind_it, waits_for_itself}
+use Rattle.wq_names.specs.Messages.{waits_for_next}
 use Rattle.wq_diagnosis.specs.Words.{item_words, workqueue_of, workqueue_words}
 use Rattle.wq_voice.specs.declared.waits.Wording.{Wording}
 use Rattle.wq_voice.specs.declared.waits.Wording.TheVariants.{OfGroups, OnWorkqueues}
 
 -- ---- on workqueues with these names
 
+-- the workqueue of item i
+abbrev pub home_words : Declared → Workqueues → List (List ℕ) → ℕ → List ℕ
+home_words s ws names i = workqueue_words names (workqueue_of s ws i)
+
 -- the workqueue of item i has no rescuer
 abbrev pub bare_words : Declared → Workqueues → List (List ℕ) → ℕ → List ℕ
-bare_words s ws names i = workqueue_words names (workqueue_of s ws i) ++ codes " has no rescuer"
+bare_words s ws names i = has_no_rescuer (home_words s ws names i)
 
--- for an item on a workqueue without a rescuer, or for this whole workqueue
-abbrev pub to_bare_words : Declared → Workqueues → List (List ℕ) → Target → List ℕ
-to_bare_words s ws names t =
-    ((cond t.whole (codes "the workqueue of ") [] ++ item_words s t.item)
-    ++ codes ", which nothing guarantees to run: ")
-    ++ bare_words s ws names t.item
+-- an item waits for one on a workqueue without a rescuer, or for this whole workqueue
+abbrev pub to_bare_words : Declared → Workqueues → List (List ℕ) → Hop → List ℕ
+to_bare_words s ws names h =
+    cond h.flush.whole
+    (waits_for_all_of_bare (item_words s h.item) (home_words s ws names h.item) (item_words s h.flush.item)
+    (home_words s ws names h.flush.item))
+    (waits_for_bare (item_words s h.item) (home_words s ws names h.item) (item_words s h.flush.item)
+    (home_words s ws names h.flush.item))
 
--- for a whole workqueue, on which an item waits
+-- an item waits for a whole workqueue, on which an item waits
 abbrev pub to_all_words : Declared → Workqueues → List (List ℕ) → Hop → List ℕ
 to_all_words s ws names h =
-    if h.next == h.item then codes "all of its workqueue"
-    else (((codes "all of " ++ workqueue_words names (workqueue_of s ws h.flush.item)) ++ codes ", where ")
-    ++ item_words s h.next)
-    ++ codes " waits"
+    if h.next == h.item then waits_for_all_of_its_own (item_words s h.item) (home_words s ws names h.item)
+    else waits_for_all (item_words s h.item) (home_words s ws names h.item) (home_words s ws names h.flush.item)
+    (item_words s h.next)
 
--- for an item that waits itself
+-- an item waits for one that waits itself
 abbrev pub to_next_words : Declared → Workqueues → List (List ℕ) → Hop → List ℕ
 to_next_words s ws names h =
-    if h.next == h.item then codes "itself"
-    else (item_words s h.flush.item ++ codes ", which waits on ")
-    ++ workqueue_words names (workqueue_of s ws h.flush.item)
+    if h.next == h.item then waits_for_itself (item_words s h.item) (home_words s ws names h.item)
+    else waits_for_next (item_words s h.item) (home_words s ws names h.item) (item_words s h.flush.item)
+    (home_words s ws names h.flush.item)
 
--- for an item behind the one that waits
+-- an item waits for one behind the one that waits
 abbrev pub to_behind_words : Declared → Workqueues → List (List ℕ) → Hop → List ℕ
 to_behind_words s ws names h =
-    if h.next == h.item then item_words s h.flush.item ++ codes ", which is behind it"
-    else (((item_words s h.flush.item ++ codes ", which is behind ") ++ item_words s h.next) ++ codes " on ")
-    ++ workqueue_words names (workqueue_of s ws h.flush.item)
+    if h.next == h.item
+    then waits_for_behind_it (item_words s h.item) (home_words s ws names h.item) (item_words s h.flush.item)
+    else waits_for_behind (item_words s h.item) (home_words s ws names h.item) (item_words s h.flush.item)
+    (item_words s h.next) (home_words s ws names h.flush.item)
 
--- for what it waits: of a whole workqueue for all of it, else for the item that waits next or for one behind that
-abbrev pub to_words : Declared → Workqueues → List (List ℕ) → Hop → List ℕ
-to_words s ws names h =
-    if is_on_bare ws s.partition.group_of h.flush.item then to_bare_words s ws names h.flush
+-- who waits, and for what: of a whole workqueue for all of it, else for the item that waits next or for one behind that
+abbrev pub wait_words : Declared → Workqueues → List (List ℕ) → Hop → List ℕ
+wait_words s ws names h =
+    if is_on_bare ws s.partition.group_of h.flush.item then to_bare_words s ws names h
     else if h.flush.whole then to_all_words s ws names h
     else if h.flush.item == h.next then to_next_words s ws names h
     else to_behind_words s ws names h
 
--- who waits, and for what
-abbrev pub wait_words : Declared → Workqueues → List (List ℕ) → Hop → List ℕ
-wait_words s ws names h =
-    (((item_words s h.item ++ codes ", on ") ++ workqueue_words names (workqueue_of s ws h.item))
-    ++ codes ", waits for ")
-    ++ to_words s ws names h
-
 -- ---- of groups, whatever their workqueues
 
--- for a whole workqueue, on which an item waits
+-- an item waits for a whole workqueue, on which an item waits
 abbrev pub group_to_all_words : Declared → Hop → List ℕ
 group_to_all_words s h =
-    if h.next == h.item then codes "its workqueue"
-    else (((codes "the workqueue of " ++ item_words s h.flush.item) ++ codes ", where ") ++ item_words s h.next)
-    ++ codes " waits"
+    if h.next == h.item then group_waits_for_all_of_its_own (item_words s h.item)
+    else group_waits_for_all (item_words s h.item) (item_words s h.flush.item) (item_words s h.next)
 
--- for an item that waits itself
+-- an item waits for one that waits itself
 abbrev pub group_to_next_words : Declared → Hop → List ℕ
 group_to_next_words s h =
-    if h.next == h.item then codes "itself" else item_words s h.flush.item ++ codes ", which waits"
+    if h.next == h.item then group_waits_for_itself (item_words s h.item)
+    else group_waits_for_next (item_words s h.item) (item_words s h.flush.item)
 
--- the one that waits, before an item: the one that waits for this, or the next one
-abbrev pub group_behind_words : Declared → Hop → List ℕ
-group_behind_words s h = if h.next == h.item then codes "it" else item_words s h.next
-
--- for an item behind the one that waits, since both are `ordered`
+-- an item waits for one behind the one that waits, since both are `ordered`
 abbrev pub group_to_behind_words : Declared → Hop → List ℕ
 group_to_behind_words s h =
-    ((item_words s h.flush.item ++ codes ", which is behind ") ++ group_behind_words s h)
-    ++ codes ": they are `ordered`"
-
--- for what it waits
-abbrev pub group_to_words : Declared → Hop → List ℕ
-group_to_words s h =
-    if h.flush.whole then group_to_all_words s h
-    else if h.flush.item == h.next then group_to_next_words s h
-    else group_to_behind_words s h
+    if h.next == h.item then group_waits_for_behind_it (item_words s h.item) (item_words s h.flush.item)
+    else group_waits_for_behind (item_words s h.item) (item_words s h.flush.item) (item_words s h.next)
 
 -- who waits, and for what
 abbrev pub group_wait_words : Declared → Hop → List ℕ
-group_wait_words s h = (item_words s h.item ++ codes " waits for ") ++ group_to_words s h
+group_wait_words s h =
+    if h.flush.whole then group_to_all_words s h
+    else if h.flush.item == h.next then group_to_next_words s h
+    else group_to_behind_words s h
 
 -- ---- either
 

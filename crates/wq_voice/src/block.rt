@@ -4,16 +4,15 @@
 //! The form is that of "Diagnoses" in docs/FORMAT.md. A line is sought in the time of reading the text, and a block
 //! takes time and memory in its length.
 
-ghost use Rattle.std.specs.Prelude.{◌≡◌, ◌++◌, ◌∷◌, IfOk, codes, map};
-ghost use Rattle.wq_findings.specs.Shown.{place_text};
+ghost use Rattle.std.specs.Prelude.{◌≡◌, ◌∷◌, IfOk, map};
 ghost use Rattle.wq_diagnosis.specs.Diagnosis.{shown_lines};
 ghost use Rattle.wq_voice.specs.Reasons.{plain_head, IsSaidOf};
 
 use std::alloc::{AllocError, Allocator};
-use wq_diagnosis::{column, lines_of, push_excerpt, put_line, put_lines};
-use wq_findings::{Hint, Mark, put_place, workqueue_at};
+use wq_diagnosis::{column, lines_of, place_words, push_excerpt, put_line, put_lines};
+use wq_findings::{Hint, Mark, workqueue_at};
 use wq_groups::LaneId;
-use wq_text::put;
+use wq_names::messages;
 
 /// A first line without the number of an answer.
 pub(crate) fn plain_head<A: Allocator + Copy>(
@@ -24,12 +23,8 @@ pub(crate) fn plain_head<A: Allocator + Copy>(
 ) -> Result<Vec<u8, A>, AllocError>
     ensures { IfOk result (λ line. line.items ≡ plain_head file.now place.now what.now) }
 {
-    let mut line = Vec::new(alloc);
-    put(&mut line, file.as_bytes())?;
-    put_place(alloc, &mut line, place)?;
-    put(&mut line, b": ")?;
-    put(&mut line, what)?;
-    Ok(line)
+    let place = place_words(alloc, place)?;
+    messages::at_place(alloc, file.as_bytes(), &place, what)
 }
 
 /// The bytes of a line that are meant.

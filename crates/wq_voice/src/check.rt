@@ -5,7 +5,7 @@
 //! time and the memory of the diagnosis; behind it, of reading the plan's workqueues, and of the search for a shortest
 //! run.
 
-ghost use Rattle.std.specs.Prelude.{◌≡◌, ◌++◌, [], IfOk, Some, length, option_map, unwrap_or};
+ghost use Rattle.std.specs.Prelude.{◌≡◌, ◌++◌, [], IfOk, Some, option_map, unwrap_or};
 ghost use Rattle.wq_voice.specs.Voice.{SaysAnswer, SaysCheck, SaysLacking};
 
 use crate::file_names::FileNames;
@@ -13,8 +13,9 @@ use crate::reason::of_declared;
 use crate::refused::{say_refusal, say_refused_text};
 use std::alloc::{AllocError, Allocator};
 use wq_checker::{No, Yes};
-use wq_commands::{CheckCommand, Declaration, Found, Texts, Voice};
+use wq_commands::{CheckCommand, Found, Texts, Voice};
 use wq_diagnosis::{CertificateKind, Source, of_lack, of_no_item};
+use wq_groups::Declaration;
 use wq_text::put;
 
 /// A text, and behind it another one, where there is one.

@@ -11,7 +11,7 @@ ghost use Rattle.wq_names.specs.Names.{names_of};
 ghost use Rattle.wq_circles.specs.Circling.{CirclesTexts};
 ghost use Rattle.wq_circles.specs.Components.{AreComponents};
 ghost use Rattle.wq_circles.specs.ComponentsText.{AreBetween};
-ghost use Rattle.wq_commands.specs.Answer.{declared_waits};
+ghost use Rattle.wq_groups.specs.DeclaredGroups.{declared_waits};
 ghost use Rattle.wq_commands.specs.declared.end.End.{End};
 ghost use Rattle.wq_voice.specs.Components.{are_some, first_told, hop_of, is_of_whole, GivesReasons};
 ghost use Rattle.wq_voice.specs.Reasons.{AddsSaid};
@@ -22,20 +22,22 @@ ghost use Rattle.wq_voice.specs.declared.waits.Wording.TheVariants.{OfGroups, On
 
 use crate::file_names::FileNames;
 use crate::flush_lines::FlushLines;
-use crate::reason::CAN_HANG;
 use crate::refused::{say_refusal, say_refused_text};
 use crate::rounds::put_rounds;
 use crate::safe::say_safe;
 use crate::subject::{Subject, put_walk};
 use crate::waits::Wording;
+use crate::was_read::assigned_of;
 use std::alloc::{AllocError, Allocator};
 use wq_circles::{CirclesCommand, Circling};
-use wq_commands::{Declaration, Found, Texts, Voice};
+use wq_commands::{Found, Texts, Voice};
+use wq_core::Assigned;
 use wq_diagnosis::{CertificateKind, Source, of_no_item};
 use wq_graph::WaitArc;
+use wq_groups::Declaration;
 use wq_hang::{Hop, Rounds};
 use wq_items::{ItemId, ItemTable, Target};
-use wq_names::workqueue_names;
+use wq_names::{messages, workqueue_names};
 
 /// Whether the flush at this place, which the item declares, is of a whole workqueue.
 fn is_of_whole<A: Allocator + Copy>(table: &ItemTable<'_, A>, item: ItemId, place: u32) -> bool
@@ -49,16 +51,16 @@ fn is_of_whole<A: Allocator + Copy>(table: &ItemTable<'_, A>, item: ItemId, plac
 }
 
 /// The wait in a flush that leads to no rescuer.
-fn hop_of<A: Allocator + Copy>(declared: &Declaration<'_, A>, arc: &WaitArc) -> Hop
-    requires { arc.now.src < length declared.now.table.names }
-    ensures { result ≡ hop_of declared.now arc.now }
+fn hop_of<A: Allocator + Copy>(assigned: &Assigned<'_, '_, A>, arc: &WaitArc) -> Hop
+    requires { arc.now.src < length assigned.now.declared.partition.group_of }
+    ensures { result ≡ hop_of assigned.now.declared arc.now }
 {
     Hop {
         item: arc.src,
         flush: Target {
             item: arc.dst,
             place: arc.place,
-            whole: is_of_whole(&declared.table, arc.src, arc.place),
+            whole: is_of_whole(assigned.table(), arc.src, arc.place),
         },
         next: arc.dst,
     }
@@ -68,24 +70,19 @@ fn hop_of<A: Allocator + Copy>(declared: &Declaration<'_, A>, arc: &WaitArc) -> 
 fn put_first<A: Allocator + Copy>(
     alloc: A,
     out: &mut Vec<u8, A>,
-    subject: &Subject<'_, '_, '_, '_, A>,
+    subject: &Subject<'_, '_, '_, A>,
     waits: &[WaitArc],
 ) -> Result<(), AllocError>
-    requires between { AreBetween (length subject.now.declared.now.partition.group_of) waits.now }
-    requires assigned { length subject.now.workqueues.now.assignment.lane_of_group
-        ≡ subject.now.declared.now.partition.groups }
+    requires between { AreBetween (length subject.now.assigned.now.declared.partition.group_of) waits.now }
     ensures { OnOk result (AddsSaid subject.now.declaration.file.now (first_told (λ h. words_of subject.now.wording
-        subject.now.declared.now subject.now.workqueues.now (map (λ n. n.now) subject.now.names.now) h)
-        subject.now.declared.now waits.now) out.old.items out.new.items) }
+        subject.now.assigned.now.declared subject.now.assigned.now.workqueues (map (λ n. n.now) subject.now.names.now)
+        h) subject.now.assigned.now.declared waits.now) out.old.items out.new.items) }
 {
     match waits {
         [] => Ok(()),
         [first, ..] => {
-            let declared = subject.declared;
-            // What holds of every declaration.
-            let _groups = &declared.groups;
-            let hop = hop_of(declared, first);
-            put_walk(alloc, out, subject, CAN_HANG, &[hop])
+            let hop = hop_of(subject.assigned, first);
+            put_walk(alloc, out, subject, messages::CAN_HANG, &[hop])
         }
     }
 }
@@ -93,28 +90,24 @@ fn put_first<A: Allocator + Copy>(
 /// What is said of these components, and of these flushes to no rescuer.
 fn of_components<A: Allocator + Copy>(
     alloc: A,
-    subject: &Subject<'_, '_, '_, '_, A>,
+    subject: &Subject<'_, '_, '_, A>,
     components: &[Vec<WaitArc, A>],
     waits: &[WaitArc],
 ) -> Result<Vec<u8, A>, AllocError>
-    requires assigned { length subject.now.workqueues.now.assignment.lane_of_group
-        ≡ subject.now.declared.now.partition.groups }
     requires are { AreComponents
-        (declared_waits subject.now.declared.now) subject.now.workqueues.now
+        (declared_waits subject.now.assigned.now.declared) subject.now.assigned.now.workqueues
         (map (λ l. l.items) components.now) }
     requires waits { waits.now
-        ≡ bare_waits
-        (declared_waits subject.now.declared.now) subject.now.workqueues.now }
+        ≡ bare_waits (declared_waits subject.now.assigned.now.declared) subject.now.assigned.now.workqueues }
     ensures { IfOk result (λ said. GivesReasons subject.now.declaration.file.now (λ h. words_of subject.now.wording
-        subject.now.declared.now subject.now.workqueues.now (map (λ n. n.now) subject.now.names.now) h)
-        subject.now.declared.now subject.now.workqueues.now (map (λ l. l.items) components.now) waits.now
-        said.items) }
+        subject.now.assigned.now.declared subject.now.assigned.now.workqueues (map (λ n. n.now) subject.now.names.now)
+        h) subject.now.assigned.now.declared subject.now.assigned.now.workqueues (map (λ l. l.items) components.now)
+        waits.now said.items) }
 {
-    // What holds of every assignment.
-    let _lanes = subject.workqueues.assignment().lanes();
-    let declared = subject.declared;
-    let Declaration { table, groups } = declared;
-    let mut rounds = Rounds::new(alloc, table, groups, subject.workqueues)?;
+    let assigned = subject.assigned;
+    // What holds of it.
+    let _table = assigned.table();
+    let mut rounds = Rounds::new(alloc, assigned)?;
     let mut said = Vec::new(alloc);
     put_rounds(alloc, &mut said, subject, &mut rounds, components)?;
     put_first(alloc, &mut said, subject, waits)?;
@@ -126,18 +119,18 @@ fn of_read<'a, A: Allocator + Copy>(
     alloc: A,
     declaration: Source<'a>,
     assignment: Source<'a>,
-    declared: &Declaration<'a, A>,
+    assigned: &Assigned<'_, 'a, A>,
     circling: &Circling<A>,
 ) -> Result<Vec<u8, A>, AllocError>
-    requires read { workqueues_of_text declared.now.table.names declared.now.partition assignment.text.now
-        ≡ Ok circling.now.workqueues }
-    requires assigned { length circling.now.workqueues.assignment.lane_of_group ≡ declared.now.partition.groups }
-    requires components { AreComponents (declared_waits declared.now) circling.now.workqueues
+    requires read { workqueues_of_text assigned.now.declared.table.names assigned.now.declared.partition
+        assignment.text.now ≡ Ok assigned.now.workqueues }
+    requires components { AreComponents (declared_waits assigned.now.declared) assigned.now.workqueues
         (map (λ l. l.items) circling.now.components.items) }
-    requires waits { circling.now.waits.items ≡ bare_waits (declared_waits declared.now) circling.now.workqueues }
+    requires waits { circling.now.waits.items ≡ bare_waits (declared_waits assigned.now.declared)
+        assigned.now.workqueues }
     ensures { IfOk result (λ said. GivesReasons declaration.entry.file.now (λ h. words_of OnWorkqueues
-        declared.now circling.now.workqueues (names_of assignment.entry.text.now) h)
-        declared.now circling.now.workqueues (map (λ l. l.items) circling.now.components.items)
+        assigned.now.declared assigned.now.workqueues (names_of assignment.entry.text.now) h)
+        assigned.now.declared assigned.now.workqueues (map (λ l. l.items) circling.now.components.items)
         circling.now.waits.items said.items) }
 {
     let names = workqueue_names(alloc, assignment.text)?;
@@ -146,8 +139,7 @@ fn of_read<'a, A: Allocator + Copy>(
         declaration,
         assignment,
         wording: Wording::OnWorkqueues,
-        declared,
-        workqueues: &circling.workqueues,
+        assigned,
         flushes: &flushes,
         names: &names,
     };
@@ -158,16 +150,16 @@ fn of_read<'a, A: Allocator + Copy>(
 fn of_own<'a, A: Allocator + Copy>(
     alloc: A,
     declaration: Source<'a>,
-    declared: &Declaration<'a, A>,
+    assigned: &Assigned<'_, 'a, A>,
     circling: &Circling<A>,
 ) -> Result<Vec<u8, A>, AllocError>
-    requires assigned { length circling.now.workqueues.assignment.lane_of_group ≡ declared.now.partition.groups }
-    requires components { AreComponents (declared_waits declared.now) circling.now.workqueues
+    requires components { AreComponents (declared_waits assigned.now.declared) assigned.now.workqueues
         (map (λ l. l.items) circling.now.components.items) }
-    requires waits { circling.now.waits.items ≡ bare_waits (declared_waits declared.now) circling.now.workqueues }
+    requires waits { circling.now.waits.items ≡ bare_waits (declared_waits assigned.now.declared)
+        assigned.now.workqueues }
     ensures { IfOk result (λ said. GivesReasons declaration.entry.file.now (λ h. words_of OfGroups
-        declared.now circling.now.workqueues [] h)
-        declared.now circling.now.workqueues (map (λ l. l.items) circling.now.components.items)
+        assigned.now.declared assigned.now.workqueues [] h)
+        assigned.now.declared assigned.now.workqueues (map (λ l. l.items) circling.now.components.items)
         circling.now.waits.items said.items) }
 {
     let flushes = FlushLines::new(alloc, declaration.text)?;
@@ -178,8 +170,7 @@ fn of_own<'a, A: Allocator + Copy>(
             text: b"",
         },
         wording: Wording::OfGroups,
-        declared,
-        workqueues: &circling.workqueues,
+        assigned,
         flushes: &flushes,
         names: &[],
     };
@@ -200,33 +191,33 @@ fn are_some<A: Allocator>(components: &[Vec<WaitArc, A>], waits: &[WaitArc]) -> 
 fn say_read<A: Allocator + Copy>(
     alloc: A,
     names: &FileNames<'_>,
-    declared: &Declaration<'_, A>,
+    assigned: &Assigned<'_, '_, A>,
     texts: &Texts<A>,
     circling: &Circling<A>,
 ) -> Result<Option<Vec<u8, A>>, AllocError>
-    requires read { workqueues_of_text declared.now.table.names declared.now.partition texts.now.second
-        ≡ Ok circling.now.workqueues }
-    requires assigned { length circling.now.workqueues.assignment.lane_of_group ≡ declared.now.partition.groups }
-    requires components { AreComponents (declared_waits declared.now) circling.now.workqueues
+    requires read { workqueues_of_text assigned.now.declared.table.names assigned.now.declared.partition
+        texts.now.second
+        ≡ Ok assigned.now.workqueues }
+    requires components { AreComponents (declared_waits assigned.now.declared) assigned.now.workqueues
         (map (λ l. l.items) circling.now.components.items) }
-    requires waits { circling.now.waits.items ≡ bare_waits (declared_waits declared.now) circling.now.workqueues }
+    requires waits { circling.now.waits.items ≡ bare_waits (declared_waits assigned.now.declared)
+        assigned.now.workqueues }
     ensures { IfOk result (λ said. SaysCircles names.now.declaration.now names.now.second.now texts.now.second
-        declared.now circling.now.workqueues (map (λ l. l.items) circling.now.components.items) circling.now.waits.items
-        (option_map (λ text. text.items) said)) }
+        assigned.now.declared assigned.now.workqueues (map (λ l. l.items) circling.now.components.items)
+        circling.now.waits.items (option_map (λ text. text.items) said)) }
 {
     let assignment = Source {
         file: names.second,
         text: texts.second(),
     };
     if !are_some(&circling.components, &circling.waits) {
-        let workqueues = &circling.workqueues;
-        return say_safe(alloc, names.declaration, assignment, declared, workqueues);
+        return say_safe(alloc, names.declaration, assignment, assigned);
     }
     let declaration = Source {
         file: names.declaration,
         text: texts.first(),
     };
-    let said = of_read(alloc, declaration, assignment, declared, circling)?;
+    let said = of_read(alloc, declaration, assignment, assigned, circling)?;
     Ok(Some(said))
 }
 
@@ -234,26 +225,26 @@ fn say_read<A: Allocator + Copy>(
 fn say_own<A: Allocator + Copy>(
     alloc: A,
     names: &FileNames<'_>,
-    declared: &Declaration<'_, A>,
+    assigned: &Assigned<'_, '_, A>,
     texts: &Texts<A>,
     circling: &Circling<A>,
 ) -> Result<Option<Vec<u8, A>>, AllocError>
-    requires assigned { length circling.now.workqueues.assignment.lane_of_group ≡ declared.now.partition.groups }
-    requires components { AreComponents (declared_waits declared.now) circling.now.workqueues
+    requires components { AreComponents (declared_waits assigned.now.declared) assigned.now.workqueues
         (map (λ l. l.items) circling.now.components.items) }
-    requires waits { circling.now.waits.items ≡ bare_waits (declared_waits declared.now) circling.now.workqueues }
-    ensures { IfOk result (λ said. SaysOwnCircles names.now.declaration.now declared.now
-        circling.now.workqueues (map (λ l. l.items) circling.now.components.items) circling.now.waits.items
+    requires waits { circling.now.waits.items ≡ bare_waits (declared_waits assigned.now.declared)
+        assigned.now.workqueues }
+    ensures { IfOk result (λ said. SaysOwnCircles names.now.declaration.now assigned.now.declared
+        assigned.now.workqueues (map (λ l. l.items) circling.now.components.items) circling.now.waits.items
         (option_map (λ text. text.items) said)) }
 {
     if !are_some(&circling.components, &circling.waits) {
-        return of_no_item(alloc, declared, names.declaration);
+        return of_no_item(alloc, assigned.declared, names.declaration);
     }
     let declaration = Source {
         file: names.declaration,
         text: texts.first(),
     };
-    let said = of_own(alloc, declaration, declared, circling)?;
+    let said = of_own(alloc, declaration, assigned, circling)?;
     Ok(Some(said))
 }
 
@@ -271,12 +262,13 @@ fn say_circling<A: Allocator + Copy>(
     ensures { IfOk result (λ said. SaysCircling names.now.declaration.now names.now.second.now assigned
         declared.now texts.now circling.now (option_map (λ text. text.items) said)) }
 {
-    // What holds of every declaration.
-    let _groups = &declared.groups;
+    let workqueues = &circling.workqueues;
     if assigned {
-        say_read(alloc, names, declared, texts, circling)
+        let read = assigned_of(declared, workqueues);
+        say_read(alloc, names, &read, texts, circling)
     } else {
-        say_own(alloc, names, declared, texts, circling)
+        let own = Assigned::new(declared, workqueues);
+        say_own(alloc, names, &own, texts, circling)
     }
 }
 

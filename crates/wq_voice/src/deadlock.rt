@@ -3,7 +3,7 @@
 //!
 //! A call takes the time and the memory of the words and, beside a run, of the search for a shortest one.
 
-ghost use Rattle.std.specs.Prelude.{◌≡◌, ℕ, IfOk, List, Ok, length, option_map};
+ghost use Rattle.std.specs.Prelude.{◌≡◌, ℕ, IfOk, List, Ok, option_map};
 ghost use Rattle.wq_cert.specs.Texts.{workqueues_of_text};
 ghost use Rattle.wq_commands.specs.Commands.{JudgesText};
 ghost use Rattle.wq_commands.specs.declared.end.End.{End};
@@ -13,40 +13,39 @@ use crate::file_names::FileNames;
 use crate::reason::say_reason;
 use crate::refused::{say_refusal, say_refused_text};
 use crate::safe::say_safe;
+use crate::was_read::assigned_of;
 use std::alloc::{AllocError, Allocator};
-use wq_commands::{DeadlockCommand, Declaration, End, Found, Texts, Verdict, Voice};
+use wq_commands::{DeadlockCommand, End, Found, Texts, Verdict, Voice};
+use wq_core::Assigned;
 use wq_diagnosis::{CertificateKind, Source};
+use wq_groups::Declaration;
 
 /// What is said of this verdict on workqueues, whose text is the second.
 fn say_verdict<A: Allocator + Copy>(
     alloc: A,
     names: &FileNames<'_>,
-    declared: &Declaration<'_, A>,
+    assigned: &Assigned<'_, '_, A>,
     texts: &Texts<A>,
-    verdict: &Verdict<A>,
+    end: End,
 ) -> Result<Option<Vec<u8, A>>, AllocError>
-    requires read { workqueues_of_text declared.now.table.names declared.now.partition texts.now.second
-        ≡ Ok verdict.now.workqueues }
-    requires assigned { length verdict.now.workqueues.assignment.lane_of_group ≡ declared.now.partition.groups }
+    requires { workqueues_of_text assigned.now.declared.table.names assigned.now.declared.partition texts.now.second
+        ≡ Ok assigned.now.workqueues }
     ensures { IfOk result (λ said. SaysVerdict names.now.declaration.now names.now.second.now texts.now.second
-        declared.now verdict.now.workqueues verdict.now.end (option_map (λ text. text.items) said)) }
+        assigned.now.declared assigned.now.workqueues end (option_map (λ text. text.items) said)) }
 {
     let assignment = Source {
         file: names.second,
         text: texts.second(),
     };
-    let workqueues = &verdict.workqueues;
-    match verdict.end {
+    match end {
         End::Bad => {
             let declaration = Source {
                 file: names.declaration,
                 text: texts.first(),
             };
-            say_reason(alloc, declaration, assignment, declared, workqueues)
+            say_reason(alloc, declaration, assignment, assigned)
         }
-        End::Good | End::Refused => {
-            say_safe(alloc, names.declaration, assignment, declared, workqueues)
-        }
+        End::Good | End::Refused => { say_safe(alloc, names.declaration, assignment, assigned) }
     }
 }
 
@@ -62,14 +61,15 @@ fn say_deadlock<A: Allocator + Copy>(
     ensures { IfOk result (λ said. SaysVerdictOf names.now.declaration.now names.now.second.now names.now.run.now
         declared.now texts.now found.now (option_map (λ text. text.items) said)) }
 {
-    // What holds of every declaration.
-    let _groups = &declared.groups;
     match found {
         Found::Refused { which, code, line } => {
             let kind = CertificateKind::Assignment;
             say_refused_text(alloc, names, kind, declared, texts, *which, *code, *line)
         }
-        Found::Read(verdict) => say_verdict(alloc, names, declared, texts, verdict),
+        Found::Read(verdict) => {
+            let assigned = assigned_of(declared, &verdict.workqueues);
+            say_verdict(alloc, names, &assigned, texts, verdict.end)
+        }
     }
 }
 

@@ -25,14 +25,16 @@ mod rounds;
 mod safe;
 mod subject;
 mod waits;
+mod was_read;
 
 pub use block::said_at;
 pub use file_names::FileNames;
 pub use flush_lines::FlushLines;
-pub use reason::{CAN_HANG, of_subject, say_hops};
+pub use reason::{of_subject, say_hops};
 pub use refused::{say_refusal, say_refused_text};
 pub use rounds::put_round;
 pub use safe::say_safe;
 pub use subject::Subject;
 pub use waits::Wording;
+pub use was_read::assigned_of;
 pub use wq_diagnosis::{CertificateKind, item_words, of_no_item, workqueue_words};

@@ -8,28 +8,27 @@ ghost use Rattle.std.specs.List.{All};
 ghost use Rattle.wq_voice.specs.Note.{bare_items, bare_note, listed, placed_item, NotesItems};
 
 use std::alloc::{AllocError, Allocator};
-use wq_commands::Declaration;
-use wq_core::Workqueues;
+use wq_core::Assigned;
 use wq_deadlock::is_on_bare;
-use wq_diagnosis::{of_no_item, put_line, workqueue_of, workqueue_words};
+use wq_diagnosis::{item_words, of_no_item, put_line, workqueue_of, workqueue_words};
+use wq_groups::Declaration;
 use wq_items::ItemId;
+use wq_names::messages;
 use wq_text::put;
 
 /// The items on workqueues without a rescuer.
 pub(crate) fn bare_items<A: Allocator + Copy>(
     alloc: A,
-    declared: &Declaration<'_, A>,
-    workqueues: &Workqueues<A>,
+    assigned: &Assigned<'_, '_, A>,
 ) -> Result<Vec<ItemId, A>, AllocError>
-    requires assigned { length workqueues.now.assignment.lane_of_group ≡ declared.now.partition.groups }
     ensures items { IfOk result (λ items. items.items
-        ≡ bare_items declared.now workqueues.now) }
-    ensures within { IfOk result (λ items. All (λ i. i < length declared.now.table.names) items.items) }
+        ≡ bare_items assigned.now.declared assigned.now.workqueues) }
+    ensures within { IfOk result (λ items. All (λ i. i < length assigned.now.declared.table.names) items.items) }
 {
     let mut items = Vec::new(alloc);
-    for number in 0..declared.table.len() {
+    for number in 0..assigned.table().len() {
         let item = ItemId::new(number);
-        if is_on_bare(&declared.groups, workqueues, item) {
+        if is_on_bare(assigned, item) {
             items.push(item)?;
         }
     }
@@ -39,45 +38,36 @@ pub(crate) fn bare_items<A: Allocator + Copy>(
 /// An item and its workqueue.
 fn placed_item<A: Allocator + Copy>(
     alloc: A,
-    declared: &Declaration<'_, A>,
-    workqueues: &Workqueues<A>,
+    assigned: &Assigned<'_, '_, A>,
     names: &[&[u8]],
     item: ItemId,
 ) -> Result<Vec<u8, A>, AllocError>
-    requires item { item < length declared.now.table.names }
-    requires assigned { length workqueues.now.assignment.lane_of_group ≡ declared.now.partition.groups }
+    requires item { item < length assigned.now.declared.table.names }
     ensures { IfOk result (λ words. words.items
-        ≡ placed_item declared.now workqueues.now
+        ≡ placed_item assigned.now.declared assigned.now.workqueues
         (map (λ n. n.now) names.now) item) }
 {
-    let table = &declared.table;
-    let workqueue = workqueue_words(alloc, names, workqueue_of(declared, workqueues, item))?;
-    let mut words = Vec::new(alloc);
-    put(&mut words, b"`")?;
-    put(&mut words, table.name(item))?;
-    put(&mut words, b"` on ")?;
-    put(&mut words, &workqueue)?;
-    Ok(words)
+    let _table = assigned.table();
+    let workqueue = workqueue_words(alloc, names, workqueue_of(assigned, item))?;
+    let item = item_words(alloc, assigned.declared, item)?;
+    messages::item_on_workqueue(alloc, &item, &workqueue)
 }
 
 /// These items, each with its workqueue.
 pub(crate) fn placed_items<A: Allocator + Copy>(
     alloc: A,
-    declared: &Declaration<'_, A>,
-    workqueues: &Workqueues<A>,
+    assigned: &Assigned<'_, '_, A>,
     names: &[&[u8]],
     items: &[ItemId],
 ) -> Result<Vec<Vec<u8, A>, A>, AllocError>
-    requires items { All (λ i. i < length declared.now.table.names) items.now }
-    requires assigned { length workqueues.now.assignment.lane_of_group ≡ declared.now.partition.groups }
+    requires items { All (λ i. i < length assigned.now.declared.table.names) items.now }
     ensures { IfOk result (λ placed. map (λ words. words.items) placed.items
-        ≡ map
-        (placed_item declared.now workqueues.now
+        ≡ map (placed_item assigned.now.declared assigned.now.workqueues
         (map (λ n. n.now) names.now)) items.now) }
 {
     let mut placed = Vec::new(alloc);
     for item in items {
-        placed.push(placed_item(alloc, declared, workqueues, names, *item)?)?;
+        placed.push(placed_item(alloc, assigned, names, *item)?)?;
     }
     Ok(placed)
 }
@@ -113,38 +103,13 @@ fn put_listed<A: Allocator + Copy>(
     }
 }
 
-/// The first line of the note of these items.
-fn note_line<A: Allocator + Copy>(
-    alloc: A,
-    file: &str,
-    items: &[Vec<u8, A>],
-) -> Result<Vec<u8, A>, AllocError>
-    ensures { IfOk result (λ line. line.items
-        ≡ (file.now ++ codes ": note: nothing guarantees that these run while memory is short: ")
-        ++ listed (map (λ words. words.items) items.now)) }
+/// These, with a comma between each two.
+fn listed<A: Allocator + Copy>(alloc: A, items: &[Vec<u8, A>]) -> Result<Vec<u8, A>, AllocError>
+    ensures { IfOk result (λ words. words.items ≡ listed (map (λ words. words.items) items.now)) }
 {
-    let mut line = Vec::new(alloc);
-    put(&mut line, file.as_bytes())?;
-    put(
-        &mut line,
-        b": note: nothing guarantees that these run while memory is short: ",
-    )?;
-    put_listed(&mut line, items)?;
-    Ok(line)
-}
-
-/// Its second line.
-fn advice_line<A: Allocator + Copy>(alloc: A, file: &str) -> Result<Vec<u8, A>, AllocError>
-    ensures { IfOk result (λ line. line.items
-        ≡ file.now ++ codes ": note: where reclaim waits for one of them, declare who waits: an item of its own, on a `wq` line, that flushes it") }
-{
-    let mut line = Vec::new(alloc);
-    put(&mut line, file.as_bytes())?;
-    put(
-        &mut line,
-        b": note: where reclaim waits for one of them, declare who waits: an item of its own, on a `wq` line, that flushes it",
-    )?;
-    Ok(line)
+    let mut words = Vec::new(alloc);
+    put_listed(&mut words, items)?;
+    Ok(words)
 }
 
 /// The note of these items.
@@ -155,8 +120,9 @@ fn bare_note<A: Allocator + Copy>(
 ) -> Result<Vec<u8, A>, AllocError>
     ensures { IfOk result (λ said. said.items ≡ bare_note file.now (map (λ words. words.items) items.now)) }
 {
-    let note = note_line(alloc, file, items)?;
-    let advice = advice_line(alloc, file)?;
+    let items = listed(alloc, items)?;
+    let note = messages::nothing_guarantees(alloc, file.as_bytes(), &items)?;
+    let advice = messages::declare_who_waits(alloc, file.as_bytes())?;
     let mut out = Vec::new(alloc);
     put_line(alloc, &mut out, &note)?;
     put_line(alloc, &mut out, &advice)?;

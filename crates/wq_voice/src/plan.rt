@@ -9,8 +9,9 @@ use crate::file_names::FileNames;
 use crate::reason::of_groups;
 use crate::refused::say_refusal;
 use std::alloc::{AllocError, Allocator};
-use wq_commands::{Declaration, End, PlanCommand, Texts, Voice};
+use wq_commands::{End, PlanCommand, Texts, Voice};
 use wq_diagnosis::{Source, of_no_item};
+use wq_groups::Declaration;
 
 /// What is said of a declaration to which `plan` has an answer with this end.
 fn say_plan<A: Allocator + Copy>(

@@ -8,8 +8,9 @@ ghost use Rattle.wq_voice.specs.Voice.{SaysRefused};
 
 use crate::file_names::FileNames;
 use std::alloc::{AllocError, Allocator};
-use wq_commands::{Declaration, Texts, Which};
+use wq_commands::{Texts, Which};
 use wq_diagnosis::{CertificateKind, Source, of_refused_certificate, of_refused_declaration};
+use wq_groups::Declaration;
 
 /// Says that the declaration is refused, for the fault of this number on this line.
 ///

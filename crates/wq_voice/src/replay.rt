@@ -3,7 +3,7 @@
 //!
 //! A call takes the time and the memory of making the steps again up to that one, or of the search for a shortest run.
 
-ghost use Rattle.std.specs.Prelude.{◌≡◌, ℕ, IfOk, List, Ok, length, option_map};
+ghost use Rattle.std.specs.Prelude.{◌≡◌, ℕ, IfOk, List, Ok, option_map};
 ghost use Rattle.wq_cert.specs.Texts.{run_of, workqueues_of_text};
 ghost use Rattle.wq_names.specs.Names.{names_of};
 ghost use Rattle.wq_commands.specs.Commands.{ReplaysTexts};
@@ -14,52 +14,51 @@ ghost use Rattle.wq_voice.specs.Voice.{SaysEnd, SaysEndOf};
 use crate::file_names::FileNames;
 use crate::reason::say_reason;
 use crate::refused::{say_refusal, say_refused_text};
+use crate::was_read::assigned_of;
 use std::alloc::{AllocError, Allocator};
 use wq_checker::RunEnd;
-use wq_commands::{Declaration, Found, ReplayCommand, Replayed, Texts, Voice};
-use wq_core::{Step, Workqueues};
+use wq_commands::{Found, ReplayCommand, Replayed, Texts, Voice};
+use wq_core::{Assigned, Step};
 use wq_diagnosis::{CertificateKind, Source, of_no_item, of_unlawful};
+use wq_groups::Declaration;
 use wq_names::workqueue_names;
 
 /// Why the step of this number, on workqueues whose text is that one, isn't lawful.
 fn say_unlawful<A: Allocator + Copy>(
     alloc: A,
-    declared: &Declaration<'_, A>,
-    workqueues: &Workqueues<A>,
+    assigned: &Assigned<'_, '_, A>,
     assignment: &[u8],
     steps: &[Step],
     run: Source<'_>,
     number: u32,
 ) -> Result<Option<Vec<u8, A>>, AllocError>
-    requires read { workqueues_of_text declared.now.table.names declared.now.partition assignment.now
-        ≡ Ok workqueues.now }
-    requires assigned { length workqueues.now.assignment.lane_of_group ≡ declared.now.partition.groups }
-    requires run { run_of declared.now.table.names run.text.now ≡ Ok steps.now }
-    ensures { IfOk result (λ said. SaysStep run.entry.file.now declared.now workqueues.now
+    requires read { workqueues_of_text assigned.now.declared.table.names assigned.now.declared.partition assignment.now
+        ≡ Ok assigned.now.workqueues }
+    requires run { run_of assigned.now.declared.table.names run.text.now ≡ Ok steps.now }
+    ensures { IfOk result (λ said. SaysStep run.entry.file.now assigned.now.declared assigned.now.workqueues
         (names_of assignment.now) steps.now number (option_map (λ text. text.items) said)) }
 {
     let names = workqueue_names(alloc, assignment)?;
-    of_unlawful(alloc, declared, workqueues, &names, steps, run, number)
+    of_unlawful(alloc, assigned, &names, steps, run, number)
 }
 
 /// What is said of a run that was made, of workqueues whose text is the second and of steps whose text is the third.
 fn say_replayed<A: Allocator + Copy>(
     alloc: A,
     names: &FileNames<'_>,
-    declared: &Declaration<'_, A>,
+    assigned: &Assigned<'_, '_, A>,
     texts: &Texts<A>,
     replayed: &Replayed<A>,
 ) -> Result<Option<Vec<u8, A>>, AllocError>
-    requires read { workqueues_of_text declared.now.table.names declared.now.partition texts.now.second
-        ≡ Ok replayed.now.workqueues }
-    requires assigned { length replayed.now.workqueues.assignment.lane_of_group ≡ declared.now.partition.groups }
-    requires run { run_of declared.now.table.names texts.now.third ≡ Ok replayed.now.steps.items }
-    ensures { IfOk result (λ said. SaysEnd names.now.declaration.now names.now.run.now texts.now.second declared.now
-        replayed.now.workqueues replayed.now.steps.items replayed.now.end (option_map (λ text. text.items) said)) }
+    requires read { workqueues_of_text assigned.now.declared.table.names assigned.now.declared.partition
+        texts.now.second ≡ Ok assigned.now.workqueues }
+    requires run { run_of assigned.now.declared.table.names texts.now.third ≡ Ok replayed.now.steps.items }
+    ensures { IfOk result (λ said. SaysEnd names.now.declaration.now names.now.run.now texts.now.second
+        assigned.now.declared assigned.now.workqueues replayed.now.steps.items replayed.now.end
+        (option_map (λ text. text.items) said)) }
 {
-    let workqueues = &replayed.workqueues;
     match replayed.end {
-        RunEnd::Free => of_no_item(alloc, declared, names.declaration),
+        RunEnd::Free => of_no_item(alloc, assigned.declared, names.declaration),
         RunEnd::Deadlock | RunEnd::Stuck => {
             let declaration = Source {
                 file: names.declaration,
@@ -69,7 +68,7 @@ fn say_replayed<A: Allocator + Copy>(
                 file: names.second,
                 text: texts.second(),
             };
-            say_reason(alloc, declaration, assignment, declared, workqueues)
+            say_reason(alloc, declaration, assignment, assigned)
         }
         RunEnd::NotLawful(number) => {
             let run = Source {
@@ -78,8 +77,7 @@ fn say_replayed<A: Allocator + Copy>(
             };
             say_unlawful(
                 alloc,
-                declared,
-                workqueues,
+                assigned,
                 texts.second(),
                 &replayed.steps,
                 run,
@@ -102,14 +100,15 @@ fn say_replay<A: Allocator + Copy>(
     ensures { IfOk result (λ said. SaysEndOf names.now.declaration.now names.now.second.now names.now.run.now
         declared.now texts.now found.now (option_map (λ text. text.items) said)) }
 {
-    // What holds of every declaration.
-    let _groups = &declared.groups;
     match found {
         Found::Refused { which, code, line } => {
             let kind = CertificateKind::Assignment;
             say_refused_text(alloc, names, kind, declared, texts, *which, *code, *line)
         }
-        Found::Read(replayed) => say_replayed(alloc, names, declared, texts, replayed),
+        Found::Read(replayed) => {
+            let assigned = assigned_of(declared, &replayed.workqueues);
+            say_replayed(alloc, names, &assigned, texts, replayed)
+        }
     }
 }
 

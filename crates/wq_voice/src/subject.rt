@@ -3,8 +3,9 @@
 //! The words are those of "Where workqueues can hang" in tests/DIAGNOSES.md. A wait takes the time and the memory of
 //! its lines.
 
-ghost use Rattle.std.specs.Prelude.{◌≡◌, ◌++◌, ◌∷◌, [], ◌<◌, IfOk, OnOk, codes, length, map};
+ghost use Rattle.std.specs.Prelude.{◌≡◌, ◌++◌, ◌∷◌, [], ◌<◌, IfOk, OnOk, length, map};
 ghost use Rattle.std.specs.List.{All};
+ghost use Rattle.wq_names.specs.Messages.{and_further};
 ghost use Rattle.wq_voice.specs.Reasons.{told, AddsSaid, IsSaidOf};
 ghost use Rattle.wq_voice.specs.Waits.{words_of};
 
@@ -12,52 +13,47 @@ use crate::block::{Spot, plain_head, said_at};
 use crate::flush_lines::FlushLines;
 use crate::waits::{Wording, bare_words, words_of};
 use std::alloc::{AllocError, Allocator};
-use wq_commands::Declaration;
-use wq_core::Workqueues;
+use wq_core::Assigned;
 use wq_deadlock::is_on_bare;
 use wq_diagnosis::{Source, workqueue_of};
 use wq_hang::Hop;
+use wq_names::messages;
 use wq_text::put;
 
 /// Workqueues of the groups of a declaration, and the texts that say so.
 #[derive(Clone, Copy)]
-pub struct Subject<'a, 'b, 'c, 'd, A: Allocator> {
+pub struct Subject<'a, 's, 't, A: Allocator> {
     /// The text of the declaration.
     pub declaration: Source<'a>,
     /// The text of the workqueues; without a byte where each group has one of its own.
     pub assignment: Source<'a>,
     /// Which of the two it is.
     pub wording: Wording,
-    /// What is declared.
-    pub declared: &'b Declaration<'a, A>,
-    /// The workqueues.
-    pub workqueues: &'c Workqueues<A>,
+    /// What is declared, and the workqueues.
+    pub assigned: &'s Assigned<'t, 'a, A>,
     /// Where the flushes are declared.
-    pub flushes: &'d FlushLines<'a, A>,
+    pub flushes: &'s FlushLines<'a, A>,
     /// The workqueues' names.
-    pub names: &'d [&'a [u8]],
+    pub names: &'s [&'a [u8]],
 }
 
 /// Adds the line of the workqueue of a wait's target, which has no rescuer, and says so.
 fn push_bare<A: Allocator + Copy>(
     alloc: A,
     lines: &mut Vec<Vec<u8, A>, A>,
-    subject: &Subject<'_, '_, '_, '_, A>,
+    subject: &Subject<'_, '_, '_, A>,
     hop: &Hop,
 ) -> Result<(), AllocError>
-    requires target { hop.now.flush.item < length subject.now.declared.now.partition.group_of }
-    requires assigned { length subject.now.workqueues.now.assignment.lane_of_group
-        ≡ subject.now.declared.now.partition.groups }
+    requires target { hop.now.flush.item < length subject.now.assigned.now.declared.partition.group_of }
 {
     let Subject {
         assignment,
-        declared,
-        workqueues,
+        assigned,
         names,
         ..
     } = *subject;
-    let what = bare_words(alloc, declared, workqueues, names, hop.flush.item)?;
-    let q = workqueue_of(declared, workqueues, hop.flush.item);
+    let what = bare_words(alloc, assigned, names, hop.flush.item)?;
+    let q = workqueue_of(assigned, hop.flush.item);
     let spot = Spot::of_workqueue(assignment.text, q);
     let place = [spot.line, spot.column];
     lines.push(plain_head(alloc, assignment.file, &place, &what)?)?;
@@ -68,18 +64,15 @@ fn push_bare<A: Allocator + Copy>(
 /// workqueue without a rescuer, that of this workqueue.
 fn below<A: Allocator + Copy>(
     alloc: A,
-    subject: &Subject<'_, '_, '_, '_, A>,
+    subject: &Subject<'_, '_, '_, A>,
     spot: Spot<'_>,
     hop: &Hop,
 ) -> Result<Vec<Vec<u8, A>, A>, AllocError>
-    requires target { hop.now.flush.item < length subject.now.declared.now.partition.group_of }
-    requires assigned { length subject.now.workqueues.now.assignment.lane_of_group
-        ≡ subject.now.declared.now.partition.groups }
+    requires target { hop.now.flush.item < length subject.now.assigned.now.declared.partition.group_of }
 {
     let mut lines = Vec::new(alloc);
     spot.push(alloc, &mut lines)?;
-    let declared = subject.declared;
-    if is_on_bare(&declared.groups, subject.workqueues, hop.flush.item) {
+    if is_on_bare(subject.assigned, hop.flush.item) {
         push_bare(alloc, &mut lines, subject, hop)?;
     }
     Ok(lines)
@@ -88,13 +81,11 @@ fn below<A: Allocator + Copy>(
 /// The block of lines that says this of a wait.
 fn block_of<A: Allocator + Copy>(
     alloc: A,
-    subject: &Subject<'_, '_, '_, '_, A>,
+    subject: &Subject<'_, '_, '_, A>,
     hop: &Hop,
     what: &[u8],
 ) -> Result<Vec<u8, A>, AllocError>
-    requires target { hop.now.flush.item < length subject.now.declared.now.partition.group_of }
-    requires assigned { length subject.now.workqueues.now.assignment.lane_of_group
-        ≡ subject.now.declared.now.partition.groups }
+    requires target { hop.now.flush.item < length subject.now.assigned.now.declared.partition.group_of }
     ensures { IfOk result (λ said. IsSaidOf subject.now.declaration.file.now what.now said.items) }
 {
     let spot = subject.flushes.spot(hop.flush.place);
@@ -112,25 +103,23 @@ fn block_of<A: Allocator + Copy>(
 /// What there is to say of a wait, behind this.
 fn what_of<A: Allocator + Copy>(
     alloc: A,
-    subject: &Subject<'_, '_, '_, '_, A>,
+    subject: &Subject<'_, '_, '_, A>,
     lead: &[u8],
     hop: &Hop,
 ) -> Result<Vec<u8, A>, AllocError>
-    requires item { hop.now.item < length subject.now.declared.now.partition.group_of }
-    requires target { hop.now.flush.item < length subject.now.declared.now.partition.group_of }
-    requires assigned { length subject.now.workqueues.now.assignment.lane_of_group
-        ≡ subject.now.declared.now.partition.groups }
+    requires item { hop.now.item < length subject.now.assigned.now.declared.partition.group_of }
+    requires target { hop.now.flush.item < length subject.now.assigned.now.declared.partition.group_of }
     ensures { IfOk result (λ what. what.items ≡ lead.now ++ words_of subject.now.wording
-        subject.now.declared.now subject.now.workqueues.now (map (λ n. n.now) subject.now.names.now) hop.now) }
+        subject.now.assigned.now.declared subject.now.assigned.now.workqueues (map (λ n. n.now) subject.now.names.now)
+        hop.now) }
 {
     let Subject {
         wording,
-        declared,
-        workqueues,
+        assigned,
         names,
         ..
     } = *subject;
-    let words = words_of(alloc, wording, declared, workqueues, names, hop)?;
+    let words = words_of(alloc, wording, assigned, names, hop)?;
     let mut what = Vec::new(alloc);
     put(&mut what, lead)?;
     put(&mut what, &words)?;
@@ -141,16 +130,15 @@ fn what_of<A: Allocator + Copy>(
 fn put_wait<A: Allocator + Copy>(
     alloc: A,
     out: &mut Vec<u8, A>,
-    subject: &Subject<'_, '_, '_, '_, A>,
+    subject: &Subject<'_, '_, '_, A>,
     lead: &[u8],
     hop: &Hop,
 ) -> Result<(), AllocError>
-    requires item { hop.now.item < length subject.now.declared.now.partition.group_of }
-    requires target { hop.now.flush.item < length subject.now.declared.now.partition.group_of }
-    requires assigned { length subject.now.workqueues.now.assignment.lane_of_group
-        ≡ subject.now.declared.now.partition.groups }
+    requires item { hop.now.item < length subject.now.assigned.now.declared.partition.group_of }
+    requires target { hop.now.flush.item < length subject.now.assigned.now.declared.partition.group_of }
     ensures { OnOk result (AddsSaid subject.now.declaration.file.now ((lead.now ++ words_of subject.now.wording
-        subject.now.declared.now subject.now.workqueues.now (map (λ n. n.now) subject.now.names.now) hop.now)
+        subject.now.assigned.now.declared subject.now.assigned.now.workqueues (map (λ n. n.now) subject.now.names.now)
+        hop.now)
         ∷ []) out.old.items out.new.items) }
 {
     let what = what_of(alloc, subject, lead, hop)?;
@@ -162,20 +150,19 @@ fn put_wait<A: Allocator + Copy>(
 fn put_further<A: Allocator + Copy>(
     alloc: A,
     out: &mut Vec<u8, A>,
-    subject: &Subject<'_, '_, '_, '_, A>,
+    subject: &Subject<'_, '_, '_, A>,
     hops: &[Hop],
 ) -> Result<(), AllocError>
-    requires items { All (λ h. h.item < length subject.now.declared.now.partition.group_of) hops.now }
-    requires targets { All (λ h. h.flush.item < length subject.now.declared.now.partition.group_of) hops.now }
-    requires assigned { length subject.now.workqueues.now.assignment.lane_of_group
-        ≡ subject.now.declared.now.partition.groups }
+    requires items { All (λ h. h.item < length subject.now.assigned.now.declared.partition.group_of) hops.now }
+    requires targets { All (λ h. h.flush.item < length subject.now.assigned.now.declared.partition.group_of) hops.now }
     ensures { OnOk result
-        (AddsSaid subject.now.declaration.file.now (map (λ h. codes "and " ++ words_of subject.now.wording
-        subject.now.declared.now
-        subject.now.workqueues.now (map (λ n. n.now) subject.now.names.now) h) hops.now) out.old.items out.new.items) }
+        (AddsSaid subject.now.declaration.file.now (map (λ h. and_further ++ words_of subject.now.wording
+        subject.now.assigned.now.declared
+        subject.now.assigned.now.workqueues (map (λ n. n.now) subject.now.names.now) h) hops.now) out.old.items
+        out.new.items) }
 {
     for hop in hops {
-        put_wait(alloc, out, subject, b"and ", hop)?;
+        put_wait(alloc, out, subject, messages::AND_FURTHER, hop)?;
     }
     Ok(())
 }
@@ -184,17 +171,16 @@ fn put_further<A: Allocator + Copy>(
 pub(crate) fn put_walk<A: Allocator + Copy>(
     alloc: A,
     out: &mut Vec<u8, A>,
-    subject: &Subject<'_, '_, '_, '_, A>,
+    subject: &Subject<'_, '_, '_, A>,
     lead: &[u8],
     hops: &[Hop],
 ) -> Result<(), AllocError>
-    requires items { All (λ h. h.item < length subject.now.declared.now.partition.group_of) hops.now }
-    requires targets { All (λ h. h.flush.item < length subject.now.declared.now.partition.group_of) hops.now }
-    requires assigned { length subject.now.workqueues.now.assignment.lane_of_group
-        ≡ subject.now.declared.now.partition.groups }
+    requires items { All (λ h. h.item < length subject.now.assigned.now.declared.partition.group_of) hops.now }
+    requires targets { All (λ h. h.flush.item < length subject.now.assigned.now.declared.partition.group_of) hops.now }
     ensures { OnOk result (AddsSaid subject.now.declaration.file.now (told lead.now (λ h. words_of subject.now.wording
-        subject.now.declared.now
-        subject.now.workqueues.now (map (λ n. n.now) subject.now.names.now) h) hops.now) out.old.items out.new.items) }
+        subject.now.assigned.now.declared
+        subject.now.assigned.now.workqueues (map (λ n. n.now) subject.now.names.now) h) hops.now) out.old.items
+        out.new.items) }
 {
     match hops {
         [] => Ok(()),

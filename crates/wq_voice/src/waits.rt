@@ -3,19 +3,18 @@
 //! The words are those of "Where workqueues can hang" in tests/DIAGNOSES.md. A call
 //! takes the time and the memory of the words.
 
-ghost use Rattle.std.specs.Prelude.{◌≡◌, ◌++◌, ◌<◌, [], IfOk, codes, cond, length, map};
-ghost use Rattle.wq_voice.specs.Waits.{bare_words, to_all_words, to_bare_words, to_behind_words, to_next_words};
-ghost use Rattle.wq_voice.specs.Waits.{to_words, wait_words, words_of};
+ghost use Rattle.std.specs.Prelude.{◌≡◌, ◌<◌, IfOk, length, map};
+ghost use Rattle.wq_voice.specs.Waits.{bare_words, home_words, to_all_words, to_bare_words, to_behind_words};
+ghost use Rattle.wq_voice.specs.Waits.{to_next_words, wait_words, words_of};
 
 use crate::groups::group_wait_words;
 use std::alloc::{AllocError, Allocator};
-use wq_commands::Declaration;
-use wq_core::Workqueues;
+use wq_core::Assigned;
 use wq_deadlock::is_on_bare;
 use wq_diagnosis::{item_words, workqueue_of, workqueue_words};
 use wq_hang::Hop;
-use wq_items::{ItemId, Target};
-use wq_text::put;
+use wq_items::ItemId;
+use wq_names::messages;
 
 /// Whose workqueues are spoken of.
 #[derive(Clone, Copy, Debug, PartialEq, Eq)]
@@ -26,208 +25,164 @@ pub enum Wording {
     OfGroups,
 }
 
-/// That the workqueue of an item has no rescuer.
-pub(crate) fn bare_words<A: Allocator + Copy>(
+/// The workqueue of an item.
+fn home_words<A: Allocator + Copy>(
     alloc: A,
-    declared: &Declaration<'_, A>,
-    workqueues: &Workqueues<A>,
+    assigned: &Assigned<'_, '_, A>,
     names: &[&[u8]],
     item: ItemId,
 ) -> Result<Vec<u8, A>, AllocError>
-    requires item { item < length declared.now.partition.group_of }
-    requires assigned { length workqueues.now.assignment.lane_of_group ≡ declared.now.partition.groups }
-    ensures { IfOk result (λ words. words.items
-        ≡ bare_words declared.now workqueues.now
-        (map (λ n. n.now) names.now) item) }
+    requires item { item < length assigned.now.declared.partition.group_of }
+    ensures { IfOk result (λ words. words.items ≡ home_words assigned.now.declared
+        assigned.now.workqueues (map (λ n. n.now) names.now) item) }
 {
-    let mut words = workqueue_words(alloc, names, workqueue_of(declared, workqueues, item))?;
-    put(&mut words, b" has no rescuer")?;
-    Ok(words)
+    workqueue_words(alloc, names, workqueue_of(assigned, item))
 }
 
-/// Begins the words for a target on a workqueue without a rescuer: what stands before its name.
-fn before_target(whole: bool) -> &'static [u8]
-    ensures { result.now ≡ cond whole (codes "the workqueue of ") [] }
+/// That the workqueue of an item has no rescuer.
+pub(crate) fn bare_words<A: Allocator + Copy>(
+    alloc: A,
+    assigned: &Assigned<'_, '_, A>,
+    names: &[&[u8]],
+    item: ItemId,
+) -> Result<Vec<u8, A>, AllocError>
+    requires item { item < length assigned.now.declared.partition.group_of }
+    ensures { IfOk result (λ words. words.items ≡ bare_words assigned.now.declared
+        assigned.now.workqueues (map (λ n. n.now) names.now) item) }
 {
-    if whole { b"the workqueue of " } else { b"" }
+    let workqueue = home_words(alloc, assigned, names, item)?;
+    messages::has_no_rescuer(alloc, &workqueue)
 }
 
-/// For a target on a workqueue without a rescuer, or for this whole workqueue.
+/// That an item waits for one on a workqueue without a rescuer, or for this whole workqueue.
 fn to_bare_words<A: Allocator + Copy>(
     alloc: A,
-    declared: &Declaration<'_, A>,
-    workqueues: &Workqueues<A>,
+    assigned: &Assigned<'_, '_, A>,
     names: &[&[u8]],
-    flush: &Target,
+    hop: &Hop,
 ) -> Result<Vec<u8, A>, AllocError>
-    requires target { flush.now.item < length declared.now.partition.group_of }
-    requires assigned { length workqueues.now.assignment.lane_of_group ≡ declared.now.partition.groups }
-    ensures { IfOk result (λ words. words.items
-        ≡ to_bare_words declared.now workqueues.now
-        (map (λ n. n.now) names.now) flush.now) }
+    requires item { hop.now.item < length assigned.now.declared.partition.group_of }
+    requires target { hop.now.flush.item < length assigned.now.declared.partition.group_of }
+    ensures { IfOk result (λ words. words.items ≡ to_bare_words assigned.now.declared
+        assigned.now.workqueues (map (λ n. n.now) names.now) hop.now) }
 {
-    let target = item_words(alloc, declared, flush.item)?;
-    let bare = bare_words(alloc, declared, workqueues, names, flush.item)?;
-    let mut words = Vec::new(alloc);
-    put(&mut words, before_target(flush.whole))?;
-    put(&mut words, &target)?;
-    put(&mut words, b", which nothing guarantees to run: ")?;
-    put(&mut words, &bare)?;
-    Ok(words)
+    let item = item_words(alloc, assigned.declared, hop.item)?;
+    let workqueue = home_words(alloc, assigned, names, hop.item)?;
+    let target = item_words(alloc, assigned.declared, hop.flush.item)?;
+    let other = home_words(alloc, assigned, names, hop.flush.item)?;
+    if hop.flush.whole {
+        messages::waits_for_all_of_bare(alloc, &item, &workqueue, &target, &other)
+    } else {
+        messages::waits_for_bare(alloc, &item, &workqueue, &target, &other)
+    }
 }
 
-/// For a whole workqueue, on which an item waits.
+/// That an item waits for a whole workqueue, on which an item waits.
 fn to_all_words<A: Allocator + Copy>(
     alloc: A,
-    declared: &Declaration<'_, A>,
-    workqueues: &Workqueues<A>,
+    assigned: &Assigned<'_, '_, A>,
     names: &[&[u8]],
     hop: &Hop,
 ) -> Result<Vec<u8, A>, AllocError>
-    requires target { hop.now.flush.item < length declared.now.partition.group_of }
-    requires assigned { length workqueues.now.assignment.lane_of_group ≡ declared.now.partition.groups }
-    ensures { IfOk result (λ words. words.items
-        ≡ to_all_words declared.now workqueues.now
-        (map (λ n. n.now) names.now) hop.now) }
+    requires item { hop.now.item < length assigned.now.declared.partition.group_of }
+    requires target { hop.now.flush.item < length assigned.now.declared.partition.group_of }
+    ensures { IfOk result (λ words. words.items ≡ to_all_words assigned.now.declared
+        assigned.now.workqueues (map (λ n. n.now) names.now) hop.now) }
 {
+    let item = item_words(alloc, assigned.declared, hop.item)?;
+    let workqueue = home_words(alloc, assigned, names, hop.item)?;
     if hop.next == hop.item {
-        return Vec::from_slice(alloc, b"all of its workqueue");
+        return messages::waits_for_all_of_its_own(alloc, &item, &workqueue);
     }
-    let q = workqueue_of(declared, workqueues, hop.flush.item);
-    let workqueue = workqueue_words(alloc, names, q)?;
-    let next = item_words(alloc, declared, hop.next)?;
-    let mut words = Vec::new(alloc);
-    put(&mut words, b"all of ")?;
-    put(&mut words, &workqueue)?;
-    put(&mut words, b", where ")?;
-    put(&mut words, &next)?;
-    put(&mut words, b" waits")?;
-    Ok(words)
+    let other = home_words(alloc, assigned, names, hop.flush.item)?;
+    let next = item_words(alloc, assigned.declared, hop.next)?;
+    messages::waits_for_all(alloc, &item, &workqueue, &other, &next)
 }
 
-/// For an item that waits itself.
+/// That an item waits for one that waits itself.
 fn to_next_words<A: Allocator + Copy>(
     alloc: A,
-    declared: &Declaration<'_, A>,
-    workqueues: &Workqueues<A>,
+    assigned: &Assigned<'_, '_, A>,
     names: &[&[u8]],
     hop: &Hop,
 ) -> Result<Vec<u8, A>, AllocError>
-    requires target { hop.now.flush.item < length declared.now.partition.group_of }
-    requires assigned { length workqueues.now.assignment.lane_of_group ≡ declared.now.partition.groups }
-    ensures { IfOk result (λ words. words.items
-        ≡ to_next_words declared.now workqueues.now
-        (map (λ n. n.now) names.now) hop.now) }
+    requires item { hop.now.item < length assigned.now.declared.partition.group_of }
+    requires target { hop.now.flush.item < length assigned.now.declared.partition.group_of }
+    ensures { IfOk result (λ words. words.items ≡ to_next_words assigned.now.declared
+        assigned.now.workqueues (map (λ n. n.now) names.now) hop.now) }
 {
+    let item = item_words(alloc, assigned.declared, hop.item)?;
+    let workqueue = home_words(alloc, assigned, names, hop.item)?;
     if hop.next == hop.item {
-        return Vec::from_slice(alloc, b"itself");
+        return messages::waits_for_itself(alloc, &item, &workqueue);
     }
-    let q = workqueue_of(declared, workqueues, hop.flush.item);
-    let workqueue = workqueue_words(alloc, names, q)?;
-    let mut words = item_words(alloc, declared, hop.flush.item)?;
-    put(&mut words, b", which waits on ")?;
-    put(&mut words, &workqueue)?;
-    Ok(words)
+    let target = item_words(alloc, assigned.declared, hop.flush.item)?;
+    let other = home_words(alloc, assigned, names, hop.flush.item)?;
+    messages::waits_for_next(alloc, &item, &workqueue, &target, &other)
 }
 
-/// For an item behind the one that waits.
+/// That an item waits for one behind the one that waits.
 fn to_behind_words<A: Allocator + Copy>(
     alloc: A,
-    declared: &Declaration<'_, A>,
-    workqueues: &Workqueues<A>,
+    assigned: &Assigned<'_, '_, A>,
     names: &[&[u8]],
     hop: &Hop,
 ) -> Result<Vec<u8, A>, AllocError>
-    requires target { hop.now.flush.item < length declared.now.partition.group_of }
-    requires assigned { length workqueues.now.assignment.lane_of_group ≡ declared.now.partition.groups }
-    ensures { IfOk result (λ words. words.items
-        ≡ to_behind_words declared.now workqueues.now
-        (map (λ n. n.now) names.now) hop.now) }
+    requires item { hop.now.item < length assigned.now.declared.partition.group_of }
+    requires target { hop.now.flush.item < length assigned.now.declared.partition.group_of }
+    ensures { IfOk result (λ words. words.items ≡ to_behind_words assigned.now.declared
+        assigned.now.workqueues (map (λ n. n.now) names.now) hop.now) }
 {
-    let mut words = item_words(alloc, declared, hop.flush.item)?;
+    let item = item_words(alloc, assigned.declared, hop.item)?;
+    let workqueue = home_words(alloc, assigned, names, hop.item)?;
+    let target = item_words(alloc, assigned.declared, hop.flush.item)?;
     if hop.next == hop.item {
-        put(&mut words, b", which is behind it")?;
-        return Ok(words);
+        return messages::waits_for_behind_it(alloc, &item, &workqueue, &target);
     }
-    let q = workqueue_of(declared, workqueues, hop.flush.item);
-    let workqueue = workqueue_words(alloc, names, q)?;
-    let next = item_words(alloc, declared, hop.next)?;
-    put(&mut words, b", which is behind ")?;
-    put(&mut words, &next)?;
-    put(&mut words, b" on ")?;
-    put(&mut words, &workqueue)?;
-    Ok(words)
-}
-
-/// For what an item waits.
-fn to_words<A: Allocator + Copy>(
-    alloc: A,
-    declared: &Declaration<'_, A>,
-    workqueues: &Workqueues<A>,
-    names: &[&[u8]],
-    hop: &Hop,
-) -> Result<Vec<u8, A>, AllocError>
-    requires target { hop.now.flush.item < length declared.now.partition.group_of }
-    requires assigned { length workqueues.now.assignment.lane_of_group ≡ declared.now.partition.groups }
-    ensures { IfOk result (λ words. words.items
-        ≡ to_words declared.now workqueues.now
-        (map (λ n. n.now) names.now) hop.now) }
-{
-    if is_on_bare(&declared.groups, workqueues, hop.flush.item) {
-        to_bare_words(alloc, declared, workqueues, names, &hop.flush)
-    } else if hop.flush.whole {
-        to_all_words(alloc, declared, workqueues, names, hop)
-    } else if hop.flush.item == hop.next {
-        to_next_words(alloc, declared, workqueues, names, hop)
-    } else {
-        to_behind_words(alloc, declared, workqueues, names, hop)
-    }
+    let next = item_words(alloc, assigned.declared, hop.next)?;
+    let other = home_words(alloc, assigned, names, hop.flush.item)?;
+    messages::waits_for_behind(alloc, &item, &workqueue, &target, &next, &other)
 }
 
 /// Who waits on workqueues with these names, and for what.
 fn wait_words<A: Allocator + Copy>(
     alloc: A,
-    declared: &Declaration<'_, A>,
-    workqueues: &Workqueues<A>,
+    assigned: &Assigned<'_, '_, A>,
     names: &[&[u8]],
     hop: &Hop,
 ) -> Result<Vec<u8, A>, AllocError>
-    requires item { hop.now.item < length declared.now.partition.group_of }
-    requires target { hop.now.flush.item < length declared.now.partition.group_of }
-    requires assigned { length workqueues.now.assignment.lane_of_group ≡ declared.now.partition.groups }
-    ensures { IfOk result (λ words. words.items
-        ≡ wait_words declared.now workqueues.now
-        (map (λ n. n.now) names.now) hop.now) }
+    requires item { hop.now.item < length assigned.now.declared.partition.group_of }
+    requires target { hop.now.flush.item < length assigned.now.declared.partition.group_of }
+    ensures { IfOk result (λ words. words.items ≡ wait_words assigned.now.declared
+        assigned.now.workqueues (map (λ n. n.now) names.now) hop.now) }
 {
-    let q = workqueue_of(declared, workqueues, hop.item);
-    let workqueue = workqueue_words(alloc, names, q)?;
-    let target = to_words(alloc, declared, workqueues, names, hop)?;
-    let mut words = item_words(alloc, declared, hop.item)?;
-    put(&mut words, b", on ")?;
-    put(&mut words, &workqueue)?;
-    put(&mut words, b", waits for ")?;
-    put(&mut words, &target)?;
-    Ok(words)
+    if is_on_bare(assigned, hop.flush.item) {
+        to_bare_words(alloc, assigned, names, hop)
+    } else if hop.flush.whole {
+        to_all_words(alloc, assigned, names, hop)
+    } else if hop.flush.item == hop.next {
+        to_next_words(alloc, assigned, names, hop)
+    } else {
+        to_behind_words(alloc, assigned, names, hop)
+    }
 }
 
 /// The words of a wait in this wording.
 pub(crate) fn words_of<A: Allocator + Copy>(
     alloc: A,
     wording: Wording,
-    declared: &Declaration<'_, A>,
-    workqueues: &Workqueues<A>,
+    assigned: &Assigned<'_, '_, A>,
     names: &[&[u8]],
     hop: &Hop,
 ) -> Result<Vec<u8, A>, AllocError>
-    requires item { hop.now.item < length declared.now.partition.group_of }
-    requires target { hop.now.flush.item < length declared.now.partition.group_of }
-    requires assigned { length workqueues.now.assignment.lane_of_group ≡ declared.now.partition.groups }
+    requires item { hop.now.item < length assigned.now.declared.partition.group_of }
+    requires target { hop.now.flush.item < length assigned.now.declared.partition.group_of }
     ensures { IfOk result (λ words. words.items
-        ≡ words_of wording declared.now workqueues.now
+        ≡ words_of wording assigned.now.declared assigned.now.workqueues
         (map (λ n. n.now) names.now) hop.now) }
 {
     match wording {
-        Wording::OnWorkqueues => wait_words(alloc, declared, workqueues, names, hop),
-        Wording::OfGroups => group_wait_words(alloc, declared, hop),
+        Wording::OnWorkqueues => wait_words(alloc, assigned, names, hop),
+        Wording::OfGroups => group_wait_words(alloc, assigned.declared, hop),
     }
 }

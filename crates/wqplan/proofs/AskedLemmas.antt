@@ -8,7 +8,8 @@ use Rattle.wq_meter.specs.Meter.{Meter, WritesWhole}
 use Rattle.wq_meter.specs.Shell.{Given, Tells, kept}
 use Rattle.wq_meter.specs.declared.texts.Limits.{Limits}
 use Rattle.wq_commands.specs.Commands.{one_or_two_texts}
-use Rattle.wq_commands.specs.Declaration.{Declared, max_declaration}
+use Rattle.wq_groups.specs.DeclaredGroups.{Declared}
+use Rattle.wq_commands.specs.Declaration.{max_declaration}
 use Rattle.wq_commands.specs.Shell.{AnswersTexts, IsAnswered, SaysOfTexts}
 use Rattle.wq_commands.specs.declared.end.End.{End}
 use Rattle.wq_diagnosis.specs.Refused.{Diagnoses}

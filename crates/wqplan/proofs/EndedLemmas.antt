@@ -9,7 +9,7 @@ use Rattle.wq_meter.specs.declared.fault.Fault.TheVariants.{Memory, Read, Write}
 use Rattle.wq_meter.specs.declared.stopped.Stopped.{Stopped}
 use Rattle.wq_meter.specs.declared.stopped.Stopped.TheVariants.{Faulted, Unanswered}
 use Rattle.wq_meter.specs.declared.texts.Limits.{Limits}
-use Rattle.wq_commands.specs.Declaration.{Declared}
+use Rattle.wq_groups.specs.DeclaredGroups.{Declared}
 use Rattle.wq_commands.specs.Shell.{AnswersTexts, IsAnswered}
 use Rattle.wq_commands.specs.declared.end.End.{End}
 use Rattle.wq_explain.specs.declared.explain.Explained.{Explained}

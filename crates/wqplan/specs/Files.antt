@@ -4,7 +4,7 @@ use Rattle.clap.specs.Words.{Text}
 use Rattle.wq_text.specs.Refusal.{Refusal}
 use Rattle.wq_meter.specs.Shell.{Given, kept}
 use Rattle.wq_meter.specs.declared.texts.Limits.{Limits}
-use Rattle.wq_commands.specs.Declaration.{Declared}
+use Rattle.wq_groups.specs.DeclaredGroups.{Declared}
 use Rattle.wq_commands.specs.Shell.{AnswersTexts}
 use Rattle.wq_commands.specs.declared.end.End.{End}
 use Rattle.wqplan.specs.declared.command_line.Files.{Files}

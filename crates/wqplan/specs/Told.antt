@@ -6,7 +6,7 @@ use Rattle.wq_text.specs.Refusal.{Refusal}
 use Rattle.wq_meter.specs.Shell.{Given, kept}
 use Rattle.wq_commands.specs.declared.end.End.{End}
 use Rattle.wq_commands.specs.Commands.{ChecksText, FindsPlan, JudgesText, ReplaysTexts}
-use Rattle.wq_commands.specs.Declaration.{Declared}
+use Rattle.wq_groups.specs.DeclaredGroups.{Declared}
 use Rattle.wq_commands.specs.Shell.{AnswersTexts, SaysOfTexts}
 use Rattle.wq_circles.specs.Circling.{CirclesTexts}
 use Rattle.wq_dot.specs.Dotting.{DrawsTexts}

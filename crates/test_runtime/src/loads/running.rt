@@ -4,7 +4,7 @@ ghost use Rattle.std.specs.Prelude.{◌≡◌, length, vec_len, slice_index, IfO
 ghost use Rattle.std.specs.List.{All};
 ghost use Rattle.wq_core.specs.Wiring.{wiring, with_helpers};
 ghost use Rattle.wq_rescuer.specs.Executing.{NeverRan};
-ghost use Rattle.wq_commands.specs.Answer.{declared_waits};
+ghost use Rattle.wq_groups.specs.DeclaredGroups.{declared_waits};
 
 use crate::loads::client::Client;
 use crate::loads::load::Load;

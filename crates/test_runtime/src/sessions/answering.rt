@@ -8,7 +8,8 @@ use std::sync::Wait;
 use std::thread::Threads;
 use std::time::Clock;
 use wq_cert::{CertError, read_assignment};
-use wq_commands::{Declaration, Stop, read_declaration};
+use wq_commands::{Stop, read_declaration};
+use wq_groups::Declaration;
 
 /// Does what is asked with what is declared, under the assignment in a text. Returns the status.
 fn answer_declared<R: Threads + Wait + Clock + Sync>(

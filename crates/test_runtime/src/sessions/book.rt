@@ -9,9 +9,8 @@ use crate::testbed::{
     put_waiting,
 };
 use std::alloc::{AllocError, Global};
-use wq_commands::Declaration;
 use wq_core::{Core, MAX_HELPERS};
-use wq_groups::LaneId;
+use wq_groups::{Declaration, LaneId};
 use wq_history::{Asked, Book, BookError, LaneAsked};
 use wq_items::{ItemId, ItemTable};
 use wq_text::{Words, number};

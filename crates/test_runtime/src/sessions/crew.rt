@@ -6,7 +6,7 @@ ghost use Rattle.std.specs.Prelude.{◌≡◌, vec_len, slice_index, IfOk};
 ghost use Rattle.std.specs.List.{All};
 ghost use Rattle.wq_core.specs.Wiring.{wiring, with_helpers};
 ghost use Rattle.wq_rescuer.specs.Executing.{NeverRan};
-ghost use Rattle.wq_commands.specs.Answer.{declared_waits};
+ghost use Rattle.wq_groups.specs.DeclaredGroups.{declared_waits};
 
 use crate::sessions::deed::{Deed, Plot};
 use crate::sessions::doer::Doer;

@@ -6,9 +6,8 @@ ghost use Rattle.wq_core.specs.State.{empty_state};
 use crate::testbed::{Bed, put_context, put_item_or_none, put_waiting};
 use hex::FromHexError;
 use std::alloc::{AllocError, Global};
-use wq_commands::Declaration;
 use wq_core::{Context, Core, MAX_HELPERS};
-use wq_groups::LaneId;
+use wq_groups::{Declaration, LaneId};
 use wq_history::{MAX_ROWS, RowError, RowFault, check_rows};
 use wq_items::{ItemId, ItemTable};
 

@@ -2,7 +2,7 @@
 
 ghost use Rattle.std.specs.Prelude.{◌≡◌};
 ghost use Rattle.wq_core.specs.Wiring.{wiring, with_helpers};
-ghost use Rattle.wq_commands.specs.Answer.{declared_waits};
+ghost use Rattle.wq_groups.specs.DeclaredGroups.{declared_waits};
 
 use crate::sessions::book::keep_book;
 use crate::sessions::crew::PlottedCrew;

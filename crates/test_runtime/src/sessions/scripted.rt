@@ -5,7 +5,7 @@
 
 ghost use Rattle.std.specs.Prelude.{◌≡◌};
 ghost use Rattle.wq_core.specs.Wiring.{wiring, with_helpers};
-ghost use Rattle.wq_commands.specs.Answer.{declared_waits};
+ghost use Rattle.wq_groups.specs.DeclaredGroups.{declared_waits};
 
 use crate::sessions::lines::tell_text;
 use crate::sessions::ran::{Account, put_end};

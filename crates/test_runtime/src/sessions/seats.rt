@@ -6,7 +6,7 @@ use crate::sessions::asking::{Counted, RuntimeCall};
 use crate::testbed::{put_code, put_done, put_item};
 use std::alloc::{AllocError, Global};
 use std::sync::Wait;
-use wq_api::{CallError, Naming, Seat, SeatError, WqRuntime};
+use wq_api::{CallError, Naming, Next, Seat, SeatError, WqRuntime};
 use wq_groups::LaneId;
 use wq_items::{ItemId, ItemTable};
 
@@ -19,14 +19,16 @@ fn put_said(out: &mut String, said: Result<bool, CallError>) -> Result<(), Alloc
 }
 
 /// The answer of `next`.
-fn put_next(
+fn put_next<N: Naming>(
     out: &mut String,
     table: &ItemTable<'_, Global>,
-    next: Result<Option<ItemId>, CallError>,
+    next: &Result<Next<N>, CallError>,
 ) -> Result<(), AllocError> {
     match next {
-        Ok(Some(item)) => put_item(out, table, item),
-        Ok(None) => out.push_str("none"),
+        Ok(next) => match next.item() {
+            Some(item) => put_item(out, table, item),
+            None => out.push_str("none"),
+        },
         Err(error) => put_code(out, error.code()),
     }
 }
@@ -102,8 +104,12 @@ impl<N: Naming> Seats<N> {
         for _ in 0..count {
             match runtime.seat(rt, alloc) {
                 Ok(seat) => self.made.push(seat)?,
-                Err(SeatError::TooManySeats) => return Ok(false),
-                Err(SeatError::OutOfMemory) => return Err(AllocError),
+                Err(refused) => {
+                    return match refused.why() {
+                        SeatError::TooManySeats => Ok(false),
+                        SeatError::OutOfMemory => Err(AllocError),
+                    };
+                }
             }
         }
         Ok(true)
@@ -191,13 +197,13 @@ impl<N: Naming> Seats<N> {
             RuntimeCall::Use(seat) => self.choose(seat, out),
             RuntimeCall::Tell(item) => self.tell(item, out),
             RuntimeCall::TellLane(q) => self.tell_lane(q, out),
-            RuntimeCall::Next(q) => put_next(out, table, runtime.next(rt, q)),
-            RuntimeCall::HelpNext(q, h) => put_next(out, table, runtime.help_next(rt, q, h)),
+            RuntimeCall::Next(q) => put_next(out, table, &runtime.next(rt, q)),
+            RuntimeCall::HelpNext(q, h) => put_next(out, table, &runtime.help_next(rt, q, h)),
             RuntimeCall::Helpers(q) => write!(out, "{}", runtime.helpers_of(q)),
             RuntimeCall::Lanes => write!(out, "{}", runtime.lanes()),
             RuntimeCall::Lane(item) => put_lane(out, runtime.lane_of(item)),
             RuntimeCall::Destroy => {
-                runtime.destroy(rt);
+                let _drained = runtime.destroy(rt);
                 out.push_str("ok")
             }
             RuntimeCall::Close(_) => Ok(()),

@@ -75,6 +75,7 @@ impl<N: Naming, R: Wait> Session<'_, N, R> {
                     runtime,
                     seats,
                     why,
+                    ..
                 } = refused;
                 self.reopen(runtime, seats)?;
                 writeln!(out, "refused {}", why.code())

@@ -1,12 +1,13 @@
 //! Calls that sleep, each in a thread of its own, until a call of this thread wakes them.
 //!
 //! It takes a tenth of a second, in which they fall asleep, and the time of the
-//! calls. Where nobody wakes them, it never ends.
+//! calls. Where nobody wakes them, it never ends. No call is made before all
+//! threads are there: so it ends where one can't be made.
 
 use crate::sessions::asking::RuntimeCall;
 use crate::sessions::seats::Seats;
 use std::alloc::{AllocError, Global};
-use std::sync::Wait;
+use std::sync::{Condvar, Mutex, Wait};
 use std::thread;
 use std::thread::Threads;
 use std::time::{Clock, Duration};
@@ -15,6 +16,41 @@ use wq_items::ItemTable;
 
 /// How many milliseconds the threads have to fall asleep.
 const NAP: u64 = 100;
+
+/// Where the threads wait until all of them are there, or one can't be made.
+#[derive(Drop)]
+struct Gate {
+    /// Whether they are to make their calls, once that is known.
+    go: Mutex<Option<bool>>,
+    known: Condvar,
+}
+
+impl Gate {
+    fn new() -> Self {
+        Gate {
+            go: Mutex::new(None),
+            known: Condvar::new(),
+        }
+    }
+
+    /// Lets the threads make their calls, or has them end without.
+    fn open<R: Wait>(&self, rt: &R, go: bool) {
+        *self.go.lock(rt) = Some(go);
+        self.known.notify_all();
+    }
+
+    /// Waits until it is known whether to make a call.
+    fn pass<R: Wait>(&self, rt: &R) -> bool {
+        let mut go = self.go.lock(rt);
+        for _ in rt.forever() {
+            if let Some(go) = *go {
+                return go;
+            }
+            go = self.known.wait(rt, go);
+        }
+        unreachable!()
+    }
+}
 
 /// A call that is to sleep.
 #[derive(Drop)]
@@ -39,14 +75,19 @@ impl<N: Naming> Sleeper<N> {
             .ask(rt, alloc, runtime, table, self.call, &mut self.said)
     }
 
-    /// Makes the call in the thread that has taken the sleeper, and hands it back.
+    /// Makes the call in the thread that has taken the sleeper, once all threads are
+    /// there, and hands it back.
     fn made<R: Wait>(
         mut self,
         rt: &R,
         alloc: Global,
         runtime: &WqRuntime<N, Global>,
         table: &ItemTable<'_, Global>,
+        gate: &Gate,
     ) -> Result<Self, AllocError> {
+        if !gate.pass(rt) {
+            return Err(AllocError);
+        }
         self.make(rt, alloc, runtime, table)?;
         Ok(self)
     }
@@ -54,7 +95,8 @@ impl<N: Naming> Sleeper<N> {
 
 /// Makes calls that sleep, each in a thread of its own; a tenth of a second later
 /// makes the call that wakes them, and adds its answer; and waits until all of them
-/// are answered. Where a thread can't be made, this counts as out of memory.
+/// are answered. Where a thread can't be made, no call is made, and this counts as
+/// out of memory.
 pub(crate) fn wake<N: Naming + Send + Sync, R: Threads + Wait + Clock + Sync>(
     rt: &R,
     alloc: Global,
@@ -65,17 +107,26 @@ pub(crate) fn wake<N: Naming + Send + Sync, R: Threads + Wait + Clock + Sync>(
     call: RuntimeCall,
     out: &mut String,
 ) -> Result<Vec<Sleeper<N>>, AllocError> {
+    let gate = Gate::new();
+    let gate = &gate;
     thread::scope(
         thread::scope_env(),
         rt,
         move |scope| -> Result<Vec<Sleeper<N>>, AllocError> {
             let mut threads = Vec::new(alloc);
             for sleeper in sleepers {
-                match scope.spawn(move || sleeper.made(rt, alloc, runtime, table)) {
-                    Ok(thread) => threads.push(thread)?,
-                    Err(_) => return Err(AllocError),
+                let is_kept = match scope.spawn(move || sleeper.made(
+                    rt, alloc, runtime, table, gate,
+                )) {
+                    Ok(thread) => threads.push(thread).is_ok(),
+                    Err(_) => false,
+                };
+                if !is_kept {
+                    gate.open(rt, false);
+                    return Err(AllocError);
                 }
             }
+            gate.open(rt, true);
             thread::sleep(rt, Duration::from_millis(NAP));
             let made = seats.ask(rt, alloc, runtime, table, call, out);
             let mut woken = Vec::new(alloc);

@@ -4,13 +4,12 @@
 
 ghost use Rattle.std.specs.Prelude.{◌≡◌, length};
 ghost use Rattle.wq_core.specs.Wiring.{wiring, with_helpers};
-ghost use Rattle.wq_commands.specs.Answer.{declared_waits};
+ghost use Rattle.wq_groups.specs.DeclaredGroups.{declared_waits};
 
 use std::alloc::{AllocError, Global};
 use std::sync::ledger::Blank;
 use wq_api::{Naming, NewError, WqRuntime};
-use wq_commands::Declaration;
-use wq_groups::Assignment;
+use wq_groups::{Assignment, Declaration};
 
 /// What a book or a runtime is made from: items, their groups, a lane for each group, room for this many rows, and how
 /// many helpers each lane has that isn't ordered.

@@ -1,5 +1,5 @@
 use Rattle.wq_core.specs.Wiring.{wiring}
-use Rattle.wq_commands.specs.Answer.{declared_waits}
+use Rattle.wq_groups.specs.DeclaredGroups.{declared_waits}
 use Rattle.test_shortages.proofs.runtime.play.Given as goal
 
 -- what the runtime is made of

@@ -7,8 +7,8 @@ use Rattle.wq_changes.proofs.answer.of_repaired.Goals as goal
 
 pub returns : goal.returns
 returns g c =
-    let s = c.args.declared.now in
-    let old = c.args.old.now in
+    let s = c.args.old.now.declared in
+    let old = c.args.old.now.workqueues in
     let text = c.args.assignment.text.now in
     let names : map (λ n. n.now) c.deref.result.now ≡ names_of text =
     ap (λ ns. map (λ n. n.now) ns) c.deref.ensures.value

@@ -6,10 +6,11 @@ use Rattle.wq_changes.proofs.answer.of_start.Goals as goal
 
 pub returns : goal.returns
 returns g c =
-    let s = c.args.declared.now in
+    let s = c.args.start.now.declared in
     let text = c.args.assignment.text.now in
     let names : map (λ n. n.now) c.deref.result.now ≡ names_of text =
-    ap (λ ns. map (λ n. n.now) ns) c.deref.ensures.value ∙ c.in_ok-names.ensures c.requires.limits in
+    ap (λ ns. map (λ n. n.now) ns) c.deref.ensures.value ∙ c.in_ok-names.ensures c.requires in
     subst (λ (ns : List (List ℕ)). IfOk c.of_few.result
-    (λ said. TellsFew c.args.declaration.file.now c.args.assignment.file.now s ns c.args.start.now said.items))
+    (λ said. TellsFew c.args.declaration.file.now c.args.assignment.file.now s ns c.args.start.now.workqueues
+    said.items))
     names c.of_few.ensures

@@ -1,7 +1,5 @@
-use Rattle.std.proofs.Common.{ℕ, List, [], ◌++◌, map, ap, ◌∙◌}
+use Rattle.std.proofs.Common.{ℕ, List, [], ◌++◌, ap, ◌∙◌}
 use Rattle.std.specs.Prelude.{option_map, unwrap_or}
-use Rattle.wq_commands.specs.Declaration.{Declared}
-use Rattle.wq_repair_command.specs.AssignmentText.{assignment_text}
 use Rattle.wq_changes.specs.Few.{few_line}
 use Rattle.wq_changes.proofs.few.of_few.Goals as goal
 
@@ -9,9 +7,6 @@ pub returns : goal.returns
 returns g c =
     let said = option_map (λ v. v.items) c.in_ok-said.said in
     let file = c.args.assignment.file.now in
-    let names = map (λ n. n.now) c.args.names.now in
-    let same =
-    ap (λ (d : Declared). assignment_text d.table.names d.partition c.args.start.now names) c.declared.view_is in
     record {
       said = said;
       reason = c.in_ok-said.ensures;
@@ -19,5 +14,5 @@ returns g c =
           c.in_ok-put_said.ensures
           ∙ ap (λ (text : List ℕ). text ++ unwrap_or said [])
           (c.in_ok-put.ensures.added ∙ ap (λ (text : List ℕ). text ++ c.deref.result.now) c.in_ok-text.ensures
-          ∙ ap (λ (lines : List ℕ). few_line file ++ lines) (c.deref.ensures.value ∙ c.in_ok-lines.ensures ∙ same));
+          ∙ ap (λ (lines : List ℕ). few_line file ++ lines) (c.deref.ensures.value ∙ c.in_ok-lines.ensures));
     }

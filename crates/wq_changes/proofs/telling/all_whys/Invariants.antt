@@ -6,6 +6,6 @@ use Rattle.wq_changes.proofs.telling.all_whys.Given as goal
 abbrev pub invariant-loop-change : goal.invariant-loop-change
 invariant-loop-change g l =
     AreEach
-    (IsToldWhy l.repair.declaration.file.now l.repair.assignment.file.now l.repair.declared.now
-    (map (λ n. n.now) l.repair.names.now) l.repair.old.now l.repair.new.now)
+    (IsToldWhy l.repair.declaration.file.now l.repair.assignment.file.now l.repair.old.now.declared
+    (map (λ n. n.now) l.repair.names.now) l.repair.old.now.workqueues l.repair.new.now)
     (take l.change-index l.changes) l.text.items

@@ -6,6 +6,6 @@ use Rattle.wq_changes.proofs.telling.with_all_told.Given as goal
 abbrev pub invariant-loop-change : goal.invariant-loop-change
 invariant-loop-change g l =
     AddsEach
-    (IsTold l.repair.assignment.file.now l.repair.declared.now
-    (map (λ n. n.now) l.repair.names.now) l.repair.old.now l.repair.new.now)
+    (IsTold l.repair.assignment.file.now l.repair.old.now.declared
+    (map (λ n. n.now) l.repair.names.now) l.repair.old.now.workqueues l.repair.new.now)
     (take l.change-index l.changes) l.fn.text.items l.text.items

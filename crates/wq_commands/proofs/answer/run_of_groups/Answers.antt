@@ -1,6 +1,5 @@
 use Rattle.std.proofs.Common.{sym, subst}
-use Rattle.wq_commands.specs.Answer.{declared_waits}
-use Rattle.wq_commands.specs.Declaration.{Declared}
+use Rattle.wq_groups.specs.DeclaredGroups.{declared_waits, Declared}
 use Rattle.wq_core.specs.Deadlock.{Deadlocks}
 use Rattle.wq_core.specs.Wiring.{wiring, own_lanes}
 use Rattle.wq_commands.proofs.CircleRuns.{IsSome-groups_run}

@@ -5,8 +5,8 @@ use Rattle.wq_graph.specs.Graph.{group_graph}
 use Rattle.wq_cert.specs.PlanText.{plan_text}
 use Rattle.wq_plan.specs.Plan.{chain_of}
 use Rattle.wq_plan.specs.Solve.{IsPlanned}
-use Rattle.wq_commands.specs.Answer.{declared_waits, ends_of}
-use Rattle.wq_commands.specs.Declaration.{Declared}
+use Rattle.wq_groups.specs.DeclaredGroups.{declared_waits, Declared}
+use Rattle.wq_commands.specs.Answer.{ends_of}
 use Rattle.wq_commands.proofs.AnswerLemmas.{ArePrintable-planned}
 use Rattle.wq_commands.proofs.answer.text_of_plan.Goals as goal
 

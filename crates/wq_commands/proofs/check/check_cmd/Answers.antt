@@ -10,26 +10,62 @@ use Rattle.wq_commands.proofs.check.check_cmd.Goals as goal
 
 pub returns-clause-answered : goal.returns-clause-answered
 returns-clause-answered g c =
-    IfOk-weaker c.carry_out.result _ _ (λ end h. (h.out, record { text = h.texts.first; declaration = h.from.0; claim = h.texts.second; certificate = h.from.1; answer = check-kept h.texts end h.out h.found h.answer }, h.written))
+    IfOk-weaker c.carry_out.result _ _ (λ end h. (
+      h.out,
+      record {
+        text = h.texts.first;
+        declaration = h.from.0;
+        claim = h.texts.second;
+        certificate = h.from.1;
+        answer =
+            check-kept h.texts end h.out h.found h.answer;
+      },
+      h.written,
+    ))
     c.carry_out.ensures.answered
 
 pub returns-clause-promised : goal.returns-clause-promised
 returns-clause-promised g c =
-    IfOk-weaker c.carry_out.result _ _ (λ end h. (h.out, KeepsYesOfInput-answered end h.out (record { text = h.texts.first; declaration = h.from.0; claim = h.texts.second; certificate = h.from.1; answer = check-kept h.texts end h.out h.found h.answer }), h.written))
+    IfOk-weaker c.carry_out.result _ _ (λ end h. (
+      h.out,
+      KeepsYesOfInput-answered end h.out
+          (record {
+            text = h.texts.first;
+            declaration = h.from.0;
+            claim = h.texts.second;
+            certificate = h.from.1;
+            answer =
+                check-kept h.texts end h.out h.found h.answer;
+          }),
+      h.written,
+    ))
     c.carry_out.ensures.answered
 
 pub returns-clause-prefix : goal.returns-clause-prefix
 returns-clause-prefix g c = λ is.
-    let h = c.carry_out.ensures.prefix is in
-    (h.0, h.1.out, record { text = h.1.texts.first; declaration = h.1.from.0; claim = h.1.texts.second; certificate = h.1.from.1; answer = check-kept h.1.texts h.0 h.1.out h.1.found h.1.answer }, h.1.written)
+    let h = c.carry_out.ensures.prefix is in (
+      h.0,
+      h.1.out,
+      record {
+        text = h.1.texts.first;
+        declaration = h.1.from.0;
+        claim = h.1.texts.second;
+        certificate =
+            h.1.from.1;
+        answer = check-kept h.1.texts h.0 h.1.out h.1.found h.1.answer;
+      },
+      h.1.written,
+    )
 
 pub returns-clause-untouched : goal.returns-clause-untouched
 returns-clause-untouched g c = λ is.
-    stopped_by c.carry_out.result Memory _ _ is c.carry_out.ensures.untouched (λ other. let never : Memory ≡ Write = other in cc)
+    stopped_by c.carry_out.result Memory _ _ is c.carry_out.ensures.untouched
+    (λ other. let never : Memory ≡ Write = other in cc)
 
 pub returns-clause-unwritten : goal.returns-clause-unwritten
 returns-clause-unwritten g c = λ is.
-    stopped_by c.carry_out.result Read _ _ is c.carry_out.ensures.untouched (λ other. let never : Read ≡ Write = other in cc)
+    stopped_by c.carry_out.result Read _ _ is c.carry_out.ensures.untouched
+    (λ other. let never : Read ≡ Write = other in cc)
 
 pub returns-clause-lost : goal.returns-clause-lost
 returns-clause-lost g c = (c.carry_out.ensures.lost.0, c.carry_out.ensures.lost.1)

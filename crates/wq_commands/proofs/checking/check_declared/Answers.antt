@@ -1,8 +1,7 @@
 use Rattle.std.proofs.Common.{subst}
 use Rattle.wq_cert.specs.Certificate.{certificate}
 use Rattle.wq_checker.specs.Answers.{IsAsked}
-use Rattle.wq_commands.specs.Answer.{declared_waits}
-use Rattle.wq_commands.specs.Declaration.{Declared}
+use Rattle.wq_groups.specs.DeclaredGroups.{declared_waits, Declared}
 use Rattle.wq_commands.proofs.CheckLemmas.{IsAsked-read}
 use Rattle.wq_commands.proofs.checking.check_declared.Goals as goal
 

@@ -8,8 +8,12 @@ pub returns : goal.returns
 returns g c = λ command voice other_voice end other_end texts one other has finds finds_other answered other_answered.
     let limits = g.C.Finds.limits command in
     let answers = g.C.Finds.answers command in
-    let is = known_texts g.D.Read.remaining g.S.Read.remaining g.T.Read.remaining limits one texts answered.texts finds answered.from in
-    let is_other = known_texts g.D.Read.remaining g.S.Read.remaining g.T.Read.remaining limits other texts other_answered.texts finds_other other_answered.from in
-    one_answer answers has (kept limits other_answered.texts) answered.found other_answered.found end other_end answered.out other_answered.out
-    (subst (λ (t : Given). AnswersTexts answers (kept limits t) answered.found end answered.out) (is ∙ sym is_other) answered.answer)
+    let is = known_texts g.D.Read.remaining g.S.Read.remaining g.T.Read.remaining limits one texts answered.texts finds
+    answered.from in
+    let is_other = known_texts g.D.Read.remaining g.S.Read.remaining g.T.Read.remaining limits other texts
+    other_answered.texts finds_other other_answered.from in
+    one_answer answers has (kept limits other_answered.texts) answered.found other_answered.found end other_end
+    answered.out other_answered.out
+    (subst (λ (t : Given). AnswersTexts answers (kept limits t) answered.found end answered.out) (is ∙ sym is_other)
+    answered.answer)
     other_answered.answer

@@ -32,14 +32,17 @@ returns-in-Ok-clause-prefix g c = λ failed.
 pub returns-in-Err-Refused-clause-answered : goal.returns-in-Err-Refused-clause-answered
 returns-in-Err-Refused-clause-answered g c =
     let stops = rw c.first.ensures at c.in-Err-Refused.ensures.stop in
-    let is = subst (λ (stop : Stop). StopsAt stop (declaration c.args.texts.now.first)) c.in-Err-Refused.field-0-is stops in
+    let is = subst (λ (stop : Stop). StopsAt stop (declaration c.args.texts.now.first)) c.in-Err-Refused.field-0-is
+    stops in
     let r : Refusal = record { code = c.in-Err-Refused.code; line = c.in-Err-Refused.line } in
-    IfOk-weaker c.respond_refused.result _ _ (λ end h. (Err r, h.0, (is, h.1), h.2, h.3)) c.respond_refused.ensures.answered
+    IfOk-weaker c.respond_refused.result _ _ (λ end h. (Err r, h.0, (is, h.1), h.2, h.3))
+    c.respond_refused.ensures.answered
 
 pub returns-in-Err-Refused-clause-prefix : goal.returns-in-Err-Refused-clause-prefix
 returns-in-Err-Refused-clause-prefix g c = λ failed.
     let stops = rw c.first.ensures at c.in-Err-Refused.ensures.stop in
-    let is = subst (λ (stop : Stop). StopsAt stop (declaration c.args.texts.now.first)) c.in-Err-Refused.field-0-is stops in
+    let is = subst (λ (stop : Stop). StopsAt stop (declaration c.args.texts.now.first)) c.in-Err-Refused.field-0-is
+    stops in
     let r : Refusal = record { code = c.in-Err-Refused.code; line = c.in-Err-Refused.line } in
     let h = c.respond_refused.ensures.prefix failed in
     (Err r, h.0, h.1, (is, h.2), h.3)

@@ -4,7 +4,7 @@ use Rattle.std.proofs.lemmas.Result.{IfOk-weaker}
 use Rattle.wq_items.specs.Table.{flush_count, Table}
 use Rattle.wq_graph.specs.declared.arc.WaitArc.{WaitArc}
 use Rattle.wq_core.specs.Workqueues.{Workqueues}
-use Rattle.wq_commands.specs.Answer.{declared_waits}
+use Rattle.wq_groups.specs.DeclaredGroups.{declared_waits}
 use Rattle.wq_commands.proofs.AnswerLemmas.{IsDeclaration-sound}
 use Rattle.wq_circles.proofs.OfAssigned.{waits_between_items}
 use Rattle.wq_dot.specs.declared.look.FlushLook.{FlushLook}

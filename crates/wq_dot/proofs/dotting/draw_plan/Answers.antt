@@ -5,7 +5,7 @@ use Rattle.wq_items.specs.Table.{flush_count, Table}
 use Rattle.wq_groups.specs.Assignment.{Assignment}
 use Rattle.wq_graph.specs.declared.arc.WaitArc.{WaitArc}
 use Rattle.wq_core.specs.Workqueues.{Workqueues, all_rescued}
-use Rattle.wq_commands.specs.Answer.{declared_waits}
+use Rattle.wq_groups.specs.DeclaredGroups.{declared_waits}
 use Rattle.wq_commands.proofs.AnswerLemmas.{IsDeclaration-sound}
 use Rattle.wq_dot.specs.declared.look.FlushLook.{FlushLook}
 use Rattle.wq_dot.specs.declared.look.FlushLook.TheVariants.{Bold}

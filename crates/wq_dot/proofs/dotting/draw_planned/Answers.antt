@@ -2,8 +2,8 @@ use Rattle.std.proofs.Common.{length, map, sym, ap, subst, ◌∙◌}
 use Rattle.std.specs.Prelude.{IfOk}
 use Rattle.wq_core.specs.Workqueues.{Workqueues}
 use Rattle.wq_plan.specs.Solve.{IsPlanned}
-use Rattle.wq_commands.specs.Answer.{declared_waits}
-use Rattle.wq_commands.specs.Assigned.{Assigned}
+use Rattle.wq_groups.specs.DeclaredGroups.{declared_waits}
+use Rattle.wq_core.specs.Assigned.{Assigned}
 use Rattle.wq_dot.specs.Dotting.{DrawsPlan}
 use Rattle.wq_dot.proofs.dotting.draw_planned.Goals as goal
 

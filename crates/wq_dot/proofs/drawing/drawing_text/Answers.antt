@@ -3,7 +3,7 @@ use Rattle.std.specs.Prelude.{codes, flat_map}
 use Rattle.std.specs.List.{range_with_len}
 use Rattle.wq_items.specs.Table.{flush_count}
 use Rattle.wq_graph.specs.Graph.{arcs_by_place}
-use Rattle.wq_commands.specs.Assigned.{Assigned}
+use Rattle.wq_core.specs.Assigned.{Assigned}
 use Rattle.wq_dot.specs.Drawing.{flush_line, head_lines, workqueue_box_lines}
 use Rattle.wq_dot.proofs.Lines.{text_of, text_of-whole}
 use Rattle.wq_dot.proofs.drawing.drawing_text.Goals as goal

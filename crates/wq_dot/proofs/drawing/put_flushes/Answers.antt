@@ -4,7 +4,7 @@ use Rattle.std.proofs.lemmas.List.{take_all}
 use Rattle.wq_items.specs.Table.{flush_count}
 use Rattle.wq_graph.specs.declared.arc.WaitArc.{WaitArc}
 use Rattle.wq_graph.specs.Graph.{arcs_by_place}
-use Rattle.wq_commands.specs.Declaration.{Declared}
+use Rattle.wq_groups.specs.DeclaredGroups.{Declared}
 use Rattle.wq_dot.specs.declared.look.FlushLook.TheVariants.{Plain}
 use Rattle.wq_dot.specs.Drawing.{arrow_line, ended, flush_line}
 use Rattle.wq_dot.proofs.Arrows.{IsDrawable-at}

@@ -5,7 +5,7 @@ use Rattle.std.proofs.lemmas.List.FromFn.{length-map-range_with_len}
 use Rattle.wq_items.proofs.TableLemmas.{range_with_len-push}
 use Rattle.wq_buckets.specs.Places.{places_of, buckets_of}
 use Rattle.wq_groups.specs.Assignment.{Assignment}
-use Rattle.wq_commands.specs.Assigned.{Assigned}
+use Rattle.wq_core.specs.Assigned.{Assigned}
 use Rattle.wq_dot.specs.Labels.{is_shared}
 use Rattle.wq_dot.specs.Drawing.{box_lines, groups_on, workqueue_box_lines}
 use Rattle.wq_dot.proofs.Lines.{text_of, text_of-more}

@@ -5,7 +5,7 @@ use Rattle.std.proofs.lemmas.List.{get_or_default}
 use Rattle.std.proofs.lemmas.Result.{on_ok_weaker}
 use Rattle.wq_text.specs.LineText.{spaced}
 use Rattle.wq_items.specs.Table.{items_at}
-use Rattle.wq_commands.specs.Declaration.{Declared}
+use Rattle.wq_groups.specs.DeclaredGroups.{Declared}
 use Rattle.wq_dot.specs.Drawing.{box_lines, ended, frame_line, group_lines}
 use Rattle.wq_dot.proofs.Lines.{text_of, text_of-next, text_of-all, box_closed}
 use Rattle.wq_dot.proofs.Pieces.{put_more, put_end, put_line}

@@ -1,60 +1,57 @@
-use Rattle.std.proofs.Common.{◌≡◌, ◌<◌, List, length, ap, ◌∙◌, sym, subst, arith}
+use Rattle.std.proofs.Common.{◌≡◌, ◌<◌, List, ap, ◌∙◌, sym, subst, arith}
 use Rattle.std.specs.List.{All}
-use Rattle.wq_groups.specs.Declaration.{IsDeclaration, declaration_of}
-use Rattle.wq_groups.specs.Assignment.{Assignment, IsAssignment}
-use Rattle.wq_groups.proofs.Declarations.{IsDeclaration-of}
-use Rattle.wq_core.specs.Wiring.{Wiring, IsWiring, wiring, items}
+use Rattle.wq_groups.specs.DeclaredGroups.{declared_waits}
+use Rattle.wq_core.specs.Wiring.{Wiring, items}
 use Rattle.wq_core.specs.Workqueues.{wiring_of}
 use Rattle.wq_core.specs.Held.{Machine}
 use Rattle.wq_core.specs.Deadlock.{IsSafe}
 use Rattle.wq_core.proofs.Results.{OnErr-holds}
-use Rattle.wq_core.proofs.Wirings.{IsWiring-wiring, IsWiring-with_bare}
 use Rattle.wq_hang.specs.declared.hop.Hop.{Hop}
 use Rattle.wq_hang.specs.Shortest.{IsShortestHang}
 use Rattle.wq_hang.specs.Walk.{IsLeastWalk, IsRoundOrFirst, run_of_walk}
 use Rattle.wq_hang.proofs.LeastFound.{IsSafe-no_lane, walk_items}
 use Rattle.wq_hang.proofs.Shortest.{IsShortestHang-least}
-use Rattle.wq_hang.proofs.SomeLanes.{same_bare}
+use Rattle.wq_hang.proofs.SomeLanes.{IsWiring-assigned, same_bare}
 use Rattle.wq_hang.proofs.hanging.hang.Goals as goal
 
 pub returns-then-lanes-eq0-clause-answer : goal.returns-then-lanes-eq0-clause-answer
 returns-then-lanes-eq0-clause-answer g c =
-    let t = c.args.table.now in
-    let p = c.args.groups.now in
-    let ws = c.args.workqueues.now in
-    let d = declaration_of t p in
-    let declaration : IsDeclaration d = IsDeclaration-of t p c.len-2.ensures.table c.len.ensures.partition c.requires.grouped in
-    let assignment : IsAssignment d.groups ws.assignment =
-    subst (IsAssignment d.groups) c.assignment.ensures (record { one_each = ap (λ (a : Assignment). length a.lane_of_group) c.assignment.ensures ∙ c.requires.assigned; within = c.lanes.ensures.within }) in
-    let sound : IsWiring (wiring_of d ws) = IsWiring-with_bare (wiring d ws.assignment) ws.bare (IsWiring-wiring d ws.assignment declaration assignment) in
-    let none : ws.assignment.lanes ≡ 0 = sym (ap (λ (a : Assignment). a.lanes) c.assignment-2.ensures) ∙ sym c.lanes-2.ensures.lanes ∙ c.if-lanes-eq0.true in
-    (assignment, IsSafe-no_lane (wiring_of d ws) sound none)
+    let a = c.args.assigned.now in
+    let is = c.workqueues-workqueues.ensures.assigned in
+    let d = declared_waits a.declared in
+    let ws = a.workqueues in
+    let lanes = rw (c.assignment.ensures, c.workqueues-workqueues.ensures.is) at c.lanes.ensures.lanes in
+    let none : ws.assignment.lanes ≡ 0 = sym lanes ∙ c.if-lanes-eq0.true in
+    (is.assignment.assignment, IsSafe-no_lane (wiring_of d ws) (IsWiring-assigned a is) none)
 
 pub run_of_walk-requires : goal.run_of_walk-requires
 run_of_walk-requires g c =
     let w = c.new-waits.result in
-    let least : IsLeastWalk w c.in-Some.hops.items c.in-Some.beside.items = rw c.in-Some.is at c.in_ok-hops.ensures.some in
-    subst (λ (l : List Hop). All (λ (h : Hop). h.item < items w) l) (sym c.as_slice.ensures.value) (walk_items w c.in-Some.hops.items c.in-Some.beside.items least.walk)
+    let least : IsLeastWalk w c.in-Some.hops.items c.in-Some.beside.items = rw c.in-Some.is at c.in_ok-hops.ensures.some
+    in
+    subst (λ (l : List Hop). All (λ (h : Hop). h.item < items w) l) (sym c.as_slice.ensures.value)
+    (walk_items w c.in-Some.hops.items c.in-Some.beside.items least.walk)
 
 pub returns-in_err-steps-in-Some-clause-memory : goal.returns-in_err-steps-in-Some-clause-memory
 returns-in_err-steps-in-Some-clause-memory g c =
-    OnErr-holds c.from_residual-in_err-steps-in-Some.result (omega (arith, c.if-lanes-eq0.false, c.lanes-2.ensures.lanes, ap (λ (a : Assignment). a.lanes) c.assignment-2.ensures))
+    let lanes = rw (c.assignment.ensures, c.workqueues-workqueues.ensures.is) at c.lanes.ensures.lanes in
+    OnErr-holds c.from_residual-in_err-steps-in-Some.result (omega (arith, c.if-lanes-eq0.false, lanes))
 
 pub returns-in-Some-clause-answer : goal.returns-in-Some-clause-answer
 returns-in-Some-clause-answer g c =
-    let t = c.args.table.now in
-    let p = c.args.groups.now in
-    let ws = c.args.workqueues.now in
-    let d = declaration_of t p in
-    let declaration : IsDeclaration d = IsDeclaration-of t p c.len-2.ensures.table c.len.ensures.partition c.requires.grouped in
-    let assignment : IsAssignment d.groups ws.assignment =
-    subst (IsAssignment d.groups) c.assignment.ensures (record { one_each = ap (λ (a : Assignment). length a.lane_of_group) c.assignment.ensures ∙ c.requires.assigned; within = c.lanes.ensures.within }) in
+    let a = c.args.assigned.now in
+    let is = c.workqueues-workqueues.ensures.assigned in
+    let d = declared_waits a.declared in
+    let ws = a.workqueues in
     let v : Wiring = wiring_of d ws in
-    let sound : IsWiring v = IsWiring-with_bare (wiring d ws.assignment) ws.bare (IsWiring-wiring d ws.assignment declaration assignment) in
     let hops = c.in-Some.hops.items in
     let beside = c.in-Some.beside.items in
-    let of : c.in_ok-core.core.wiring ≡ v = ap (λ (m : Machine). m.wiring) c.in_ok-core.ensures.machine in
-    let same : c.new-waits.result ≡ v = c.new-waits.ensures ∙ same_bare c.in_ok-core.core.wiring d ws c.bare.result.now of c.bare.ensures ∙ of in
+    let machine = rw (c.table.ensures.is, c.groups.ensures.is, c.workqueues-workqueues.ensures.is) at
+    c.in_ok-core.ensures.machine in
+    let of : c.in_ok-core.core.wiring ≡ v = ap (λ (m : Machine). m.wiring) machine in
+    let bare = rw c.workqueues-workqueues.ensures.is at c.bare.ensures in
+    let same : c.new-waits.result ≡ v =
+    c.new-waits.ensures ∙ same_bare c.in_ok-core.core.wiring d ws c.bare.result.now of bare ∙ of in
     let found : IsLeastWalk c.new-waits.result hops beside = rw c.in-Some.is at c.in_ok-hops.ensures.some in
     let chosen : IsRoundOrFirst c.new-waits.result hops beside = rw c.in-Some.is at c.in_ok-hops.ensures.first in
     let least : IsLeastWalk v hops beside = subst (λ (x : Wiring). IsLeastWalk x hops beside) same found in
@@ -64,8 +61,8 @@ returns-in-Some-clause-answer g c =
     ∙ ap (λ (l : List Hop). run_of_walk v l c.as_slice-in-Some.result.now) c.as_slice.ensures.value
     ∙ ap (run_of_walk v hops) c.as_slice-in-Some.ensures.value in
     record {
-      assignment = assignment;
-      shortest = subst (IsShortestHang v) (sym run) (IsShortestHang-least v hops beside sound least);
+      assignment = is.assignment.assignment;
+      shortest = subst (IsShortestHang v) (sym run) (IsShortestHang-least v hops beside (IsWiring-assigned a is) least);
       beside = beside;
       walk = least.walk;
       first = subst (λ (x : Wiring). IsRoundOrFirst x hops beside) same chosen;
@@ -74,13 +71,14 @@ returns-in-Some-clause-answer g c =
 
 pub returns-clause-answer : goal.returns-clause-answer
 returns-clause-answer g c =
-    let t = c.args.table.now in
-    let p = c.args.groups.now in
-    let ws = c.args.workqueues.now in
-    let d = declaration_of t p in
-    let assignment : IsAssignment d.groups ws.assignment =
-    subst (IsAssignment d.groups) c.assignment.ensures (record { one_each = ap (λ (a : Assignment). length a.lane_of_group) c.assignment.ensures ∙ c.requires.assigned; within = c.lanes.ensures.within }) in
-    let of : c.in_ok-core.core.wiring ≡ wiring_of d ws = ap (λ (m : Machine). m.wiring) c.in_ok-core.ensures.machine in
-    let same : c.new-waits.result ≡ wiring_of d ws = c.new-waits.ensures ∙ same_bare c.in_ok-core.core.wiring d ws c.bare.result.now of c.bare.ensures ∙ of in
+    let a = c.args.assigned.now in
+    let d = declared_waits a.declared in
+    let ws = a.workqueues in
+    let machine = rw (c.table.ensures.is, c.groups.ensures.is, c.workqueues-workqueues.ensures.is) at
+    c.in_ok-core.ensures.machine in
+    let of : c.in_ok-core.core.wiring ≡ wiring_of d ws = ap (λ (m : Machine). m.wiring) machine in
+    let bare = rw c.workqueues-workqueues.ensures.is at c.bare.ensures in
+    let same : c.new-waits.result ≡ wiring_of d ws =
+    c.new-waits.ensures ∙ same_bare c.in_ok-core.core.wiring d ws c.bare.result.now of bare ∙ of in
     let safe : IsSafe c.new-waits.result = rw c.in-None.is at c.in_ok-hops.ensures.none in
-    (assignment, subst IsSafe same safe)
+    (c.workqueues-workqueues.ensures.assigned.assignment.assignment, subst IsSafe same safe)

@@ -9,4 +9,5 @@ use Rattle.wq_repair_command.proofs.assignment.assignment_text.Given as goal
 abbrev pub invariant-loop-q : goal.invariant-loop-q
 invariant-loop-q g l =
     l.out.items
-    ≡ flat_map (workqueue_text l.table.names (item_lanes l.workqueues.assignment l.groups.group_of) l.workqueues.bare (map (λ n. n.now) l.names)) (range_with_len 0 l.q)
+    ≡ flat_map (workqueue_text l.table.names (item_lanes l.workqueues.assignment l.assigned.declared.partition.group_of)
+    l.workqueues.bare (map (λ n. n.now) l.names)) (range_with_len 0 l.q)

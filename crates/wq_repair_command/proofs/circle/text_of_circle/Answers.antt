@@ -8,7 +8,7 @@ use Rattle.wq_core.specs.Wiring.{own_lanes}
 use Rattle.wq_cert.specs.CircleText.{circle_text}
 use Rattle.wq_cert.specs.RunText.{step_item}
 use Rattle.wq_commands.specs.Answer.{ends_of}
-use Rattle.wq_commands.specs.Declaration.{Declared, IsSound}
+use Rattle.wq_groups.specs.DeclaredGroups.{Declared, IsSound}
 use Rattle.wq_commands.proofs.AnswerLemmas.{ArePrintable}
 use Rattle.wq_commands.proofs.CircleRuns.{IsAssignmentOf-own_lanes}
 use Rattle.wq_commands.proofs.NamedSteps.{step_item-deadlock, length-deadlock}

@@ -1,5 +1,5 @@
 use Rattle.std.proofs.Common.{rules, ◌≡◌, ◌≤◌, ◌+◌, ℕ, ◌∙◌, arith, drop, false, length, map, subst, take, vec_len}
-use Rattle.std.specs.Prelude.{IsTrue, OnOk}
+use Rattle.std.specs.Prelude.{IsTrue, IfOk}
 use Rattle.wq_rescuer.specs.Executing.{Executes, HasCeased, HasEnded, no_counts}
 use Rattle.wq_rescuer.specs.Contexts.{contexts_of}
 use Rattle.wq_rescuer.specs.Serving.{IsRan}
@@ -103,7 +103,8 @@ returns-clause-ended g c =
     let yes : IsTrue c.run_threads-board.result.1 = search rules in
     let jobs = c.make_jobs-jobs.result.0.board.contexts.waiting.items in
     let ends = c.run_threads-board.result.0.contexts.ends.items in
-    have_served (λ context seat answer. OnOk answer (HasEnded w rows context.lane context.number)) (λ end. end.seat)
+    have_served (λ context seat answer.
+    IfOk answer (λ r. HasEnded w rows context.lane context.number r.ended)) (λ end. end.seat)
     (λ end. end.rescued) (contexts_of w) (map (λ job. job.context) jobs) ends
     (take (length (contexts_of w)) c.gather.result.seats.items) c.gather.result.rescued.items
     c.make_jobs-jobs.ensures.contexts
@@ -111,7 +112,7 @@ returns-clause-ended g c =
     × Executes (g.B.Body.may w job.body) (no_counts w) end.seat end.rescued
     × HasCeased w g.N.Naming.rows job.context.lane job.context.number (g.B.Body.may w job.body) (no_counts w) end.seat
     end.rescued)
-    (λ context end. OnOk end.rescued (HasEnded w rows context.lane context.number)) (λ job. job.context)
+    (λ context end. IfOk end.rescued (λ r. HasEnded w rows context.lane context.number r.ended)) (λ job. job.context)
     (λ job end done. has_ended w rows job.context.lane job.context.number (g.B.Body.may w job.body) (no_counts w)
     end.seat end.rescued done.2) jobs ends (c.run_threads-board.ensures.served yes))
     c.gather.ensures.first_seats c.gather.ensures.rescued

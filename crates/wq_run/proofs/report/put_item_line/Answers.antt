@@ -7,7 +7,7 @@ use Rattle.wq_text.specs.LineText.{spaced, line_text}
 use Rattle.wq_cert.specs.PlanText.{name_of}
 use Rattle.wq_counts.specs.declared.kind.Kind.{Kind}
 use Rattle.wq_counts.specs.Counting.{made}
-use Rattle.wq_commands.specs.Declaration.{Declared}
+use Rattle.wq_groups.specs.DeclaredGroups.{Declared}
 use Rattle.wq_run.specs.Report.{kind_count_words, item_line}
 use Rattle.wq_run.proofs.ReportLemmas.{line_text-more}
 use Rattle.wq_run.proofs.report.put_item_line.Goals as goal

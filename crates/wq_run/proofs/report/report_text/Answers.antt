@@ -6,7 +6,7 @@ use Rattle.wq_text.specs.LineText.{line_text}
 use Rattle.wq_cert.proofs.LineLemmas.{lines, lines-push}
 use Rattle.wq_counts.specs.declared.kind.Kind.{Kind}
 use Rattle.wq_counts.specs.Counting.{made}
-use Rattle.wq_commands.specs.Declaration.{Declared}
+use Rattle.wq_groups.specs.DeclaredGroups.{Declared}
 use Rattle.wq_run.specs.Report.{workqueues_line, faults_line, item_line}
 use Rattle.wq_run.proofs.ReportLemmas.{report_text-parts}
 use Rattle.wq_run.proofs.report.report_text.Goals as goal

@@ -1,5 +1,5 @@
 use Rattle.std.proofs.Common.{subst}
-use Rattle.wq_commands.specs.Declaration.{IsSound}
+use Rattle.wq_groups.specs.DeclaredGroups.{IsSound}
 use Rattle.wq_run.proofs.RuntimeLemmas.{items-wiring, RunsDeclared-no_runtime}
 use Rattle.wq_run.proofs.running.run_named.Goals as goal
 

@@ -1,6 +1,5 @@
-use Rattle.std.proofs.Common.{◌++◌, ℕ, List, [], length, map, sym, ap, subst, ◌∙◌}
+use Rattle.std.proofs.Common.{◌++◌, ℕ, List, [], length, map, sym, subst}
 use Rattle.std.specs.Prelude.{flat_map}
-use Rattle.wq_groups.specs.Assignment.{Assignment, IsAssignment}
 use Rattle.wq_groups.specs.Declaration.{IsDeclaration, declaration_of}
 use Rattle.wq_groups.proofs.Declarations.{IsDeclaration-of}
 use Rattle.wq_graph.specs.declared.arc.WaitArc.{WaitArc}
@@ -8,42 +7,45 @@ use Rattle.wq_hang.specs.declared.hop.Hop.{Hop}
 use Rattle.wq_circles.specs.ComponentsText.{AreBetween}
 use Rattle.wq_circles.proofs.ForBare.{AreBetween-waits}
 use Rattle.wq_circles.proofs.Loops.{AreBetween-components}
-use Rattle.wq_commands.specs.Declaration.{Declared, IsSound}
+use Rattle.wq_groups.specs.DeclaredGroups.{Declared}
 use Rattle.wq_voice.specs.Components.{first_told, AddsRounds}
-use Rattle.wq_voice.specs.Reasons.{can_hang, told, AddsSaid}
+use Rattle.wq_names.specs.Messages.{can_hang}
+use Rattle.wq_voice.specs.Reasons.{told, AddsSaid}
 use Rattle.wq_voice.specs.Waits.{words_of}
 use Rattle.wq_voice.proofs.Blocks.{AddsSaid-then, AreSaid-added}
 use Rattle.wq_voice.proofs.circles.of_components.Goals as goal
 
 pub put_rounds-requires-clause-between : goal.put_rounds-requires-clause-between
 put_rounds-requires-clause-between g c =
-    let t = c.args.subject.now.declared.now.table in
-    let p = c.args.subject.now.declared.now.partition in
-    let ws = c.args.subject.now.workqueues.now in
+    let t = c.args.subject.now.assigned.now.declared.table in
+    let p = c.args.subject.now.assigned.now.declared.partition in
+    let ws = c.args.subject.now.assigned.now.workqueues in
     let d = declaration_of t p in
-    let sound : IsSound c.args.subject.now.declared.now = subst IsSound c.declared.view_is c.declared.invariant in
-    let declaration : IsDeclaration d = IsDeclaration-of t p sound.table sound.partition sound.one_group_each in
-    let assignment : IsAssignment d.groups ws.assignment =
-    subst (IsAssignment d.groups) c.assignment.ensures (record { one_each = ap (λ (a : Assignment). length a.lane_of_group) c.assignment.ensures ∙ c.requires.assigned; within = c.lanes-lanes.ensures.within }) in
-    AreBetween-components d ws.assignment ws.bare declaration assignment _ c.requires.are
+    let held = c.table-table.ensures.assigned in
+    let declaration : IsDeclaration d = IsDeclaration-of t p held.declared.table held.declared.partition
+    held.declared.one_group_each in
+    AreBetween-components d ws.assignment ws.bare declaration held.assignment.assignment _ c.requires.are
 
-pub put_first-requires-clause-between : goal.put_first-requires-clause-between
-put_first-requires-clause-between g c =
-    let t = c.args.subject.now.declared.now.table in
-    let p = c.args.subject.now.declared.now.partition in
-    let ws = c.args.subject.now.workqueues.now in
+pub put_first-requires : goal.put_first-requires
+put_first-requires g c =
+    let t = c.args.subject.now.assigned.now.declared.table in
+    let p = c.args.subject.now.assigned.now.declared.partition in
+    let ws = c.args.subject.now.assigned.now.workqueues in
     let d = declaration_of t p in
-    let sound : IsSound c.args.subject.now.declared.now = subst IsSound c.declared.view_is c.declared.invariant in
-    let declaration : IsDeclaration d = IsDeclaration-of t p sound.table sound.partition sound.one_group_each in
-    let assignment : IsAssignment d.groups ws.assignment =
-    subst (IsAssignment d.groups) c.assignment.ensures (record { one_each = ap (λ (a : Assignment). length a.lane_of_group) c.assignment.ensures ∙ c.requires.assigned; within = c.lanes-lanes.ensures.within }) in
-    subst (λ (l : List WaitArc). AreBetween (length p.group_of) l) (sym c.requires.waits) (AreBetween-waits d ws declaration assignment)
+    let held = c.table-table.ensures.assigned in
+    let declaration : IsDeclaration d = IsDeclaration-of t p held.declared.table held.declared.partition
+    held.declared.one_group_each in
+    record {
+      between =
+          subst (λ (l : List WaitArc). AreBetween (length p.group_of) l) (sym c.requires.waits)
+          (AreBetween-waits d ws declaration held.assignment.assignment);
+    }
 
 pub returns : goal.returns
 returns g c =
     let subject = c.args.subject.now in
-    let s : Declared = subject.declared.now in
-    let ws = subject.workqueues.now in
+    let s : Declared = subject.assigned.now.declared in
+    let ws = subject.assigned.now.workqueues in
     let file = subject.declaration.file.now in
     let words = λ (h : Hop). words_of subject.wording s ws (map (λ n. n.now) subject.names.now) h in
     let middle = c.put_rounds.new.out.items in

@@ -9,9 +9,9 @@ use Rattle.wq_voice.proofs.circles.of_read.Goals as goal
 
 pub returns : goal.returns
 returns g c =
-    let s = c.args.declared.now in
+    let s = c.args.assigned.now.declared in
     let circling = c.args.circling.now in
-    let ws = circling.workqueues in
+    let ws = c.args.assigned.now.workqueues in
     let text = c.args.assignment.text.now in
     let names : map (λ n. n.now) c.deref.result.now ≡ names_of text =
     ap (λ ns. map (λ n. n.now) ns) c.deref.ensures.value

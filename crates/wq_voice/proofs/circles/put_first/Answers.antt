@@ -2,29 +2,27 @@ use Rattle.std.proofs.Common.{◌≡◌, ◌<◌, ◌∷◌, [], ℕ, List, leng
 use Rattle.std.proofs.lemmas.Result.{on_ok_weaker}
 use Rattle.wq_graph.specs.declared.arc.WaitArc.{WaitArc}
 use Rattle.wq_hang.specs.declared.hop.Hop.{Hop}
-use Rattle.wq_commands.specs.Declaration.{Declared, IsSound}
+use Rattle.wq_groups.specs.DeclaredGroups.{Declared}
 use Rattle.wq_voice.specs.Components.{first_told}
-use Rattle.wq_voice.specs.Reasons.{can_hang, told, AddsSaid}
+use Rattle.wq_names.specs.Messages.{can_hang}
+use Rattle.wq_voice.specs.Reasons.{told, AddsSaid}
 use Rattle.wq_voice.specs.Waits.{words_of}
 use Rattle.wq_voice.proofs.Rounded.{first_told-first}
 use Rattle.wq_voice.proofs.circles.put_first.Goals as goal
 
 pub hop_of-hop-requires : goal.hop_of-hop-requires
 hop_of-hop-requires g c =
-    let s = c.args.subject.now.declared.now in
-    let sound : IsSound s = subst IsSound c.declared.view_is c.declared.invariant in
     let some : 0 < length c.args.waits.now = omega (arith, c.in-len1-up.len_at_least) in
-    let below : c.first-item.result.src < length s.partition.group_of =
-    subst (λ (a : WaitArc). a.src < length s.partition.group_of) (sym c.first-item.is)
-    (c.requires.between.1 0 c.first-item.result some).0 in
-    omega (arith, below, sound.one_group_each)
+    subst (λ (a : WaitArc). a.src < length c.args.subject.now.assigned.now.declared.partition.group_of)
+    (sym c.first-item.is) (c.requires.between.1 0 c.first-item.result some).0
 
 pub returns-in-len1-up : goal.returns-in-len1-up
 returns-in-len1-up g c =
     let subject = c.args.subject.now in
-    let s : Declared = subject.declared.now in
+    let s : Declared = subject.assigned.now.declared in
     let file = subject.declaration.file.now in
-    let words = λ (h : Hop). words_of subject.wording s subject.workqueues.now (map (λ n. n.now) subject.names.now) h in
+    let words = λ (h : Hop). words_of subject.wording s subject.assigned.now.workqueues
+    (map (λ n. n.now) subject.names.now) h in
     let waits = c.args.waits.now in
     let out = c.args.out.now.items in
     let new = c.put_walk.new.out.items in

@@ -4,11 +4,11 @@ use Rattle.wq_hang.specs.declared.hop.Hop.{Hop}
 use Rattle.wq_hang.specs.Answer.{IsHangOf}
 use Rattle.wq_voice.proofs.reason.of_answer.Goals as goal
 
-pub of_hops-requires-clause-hang : goal.of_hops-requires-clause-hang
-of_hops-requires-clause-hang g c =
-    let s = c.args.subject.now.declared.now in
+pub of_hops-requires : goal.of_hops-requires
+of_hops-requires g c =
+    let s = c.args.subject.now.assigned.now.declared in
     let d = declaration_of s.table s.partition in
-    let ws = c.args.subject.now.workqueues.now in
+    let ws = c.args.subject.now.assigned.now.workqueues in
     let steps = c.in-Hang.field-1.items in
     let hang : IsHangOf d ws c.in-Hang.hops.items steps = rw c.in-Hang.is at c.requires.answer in
-    (steps, subst (λ (hops : List Hop). IsHangOf d ws hops steps) (sym c.deref.ensures.value) hang)
+    record { hang = (steps, subst (λ (hops : List Hop). IsHangOf d ws hops steps) (sym c.deref.ensures.value) hang) }

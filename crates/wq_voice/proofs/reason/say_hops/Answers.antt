@@ -1,7 +1,8 @@
 use Rattle.std.proofs.Common.{◌≡◌, ℕ, List, map, ap, subst, ◌∙◌}
 use Rattle.std.specs.Prelude.{IfOk}
 use Rattle.wq_names.specs.Names.{names_of}
-use Rattle.wq_voice.specs.Reasons.{can_hang, told, AreSaid}
+use Rattle.wq_names.specs.Messages.{can_hang}
+use Rattle.wq_voice.specs.Reasons.{told, AreSaid}
 use Rattle.wq_voice.specs.Waits.{words_of}
 use Rattle.wq_voice.specs.declared.waits.Wording.TheVariants.{OnWorkqueues}
 use Rattle.wq_diagnosis.proofs.ReadTexts.{limits-read}
@@ -9,8 +10,8 @@ use Rattle.wq_voice.proofs.reason.say_hops.Goals as goal
 
 pub returns : goal.returns
 returns g c =
-    let s = c.args.declared.now in
-    let ws = c.args.workqueues.now in
+    let s = c.args.assigned.now.declared in
+    let ws = c.args.assigned.now.workqueues in
     let text = c.args.assignment.text.now in
     let names : map (λ n. n.now) c.deref.result.now ≡ names_of text =
     ap (λ ns. map (λ n. n.now) ns) c.deref.ensures.value

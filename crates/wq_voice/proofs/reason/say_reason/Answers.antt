@@ -1,8 +1,9 @@
 use Rattle.std.proofs.Common.{◌≡◌, ℕ, List, map, ap, subst, ◌∙◌}
 use Rattle.std.specs.Prelude.{IfOk, option_map}
 use Rattle.wq_names.specs.Names.{names_of}
-use Rattle.wq_commands.specs.Answer.{declared_waits}
-use Rattle.wq_voice.specs.Reasons.{can_hang, GivesReason}
+use Rattle.wq_groups.specs.DeclaredGroups.{declared_waits}
+use Rattle.wq_names.specs.Messages.{can_hang}
+use Rattle.wq_voice.specs.Reasons.{GivesReason}
 use Rattle.wq_voice.specs.Waits.{words_of}
 use Rattle.wq_voice.specs.declared.waits.Wording.TheVariants.{OnWorkqueues}
 use Rattle.wq_diagnosis.proofs.ReadTexts.{limits-read}
@@ -10,8 +11,8 @@ use Rattle.wq_voice.proofs.reason.say_reason.Goals as goal
 
 pub returns : goal.returns
 returns g c =
-    let s = c.args.declared.now in
-    let ws = c.args.workqueues.now in
+    let s = c.args.assigned.now.declared in
+    let ws = c.args.assigned.now.workqueues in
     let text = c.args.assignment.text.now in
     let names : map (λ n. n.now) c.deref.result.now ≡ names_of text =
     ap (λ ns. map (λ n. n.now) ns) c.deref.ensures.value

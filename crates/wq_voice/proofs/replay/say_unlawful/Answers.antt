@@ -7,8 +7,8 @@ use Rattle.wq_voice.proofs.replay.say_unlawful.Goals as goal
 
 pub returns : goal.returns
 returns g c =
-    let s = c.args.declared.now in
-    let ws = c.args.workqueues.now in
+    let s = c.args.assigned.now.declared in
+    let ws = c.args.assigned.now.workqueues in
     let text = c.args.assignment.now in
     let names : map (λ n. n.now) c.deref.result.now ≡ names_of text =
     ap (λ ns. map (λ n. n.now) ns) c.deref.ensures.value

@@ -1,5 +1,5 @@
 use Rattle.std.proofs.Common.{◌++◌, ◌∷◌, [], ℕ, sym, ap, ◌∙◌}
-use Rattle.wq_commands.specs.Declaration.{Declared}
+use Rattle.wq_groups.specs.DeclaredGroups.{Declared}
 use Rattle.wq_voice.specs.Components.{begins_on}
 use Rattle.wq_voice.proofs.BareNotes.{kept, left}
 use Rattle.wq_voice.proofs.rounds.lanes_of.Goals as goal
@@ -7,8 +7,8 @@ use Rattle.wq_voice.proofs.rounds.lanes_of.Goals.{then-begins_on+in_ok-push, els
 
 pub loop-number-preserved : goal.loop-number-preserved
 loop-number-preserved g c =
-    let s : Declared = c.args.declared.now in
-    let p = begins_on s c.args.workqueues.now c.args.arcs.now in
+    let s : Declared = c.args.assigned.now.declared in
+    let p = begins_on s c.args.assigned.now.workqueues c.args.arcs.now in
     let n = c.loop-number.number in
     let bare = rw c.new.ensures at c.begins_on.ensures in
     elim c.if-begins_on.branch [

@@ -6,5 +6,5 @@ use Rattle.wq_voice.proofs.rounds.lanes_of.Given as goal
 
 -- those of the workqueues so far
 abbrev pub invariant-loop-number : goal.invariant-loop-number
-invariant-loop-number g l = l.lanes.items ≡ filter (begins_on l.declared l.workqueues l.arcs)
+invariant-loop-number g l = l.lanes.items ≡ filter (begins_on l.assigned.declared l.assigned.workqueues l.arcs)
     (range_with_len 0 l.number)

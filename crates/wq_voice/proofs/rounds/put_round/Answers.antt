@@ -1,16 +1,16 @@
-use Rattle.std.proofs.Common.{◌<◌, ℕ, List, length, map, sym, ap, subst, ◌∙◌}
+use Rattle.std.proofs.Common.{◌<◌, ℕ, List, length, map, sym, subst, ◌∙◌}
 use Rattle.std.specs.List.{All}
 use Rattle.std.proofs.lemmas.Result.{on_ok_weaker}
-use Rattle.wq_groups.specs.Assignment.{Assignment, IsAssignment}
 use Rattle.wq_groups.specs.Declaration.{IsDeclaration, declaration_of}
 use Rattle.wq_groups.proofs.Declarations.{IsDeclaration-of}
 use Rattle.wq_core.specs.Wiring.{Wiring}
 use Rattle.wq_core.specs.Workqueues.{wiring_of}
 use Rattle.wq_hang.specs.declared.hop.Hop.{Hop}
 use Rattle.wq_hang.specs.Walk.{IsLeastRoundOn, IsRound, IsRoundOn}
-use Rattle.wq_commands.specs.Declaration.{Declared, IsSound}
+use Rattle.wq_groups.specs.DeclaredGroups.{Declared}
 use Rattle.wq_voice.specs.Components.{lanes_of}
-use Rattle.wq_voice.specs.Reasons.{can_hang, told, AddsSaid}
+use Rattle.wq_names.specs.Messages.{can_hang}
+use Rattle.wq_voice.specs.Reasons.{told, AddsSaid}
 use Rattle.wq_voice.specs.Waits.{words_of}
 use Rattle.wq_voice.proofs.Rounded.{AddsRounds-other, AddsRounds-some}
 use Rattle.wq_voice.proofs.Walked.{round_items, round_targets}
@@ -18,39 +18,39 @@ use Rattle.wq_voice.proofs.rounds.put_round.Goals as goal
 
 pub put_walk-requires-clause-items : goal.put_walk-requires-clause-items
 put_walk-requires-clause-items g c =
-    let t = c.args.subject.now.declared.now.table in
-    let p = c.args.subject.now.declared.now.partition in
-    let ws = c.args.subject.now.workqueues.now in
+    let t = c.args.subject.now.assigned.now.declared.table in
+    let p = c.args.subject.now.assigned.now.declared.partition in
+    let ws = c.args.subject.now.assigned.now.workqueues in
     let d = declaration_of t p in
-    let sound : IsSound c.args.subject.now.declared.now = subst IsSound c.declared.view_is c.declared.invariant in
-    let declaration : IsDeclaration d = IsDeclaration-of t p sound.table sound.partition sound.one_group_each in
-    let assignment : IsAssignment d.groups ws.assignment =
-    subst (IsAssignment d.groups) c.assignment.ensures (record { one_each = ap (λ (a : Assignment). length a.lane_of_group) c.assignment.ensures ∙ c.requires.assigned; within = c.lanes-lanes.ensures.within }) in
+    let held = c.table-table.ensures.assigned in
+    let declaration : IsDeclaration d = IsDeclaration-of t p held.declared.table held.declared.partition
+    held.declared.one_group_each in
     let hops = c.in-Some.hops.items in
     let least : IsLeastRoundOn c.args.rounds.now c.deref.result.now hops = rw c.in-Some.is at c.in_ok-hops.ensures.some in
     let round : IsRound (wiring_of d ws) hops = subst (λ (w : Wiring). IsRound w hops) c.requires.rounds least.stays.round in
-    subst (λ (l : List Hop). All (λ (h : Hop). h.item < length p.group_of) l) (sym c.deref-in-Some.ensures.value) (round_items d ws declaration assignment hops round)
+    subst (λ (l : List Hop). All (λ (h : Hop). h.item < length p.group_of) l) (sym c.deref-in-Some.ensures.value)
+    (round_items d ws declaration held.assignment.assignment hops round)
 
 pub put_walk-requires-clause-targets : goal.put_walk-requires-clause-targets
 put_walk-requires-clause-targets g c =
-    let t = c.args.subject.now.declared.now.table in
-    let p = c.args.subject.now.declared.now.partition in
-    let ws = c.args.subject.now.workqueues.now in
+    let t = c.args.subject.now.assigned.now.declared.table in
+    let p = c.args.subject.now.assigned.now.declared.partition in
+    let ws = c.args.subject.now.assigned.now.workqueues in
     let d = declaration_of t p in
-    let sound : IsSound c.args.subject.now.declared.now = subst IsSound c.declared.view_is c.declared.invariant in
-    let declaration : IsDeclaration d = IsDeclaration-of t p sound.table sound.partition sound.one_group_each in
-    let assignment : IsAssignment d.groups ws.assignment =
-    subst (IsAssignment d.groups) c.assignment.ensures (record { one_each = ap (λ (a : Assignment). length a.lane_of_group) c.assignment.ensures ∙ c.requires.assigned; within = c.lanes-lanes.ensures.within }) in
+    let held = c.table-table.ensures.assigned in
+    let declaration : IsDeclaration d = IsDeclaration-of t p held.declared.table held.declared.partition
+    held.declared.one_group_each in
     let hops = c.in-Some.hops.items in
     let least : IsLeastRoundOn c.args.rounds.now c.deref.result.now hops = rw c.in-Some.is at c.in_ok-hops.ensures.some in
     let round : IsRound (wiring_of d ws) hops = subst (λ (w : Wiring). IsRound w hops) c.requires.rounds least.stays.round in
-    subst (λ (l : List Hop). All (λ (h : Hop). h.flush.item < length p.group_of) l) (sym c.deref-in-Some.ensures.value) (round_targets d ws declaration assignment hops round)
+    subst (λ (l : List Hop). All (λ (h : Hop). h.flush.item < length p.group_of) l) (sym c.deref-in-Some.ensures.value)
+    (round_targets d ws declaration held.assignment.assignment hops round)
 
 pub returns-in-Some-clause-added : goal.returns-in-Some-clause-added
 returns-in-Some-clause-added g c =
     let subject = c.args.subject.now in
-    let s : Declared = subject.declared.now in
-    let ws = subject.workqueues.now in
+    let s : Declared = subject.assigned.now.declared in
+    let ws = subject.assigned.now.workqueues in
     let file = subject.declaration.file.now in
     let words = λ (h : Hop). words_of subject.wording s ws (map (λ n. n.now) subject.names.now) h in
     let arcs = c.args.arcs.now in
@@ -65,8 +65,8 @@ returns-in-Some-clause-added g c =
 pub returns-clause-added : goal.returns-clause-added
 returns-clause-added g c =
     let subject = c.args.subject.now in
-    let s : Declared = subject.declared.now in
-    let ws = subject.workqueues.now in
+    let s : Declared = subject.assigned.now.declared in
+    let ws = subject.assigned.now.workqueues in
     let words = λ (h : Hop). words_of subject.wording s ws (map (λ n. n.now) subject.names.now) h in
     let arcs = c.args.arcs.now in
     let found : (hops : List Hop) → ¬ IsRoundOn c.args.rounds.now c.deref.result.now hops = rw c.in-None.is at c.in_ok-hops.ensures.none in

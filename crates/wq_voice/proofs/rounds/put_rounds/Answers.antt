@@ -3,7 +3,7 @@ use Rattle.std.proofs.lemmas.List.{get_or-map, length-map, take_all}
 use Rattle.wq_graph.specs.declared.arc.WaitArc.{WaitArc}
 use Rattle.wq_hang.specs.declared.hop.Hop.{Hop}
 use Rattle.wq_circles.specs.ComponentsText.{AreBetween}
-use Rattle.wq_commands.specs.Declaration.{Declared}
+use Rattle.wq_groups.specs.DeclaredGroups.{Declared}
 use Rattle.wq_voice.specs.Components.{AddsRounds}
 use Rattle.wq_voice.specs.Waits.{words_of}
 use Rattle.wq_voice.proofs.Rounded.{AddsRounds-next, AddsRounds-none}
@@ -12,23 +12,25 @@ use Rattle.wq_voice.proofs.rounds.put_rounds.Goals as goal
 pub loop-arcs-init : goal.loop-arcs-init
 loop-arcs-init g c =
     let subject = c.args.subject.now in
-    let s : Declared = subject.declared.now in
-    let words = λ (h : Hop). words_of subject.wording s subject.workqueues.now (map (λ n. n.now) subject.names.now) h in
-    (c.requires.rounds, AddsRounds-none s subject.workqueues.now subject.declaration.file.now words c.args.out.now.items)
+    let s : Declared = subject.assigned.now.declared in
+    let words = λ (h : Hop). words_of subject.wording s subject.assigned.now.workqueues
+    (map (λ n. n.now) subject.names.now) h in
+    let ws = subject.assigned.now.workqueues in
+    (c.requires.rounds, AddsRounds-none s ws subject.declaration.file.now words c.args.out.now.items)
 
 pub put_round-requires-clause-between : goal.put_round-requires-clause-between
 put_round-requires-clause-between g c =
     let item = c.arcs-item.result in
     let components = c.args.components.now in
     let at = get_or-map (λ v. v.items) components c.loop-arcs.arcs-index item item.items c.loop-arcs-test.true ∙ ap (λ v. v.items) (sym c.arcs-item.is) ∙ sym c.deref.ensures.value in
-    subst (AreBetween (length c.args.subject.now.declared.now.partition.group_of)) at
+    subst (AreBetween (length c.args.subject.now.assigned.now.declared.partition.group_of)) at
     (c.requires.between c.loop-arcs.arcs-index item.items (omega (arith, c.loop-arcs-test.true, length-map components (λ v. v.items))))
 
 pub loop-arcs-preserved : goal.loop-arcs-preserved
 loop-arcs-preserved g c =
     let subject = c.args.subject.now in
-    let s : Declared = subject.declared.now in
-    let ws = subject.workqueues.now in
+    let s : Declared = subject.assigned.now.declared in
+    let ws = subject.assigned.now.workqueues in
     let file = subject.declaration.file.now in
     let words = λ (h : Hop). words_of subject.wording s ws (map (λ n. n.now) subject.names.now) h in
     let middle = c.loop-arcs.out.items in
@@ -43,7 +45,9 @@ loop-arcs-preserved g c =
 pub returns : goal.returns
 returns g c =
     let subject = c.args.subject.now in
-    let s : Declared = subject.declared.now in
-    let words = λ (h : Hop). words_of subject.wording s subject.workqueues.now (map (λ n. n.now) subject.names.now) h in
-    subst (λ components. AddsRounds subject.declaration.file.now words s subject.workqueues.now (map (λ v. v.items) components) c.args.out.now.items c.loop-arcs.out.items)
+    let s : Declared = subject.assigned.now.declared in
+    let words = λ (h : Hop). words_of subject.wording s subject.assigned.now.workqueues
+    (map (λ n. n.now) subject.names.now) h in
+    subst (λ components. AddsRounds subject.declaration.file.now words s subject.assigned.now.workqueues
+    (map (λ v. v.items) components) c.args.out.now.items c.loop-arcs.out.items)
     (take_all c.loop-arcs.arcs-index c.args.components.now c.loop-arcs-test.false) c.loop-arcs.invariant.1

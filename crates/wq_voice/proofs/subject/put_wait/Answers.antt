@@ -1,6 +1,6 @@
 use Rattle.std.proofs.Common.{ℕ, List, ◌++◌, map, ap, subst, ◌∙◌}
 use Rattle.std.proofs.lemmas.Result.{on_ok_weaker}
-use Rattle.wq_commands.specs.Declaration.{Declared}
+use Rattle.wq_groups.specs.DeclaredGroups.{Declared}
 use Rattle.wq_voice.specs.Reasons.{IsSaidOf}
 use Rattle.wq_voice.specs.Waits.{words_of}
 use Rattle.wq_voice.proofs.Blocks.{AddsSaid-one}
@@ -9,9 +9,10 @@ use Rattle.wq_voice.proofs.subject.put_wait.Goals as goal
 pub returns : goal.returns
 returns g c =
     let subject = c.args.subject.now in
-    let s : Declared = subject.declared.now in
+    let s : Declared = subject.assigned.now.declared in
     let file = subject.declaration.file.now in
-    let what = c.args.lead.now ++ words_of subject.wording s subject.workqueues.now (map (λ n. n.now) subject.names.now) c.args.hop.now in
+    let what = c.args.lead.now ++ words_of subject.wording s subject.assigned.now.workqueues
+    (map (λ n. n.now) subject.names.now) c.args.hop.now in
     let out = c.args.out.now.items in
     let block = c.in_ok-block.block.items in
     let said : IsSaidOf file what block = subst (λ (w : List ℕ). IsSaidOf file w block) (c.deref.ensures.value ∙ c.in_ok-what.ensures) c.in_ok-block.ensures in

@@ -1,6 +1,6 @@
 use Rattle.std.proofs.Common.{◌≡◌, length, subst, sym}
 use Rattle.wq_cert.proofs.ReadRanges.{IsAssignmentOf-assignment_of_text}
-use Rattle.wq_commands.specs.Declaration.{Declared}
+use Rattle.wq_groups.specs.DeclaredGroups.{Declared}
 use Rattle.test_runtime.proofs.loads.answering.answer_declared.Goals as goal
 
 pub invariant_of-bed : goal.invariant_of-bed

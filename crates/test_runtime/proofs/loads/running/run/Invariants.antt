@@ -1,5 +1,5 @@
 use Rattle.wq_core.specs.Wiring.{wiring, with_helpers}
-use Rattle.wq_commands.specs.Answer.{declared_waits}
+use Rattle.wq_groups.specs.DeclaredGroups.{declared_waits}
 use Rattle.test_runtime.proofs.loads.running.run.Given as goal
 
 abbrev pub ghosts-run_named-N-Naming : goal.ghosts-run_named-N-Naming

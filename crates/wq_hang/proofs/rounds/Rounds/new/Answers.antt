@@ -10,7 +10,11 @@ pub invariant_of-result : goal.invariant_of-result
 invariant_of-result g c =
     let core = c.in_ok-core.core.wiring in
     let of = ap (λ (m : Machine). m.wiring) c.in_ok-core.ensures.machine in
-    let same : c.new-waits.result ≡ core = c.new-waits.ensures ∙ same_bare core (declaration_of c.args.table.now c.args.groups.now) c.args.workqueues.now c.bare.result.now of c.bare.ensures in
+    let same : c.new-waits.result ≡ core =
+    c.new-waits.ensures
+    ∙ same_bare core (declaration_of c.table.result.now c.groups.result.now) c.workqueues-workqueues.result.now
+    c.bare.result.now
+    of c.bare.ensures in
     subst (λ (v : Wiring). AreMade v c.in_ok-on.on c.in_ok-marks.marks.items) same (record {
       items_on = c.in_ok-on.ensures;
       one_each = c.in_ok-marks.ensures.len;

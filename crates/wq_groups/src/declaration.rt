@@ -1,0 +1,40 @@
+//! What is declared: items with their flushes, and the groups of these items.
+//!
+//! One value holds both, so that whoever has it knows that each item is in a group. Its functions take constant time.
+
+ghost use Rattle.std.specs.Prelude.{◌≡◌, length};
+
+use crate::groups::Groups;
+use std::alloc::Allocator;
+use std::marker::Model;
+use wq_items::ItemTable;
+
+/// What a text declares: its items with their flushes, and the groups of these items.
+#[derive(Drop)]
+pub struct Declaration<'a, A: Allocator> {
+    pub table: ItemTable<'a, A>,
+    pub groups: Groups<A>,
+}
+
+impl<'a, A: Allocator> Model for Declaration<'a, A> {
+    ghost use Rattle.wq_groups.specs.DeclaredGroups.{Declared, IsSound};
+
+    ghost Value = { Declared };
+
+    ghost view = { λ d. record { table = d.table; partition = d.groups } };
+
+    ghost invariant = { λ d. IsSound (record { table = d.table; partition = d.groups }) };
+}
+
+impl<'a, A: Allocator + Copy> Declaration<'a, A> {
+    /// These items, in these groups.
+    pub fn new(table: ItemTable<'a, A>, groups: Groups<A>) -> Self
+        requires { length groups.group_of ≡ length table.names }
+        ensures { result ≡ record { table = table.entry; partition = groups } }
+    {
+        // What holds of every table and of all groups.
+        let _items = table.len();
+        let _groups = groups.len();
+        Declaration { table, groups }
+    }
+}

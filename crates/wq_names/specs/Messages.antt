@@ -1,0 +1,341 @@
+-- The messages of standard error, of what stands in each. tests/docs/made.py makes this file from
+-- docs/tables/messages.txt.
+use Rattle.std.specs.Prelude.{ℕ, List, ◌++◌, codes}
+
+-- an item
+-- "`{name}`"
+abbrev pub an_item : List ℕ → List ℕ
+an_item name = (codes "`" ++ name) ++ codes "`"
+
+-- a workqueue; behind its number stands its name, if it has one
+-- "workqueue {number}{called}"
+abbrev pub a_workqueue : List ℕ → List ℕ → List ℕ
+a_workqueue number called = (codes "workqueue " ++ number) ++ called
+
+-- the name of a workqueue, behind its number or behind an item that is on it
+-- " ({name})"
+abbrev pub its_name : List ℕ → List ℕ
+its_name name = (codes " (" ++ name) ++ codes ")"
+
+-- the first line of what is said of a place in a file
+-- "{file}{place}: {what}"
+abbrev pub at_place : List ℕ → List ℕ → List ℕ → List ℕ
+at_place file place what = ((file ++ place) ++ codes ": ") ++ what
+
+-- the same, where an answer has a number
+-- "{file}{place}: {what} [{word} {code}, `wqplan explain {code}`]"
+abbrev pub answered : List ℕ → List ℕ → List ℕ → List ℕ → List ℕ → List ℕ
+answered file place what word code =
+    (((((((((file ++ place)
+    ++ codes ": ") ++ what)
+    ++ codes " [") ++ word)
+    ++ codes " ") ++ code)
+    ++ codes ", `wqplan explain ") ++ code)
+    ++ codes "`]"
+
+-- the same, where a step isn't lawful
+-- "{file}{place}: {what} [not lawful {number}]"
+abbrev pub answered_unlawful : List ℕ → List ℕ → List ℕ → List ℕ → List ℕ
+answered_unlawful file place what number =
+    (((((file ++ place)
+    ++ codes ": ") ++ what)
+    ++ codes " [not lawful ") ++ number)
+    ++ codes "]"
+
+-- a file can't be opened, read or written
+-- "wqplan: {file}: {why}"
+abbrev pub failed : List ℕ → List ℕ → List ℕ
+failed file why = ((codes "wqplan: " ++ file) ++ codes ": ") ++ why
+
+-- a declaration declares no item
+-- "{file}: note: no item is declared: is this the right file?"
+abbrev pub no_item : List ℕ → List ℕ
+no_item file = file ++ codes ": note: no item is declared: is this the right file?"
+
+-- a step names no item
+-- "there is no such item"
+abbrev pub no_such_item : List ℕ
+no_such_item = codes "there is no such item"
+
+-- the item can't be queued
+-- "{item} is pending already"
+abbrev pub is_pending : List ℕ → List ℕ
+is_pending item = item ++ codes " is pending already"
+
+-- the item can't be cancelled
+-- "{item} isn't pending"
+abbrev pub isnt_pending : List ℕ → List ℕ
+isnt_pending item = item ++ codes " isn't pending"
+
+-- the workqueue runs another item
+-- "{workqueue} runs {item}"
+abbrev pub runs : List ℕ → List ℕ → List ℕ
+runs workqueue item = (workqueue ++ codes " runs ") ++ item
+
+-- the workqueue has nothing to start
+-- "nothing is pending on {workqueue}"
+abbrev pub nothing_is_pending : List ℕ → List ℕ
+nothing_is_pending workqueue = codes "nothing is pending on " ++ workqueue
+
+-- the workqueue runs nothing
+-- "nothing runs on {workqueue}"
+abbrev pub nothing_runs : List ℕ → List ℕ
+nothing_runs workqueue = codes "nothing runs on " ++ workqueue
+
+-- a step names no workqueue
+-- "there is no {workqueue}"
+abbrev pub no_workqueue : List ℕ → List ℕ
+no_workqueue workqueue = codes "there is no " ++ workqueue
+
+-- another item comes first on the workqueue
+-- "{item} isn't the first entry of {workqueue}, which is {first}"
+abbrev pub isnt_first : List ℕ → List ℕ → List ℕ → List ℕ
+isnt_first item workqueue first =
+    (((item ++ codes " isn't the first entry of ") ++ workqueue)
+    ++ codes ", which is ") ++ first
+
+-- what runs on the workqueue waits for an item
+-- "{item}, which runs on {workqueue}, waits for {target}"
+abbrev pub runner_waits : List ℕ → List ℕ → List ℕ → List ℕ
+runner_waits item workqueue target =
+    (((item ++ codes ", which runs on ") ++ workqueue)
+    ++ codes ", waits for ") ++ target
+
+-- what runs on the workqueue waits for the whole workqueue of an item
+-- "{item}, which runs on {workqueue}, waits for the workqueue of {target}{called}"
+abbrev pub runner_waits_for_all : List ℕ → List ℕ → List ℕ → List ℕ → List ℕ
+runner_waits_for_all item workqueue target called =
+    ((((item ++ codes ", which runs on ") ++ workqueue)
+    ++ codes ", waits for the workqueue of ") ++ target) ++ called
+
+-- what runs on the workqueue declares no flush of the item
+-- "{item}, which runs on {workqueue}, declares no flush of {target}"
+abbrev pub declares_no_flush : List ℕ → List ℕ → List ℕ → List ℕ
+declares_no_flush item workqueue target =
+    (((item ++ codes ", which runs on ") ++ workqueue)
+    ++ codes ", declares no flush of ") ++ target
+
+-- what runs on the workqueue declares no flush of the item's whole workqueue
+-- "{item}, which runs on {workqueue}, declares no `flushwq` of {target}"
+abbrev pub declares_no_flushwq : List ℕ → List ℕ → List ℕ → List ℕ
+declares_no_flushwq item workqueue target =
+    (((item ++ codes ", which runs on ") ++ workqueue)
+    ++ codes ", declares no `flushwq` of ") ++ target
+
+-- what runs on the workqueue has made as many waits as it declares flushes
+-- "{item}, which runs on {workqueue}, has made all of its waits: {number}"
+abbrev pub has_made_all : List ℕ → List ℕ → List ℕ → List ℕ
+has_made_all item workqueue number =
+    (((item ++ codes ", which runs on ") ++ workqueue)
+    ++ codes ", has made all of its waits: ") ++ number
+
+-- what runs on the workqueue is awake
+-- "{item}, which runs on {workqueue}, doesn't wait"
+abbrev pub doesnt_wait : List ℕ → List ℕ → List ℕ
+doesnt_wait item workqueue = ((item ++ codes ", which runs on ") ++ workqueue) ++ codes ", doesn't wait"
+
+-- an entry of the item is from before the wait
+-- "an entry of {item} from before this wait is unfinished"
+abbrev pub is_unfinished : List ℕ → List ℕ
+is_unfinished item = (codes "an entry of " ++ item) ++ codes " from before this wait is unfinished"
+
+-- an entry on the whole workqueue of the item is from before the wait
+-- "an entry from before this wait is unfinished on the workqueue of {item}{called}"
+abbrev pub one_is_unfinished : List ℕ → List ℕ → List ℕ
+one_is_unfinished item called =
+    (codes "an entry from before this wait is unfinished on the workqueue of " ++ item) ++ called
+
+-- before the first wait of a circular wait, and before a flush that leads to no rescuer
+-- "can hang: "
+abbrev pub can_hang : List ℕ
+can_hang = codes "can hang: "
+
+-- the same, beside a circle of `plan`
+-- "can hang on any workqueues: "
+abbrev pub can_hang_on_any : List ℕ
+can_hang_on_any = codes "can hang on any workqueues: "
+
+-- before each further wait of a circular wait
+-- "and "
+abbrev pub and_further : List ℕ
+and_further = codes "and "
+
+-- a workqueue without a rescuer
+-- "{workqueue} has no rescuer"
+abbrev pub has_no_rescuer : List ℕ → List ℕ
+has_no_rescuer workqueue = workqueue ++ codes " has no rescuer"
+
+-- an item waits for one on a workqueue without a rescuer
+-- "{item}, on {workqueue}, waits for {target}, which nothing guarantees to run: {other} has no rescuer"
+abbrev pub waits_for_bare : List ℕ → List ℕ → List ℕ → List ℕ → List ℕ
+waits_for_bare item workqueue target other =
+    ((((((item ++ codes ", on ") ++ workqueue)
+    ++ codes ", waits for ") ++ target)
+    ++ codes ", which nothing guarantees to run: ") ++ other)
+    ++ codes " has no rescuer"
+
+-- an item waits for a whole workqueue without a rescuer
+-- "{item}, on {workqueue}, waits for the workqueue of {target}, which nothing guarantees to run: {other} has no
+-- rescuer"
+abbrev pub waits_for_all_of_bare : List ℕ → List ℕ → List ℕ → List ℕ → List ℕ
+waits_for_all_of_bare item workqueue target other =
+    ((((((item ++ codes ", on ") ++ workqueue)
+    ++ codes ", waits for the workqueue of ") ++ target)
+    ++ codes ", which nothing guarantees to run: ") ++ other)
+    ++ codes " has no rescuer"
+
+-- an item waits for the one that waits next
+-- "{item}, on {workqueue}, waits for {target}, which waits on {other}"
+abbrev pub waits_for_next : List ℕ → List ℕ → List ℕ → List ℕ → List ℕ
+waits_for_next item workqueue target other =
+    (((((item ++ codes ", on ") ++ workqueue)
+    ++ codes ", waits for ") ++ target)
+    ++ codes ", which waits on ") ++ other
+
+-- an item waits for itself
+-- "{item}, on {workqueue}, waits for itself"
+abbrev pub waits_for_itself : List ℕ → List ℕ → List ℕ
+waits_for_itself item workqueue = ((item ++ codes ", on ") ++ workqueue) ++ codes ", waits for itself"
+
+-- an item waits for one behind the one that waits next
+-- "{item}, on {workqueue}, waits for {target}, which is behind {next} on {other}"
+abbrev pub waits_for_behind : List ℕ → List ℕ → List ℕ → List ℕ → List ℕ → List ℕ
+waits_for_behind item workqueue target next other =
+    (((((((item ++ codes ", on ") ++ workqueue)
+    ++ codes ", waits for ") ++ target)
+    ++ codes ", which is behind ") ++ next)
+    ++ codes " on ") ++ other
+
+-- an item waits for one behind itself
+-- "{item}, on {workqueue}, waits for {target}, which is behind it"
+abbrev pub waits_for_behind_it : List ℕ → List ℕ → List ℕ → List ℕ
+waits_for_behind_it item workqueue target =
+    ((((item ++ codes ", on ") ++ workqueue)
+    ++ codes ", waits for ") ++ target)
+    ++ codes ", which is behind it"
+
+-- an item waits for a whole workqueue, on which the next one waits
+-- "{item}, on {workqueue}, waits for all of {other}, where {next} waits"
+abbrev pub waits_for_all : List ℕ → List ℕ → List ℕ → List ℕ → List ℕ
+waits_for_all item workqueue other next =
+    ((((((item ++ codes ", on ") ++ workqueue)
+    ++ codes ", waits for all of ") ++ other)
+    ++ codes ", where ") ++ next)
+    ++ codes " waits"
+
+-- an item waits for its own whole workqueue
+-- "{item}, on {workqueue}, waits for all of its workqueue"
+abbrev pub waits_for_all_of_its_own : List ℕ → List ℕ → List ℕ
+waits_for_all_of_its_own item workqueue =
+    ((item ++ codes ", on ") ++ workqueue)
+    ++ codes ", waits for all of its workqueue"
+
+-- in words of groups: an item waits for the one that waits next
+-- "{item} waits for {target}, which waits"
+abbrev pub group_waits_for_next : List ℕ → List ℕ → List ℕ
+group_waits_for_next item target = ((item ++ codes " waits for ") ++ target) ++ codes ", which waits"
+
+-- in words of groups: an item waits for itself
+-- "{item} waits for itself"
+abbrev pub group_waits_for_itself : List ℕ → List ℕ
+group_waits_for_itself item = item ++ codes " waits for itself"
+
+-- in words of groups: an item waits for one behind the one that waits next
+-- "{item} waits for {target}, which is behind {next}: they are `ordered`"
+abbrev pub group_waits_for_behind : List ℕ → List ℕ → List ℕ → List ℕ
+group_waits_for_behind item target next =
+    ((((item ++ codes " waits for ") ++ target)
+    ++ codes ", which is behind ") ++ next)
+    ++ codes ": they are `ordered`"
+
+-- in words of groups: an item waits for one behind itself
+-- "{item} waits for {target}, which is behind it: they are `ordered`"
+abbrev pub group_waits_for_behind_it : List ℕ → List ℕ → List ℕ
+group_waits_for_behind_it item target =
+    ((item ++ codes " waits for ") ++ target)
+    ++ codes ", which is behind it: they are `ordered`"
+
+-- in words of groups: an item waits for a whole workqueue, on which the next one waits
+-- "{item} waits for the workqueue of {target}, where {next} waits"
+abbrev pub group_waits_for_all : List ℕ → List ℕ → List ℕ → List ℕ
+group_waits_for_all item target next =
+    ((((item ++ codes " waits for the workqueue of ") ++ target)
+    ++ codes ", where ") ++ next)
+    ++ codes " waits"
+
+-- in words of groups: an item waits for its own whole workqueue
+-- "{item} waits for its workqueue"
+abbrev pub group_waits_for_all_of_its_own : List ℕ → List ℕ
+group_waits_for_all_of_its_own item = item ++ codes " waits for its workqueue"
+
+-- a workqueue is given a rescuer
+-- "{workqueue} is given a rescuer"
+abbrev pub is_given : List ℕ → List ℕ
+is_given workqueue = workqueue ++ codes " is given a rescuer"
+
+-- a group moves from one workqueue to another
+-- "{item} moves from {workqueue} to {other}"
+abbrev pub moves : List ℕ → List ℕ → List ℕ → List ℕ
+moves item workqueue other = (((item ++ codes " moves from ") ++ workqueue) ++ codes " to ") ++ other
+
+-- a group of several items: the first of them, and how many more there are
+-- "{item}, with {number} more of its group,"
+abbrev pub with_more : List ℕ → List ℕ → List ℕ
+with_more item number = ((item ++ codes ", with ") ++ number) ++ codes " more of its group,"
+
+-- a workqueue that the assignment doesn't have
+-- "{workqueue}, a new one"
+abbrev pub a_new_one : List ℕ → List ℕ
+a_new_one workqueue = workqueue ++ codes ", a new one"
+
+-- a workqueue to which a group moves, and which is given a rescuer
+-- "{workqueue}, which is given a rescuer"
+abbrev pub which_is_given : List ℕ → List ℕ
+which_is_given workqueue = workqueue ++ codes ", which is given a rescuer"
+
+-- before the waits by which the workqueues hang without a rescuer
+-- "without one: "
+abbrev pub without_one : List ℕ
+without_one = codes "without one: "
+
+-- before the waits by which the workqueues hang where a group doesn't move
+-- "if it stayed: "
+abbrev pub if_it_stayed : List ℕ
+if_it_stayed = codes "if it stayed: "
+
+-- beside the start of a repair by names
+-- "{file}: note: wherever these items move, the workqueues can hang; the run is on these:"
+abbrev pub names_are_too_few : List ℕ → List ℕ
+names_are_too_few file =
+    file ++ codes ": note: wherever these items move, the workqueues can hang; the run is on these:"
+
+-- a NAME behind `repair` is no item
+-- "{file}: no item `{name}` is declared [refused 8, `wqplan explain 8`]"
+abbrev pub unknown_item : List ℕ → List ℕ → List ℕ
+unknown_item file name =
+    ((file ++ codes ": no item `") ++ name)
+    ++ codes "` is declared [refused 8, `wqplan explain 8`]"
+
+-- an item whose name is most like that NAME
+-- "{file}: note: did you mean `{name}`?"
+abbrev pub did_you_mean : List ℕ → List ℕ → List ℕ
+did_you_mean file name = ((file ++ codes ": note: did you mean `") ++ name) ++ codes "`?"
+
+-- an item on a workqueue without a rescuer
+-- "{item} on {workqueue}"
+abbrev pub item_on_workqueue : List ℕ → List ℕ → List ℕ
+item_on_workqueue item workqueue = (item ++ codes " on ") ++ workqueue
+
+-- the first line of the note beside `safe`
+-- "{file}: note: nothing guarantees that these run while memory is short: {items}"
+abbrev pub nothing_guarantees : List ℕ → List ℕ → List ℕ
+nothing_guarantees file items =
+    (file ++ codes ": note: nothing guarantees that these run while memory is short: ") ++ items
+
+-- the second line of that note
+-- "{file}: note: where reclaim waits for one of them, declare who waits: an item of its own, on a `wq` line,
+-- that flushes it"
+abbrev pub declare_who_waits : List ℕ → List ℕ
+declare_who_waits file =
+    (file ++ codes ": note: where reclaim waits for one of them, declare who waits: an item of its ")
+    ++ codes "own, on a `wq` line, that flushes it"

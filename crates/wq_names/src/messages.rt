@@ -1,0 +1,788 @@
+//! The messages of standard error. tests/docs/made.py makes this file from docs/tables/messages.txt.
+//!
+//! Each is a function of what stands in it. A call takes the time and the memory of the words.
+
+ghost use Rattle.std.specs.Prelude.{◌≡◌, IfOk};
+ghost use Rattle.wq_names.specs.Messages.{an_item, a_workqueue, its_name, at_place, answered, answered_unlawful};
+ghost use Rattle.wq_names.specs.Messages.{failed, no_item, is_pending, isnt_pending, runs, nothing_is_pending};
+ghost use Rattle.wq_names.specs.Messages.{nothing_runs, no_workqueue, isnt_first, runner_waits};
+ghost use Rattle.wq_names.specs.Messages.{runner_waits_for_all, declares_no_flush, declares_no_flushwq};
+ghost use Rattle.wq_names.specs.Messages.{has_made_all, doesnt_wait, is_unfinished, one_is_unfinished};
+ghost use Rattle.wq_names.specs.Messages.{has_no_rescuer, waits_for_bare, waits_for_all_of_bare, waits_for_next};
+ghost use Rattle.wq_names.specs.Messages.{waits_for_itself, waits_for_behind, waits_for_behind_it};
+ghost use Rattle.wq_names.specs.Messages.{waits_for_all, waits_for_all_of_its_own, group_waits_for_next};
+ghost use Rattle.wq_names.specs.Messages.{group_waits_for_itself, group_waits_for_behind};
+ghost use Rattle.wq_names.specs.Messages.{group_waits_for_behind_it, group_waits_for_all};
+ghost use Rattle.wq_names.specs.Messages.{group_waits_for_all_of_its_own, is_given, moves, with_more, a_new_one};
+ghost use Rattle.wq_names.specs.Messages.{which_is_given, names_are_too_few, unknown_item, did_you_mean};
+ghost use Rattle.wq_names.specs.Messages.{item_on_workqueue, nothing_guarantees, declare_who_waits};
+
+use std::alloc::{AllocError, Allocator};
+use wq_text::put;
+
+/// An item.
+pub fn an_item<A: Allocator + Copy>(alloc: A, name: &[u8]) -> Result<Vec<u8, A>, AllocError>
+    ensures { IfOk result (λ words. words.items ≡ an_item name.now) }
+{
+    let mut words = Vec::from_slice(alloc, b"`")?;
+    put(&mut words, name)?;
+    put(&mut words, b"`")?;
+    Ok(words)
+}
+
+/// A workqueue; behind its number stands its name, if it has one.
+pub fn a_workqueue<A: Allocator + Copy>(
+    alloc: A,
+    number: &[u8],
+    called: &[u8],
+) -> Result<Vec<u8, A>, AllocError>
+    ensures { IfOk result (λ words. words.items ≡ a_workqueue number.now called.now) }
+{
+    let mut words = Vec::from_slice(alloc, b"workqueue ")?;
+    put(&mut words, number)?;
+    put(&mut words, called)?;
+    Ok(words)
+}
+
+/// The name of a workqueue, behind its number or behind an item that is on it.
+pub fn its_name<A: Allocator + Copy>(alloc: A, name: &[u8]) -> Result<Vec<u8, A>, AllocError>
+    ensures { IfOk result (λ words. words.items ≡ its_name name.now) }
+{
+    let mut words = Vec::from_slice(alloc, b" (")?;
+    put(&mut words, name)?;
+    put(&mut words, b")")?;
+    Ok(words)
+}
+
+/// The first line of what is said of a place in a file.
+pub fn at_place<A: Allocator + Copy>(
+    alloc: A,
+    file: &[u8],
+    place: &[u8],
+    what: &[u8],
+) -> Result<Vec<u8, A>, AllocError>
+    ensures { IfOk result (λ words. words.items ≡ at_place file.now place.now what.now) }
+{
+    let mut words = Vec::from_slice(alloc, file)?;
+    put(&mut words, place)?;
+    put(&mut words, b": ")?;
+    put(&mut words, what)?;
+    Ok(words)
+}
+
+/// The same, where an answer has a number.
+pub fn answered<A: Allocator + Copy>(
+    alloc: A,
+    file: &[u8],
+    place: &[u8],
+    what: &[u8],
+    word: &[u8],
+    code: &[u8],
+) -> Result<Vec<u8, A>, AllocError>
+    ensures { IfOk result (λ words. words.items ≡ answered file.now place.now what.now word.now code.now) }
+{
+    let mut words = Vec::from_slice(alloc, file)?;
+    put(&mut words, place)?;
+    put(&mut words, b": ")?;
+    put(&mut words, what)?;
+    put(&mut words, b" [")?;
+    put(&mut words, word)?;
+    put(&mut words, b" ")?;
+    put(&mut words, code)?;
+    put(&mut words, b", `wqplan explain ")?;
+    put(&mut words, code)?;
+    put(&mut words, b"`]")?;
+    Ok(words)
+}
+
+/// The same, where a step isn't lawful.
+pub fn answered_unlawful<A: Allocator + Copy>(
+    alloc: A,
+    file: &[u8],
+    place: &[u8],
+    what: &[u8],
+    number: &[u8],
+) -> Result<Vec<u8, A>, AllocError>
+    ensures { IfOk result (λ words. words.items ≡ answered_unlawful file.now place.now what.now number.now) }
+{
+    let mut words = Vec::from_slice(alloc, file)?;
+    put(&mut words, place)?;
+    put(&mut words, b": ")?;
+    put(&mut words, what)?;
+    put(&mut words, b" [not lawful ")?;
+    put(&mut words, number)?;
+    put(&mut words, b"]")?;
+    Ok(words)
+}
+
+/// A file can't be opened, read or written.
+pub fn failed<A: Allocator + Copy>(
+    alloc: A,
+    file: &[u8],
+    why: &[u8],
+) -> Result<Vec<u8, A>, AllocError>
+    ensures { IfOk result (λ words. words.items ≡ failed file.now why.now) }
+{
+    let mut words = Vec::from_slice(alloc, b"wqplan: ")?;
+    put(&mut words, file)?;
+    put(&mut words, b": ")?;
+    put(&mut words, why)?;
+    Ok(words)
+}
+
+/// A declaration declares no item.
+pub fn no_item<A: Allocator + Copy>(alloc: A, file: &[u8]) -> Result<Vec<u8, A>, AllocError>
+    ensures { IfOk result (λ words. words.items ≡ no_item file.now) }
+{
+    let mut words = Vec::from_slice(alloc, file)?;
+    put(
+        &mut words,
+        b": note: no item is declared: is this the right file?",
+    )?;
+    Ok(words)
+}
+
+/// A step names no item.
+pub const NO_SUCH_ITEM: &[u8] = b"there is no such item";
+
+/// The item can't be queued.
+pub fn is_pending<A: Allocator + Copy>(alloc: A, item: &[u8]) -> Result<Vec<u8, A>, AllocError>
+    ensures { IfOk result (λ words. words.items ≡ is_pending item.now) }
+{
+    let mut words = Vec::from_slice(alloc, item)?;
+    put(&mut words, b" is pending already")?;
+    Ok(words)
+}
+
+/// The item can't be cancelled.
+pub fn isnt_pending<A: Allocator + Copy>(alloc: A, item: &[u8]) -> Result<Vec<u8, A>, AllocError>
+    ensures { IfOk result (λ words. words.items ≡ isnt_pending item.now) }
+{
+    let mut words = Vec::from_slice(alloc, item)?;
+    put(&mut words, b" isn't pending")?;
+    Ok(words)
+}
+
+/// The workqueue runs another item.
+pub fn runs<A: Allocator + Copy>(
+    alloc: A,
+    workqueue: &[u8],
+    item: &[u8],
+) -> Result<Vec<u8, A>, AllocError>
+    ensures { IfOk result (λ words. words.items ≡ runs workqueue.now item.now) }
+{
+    let mut words = Vec::from_slice(alloc, workqueue)?;
+    put(&mut words, b" runs ")?;
+    put(&mut words, item)?;
+    Ok(words)
+}
+
+/// The workqueue has nothing to start.
+pub fn nothing_is_pending<A: Allocator + Copy>(
+    alloc: A,
+    workqueue: &[u8],
+) -> Result<Vec<u8, A>, AllocError>
+    ensures { IfOk result (λ words. words.items ≡ nothing_is_pending workqueue.now) }
+{
+    let mut words = Vec::from_slice(alloc, b"nothing is pending on ")?;
+    put(&mut words, workqueue)?;
+    Ok(words)
+}
+
+/// The workqueue runs nothing.
+pub fn nothing_runs<A: Allocator + Copy>(
+    alloc: A,
+    workqueue: &[u8],
+) -> Result<Vec<u8, A>, AllocError>
+    ensures { IfOk result (λ words. words.items ≡ nothing_runs workqueue.now) }
+{
+    let mut words = Vec::from_slice(alloc, b"nothing runs on ")?;
+    put(&mut words, workqueue)?;
+    Ok(words)
+}
+
+/// A step names no workqueue.
+pub fn no_workqueue<A: Allocator + Copy>(
+    alloc: A,
+    workqueue: &[u8],
+) -> Result<Vec<u8, A>, AllocError>
+    ensures { IfOk result (λ words. words.items ≡ no_workqueue workqueue.now) }
+{
+    let mut words = Vec::from_slice(alloc, b"there is no ")?;
+    put(&mut words, workqueue)?;
+    Ok(words)
+}
+
+/// Another item comes first on the workqueue.
+pub fn isnt_first<A: Allocator + Copy>(
+    alloc: A,
+    item: &[u8],
+    workqueue: &[u8],
+    first: &[u8],
+) -> Result<Vec<u8, A>, AllocError>
+    ensures { IfOk result (λ words. words.items ≡ isnt_first item.now workqueue.now first.now) }
+{
+    let mut words = Vec::from_slice(alloc, item)?;
+    put(&mut words, b" isn't the first entry of ")?;
+    put(&mut words, workqueue)?;
+    put(&mut words, b", which is ")?;
+    put(&mut words, first)?;
+    Ok(words)
+}
+
+/// What runs on the workqueue waits for an item.
+pub fn runner_waits<A: Allocator + Copy>(
+    alloc: A,
+    item: &[u8],
+    workqueue: &[u8],
+    target: &[u8],
+) -> Result<Vec<u8, A>, AllocError>
+    ensures { IfOk result (λ words. words.items ≡ runner_waits item.now workqueue.now target.now) }
+{
+    let mut words = Vec::from_slice(alloc, item)?;
+    put(&mut words, b", which runs on ")?;
+    put(&mut words, workqueue)?;
+    put(&mut words, b", waits for ")?;
+    put(&mut words, target)?;
+    Ok(words)
+}
+
+/// What runs on the workqueue waits for the whole workqueue of an item.
+pub fn runner_waits_for_all<A: Allocator + Copy>(
+    alloc: A,
+    item: &[u8],
+    workqueue: &[u8],
+    target: &[u8],
+    called: &[u8],
+) -> Result<Vec<u8, A>, AllocError>
+    ensures { IfOk result (λ words. words.items ≡ runner_waits_for_all item.now workqueue.now target.now
+        called.now) }
+{
+    let mut words = Vec::from_slice(alloc, item)?;
+    put(&mut words, b", which runs on ")?;
+    put(&mut words, workqueue)?;
+    put(&mut words, b", waits for the workqueue of ")?;
+    put(&mut words, target)?;
+    put(&mut words, called)?;
+    Ok(words)
+}
+
+/// What runs on the workqueue declares no flush of the item.
+pub fn declares_no_flush<A: Allocator + Copy>(
+    alloc: A,
+    item: &[u8],
+    workqueue: &[u8],
+    target: &[u8],
+) -> Result<Vec<u8, A>, AllocError>
+    ensures { IfOk result (λ words. words.items ≡ declares_no_flush item.now workqueue.now target.now) }
+{
+    let mut words = Vec::from_slice(alloc, item)?;
+    put(&mut words, b", which runs on ")?;
+    put(&mut words, workqueue)?;
+    put(&mut words, b", declares no flush of ")?;
+    put(&mut words, target)?;
+    Ok(words)
+}
+
+/// What runs on the workqueue declares no flush of the item's whole workqueue.
+pub fn declares_no_flushwq<A: Allocator + Copy>(
+    alloc: A,
+    item: &[u8],
+    workqueue: &[u8],
+    target: &[u8],
+) -> Result<Vec<u8, A>, AllocError>
+    ensures { IfOk result (λ words. words.items ≡ declares_no_flushwq item.now workqueue.now target.now) }
+{
+    let mut words = Vec::from_slice(alloc, item)?;
+    put(&mut words, b", which runs on ")?;
+    put(&mut words, workqueue)?;
+    put(&mut words, b", declares no `flushwq` of ")?;
+    put(&mut words, target)?;
+    Ok(words)
+}
+
+/// What runs on the workqueue has made as many waits as it declares flushes.
+pub fn has_made_all<A: Allocator + Copy>(
+    alloc: A,
+    item: &[u8],
+    workqueue: &[u8],
+    number: &[u8],
+) -> Result<Vec<u8, A>, AllocError>
+    ensures { IfOk result (λ words. words.items ≡ has_made_all item.now workqueue.now number.now) }
+{
+    let mut words = Vec::from_slice(alloc, item)?;
+    put(&mut words, b", which runs on ")?;
+    put(&mut words, workqueue)?;
+    put(&mut words, b", has made all of its waits: ")?;
+    put(&mut words, number)?;
+    Ok(words)
+}
+
+/// What runs on the workqueue is awake.
+pub fn doesnt_wait<A: Allocator + Copy>(
+    alloc: A,
+    item: &[u8],
+    workqueue: &[u8],
+) -> Result<Vec<u8, A>, AllocError>
+    ensures { IfOk result (λ words. words.items ≡ doesnt_wait item.now workqueue.now) }
+{
+    let mut words = Vec::from_slice(alloc, item)?;
+    put(&mut words, b", which runs on ")?;
+    put(&mut words, workqueue)?;
+    put(&mut words, b", doesn't wait")?;
+    Ok(words)
+}
+
+/// An entry of the item is from before the wait.
+pub fn is_unfinished<A: Allocator + Copy>(alloc: A, item: &[u8]) -> Result<Vec<u8, A>, AllocError>
+    ensures { IfOk result (λ words. words.items ≡ is_unfinished item.now) }
+{
+    let mut words = Vec::from_slice(alloc, b"an entry of ")?;
+    put(&mut words, item)?;
+    put(&mut words, b" from before this wait is unfinished")?;
+    Ok(words)
+}
+
+/// An entry on the whole workqueue of the item is from before the wait.
+pub fn one_is_unfinished<A: Allocator + Copy>(
+    alloc: A,
+    item: &[u8],
+    called: &[u8],
+) -> Result<Vec<u8, A>, AllocError>
+    ensures { IfOk result (λ words. words.items ≡ one_is_unfinished item.now called.now) }
+{
+    let mut words = Vec::from_slice(
+        alloc,
+        b"an entry from before this wait is unfinished on the workqueue of ",
+    )?;
+    put(&mut words, item)?;
+    put(&mut words, called)?;
+    Ok(words)
+}
+
+/// Before the first wait of a circular wait, and before a flush that leads to no rescuer.
+pub const CAN_HANG: &[u8] = b"can hang: ";
+
+/// The same, beside a circle of `plan`.
+pub const CAN_HANG_ON_ANY: &[u8] = b"can hang on any workqueues: ";
+
+/// Before each further wait of a circular wait.
+pub const AND_FURTHER: &[u8] = b"and ";
+
+/// A workqueue without a rescuer.
+pub fn has_no_rescuer<A: Allocator + Copy>(
+    alloc: A,
+    workqueue: &[u8],
+) -> Result<Vec<u8, A>, AllocError>
+    ensures { IfOk result (λ words. words.items ≡ has_no_rescuer workqueue.now) }
+{
+    let mut words = Vec::from_slice(alloc, workqueue)?;
+    put(&mut words, b" has no rescuer")?;
+    Ok(words)
+}
+
+/// An item waits for one on a workqueue without a rescuer.
+pub fn waits_for_bare<A: Allocator + Copy>(
+    alloc: A,
+    item: &[u8],
+    workqueue: &[u8],
+    target: &[u8],
+    other: &[u8],
+) -> Result<Vec<u8, A>, AllocError>
+    ensures { IfOk result (λ words. words.items ≡ waits_for_bare item.now workqueue.now target.now other.now) }
+{
+    let mut words = Vec::from_slice(alloc, item)?;
+    put(&mut words, b", on ")?;
+    put(&mut words, workqueue)?;
+    put(&mut words, b", waits for ")?;
+    put(&mut words, target)?;
+    put(&mut words, b", which nothing guarantees to run: ")?;
+    put(&mut words, other)?;
+    put(&mut words, b" has no rescuer")?;
+    Ok(words)
+}
+
+/// An item waits for a whole workqueue without a rescuer.
+pub fn waits_for_all_of_bare<A: Allocator + Copy>(
+    alloc: A,
+    item: &[u8],
+    workqueue: &[u8],
+    target: &[u8],
+    other: &[u8],
+) -> Result<Vec<u8, A>, AllocError>
+    ensures { IfOk result (λ words. words.items ≡ waits_for_all_of_bare item.now workqueue.now target.now
+        other.now) }
+{
+    let mut words = Vec::from_slice(alloc, item)?;
+    put(&mut words, b", on ")?;
+    put(&mut words, workqueue)?;
+    put(&mut words, b", waits for the workqueue of ")?;
+    put(&mut words, target)?;
+    put(&mut words, b", which nothing guarantees to run: ")?;
+    put(&mut words, other)?;
+    put(&mut words, b" has no rescuer")?;
+    Ok(words)
+}
+
+/// An item waits for the one that waits next.
+pub fn waits_for_next<A: Allocator + Copy>(
+    alloc: A,
+    item: &[u8],
+    workqueue: &[u8],
+    target: &[u8],
+    other: &[u8],
+) -> Result<Vec<u8, A>, AllocError>
+    ensures { IfOk result (λ words. words.items ≡ waits_for_next item.now workqueue.now target.now other.now) }
+{
+    let mut words = Vec::from_slice(alloc, item)?;
+    put(&mut words, b", on ")?;
+    put(&mut words, workqueue)?;
+    put(&mut words, b", waits for ")?;
+    put(&mut words, target)?;
+    put(&mut words, b", which waits on ")?;
+    put(&mut words, other)?;
+    Ok(words)
+}
+
+/// An item waits for itself.
+pub fn waits_for_itself<A: Allocator + Copy>(
+    alloc: A,
+    item: &[u8],
+    workqueue: &[u8],
+) -> Result<Vec<u8, A>, AllocError>
+    ensures { IfOk result (λ words. words.items ≡ waits_for_itself item.now workqueue.now) }
+{
+    let mut words = Vec::from_slice(alloc, item)?;
+    put(&mut words, b", on ")?;
+    put(&mut words, workqueue)?;
+    put(&mut words, b", waits for itself")?;
+    Ok(words)
+}
+
+/// An item waits for one behind the one that waits next.
+pub fn waits_for_behind<A: Allocator + Copy>(
+    alloc: A,
+    item: &[u8],
+    workqueue: &[u8],
+    target: &[u8],
+    next: &[u8],
+    other: &[u8],
+) -> Result<Vec<u8, A>, AllocError>
+    ensures { IfOk result (λ words. words.items ≡ waits_for_behind item.now workqueue.now target.now next.now
+        other.now) }
+{
+    let mut words = Vec::from_slice(alloc, item)?;
+    put(&mut words, b", on ")?;
+    put(&mut words, workqueue)?;
+    put(&mut words, b", waits for ")?;
+    put(&mut words, target)?;
+    put(&mut words, b", which is behind ")?;
+    put(&mut words, next)?;
+    put(&mut words, b" on ")?;
+    put(&mut words, other)?;
+    Ok(words)
+}
+
+/// An item waits for one behind itself.
+pub fn waits_for_behind_it<A: Allocator + Copy>(
+    alloc: A,
+    item: &[u8],
+    workqueue: &[u8],
+    target: &[u8],
+) -> Result<Vec<u8, A>, AllocError>
+    ensures { IfOk result (λ words. words.items ≡ waits_for_behind_it item.now workqueue.now target.now) }
+{
+    let mut words = Vec::from_slice(alloc, item)?;
+    put(&mut words, b", on ")?;
+    put(&mut words, workqueue)?;
+    put(&mut words, b", waits for ")?;
+    put(&mut words, target)?;
+    put(&mut words, b", which is behind it")?;
+    Ok(words)
+}
+
+/// An item waits for a whole workqueue, on which the next one waits.
+pub fn waits_for_all<A: Allocator + Copy>(
+    alloc: A,
+    item: &[u8],
+    workqueue: &[u8],
+    other: &[u8],
+    next: &[u8],
+) -> Result<Vec<u8, A>, AllocError>
+    ensures { IfOk result (λ words. words.items ≡ waits_for_all item.now workqueue.now other.now next.now) }
+{
+    let mut words = Vec::from_slice(alloc, item)?;
+    put(&mut words, b", on ")?;
+    put(&mut words, workqueue)?;
+    put(&mut words, b", waits for all of ")?;
+    put(&mut words, other)?;
+    put(&mut words, b", where ")?;
+    put(&mut words, next)?;
+    put(&mut words, b" waits")?;
+    Ok(words)
+}
+
+/// An item waits for its own whole workqueue.
+pub fn waits_for_all_of_its_own<A: Allocator + Copy>(
+    alloc: A,
+    item: &[u8],
+    workqueue: &[u8],
+) -> Result<Vec<u8, A>, AllocError>
+    ensures { IfOk result (λ words. words.items ≡ waits_for_all_of_its_own item.now workqueue.now) }
+{
+    let mut words = Vec::from_slice(alloc, item)?;
+    put(&mut words, b", on ")?;
+    put(&mut words, workqueue)?;
+    put(&mut words, b", waits for all of its workqueue")?;
+    Ok(words)
+}
+
+/// In words of groups: an item waits for the one that waits next.
+pub fn group_waits_for_next<A: Allocator + Copy>(
+    alloc: A,
+    item: &[u8],
+    target: &[u8],
+) -> Result<Vec<u8, A>, AllocError>
+    ensures { IfOk result (λ words. words.items ≡ group_waits_for_next item.now target.now) }
+{
+    let mut words = Vec::from_slice(alloc, item)?;
+    put(&mut words, b" waits for ")?;
+    put(&mut words, target)?;
+    put(&mut words, b", which waits")?;
+    Ok(words)
+}
+
+/// In words of groups: an item waits for itself.
+pub fn group_waits_for_itself<A: Allocator + Copy>(
+    alloc: A,
+    item: &[u8],
+) -> Result<Vec<u8, A>, AllocError>
+    ensures { IfOk result (λ words. words.items ≡ group_waits_for_itself item.now) }
+{
+    let mut words = Vec::from_slice(alloc, item)?;
+    put(&mut words, b" waits for itself")?;
+    Ok(words)
+}
+
+/// In words of groups: an item waits for one behind the one that waits next.
+pub fn group_waits_for_behind<A: Allocator + Copy>(
+    alloc: A,
+    item: &[u8],
+    target: &[u8],
+    next: &[u8],
+) -> Result<Vec<u8, A>, AllocError>
+    ensures { IfOk result (λ words. words.items ≡ group_waits_for_behind item.now target.now next.now) }
+{
+    let mut words = Vec::from_slice(alloc, item)?;
+    put(&mut words, b" waits for ")?;
+    put(&mut words, target)?;
+    put(&mut words, b", which is behind ")?;
+    put(&mut words, next)?;
+    put(&mut words, b": they are `ordered`")?;
+    Ok(words)
+}
+
+/// In words of groups: an item waits for one behind itself.
+pub fn group_waits_for_behind_it<A: Allocator + Copy>(
+    alloc: A,
+    item: &[u8],
+    target: &[u8],
+) -> Result<Vec<u8, A>, AllocError>
+    ensures { IfOk result (λ words. words.items ≡ group_waits_for_behind_it item.now target.now) }
+{
+    let mut words = Vec::from_slice(alloc, item)?;
+    put(&mut words, b" waits for ")?;
+    put(&mut words, target)?;
+    put(&mut words, b", which is behind it: they are `ordered`")?;
+    Ok(words)
+}
+
+/// In words of groups: an item waits for a whole workqueue, on which the next one waits.
+pub fn group_waits_for_all<A: Allocator + Copy>(
+    alloc: A,
+    item: &[u8],
+    target: &[u8],
+    next: &[u8],
+) -> Result<Vec<u8, A>, AllocError>
+    ensures { IfOk result (λ words. words.items ≡ group_waits_for_all item.now target.now next.now) }
+{
+    let mut words = Vec::from_slice(alloc, item)?;
+    put(&mut words, b" waits for the workqueue of ")?;
+    put(&mut words, target)?;
+    put(&mut words, b", where ")?;
+    put(&mut words, next)?;
+    put(&mut words, b" waits")?;
+    Ok(words)
+}
+
+/// In words of groups: an item waits for its own whole workqueue.
+pub fn group_waits_for_all_of_its_own<A: Allocator + Copy>(
+    alloc: A,
+    item: &[u8],
+) -> Result<Vec<u8, A>, AllocError>
+    ensures { IfOk result (λ words. words.items ≡ group_waits_for_all_of_its_own item.now) }
+{
+    let mut words = Vec::from_slice(alloc, item)?;
+    put(&mut words, b" waits for its workqueue")?;
+    Ok(words)
+}
+
+/// A workqueue is given a rescuer.
+pub fn is_given<A: Allocator + Copy>(alloc: A, workqueue: &[u8]) -> Result<Vec<u8, A>, AllocError>
+    ensures { IfOk result (λ words. words.items ≡ is_given workqueue.now) }
+{
+    let mut words = Vec::from_slice(alloc, workqueue)?;
+    put(&mut words, b" is given a rescuer")?;
+    Ok(words)
+}
+
+/// A group moves from one workqueue to another.
+pub fn moves<A: Allocator + Copy>(
+    alloc: A,
+    item: &[u8],
+    workqueue: &[u8],
+    other: &[u8],
+) -> Result<Vec<u8, A>, AllocError>
+    ensures { IfOk result (λ words. words.items ≡ moves item.now workqueue.now other.now) }
+{
+    let mut words = Vec::from_slice(alloc, item)?;
+    put(&mut words, b" moves from ")?;
+    put(&mut words, workqueue)?;
+    put(&mut words, b" to ")?;
+    put(&mut words, other)?;
+    Ok(words)
+}
+
+/// A group of several items: the first of them, and how many more there are.
+pub fn with_more<A: Allocator + Copy>(
+    alloc: A,
+    item: &[u8],
+    number: &[u8],
+) -> Result<Vec<u8, A>, AllocError>
+    ensures { IfOk result (λ words. words.items ≡ with_more item.now number.now) }
+{
+    let mut words = Vec::from_slice(alloc, item)?;
+    put(&mut words, b", with ")?;
+    put(&mut words, number)?;
+    put(&mut words, b" more of its group,")?;
+    Ok(words)
+}
+
+/// A workqueue that the assignment doesn't have.
+pub fn a_new_one<A: Allocator + Copy>(alloc: A, workqueue: &[u8]) -> Result<Vec<u8, A>, AllocError>
+    ensures { IfOk result (λ words. words.items ≡ a_new_one workqueue.now) }
+{
+    let mut words = Vec::from_slice(alloc, workqueue)?;
+    put(&mut words, b", a new one")?;
+    Ok(words)
+}
+
+/// A workqueue to which a group moves, and which is given a rescuer.
+pub fn which_is_given<A: Allocator + Copy>(
+    alloc: A,
+    workqueue: &[u8],
+) -> Result<Vec<u8, A>, AllocError>
+    ensures { IfOk result (λ words. words.items ≡ which_is_given workqueue.now) }
+{
+    let mut words = Vec::from_slice(alloc, workqueue)?;
+    put(&mut words, b", which is given a rescuer")?;
+    Ok(words)
+}
+
+/// Before the waits by which the workqueues hang without a rescuer.
+pub const WITHOUT_ONE: &[u8] = b"without one: ";
+
+/// Before the waits by which the workqueues hang where a group doesn't move.
+pub const IF_IT_STAYED: &[u8] = b"if it stayed: ";
+
+/// Beside the start of a repair by names.
+pub fn names_are_too_few<A: Allocator + Copy>(
+    alloc: A,
+    file: &[u8],
+) -> Result<Vec<u8, A>, AllocError>
+    ensures { IfOk result (λ words. words.items ≡ names_are_too_few file.now) }
+{
+    let mut words = Vec::from_slice(alloc, file)?;
+    put(
+        &mut words,
+        b": note: wherever these items move, the workqueues can hang; the run is on these:",
+    )?;
+    Ok(words)
+}
+
+/// A NAME behind `repair` is no item.
+pub fn unknown_item<A: Allocator + Copy>(
+    alloc: A,
+    file: &[u8],
+    name: &[u8],
+) -> Result<Vec<u8, A>, AllocError>
+    ensures { IfOk result (λ words. words.items ≡ unknown_item file.now name.now) }
+{
+    let mut words = Vec::from_slice(alloc, file)?;
+    put(&mut words, b": no item `")?;
+    put(&mut words, name)?;
+    put(&mut words, b"` is declared [refused 8, `wqplan explain 8`]")?;
+    Ok(words)
+}
+
+/// An item whose name is most like that NAME.
+pub fn did_you_mean<A: Allocator + Copy>(
+    alloc: A,
+    file: &[u8],
+    name: &[u8],
+) -> Result<Vec<u8, A>, AllocError>
+    ensures { IfOk result (λ words. words.items ≡ did_you_mean file.now name.now) }
+{
+    let mut words = Vec::from_slice(alloc, file)?;
+    put(&mut words, b": note: did you mean `")?;
+    put(&mut words, name)?;
+    put(&mut words, b"`?")?;
+    Ok(words)
+}
+
+/// An item on a workqueue without a rescuer.
+pub fn item_on_workqueue<A: Allocator + Copy>(
+    alloc: A,
+    item: &[u8],
+    workqueue: &[u8],
+) -> Result<Vec<u8, A>, AllocError>
+    ensures { IfOk result (λ words. words.items ≡ item_on_workqueue item.now workqueue.now) }
+{
+    let mut words = Vec::from_slice(alloc, item)?;
+    put(&mut words, b" on ")?;
+    put(&mut words, workqueue)?;
+    Ok(words)
+}
+
+/// The first line of the note beside `safe`.
+pub fn nothing_guarantees<A: Allocator + Copy>(
+    alloc: A,
+    file: &[u8],
+    items: &[u8],
+) -> Result<Vec<u8, A>, AllocError>
+    ensures { IfOk result (λ words. words.items ≡ nothing_guarantees file.now items.now) }
+{
+    let mut words = Vec::from_slice(alloc, file)?;
+    put(
+        &mut words,
+        b": note: nothing guarantees that these run while memory is short: ",
+    )?;
+    put(&mut words, items)?;
+    Ok(words)
+}
+
+/// The second line of that note.
+pub fn declare_who_waits<A: Allocator + Copy>(
+    alloc: A,
+    file: &[u8],
+) -> Result<Vec<u8, A>, AllocError>
+    ensures { IfOk result (λ words. words.items ≡ declare_who_waits file.now) }
+{
+    let mut words = Vec::from_slice(alloc, file)?;
+    put(
+        &mut words,
+        b": note: where reclaim waits for one of them, declare who waits: an item of its ",
+    )?;
+    put(&mut words, b"own, on a `wq` line, that flushes it")?;
+    Ok(words)
+}
