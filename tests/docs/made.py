@@ -6,7 +6,9 @@ Usage: tests/docs/made.py [--check]
 Without an argument these are written again: in crates/wq_explain the explanations (src/table.rt, words.rt) and the lists of what
 is explained (specs/Explaining.antt); in crates/wqplan the commands with their
 arguments (src/commands.rt, specs/Commands.antt), and what help says of statuses (src/statuses.rt); in
-crates/wq_findings the words and forms of directives (src/guess.rt, declaration.rt); the rows of the tables of docs/FORMAT.md that have them, its list
+crates/wq_findings the words and forms of directives (src/guess.rt, declaration.rt); in crates/wq_names the messages (src/messages.rt,
+specs/Messages.antt), in tests/DIAGNOSES.md the tables of these, and, if the words of one were changed, each page and each test that
+shows it (SHOW_MESSAGES); the rows of the tables of docs/FORMAT.md that have them, its list
 of commands and its sentences that list directives and faults; of man/wqplan.5 DECLARATIONS, the lists of REFUSALS and OTHER
 ANSWERS, and the limits of docs/FORMAT.md in LIMITS; of man/wqplan.1 SYNOPSIS, COMMANDS, the directives, and what ends with 0 and 1;
 in man/wqplan.bash the commands, their files, and the words behind `explain`; in docs/GUIDE.md the table of statuses and the ranges
