@@ -715,7 +715,8 @@ def messages_specs():
 
 
 # Where pages and tests show messages.
-SHOW_MESSAGES = ["README.md", "docs/*.md", "examples/*.md", "crates/test_cases/src", "tests/cli", "tests/DIAGNOSES.md"]
+SHOW_MESSAGES = ["README.md", "docs/*.md", "examples/*.md", "crates/test_cases/src", "tests/cli", "tests/DIAGNOSES.md",
+                 "man/wqplan.1"]
 
 
 def reworded(made):
